@@ -1,0 +1,154 @@
+ghost use Rattle.std.specs.Prelude.{◌≡◌, ◌+◌, ◌*◌, ◌<◌, ◌≤◌, ◌++◌, length, OnOk, OnErr};
+ghost use Rattle.span_io.specs.Varint.{varint_text};
+ghost use Rattle.span_io.specs.Outside.{GrowsFront};
+ghost use Rattle.proto_wire.specs.Records.{IsFieldNumber, plain_payload};
+ghost use Rattle.proto_wire.specs.Wire.{record_text, opening_text};
+
+use crate::record::Payload;
+use span_io::{Blob, OutOfMemory};
+
+// The number of bytes of the shortest varint.
+#[inline(always)]
+fn varint_size(n: u64) -> u64
+    ensures exact { result ≡ length (varint_text n) }
+    ensures small { result ≤ 10 }
+{
+    if n < 128 {
+        return 1;
+    }
+    if n < 16_384 {
+        return 2;
+    }
+    long_size(n)
+}
+
+#[inline(never)]
+fn long_size(n: u64) -> u64
+    ensures exact { result ≡ length (varint_text n) }
+    ensures small { result ≤ 10 }
+{
+    let mut rest = n;
+    'groups: for passed in 0..9_u64 {
+        if rest < 128 {
+            return passed + 1;
+        }
+        rest /= 128;
+    }
+    10
+}
+
+// Appends the shortest varint.
+#[inline(always)]
+fn write_varint(out: &mut Blob, n: u64) -> Result<(), OutOfMemory>
+    ensures ok { OnOk result (out.new ≡ out.old ++ varint_text n) }
+    ensures err { OnErr result (GrowsFront out.old out.new (varint_text n)) }
+{
+    if n < 128 {
+        return out.append(&[n as u8]);
+    }
+    if n < 16_384 {
+        return out.append(&[(128 + n % 128) as u8, (n / 128) as u8]);
+    }
+    write_long(out, n)
+}
+
+#[inline(never)]
+fn write_long(out: &mut Blob, n: u64) -> Result<(), OutOfMemory>
+    ensures ok { OnOk result (out.new ≡ out.old ++ varint_text n) }
+    ensures err { OnErr result (GrowsFront out.old out.new (varint_text n)) }
+{
+    let mut rest = n;
+    'groups: for _passed in 0..9_u64 {
+        if rest < 128 {
+            return out.append(&[rest as u8]);
+        }
+        out.append(&[(128 + rest % 128) as u8])?;
+        rest /= 128;
+    }
+    out.append(&[rest as u8])
+}
+
+// Appends the varint that begins a record.
+#[inline(always)]
+fn write_key(out: &mut Blob, number: u32, wire_type: u64) -> Result<(), OutOfMemory>
+    requires { wire_type < 8 }
+    ensures ok { OnOk result (out.new ≡ out.old ++ varint_text (number * 8 + wire_type)) }
+    ensures err { OnErr result (GrowsFront out.old out.new (varint_text (number * 8 + wire_type))) }
+{
+    write_varint(out, u64::from(number) * 8 + wire_type)
+}
+
+// The number of bytes of the varint that begins a record.
+#[inline(always)]
+fn key_size(number: u32, wire_type: u64) -> u64
+    requires { wire_type < 8 }
+    ensures exact { result ≡ length (varint_text (number * 8 + wire_type)) }
+    ensures small { result ≤ 10 }
+{
+    varint_size(u64::from(number) * 8 + wire_type)
+}
+
+/// The number of bytes that a record takes.
+#[tactic(auto, using(crate::proofs::Shortest::in_pieces), unfolding(crate::specs::Wire::record_text, crate::specs::Wire::opening_text))]
+pub fn record_size(number: u32, payload: &Payload<'_>) -> u64
+    requires { IsFieldNumber number }
+    ensures { result ≡ length (record_text (record { number = number; held = plain_payload payload.now })) }
+{
+    match payload {
+        Payload::Varint(n) => key_size(number, 0) + varint_size(*n),
+        Payload::Fixed64(_) => key_size(number, 1) + 8,
+        Payload::Bytes(held) => {
+            let size = held.len() as u64;
+            opening_size(number, size) + size
+        }
+        Payload::Fixed32(_) => key_size(number, 5) + 4,
+    }
+}
+
+/// Appends a record in its shortest spelling. Where memory is wanted, a front of it was appended.
+#[tactic(auto, using(crate::proofs::Shortest::in_pieces), unfolding(crate::specs::Wire::record_text, crate::specs::Wire::opening_text))]
+pub fn write_record(out: &mut Blob, number: u32, payload: Payload<'_>) -> Result<(), OutOfMemory>
+    requires { IsFieldNumber number }
+    ensures ok { OnOk result (out.new ≡ out.old ++ record_text (record { number = number; held = plain_payload payload.entry })) }
+    ensures err { OnErr result (GrowsFront out.old out.new (record_text (record { number = number; held = plain_payload payload.entry }))) }
+{
+    match payload {
+        Payload::Varint(n) => {
+            write_key(out, number, 0)?;
+            write_varint(out, n)
+        }
+        Payload::Fixed64(n) => {
+            write_key(out, number, 1)?;
+            out.append(&n.to_le_bytes())
+        }
+        Payload::Bytes(held) => {
+            write_opening(out, number, held.len() as u64)?;
+            out.append(held)
+        }
+        Payload::Fixed32(n) => {
+            write_key(out, number, 5)?;
+            out.append(&n.to_le_bytes())
+        }
+    }
+}
+
+/// The number of bytes that stand before the bytes of a record of wire type 2 that holds `size` bytes.
+#[tactic(auto, using(crate::proofs::Shortest::in_pieces), unfolding(crate::specs::Wire::record_text, crate::specs::Wire::opening_text))]
+pub fn opening_size(number: u32, size: u64) -> u64
+    requires { IsFieldNumber number }
+    ensures exact { result ≡ length (opening_text number size) }
+    ensures small { result ≤ 20 }
+{
+    key_size(number, 2) + varint_size(size)
+}
+
+/// Appends what stands before the bytes of a record of wire type 2 that holds `size` bytes.
+#[tactic(auto, using(crate::proofs::Shortest::in_pieces), unfolding(crate::specs::Wire::record_text, crate::specs::Wire::opening_text))]
+pub fn write_opening(out: &mut Blob, number: u32, size: u64) -> Result<(), OutOfMemory>
+    requires { IsFieldNumber number }
+    ensures ok { OnOk result (out.new ≡ out.old ++ opening_text number size) }
+    ensures err { OnErr result (GrowsFront out.old out.new (opening_text number size)) }
+{
+    write_key(out, number, 2)?;
+    write_varint(out, size)
+}

@@ -1,0 +1,55 @@
+-- A command is spelled by the mode, and its two options in either order.
+use Rattle.std.proofs.Common.{◌≡◌, ◌⊎◌, ◌↔◌, ℕ, List, [], ◌∷◌, length, inl, inr, sym, ap, ◌∙◌, arith}
+use Rattle.std.specs.Prelude.{codes}
+use Rattle.span_io.specs.Forms.{form_word}
+use Rattle.span_cli.specs.declared.command.Command.{Command}
+use Rattle.span_cli.specs.declared.command.Command.TheVariants.{Convert}
+use Rattle.span_cli.specs.declared.command.Side.{Side}
+use Rattle.span_cli.specs.declared.command.Side.TheVariants.{From, To}
+use Rattle.span_cli.specs.Commands.{Spells, ConvertsBetween, side_word, other_side}
+
+-- the words that stand on the two sides
+abbrev pub Between : Side → Command → List ℕ → List ℕ → Type 0
+Between From command first second = ConvertsBetween command first second
+Between To command first second = ConvertsBetween command second first
+
+-- the words of two equal lists of five
+record Same (a b c d e a' b' c' d' e' : List ℕ) : Type 0 where
+  first : a ≡ a'
+  second : b ≡ b'
+  third : c ≡ c'
+  fourth : d ≡ d'
+  fifth : e ≡ e'
+
+same : (a b c d e a' b' c' d' e' : List ℕ) → a ∷ b ∷ c ∷ d ∷ e ∷ [] ≡ a' ∷ b' ∷ c' ∷ d' ∷ e' ∷ [] → Same a b c d e a' b' c' d' e'
+same a b c d e a' b' c' d' e' h = record { first = cc; second = cc; third = cc; fourth = cc; fifth = cc }
+
+listed : (a b c d e a' b' c' d' e' : List ℕ) → a ≡ a' → b ≡ b' → c ≡ c' → d ≡ d' → e ≡ e' → a ∷ b ∷ c ∷ d ∷ e ∷ [] ≡ a' ∷ b' ∷ c' ∷ d' ∷ e' ∷ []
+listed a b c d e a' b' c' d' e' p q r s t = cc
+
+other_word : side_word From ≡ side_word To → ⊥
+other_word e = let lengths : ◌≡◌ {A = ℕ} 6 4 = ap length e in absurd (omega arith)
+
+module _ (mode first first_word second second_word : List ℕ) where
+  pub spells_between : (side : Side) (command : Command) → mode ≡ codes "convert" → first ≡ side_word side → second ≡ side_word (other_side side)
+      → Between side command first_word second_word ↔ Spells command (mode ∷ first ∷ first_word ∷ second ∷ second_word ∷ [])
+  spells_between From (Convert source target) is_mode is_first is_second = (
+    λ between. inl (listed mode first first_word second second_word _ _ _ _ _ is_mode is_first between.0 is_second between.1),
+    λ spelled. elim spelled [
+      | inl h ↦ let s = same mode first first_word second second_word _ _ _ _ _ h in (s.third, s.fifth)
+      | inr h ↦ let s = same mode first first_word second second_word _ _ _ _ _ h in absurd (other_word (sym is_first ∙ s.second))
+    ]
+  )
+  spells_between To (Convert source target) is_mode is_first is_second = (
+    λ between. inr (listed mode first first_word second second_word _ _ _ _ _ is_mode is_first between.1 is_second between.0),
+    λ spelled. elim spelled [
+      | inl h ↦ let s = same mode first first_word second second_word _ _ _ _ _ h in absurd (other_word (sym s.second ∙ is_first))
+      | inr h ↦ let s = same mode first first_word second second_word _ _ _ _ _ h in (s.fifth, s.third)
+    ]
+  )
+
+  -- where the options are not one of each side, no command is spelled
+  pub spells_sides : (command : Command) → ((side : Side) → first ≡ side_word side → second ≡ side_word (other_side side) → ⊥)
+      → Spells command (mode ∷ first ∷ first_word ∷ second ∷ second_word ∷ []) → ⊥
+  spells_sides (Convert source target) none (inl h) = let s = same mode first first_word second second_word _ _ _ _ _ h in none From s.second s.fourth
+  spells_sides (Convert source target) none (inr h) = let s = same mode first first_word second second_word _ _ _ _ _ h in none To s.second s.fourth

@@ -1,0 +1,32 @@
+-- How a command is spelled in words.
+use Rattle.std.specs.Prelude.{◌≡◌, ◌⊎◌, ℕ, List, [], ◌∷◌, map, codes}
+use Rattle.std.specs.Prelude.{String, string_bytes}
+use Rattle.std.specs.declared.alloc.Global.{Global}
+use Rattle.span_io.specs.Forms.{form_word}
+use Rattle.span_cli.specs.declared.command.Command.{Command}
+use Rattle.span_cli.specs.declared.command.Command.TheVariants.{Convert}
+use Rattle.span_cli.specs.declared.command.Side.{Side}
+use Rattle.span_cli.specs.declared.command.Side.TheVariants.{From, To}
+
+-- the bytes of each word
+abbrev pub texts : List (String Global) → List (List ℕ)
+texts words = map string_bytes words
+
+-- the options of a conversion
+abbrev pub side_word : Side → List ℕ
+side_word From = codes "--from"
+side_word To = codes "--to"
+
+abbrev pub other_side : Side → Side
+other_side From = To
+other_side To = From
+
+-- the command reads the form of the first word and writes that of the second
+abbrev pub ConvertsBetween : Command → List ℕ → List ℕ → Type 0
+ConvertsBetween (Convert from to) source target = (source ≡ form_word from) × (target ≡ form_word to)
+
+-- `convert` with `--from F` and `--to F`, in either order
+abbrev pub Spells : Command → List (List ℕ) → Type 0
+Spells (Convert from to) words =
+    (words ≡ codes "convert" ∷ side_word From ∷ form_word from ∷ side_word To ∷ form_word to ∷ [])
+    ⊎ (words ≡ codes "convert" ∷ side_word To ∷ form_word to ∷ side_word From ∷ form_word from ∷ [])

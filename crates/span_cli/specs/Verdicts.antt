@@ -1,0 +1,107 @@
+-- What is to be said of an input: the text to write, the status, and the line that is noted.
+use Rattle.std.specs.Prelude.{◌≡◌, ℕ, ◌<◌, ◌≤◌, ◌⊎◌, ◌==◌, if◌then◌else◌, List, [], ◌∷◌, ◌++◌, length, IsTrue, codes, decimal}
+use Rattle.std.specs.List.{list_any}
+use Rattle.span_io.specs.Outside.{Outlet, Gains, GainsFront, Rose}
+use Rattle.span_io.specs.Causes.{cause_number, cause_name}
+use Rattle.span_io.specs.declared.cause.Cause.TheVariants.{InputTooLong, Unbuilt}
+use Rattle.span_cli.specs.declared.small.Request.{Request}
+use Rattle.span_cli.specs.declared.verdict.Refusal.{Refusal}
+use Rattle.span_cli.specs.declared.verdict.Verdict.{Verdict}
+use Rattle.span_cli.specs.declared.verdict.Verdict.TheVariants.{Good, Refused}
+use Rattle.span_cli.specs.declared.verdict.Ending.{Ending}
+use Rattle.span_cli.specs.declared.verdict.Ending.TheVariants as endings
+use Rattle.span_cli.specs.Limits.{input_limit}
+use Rattle.span_cli.specs.Small.{Small, small_text}
+
+-- More bytes than the limit are too long, whatever they are. Other bytes are good where they are a text of a request of small
+-- spans, and what is to be written is the canonical text of that request; where they are a text of no request they are refused.
+-- Both refusals speak of the input as a whole, unit 0.
+abbrev pub IsVerdict : Verdict → List ℕ → Type 0
+IsVerdict (Good text) bytes = (length bytes ≤ input_limit) × (request : Request) × Small request bytes × (text ≡ small_text request)
+IsVerdict (Refused refusal) bytes = (refusal ≡ record { unit = 0; cause = InputTooLong }) × (input_limit < length bytes)
+    ⊎ (refusal ≡ record { unit = 0; cause = Unbuilt }) × (length bytes ≤ input_limit) × ((request : Request) → ¬ Small request bytes)
+
+-- what is to be written
+abbrev pub text_in : Verdict → List ℕ
+text_in (Good text) = text
+text_in (Refused refusal) = []
+
+-- ---- how a run ends
+
+abbrev pub status_of : Ending → ℕ
+status_of endings.Whole = 0
+status_of (endings.Refused refusal) = 3
+status_of endings.InputFailed = 5
+status_of endings.OutputFailed = 6
+status_of endings.NoMemory = 7
+
+-- the ends that a status tells apart
+pub data Stage : Type 0 where
+  -- the words are no command: 2
+  usage : Stage
+  -- the verdict was carried out: 0, 3
+  said : Stage
+  -- a device failed: 5, 6
+  input_failed output_failed : Stage
+  -- 7
+  no_memory : Stage
+
+abbrev pub stage_of : ℕ → Stage
+stage_of status = if status == 2 then usage else (if status == 5 then input_failed else (if status == 6 then output_failed else (if status == 7 then no_memory else said)))
+
+-- the statuses that there are
+abbrev pub IsStatus : ℕ → Type 0
+IsStatus status = IsTrue (list_any (λ known. known == status) (0 ∷ 2 ∷ 3 ∷ 5 ∷ 6 ∷ 7 ∷ []))
+
+-- where the verdict was carried out there is one
+abbrev pub IsJudged : Stage → List ℕ → Type 0
+IsJudged usage bytes = Unit {0}
+IsJudged said bytes = (verdict : Verdict) × IsVerdict verdict bytes
+IsJudged input_failed bytes = Unit {0}
+IsJudged output_failed bytes = Unit {0}
+IsJudged no_memory bytes = Unit {0}
+
+-- a verdict that was carried out is told by the status: 0 for a text, 3 for a refusal
+abbrev pub AgreesWith : Stage → ℕ → Verdict → Type 0
+AgreesWith usage status verdict = Unit {0}
+AgreesWith said status (Good text) = status ≡ 0
+AgreesWith said status (Refused refusal) = status ≡ 3
+AgreesWith input_failed status verdict = Unit {0}
+AgreesWith output_failed status verdict = Unit {0}
+AgreesWith no_memory status verdict = Unit {0}
+
+-- What the output gains: the text where the verdict was carried out, a front of it where the output failed or memory was
+-- wanted, and nothing before.
+abbrev pub Writes : Stage → List ℕ → Outlet → Outlet → Type 0
+Writes usage text before now = Gains before now []
+Writes said text before now = Gains before now text
+Writes input_failed text before now = Gains before now []
+Writes output_failed text before now = GainsFront before now text
+Writes no_memory text before now = GainsFront before now text
+
+-- ---- notes; each line ends with a line feed
+
+abbrev pub usage_line : List ℕ
+usage_line = codes "usage: spanx convert|losses|show|check|headers|gauge|serve OPTIONS\n"
+
+abbrev pub refusal_line : Refusal → List ℕ
+refusal_line refusal = codes "unit " ++ decimal refusal.unit ++ codes ": cause " ++ decimal (cause_number refusal.cause) ++ codes " " ++ cause_name refusal.cause ++ codes "\n"
+
+abbrev pub line_of : Stage → Verdict → List ℕ
+line_of usage verdict = usage_line
+line_of said (Good text) = []
+line_of said (Refused refusal) = refusal_line refusal
+line_of input_failed verdict = codes "input failed\n"
+line_of output_failed verdict = codes "output failed\n"
+line_of no_memory verdict = codes "out of memory\n"
+
+abbrev pub ending_line : Ending → List ℕ
+ending_line endings.Whole = []
+ending_line (endings.Refused refusal) = refusal_line refusal
+ending_line endings.InputFailed = codes "input failed\n"
+ending_line endings.OutputFailed = codes "output failed\n"
+ending_line endings.NoMemory = codes "out of memory\n"
+
+-- the notes gained the line, or their count rose: then the line may be cut
+abbrev pub Notes : Outlet → Outlet → List ℕ → Type 0
+Notes before now line = Gains before now line ⊎ Rose before.faults now.faults

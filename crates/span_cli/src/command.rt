@@ -1,0 +1,77 @@
+//! The words of the command line.
+ghost use Rattle.std.specs.Prelude.{◌≡◌, ◌↔◌, ◌∷◌, [], Some, string_bytes};
+ghost use Rattle.span_cli.specs.Commands.{texts, Spells, ConvertsBetween, side_word, other_side};
+ghost use Rattle.span_cli.specs.declared.command.Command.{Command};
+ghost use Rattle.span_cli.specs.declared.command.Side.{Side};
+
+use span_io::Form;
+
+/// What a run is asked to do.
+#[derive(Clone, Copy, Debug, PartialEq, Eq)]
+pub enum Command {
+    /// Reads spans in the first form and writes them in the second.
+    Convert(Form, Form),
+}
+
+/// Which form an option is of.
+#[derive(Clone, Copy, Debug, PartialEq, Eq)]
+enum Side {
+    From,
+    To,
+}
+
+/// Reads the words after the program's name: the mode, and then each of its options once, in any
+/// order, with nothing else.
+pub fn read_words(words: &[String]) -> Option<Command>
+    ensures { (command : Command) → (result ≡ Some command) ↔ Spells command (texts words.now) }
+{
+    match words {
+        [mode, first, first_word, second, second_word] => command_of(
+            mode.as_bytes(),
+            first.as_bytes(),
+            first_word.as_bytes(),
+            second.as_bytes(),
+            second_word.as_bytes(),
+        ),
+        _ => None,
+    }
+}
+
+// The command that a mode and two options with their words spell.
+fn command_of(
+    mode: &[u8],
+    first: &[u8],
+    first_word: &[u8],
+    second: &[u8],
+    second_word: &[u8],
+) -> Option<Command>
+    ensures { (command : Command) → (result ≡ Some command) ↔ Spells command (mode.now ∷ first.now ∷ first_word.now ∷ second.now ∷ second_word.now ∷ []) }
+{
+    if mode != b"convert".as_slice() {
+        return None;
+    }
+    match first_side(first, second)? {
+        Side::From => convert(first_word, second_word),
+        Side::To => convert(second_word, first_word),
+    }
+}
+
+// The side that the first of two options is of, where the second is of the other.
+fn first_side(first: &[u8], second: &[u8]) -> Option<Side>
+    ensures { (side : Side) → (result ≡ Some side) ↔ ((first.now ≡ side_word side) × (second.now ≡ side_word (other_side side))) }
+{
+    match (first, second) {
+        (b"--from", b"--to") => Some(Side::From),
+        (b"--to", b"--from") => Some(Side::To),
+        _ => None,
+    }
+}
+
+// The command between the forms that two words name.
+fn convert(source: &[u8], target: &[u8]) -> Option<Command>
+    ensures { (command : Command) → (result ≡ Some command) ↔ ConvertsBetween command source.now target.now }
+{
+    let source = Form::of_word(source)?;
+    let target = Form::of_word(target)?;
+    Some(Command::Convert(source, target))
+}

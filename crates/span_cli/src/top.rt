@@ -1,0 +1,100 @@
+//! The top call.
+ghost use Rattle.std.specs.Prelude.{◌≡◌, ◌≢◌, ◌↔◌, ℕ, List, IfSome};
+ghost use Rattle.std.specs.Io.KnownBytes.{IsAtEnd};
+ghost use Rattle.span_io.specs.Outside.{InputFails, OutputFails};
+ghost use Rattle.span_cli.specs.Commands.{texts, Spells};
+ghost use Rattle.span_cli.specs.Verdicts.{IsVerdict, IsStatus, IsJudged, AgreesWith, Writes, Notes, stage_of, status_of, text_in, line_of, ending_line};
+ghost use Rattle.span_cli.specs.declared.command.Command.{Command};
+ghost use Rattle.span_cli.specs.declared.verdict.Verdict.{Verdict};
+ghost use Rattle.span_cli.specs.declared.verdict.Verdict.TheVariants.{Good};
+
+use crate::command::{Command, read_words};
+use crate::input::{Input, ReadStop, read_whole};
+use crate::laws::one_request;
+use crate::note::{note_ending, note_usage};
+use crate::verdict::{Ending, Refusal, Verdict, judge};
+use span_io::{Cause, Form, Sink, Source, write_all};
+use std::alloc::Global;
+
+/// Runs the command that the words after the program's name spell: it reads the input whole, writes
+/// its canonical text to the output, and notes a refusal or a fault in one line. The answer is the
+/// exit status: 0 the whole text was written, 2 the words are no command, 3 the input is refused,
+/// 5 the input failed, 6 the output failed, 7 no memory was found.
+pub fn run<S: Source, K: Sink, N: Sink>(
+    alloc: Global,
+    words: &[String],
+    input: &mut S,
+    output: &mut K,
+    notes: &mut N,
+) -> u8
+    // Words that are no command are answered at once: nothing is read, and nothing written but a note.
+    ensures usage { (result ≡ 2) ↔ ((command : Command) → ¬ Spells command (texts words.now)) }
+    ensures untouched { result ≡ 2 → (input.new ≡ input.old) × (output.new ≡ output.old) }
+    ensures statuses { IsStatus result }
+
+    // A device is at fault only where its count rose.
+    ensures input_fails { result ≡ 5 → InputFails (S.inlet input.old) (S.inlet input.new) }
+    ensures unwritten { result ≡ 5 → output.new ≡ output.old }
+    ensures output_fails { result ≡ 6 → OutputFails (K.outlet output.old) (K.outlet output.new) }
+
+    // After the whole text nothing of the input is left.
+    ensures all_read { result ≡ 0 → IsAtEnd (S.inlet input.new).left }
+
+    // Where the input tells its bytes, the verdict on them says the status, the output and the note.
+    ensures judged { IfSome (S.inlet input.old).left (λ bytes. IsJudged (stage_of result) bytes) }
+    ensures verdict { IfSome (S.inlet input.old).left (λ bytes.
+        (verdict : Verdict) → IsVerdict verdict bytes → AgreesWith (stage_of result) result verdict) }
+    ensures output { IfSome (S.inlet input.old).left (λ bytes.
+        (verdict : Verdict) → IsVerdict verdict bytes → Writes (stage_of result) (text_in verdict) (K.outlet output.old) (K.outlet output.new)) }
+    ensures notes { IfSome (S.inlet input.old).left (λ bytes.
+        (verdict : Verdict) → IsVerdict verdict bytes → Notes (N.outlet notes.old) (N.outlet notes.new) (line_of (stage_of result) verdict)) }
+
+    // Each status but 3 has its line, whether or not the input tells its bytes.
+    ensures line { result ≢ 3 → (text : List ℕ) → Notes (N.outlet notes.old) (N.outlet notes.new) (line_of (stage_of result) (Good text)) }
+{
+    let Some(command) = read_words(words) else {
+        note_usage(notes);
+        return 2;
+    };
+    let ending = match command {
+        Command::Convert(Form::OtlpProto, Form::OtlpProto) => convert(alloc, input, output),
+    };
+    note_ending(notes, ending);
+    ending.status()
+}
+
+// Reads the input whole, and then writes what is to be said of it.
+fn convert<S: Source, K: Sink>(alloc: Global, input: &mut S, output: &mut K) -> Ending
+    ensures input_fails { status_of result ≡ 5 → InputFails (S.inlet input.old) (S.inlet input.new) }
+    ensures unwritten { status_of result ≡ 5 → output.new ≡ output.old }
+    ensures output_fails { status_of result ≡ 6 → OutputFails (K.outlet output.old) (K.outlet output.new) }
+    ensures all_read { status_of result ≡ 0 → IsAtEnd (S.inlet input.new).left }
+    ensures judged { IfSome (S.inlet input.old).left (λ bytes. IsJudged (stage_of (status_of result)) bytes) }
+    ensures verdict { IfSome (S.inlet input.old).left (λ bytes.
+        (verdict : Verdict) → IsVerdict verdict bytes → AgreesWith (stage_of (status_of result)) (status_of result) verdict) }
+    ensures output { IfSome (S.inlet input.old).left (λ bytes.
+        (verdict : Verdict) → IsVerdict verdict bytes → Writes (stage_of (status_of result)) (text_in verdict) (K.outlet output.old) (K.outlet output.new)) }
+    ensures line { IfSome (S.inlet input.old).left (λ bytes.
+        (verdict : Verdict) → IsVerdict verdict bytes → ending_line result ≡ line_of (stage_of (status_of result)) verdict) }
+{
+    one_request();
+    let bytes = match read_whole(alloc, input) {
+        Ok(Input::Whole(bytes)) => bytes,
+        Ok(Input::TooLong) => {
+            return Ending::Refused(Refusal {
+                unit: 0,
+                cause: Cause::InputTooLong,
+            });
+        }
+        Err(ReadStop::Failed) => return Ending::InputFailed,
+        Err(ReadStop::OutOfMemory) => return Ending::NoMemory,
+    };
+    match judge(alloc, bytes.as_slice()) {
+        Ok(Verdict::Good(text)) => match write_all(output, text.as_slice()) {
+            Ok(()) => Ending::Whole,
+            Err(_) => Ending::OutputFailed,
+        },
+        Ok(Verdict::Refused(refusal)) => Ending::Refused(refusal),
+        Err(_) => Ending::NoMemory,
+    }
+}

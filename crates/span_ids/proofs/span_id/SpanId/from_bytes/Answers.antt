@@ -1,0 +1,9 @@
+use Rattle.std.proofs.Common.{arith}
+use Rattle.span_ids.proofs.BigEndian.{span_read}
+use Rattle.span_ids.proofs.span_id.SpanId.from_bytes.Goals as goal
+
+pub returns-clause-ok : goal.returns-clause-ok
+returns-clause-ok c = grind (arith, span_read)
+
+pub returns-clause-value : goal.returns-clause-value
+returns-clause-value c = grind (arith, span_read)

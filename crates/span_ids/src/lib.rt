@@ -1,0 +1,16 @@
+//! Identifiers and times of spans.
+#![tactic(auto)]
+
+mod bad_id;
+pub mod laws;
+mod nanos;
+mod span_id;
+mod trace_id;
+
+pub use bad_id::BadId;
+pub use nanos::Nanos;
+pub use span_id::SpanId;
+pub use trace_id::TraceId;
+
+#[cfg(test)]
+mod tests;

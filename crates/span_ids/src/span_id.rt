@@ -1,0 +1,59 @@
+ghost use Rattle.std.specs.Prelude.{◌≡◌, ℕ, ◌<◌, ◌^◌, ◌↔◌, IsOk, IfOk};
+ghost use Rattle.std.specs.Int.{w64, to_be_bytes};
+ghost use Rattle.span_ids.specs.Identifiers.{IsSpanIdText, SpellsSpanId};
+
+use crate::bad_id::BadId;
+use std::marker::Model;
+
+/// The identifier of a span: 8 bytes, not all zero (OTLP `span_id`, W3C Trace Context
+/// `parent-id`). Contracts see it as the number that the bytes are, the most significant one first.
+#[derive(Clone, Copy, Debug, PartialEq, Eq, PartialOrd, Ord)]
+pub struct SpanId {
+    number: u64,
+}
+
+impl Model for SpanId {
+    ghost use Rattle.std.specs.Prelude.{ℕ, ◌<◌, ◌^◌};
+
+    ghost Value = { ℕ };
+
+    ghost view = { λ id. id.number };
+
+    ghost invariant = { λ id. (0 < id.number) × (id.number < 2 ^ 64) };
+
+    ghost inverse = { λ n. record { number = n } };
+}
+
+impl SpanId {
+    /// Reads an identifier in binary. Another length, or all zero, is `BadId`.
+    pub fn from_bytes(bytes: &[u8]) -> Result<SpanId, BadId>
+        ensures ok { IsOk result ↔ IsSpanIdText bytes.now }
+        ensures value { IfOk result (λ id. SpellsSpanId bytes.now id) }
+        // Whatever identifier the bytes spell is the answer.
+        ensures only { (id : ℕ) → SpellsSpanId bytes.now id → result ≡ Ok id }
+    {
+        let Ok(array) = <[u8; 8]>::try_from(bytes) else {
+            return Err(BadId);
+        };
+        let number = u64::from_be_bytes(array);
+        if number == 0 {
+            return Err(BadId);
+        }
+        Ok(SpanId { number })
+    }
+
+    /// The 8 bytes of the identifier.
+    pub fn to_bytes(&self) -> [u8; 8]
+        ensures written { result ≡ to_be_bytes w64 self.now }
+        // So that reading them gives the identifier back.
+        ensures again { SpellsSpanId result self.now }
+    {
+        self.number.to_be_bytes()
+    }
+
+    /// Tells the range of an identifier: it does nothing, and its caller learns the contract.
+    pub fn known(self)
+        ensures positive { 0 < self }
+        ensures fits { self < 2 ^ 64 }
+    {}
+}

@@ -1,0 +1,59 @@
+ghost use Rattle.std.specs.Prelude.{◌≡◌, ℕ, ◌<◌, ◌^◌, ◌↔◌, IsOk, IfOk};
+ghost use Rattle.std.specs.Int.{w128, to_be_bytes};
+ghost use Rattle.span_ids.specs.Identifiers.{IsTraceIdText, SpellsTraceId};
+
+use crate::bad_id::BadId;
+use std::marker::Model;
+
+/// The identifier of a trace: 16 bytes, not all zero (OTLP `trace_id`, W3C Trace Context
+/// `trace-id`). Contracts see it as the number that the bytes are, the most significant one first.
+#[derive(Clone, Copy, Debug, PartialEq, Eq, PartialOrd, Ord)]
+pub struct TraceId {
+    number: u128,
+}
+
+impl Model for TraceId {
+    ghost use Rattle.std.specs.Prelude.{ℕ, ◌<◌, ◌^◌};
+
+    ghost Value = { ℕ };
+
+    ghost view = { λ id. id.number };
+
+    ghost invariant = { λ id. (0 < id.number) × (id.number < 2 ^ 128) };
+
+    ghost inverse = { λ n. record { number = n } };
+}
+
+impl TraceId {
+    /// Reads an identifier in binary. Another length, or all zero, is `BadId`.
+    pub fn from_bytes(bytes: &[u8]) -> Result<TraceId, BadId>
+        ensures ok { IsOk result ↔ IsTraceIdText bytes.now }
+        ensures value { IfOk result (λ id. SpellsTraceId bytes.now id) }
+        // Whatever identifier the bytes spell is the answer.
+        ensures only { (id : ℕ) → SpellsTraceId bytes.now id → result ≡ Ok id }
+    {
+        let Ok(array) = <[u8; 16]>::try_from(bytes) else {
+            return Err(BadId);
+        };
+        let number = u128::from_be_bytes(array);
+        if number == 0 {
+            return Err(BadId);
+        }
+        Ok(TraceId { number })
+    }
+
+    /// The 16 bytes of the identifier.
+    pub fn to_bytes(&self) -> [u8; 16]
+        ensures written { result ≡ to_be_bytes w128 self.now }
+        // So that reading them gives the identifier back.
+        ensures again { SpellsTraceId result self.now }
+    {
+        self.number.to_be_bytes()
+    }
+
+    /// Tells the range of an identifier: it does nothing, and its caller learns the contract.
+    pub fn known(self)
+        ensures positive { 0 < self }
+        ensures fits { self < 2 ^ 128 }
+    {}
+}

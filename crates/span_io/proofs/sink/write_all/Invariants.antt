@@ -1,0 +1,12 @@
+use Rattle.std.proofs.Common.{◌≤◌, ◌-◌, length, take}
+use Rattle.span_io.specs.Outside.{Gains}
+use Rattle.span_io.proofs.sink.write_all.Given as goal
+
+abbrev pub invariant-writes : goal.invariant-writes
+invariant-writes g l = record {
+  within : l.done ≤ length l.piece;
+  gained : Gains (g.K.Sink.outlet l.initial.sink) (g.K.Sink.outlet l.sink) (take l.done l.piece);
+}
+
+abbrev pub decreases-writes : goal.decreases-writes
+decreases-writes g l = length l.piece - l.done

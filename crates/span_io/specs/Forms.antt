@@ -1,0 +1,7 @@
+-- The words by which a command line names the forms.
+use Rattle.std.specs.Prelude.{ℕ, List, codes}
+use Rattle.span_io.specs.declared.form.Form.{Form}
+use Rattle.span_io.specs.declared.form.Form.TheVariants.{OtlpProto}
+
+abbrev pub form_word : Form → List ℕ
+form_word OtlpProto = codes "otlp-proto"

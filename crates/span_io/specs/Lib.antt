@@ -1,0 +1,10 @@
+pub mod Causes
+pub mod Clones
+pub mod Counting
+pub mod Forms
+pub mod Frames
+pub mod Memory
+pub mod Outside
+pub mod Varint
+pub mod Walks
+pub mod formers

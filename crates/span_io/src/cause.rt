@@ -1,0 +1,44 @@
+ghost use Rattle.std.specs.Prelude.{◌≡◌};
+ghost use Rattle.span_io.specs.Causes.{cause_number, cause_name};
+
+/// Why an input has no reading. Each cause has a number, which never changes, and a name, which
+/// notes print.
+#[derive(Clone, Copy, Debug, PartialEq, Eq)]
+pub enum Cause {
+    /// The bytes, or the enclosing message, end inside an item.
+    Truncated,
+    /// A varint has more than ten bytes, or a tenth byte above 1 (proto3 wire format).
+    BadVarint,
+    /// A wire type or field number is outside its table (proto3 wire format).
+    BadWire,
+    /// The input has more bytes than its limit.
+    InputTooLong,
+    /// The input is no request of small spans, the only ones that are read so far.
+    Unbuilt,
+}
+
+impl Cause {
+    pub fn number(&self) -> u8
+        ensures { result ≡ cause_number self.now }
+    {
+        match self {
+            Cause::Truncated => 1,
+            Cause::BadVarint => 2,
+            Cause::BadWire => 3,
+            Cause::InputTooLong => 17,
+            Cause::Unbuilt => 18,
+        }
+    }
+
+    pub fn name(&self) -> &'static str
+        ensures { result.now ≡ cause_name self.now }
+    {
+        match self {
+            Cause::Truncated => "Truncated",
+            Cause::BadVarint => "BadVarint",
+            Cause::BadWire => "BadWire",
+            Cause::InputTooLong => "InputTooLong",
+            Cause::Unbuilt => "Unbuilt",
+        }
+    }
+}

@@ -1,0 +1,22 @@
+ghost use Rattle.std.specs.Prelude.{◌≡◌, ◌↔◌, Some};
+ghost use Rattle.span_io.specs.Forms.{form_word};
+ghost use Rattle.span_io.specs.declared.form.Form.{Form};
+
+/// A form of spans that is read and written so far.
+#[derive(Clone, Copy, Debug, PartialEq, Eq)]
+pub enum Form {
+    /// OTLP `ExportTraceServiceRequest` in the proto3 wire format.
+    OtlpProto,
+}
+
+impl Form {
+    /// The form that a word of the command line names, as `otlp-proto`.
+    pub fn of_word(word: &[u8]) -> Option<Form>
+        ensures { (form : Form) → (result ≡ Some form) ↔ (word.now ≡ form_word form) }
+    {
+        match word {
+            b"otlp-proto" => Some(Form::OtlpProto),
+            _ => None,
+        }
+    }
+}

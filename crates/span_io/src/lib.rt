@@ -1,0 +1,37 @@
+//! What the other crates stand on: the outside as counted sources and sinks, a cursor over borrowed
+//! bytes, lists that answer want of memory, and the causes of a refusal.
+#![tactic(auto)]
+
+mod blob;
+mod cause;
+mod count_sink;
+mod cursor;
+mod form;
+mod halt;
+mod items;
+pub mod laws;
+mod mem_sink;
+mod mem_source;
+mod reader_source;
+mod sink;
+mod source;
+mod text;
+mod writer_sink;
+
+pub use blob::Blob;
+pub use cause::Cause;
+pub use count_sink::CountSink;
+pub use cursor::{Cursor, Lack, Short};
+pub use form::Form;
+pub use halt::{Halt, OutOfMemory};
+pub use items::Items;
+pub use mem_sink::MemSink;
+pub use mem_source::MemSource;
+pub use reader_source::ReaderSource;
+pub use sink::{Sink, write_all};
+pub use source::{Failed, Source};
+pub use text::Text;
+pub use writer_sink::WriterSink;
+
+#[cfg(test)]
+mod tests;

@@ -1,0 +1,78 @@
+ghost use Rattle.std.specs.Prelude.{◌≡◌, ◌-◌, ◌≤◌, ◌↔◌, length, min, max, Contains, IfOk, OnErr, IsErr, Some};
+ghost use Rattle.std.specs.Io.{ReadsAtMost};
+ghost use Rattle.std.specs.Io.KnownBytes.{ReadConsumes};
+ghost use Rattle.span_io.specs.Outside.{InputFails, counted};
+ghost use Rattle.span_io.specs.Memory.{inlet_of};
+
+use crate::blob::Blob;
+use crate::items::Items;
+use crate::source::{Failed, Source};
+use std::marker::Model;
+
+/// A source over bytes in memory. It gives at most `cut` bytes a call, and at least one, and fails
+/// on the listed calls, which are numbered from 1. The counts of its calls and faults stay at the end
+/// of 64 bits.
+#[derive(Debug, Drop)]
+pub struct MemSource {
+    bytes: Blob,
+    place: usize,
+    cut: usize,
+    fail: Items<u64>,
+    calls: u64,
+    faults: u64,
+}
+
+impl Model for MemSource {
+    ghost use Rattle.std.specs.Prelude.{◌≤◌, length, drop, max};
+    ghost use Rattle.span_io.specs.Memory.{SourceState};
+
+    ghost Value = { SourceState };
+
+    ghost view = { λ s. record { left = drop s.place s.bytes; cut = max s.cut 1; fail = s.fail; calls = s.calls; faults = s.faults } };
+
+    ghost invariant = { λ s. s.place ≤ length s.bytes };
+}
+
+impl MemSource {
+    pub fn new(bytes: Blob, cut: usize, fail: Items<u64>) -> MemSource
+        ensures { result ≡ record { left = bytes; cut = max cut 1; fail = fail; calls = 0; faults = 0 } }
+    {
+        MemSource {
+            bytes,
+            place: 0,
+            cut,
+            fail,
+            calls: 0,
+            faults: 0,
+        }
+    }
+}
+
+impl Source for MemSource {
+    ghost inlet = { inlet_of };
+
+    fn read(&mut self, buf: &mut [u8]) -> Result<usize, Failed>
+        ensures bound { ReadsAtMost result buf.new }
+        ensures bytes { ReadConsumes (inlet_of self.old).left (inlet_of self.new).left result buf.new }
+        ensures counted { (inlet_of self.old).faults ≤ (inlet_of self.new).faults }
+        ensures failed { OnErr result (InputFails (inlet_of self.old) (inlet_of self.new)) }
+
+        // It fails exactly on the listed calls, and else gives as many bytes as its cut, the room and
+        // its rest allow.
+        ensures fails { IsErr result ↔ Contains self.old.fail (counted self.old.calls) }
+        ensures gives { IfOk result (λ n. n ≡ min (min self.old.cut (length buf.old)) (length self.old.left)) }
+        ensures calls { self.new.calls ≡ counted self.old.calls }
+        ensures stays { (self.new.fail ≡ self.old.fail) × (self.new.cut ≡ self.old.cut) }
+    {
+        self.calls = self.calls.saturating_add(1);
+        if self.fail.as_slice().contains(&self.calls) {
+            self.faults = self.faults.saturating_add(1);
+            return Err(Failed);
+        }
+        let rest = &self.bytes.as_slice()[self.place..];
+        let given = self.cut.max(1).min(buf.len()).min(rest.len());
+        buf[..given].copy_from_slice(&rest[..given]);
+        self.place += given;
+        Ok(given)
+    }
+}
