@@ -1,5 +1,5 @@
 -- The canonical text of a request is a text of it.
-use Rattle.std.proofs.Common.{◌≡◌, ◌≢◌, ℕ, zero, suc, ◌+◌, ◌<◌, ◌≤◌, ◌^◌, List, [], ◌∷◌, ◌++◌, length, Option, Some, None, refl, sym, ap, subst, ◌∙◌, append_assoc, length-append, arith, inl, inr, lit<}
+use Rattle.std.proofs.Common.{◌≡◌, ℕ, zero, suc, ◌+◌, ◌<◌, ◌≤◌, ◌^◌, List, [], ◌∷◌, ◌++◌, length, Option, Some, None, refl, sym, ap, subst, ◌∙◌, append_assoc, length-append, arith, inl, inr, lit<}
 use Rattle.std.proofs.lemmas.List.Concat.{flat_map-append}
 use Rattle.std.specs.Prelude.{IfSome, IsUtf8}
 use Rattle.std.specs.List.{AllByRecursion}
@@ -14,7 +14,7 @@ use Rattle.span_cli.specs.declared.small.Span.{Span}
 use Rattle.span_cli.specs.declared.small.Scope.{Scope}
 use Rattle.span_cli.specs.declared.small.Group.{Group}
 use Rattle.span_cli.specs.declared.small.Request.{Request}
-use Rattle.span_cli.specs.Small.{Required, Singular, MeansParent, MeansText, MeansNumber, bytes_of, fixed64_of, IsSpan, IsSpanText, IsSpanField, IsElement, Elements, IsListText, IsScopeText, IsGroupText, Small, IsProperSpan, IsProper, field_text, parent_text, name_text, time_text, span_text, list_text, scope_text, group_text, small_text}
+use Rattle.span_cli.specs.Small.{Required, Singular, MeansParent, MeansText, MeansNumber, bytes_of, fixed64_of, IsSpan, IsSpanText, IsSpanField, Elements, IsListText, IsScopeText, IsGroupText, Small, IsProperSpan, IsProper, field_text, parent_text, name_text, time_text, span_text, list_text, scope_text, group_text, small_text}
 
 -- the laws that the proof rests on
 abbrev pub Spelled : Type 0
@@ -183,18 +183,18 @@ is_span : Identifiers → (s : Span) → IsProperSpan s → IsSpan s (span_recor
 unfolding span_records all trace_records id_records
 is_span identifiers s proper = record {
   known = All-append (((((trace_records s.trace ++ id_records s.id) ++ parent_records s.parent) ++ name_records s.name) ++ time_records 7 s.start)) (time_records 8 s.end)
-    (All-append ((((trace_records s.trace ++ id_records s.id) ++ parent_records s.parent) ++ name_records s.name)) (time_records 7 s.start)
+      (All-append ((((trace_records s.trace ++ id_records s.id) ++ parent_records s.parent) ++ name_records s.name)) (time_records 7 s.start)
       (All-append (((trace_records s.trace ++ id_records s.id) ++ parent_records s.parent)) (name_records s.name)
-        (All-append (trace_records s.trace ++ id_records s.id) (parent_records s.parent) (inl refl, (inr (inl refl), tt)) (parent_known s.parent))
-        (name_known s.name))
+      (All-append (trace_records s.trace ++ id_records s.id) (parent_records s.parent) (inl refl, (inr (inl refl), tt)) (parent_known s.parent))
+      (name_known s.name))
       (start_known s.start))
-    (end_known s.end);
+      (end_known s.end);
   trace = subst (λ (l : List (List ℕ)). Required SpellsTraceId l s.trace) (sym (traces s.trace s.id s.parent s.name s.start s.end)) (identifiers.trace s.trace proper.trace.0 proper.trace.1);
   id = subst (λ (l : List (List ℕ)). Required SpellsSpanId l s.id) (sym (ids s.trace s.id s.parent s.name s.start s.end)) (identifiers.span s.id proper.id.0 proper.id.1);
   parent = subst (λ (l : List (List ℕ)). Singular MeansParent None l s.parent) (sym (parents s.trace s.id s.parent s.name s.start s.end)) (parent_means identifiers s.parent proper.parent);
   name = subst (λ (l : List (List ℕ)). Singular MeansText [] l s.name) (sym (names s.trace s.id s.parent s.name s.start s.end)) (name_means s.name proper.name);
   start = subst (λ (l : List ℕ). Singular MeansNumber 0 l s.start) (sym (starts s.trace s.id s.parent s.name s.start s.end)) (start_means s.start);
-  end = subst (λ (l : List ℕ). Singular MeansNumber 0 l s.end) (sym (ends s.trace s.id s.parent s.name s.start s.end)) (end_means s.end)
+  end = subst (λ (l : List ℕ). Singular MeansNumber 0 l s.end) (sym (ends s.trace s.id s.parent s.name s.start s.end)) (end_means s.end);
 }
 
 -- ---- the text of a span, and of lists
@@ -254,8 +254,10 @@ module _ (opened : Opened) where
     where
       front : List ℕ
       front = (field_text 1 (to_be_bytes w128 s.trace) ++ field_text 2 (to_be_bytes w64 s.id)) ++ parent_text s.parent
+
       lengths : length ((((front ++ name_text s.name) ++ time_text 7 s.start) ++ time_text 8 s.end)) ≡ ((length front + length (name_text s.name)) + length (time_text 7 s.start)) + length (time_text 8 s.end)
       lengths = simp length-append
+
       named : (n : List ℕ) → length (name_text n) < 2 ^ 64 → length n < 2 ^ 64
       named [] small = omega arith
       named (b ∷ n) small = omega (arith, held_fits 5 (b ∷ n))
@@ -278,7 +280,7 @@ module _ (spelled : Spelled) (opened : Opened) {A : Type 0} (number : ℕ) (low 
   unfolding element_records list_text
   list_wire [] fits = Wire-nothing
   list_wire (x ∷ xs) fits = subst (λ (l : List ℕ). Wire (element_records (x ∷ xs)) l) (sym (cons_text x xs))
-    (Wire-append (record { number = number; held = bytes (text x) } ∷ []) (element_records xs) (field_text number (text x)) (list_text number text xs)
+      (Wire-append (record { number = number; held = bytes (text x) } ∷ []) (element_records xs) (field_text number (text x)) (list_text number text xs)
       (field_wire spelled number (text x) low high (omega (arith, cons_length x xs, held_fits opened number (text x))))
       (list_wire xs (omega (arith, cons_length x xs))))
 

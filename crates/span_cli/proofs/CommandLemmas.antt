@@ -1,7 +1,6 @@
 -- A command is spelled by the mode, and its two options in either order.
-use Rattle.std.proofs.Common.{◌≡◌, ◌⊎◌, ◌↔◌, ℕ, List, [], ◌∷◌, length, inl, inr, sym, ap, ◌∙◌, arith}
+use Rattle.std.proofs.Common.{◌≡◌, ◌↔◌, ℕ, List, [], ◌∷◌, length, inl, inr, sym, ap, ◌∙◌, arith}
 use Rattle.std.specs.Prelude.{codes}
-use Rattle.span_io.specs.Forms.{form_word}
 use Rattle.span_cli.specs.declared.command.Command.{Command}
 use Rattle.span_cli.specs.declared.command.Command.TheVariants.{Convert}
 use Rattle.span_cli.specs.declared.command.Side.{Side}
@@ -38,14 +37,14 @@ module _ (mode first first_word second second_word : List ℕ) where
     λ spelled. elim spelled [
       | inl h ↦ let s = same mode first first_word second second_word _ _ _ _ _ h in (s.third, s.fifth)
       | inr h ↦ let s = same mode first first_word second second_word _ _ _ _ _ h in absurd (other_word (sym is_first ∙ s.second))
-    ]
+    ],
   )
   spells_between To (Convert source target) is_mode is_first is_second = (
     λ between. inr (listed mode first first_word second second_word _ _ _ _ _ is_mode is_first between.1 is_second between.0),
     λ spelled. elim spelled [
       | inl h ↦ let s = same mode first first_word second second_word _ _ _ _ _ h in absurd (other_word (sym s.second ∙ is_first))
       | inr h ↦ let s = same mode first first_word second second_word _ _ _ _ _ h in (s.fifth, s.third)
-    ]
+    ],
   )
 
   -- where the options are not one of each side, no command is spelled

@@ -1,7 +1,7 @@
 -- Reading messages that stand in records of one number.
-use Rattle.std.proofs.Common.{◌≡◌, ◌≢◌, ℕ, List, [], ◌∷◌, ◌++◌, refl, sym, ap, subst, ◌∙◌, append_assoc}
+use Rattle.std.proofs.Common.{◌≡◌, ◌≢◌, ℕ, List, [], ◌∷◌, ◌++◌, subst, append_assoc}
 use Rattle.proto_wire.specs.Records.{Record}
-use Rattle.proto_wire.specs.Wire.{Wire, Begins}
+use Rattle.proto_wire.specs.Wire.{Begins}
 use Rattle.span_cli.specs.Small.{IsElement, Elements, IsListText}
 use Rattle.span_cli.proofs.Passing.{Passed, Passed-start, OnlyBegins, Passed-step, Passed-end, Passed-stuck}
 

@@ -1,9 +1,7 @@
 -- Messages that are written one after the other in records of one number.
 use Rattle.std.proofs.Common.{◌≡◌, ℕ, ◌+◌, ◌<◌, List, [], ◌∷◌, ◌++◌, length, take, get_or, refl, sym, ap, ◌∙◌, append_assoc, arith, length-append}
-use Rattle.std.specs.List.{flat_map}
-use Rattle.std.proofs.lemmas.List.{append-nil, take_more, flat_map_more}
-use Rattle.proto_wire.specs.Records.{Record, bytes}
-use Rattle.proto_wire.specs.Wire.{record_text, opening_text}
+use Rattle.std.proofs.lemmas.List.{take_more, flat_map_more}
+use Rattle.proto_wire.specs.Wire.{opening_text}
 use Rattle.span_cli.specs.Small.{field_text, list_text}
 
 module _ {A : Type 0} (number : ℕ) (text : A → List ℕ) (opened : (held : List ℕ) → field_text number held ≡ opening_text number (length held) ++ held) where

@@ -10,4 +10,4 @@ line unit number name = codes "unit " ++ unit ++ codes ": cause " ++ number ++ c
 pub same_line : (before now : Outlet) (unit unit' number number' name name' : List ℕ) → unit ≡ unit' → number ≡ number' → name ≡ name' → Gains before now (line unit number name) → Gains before now (line unit' number' name')
 same_line before now unit unit' number number' name name' u n m gains =
     subst (λ (x : List ℕ). Gains before now (line unit' number' x)) m
-      (subst (λ (x : List ℕ). Gains before now (line unit' x name)) n (subst (λ (x : List ℕ). Gains before now (line x number name)) u gains))
+    (subst (λ (x : List ℕ). Gains before now (line unit' x name)) n (subst (λ (x : List ℕ). Gains before now (line x number name)) u gains))

@@ -1,17 +1,17 @@
 -- What the records of a span give to its fields.
-use Rattle.std.proofs.Common.{◌≡◌, ◌≢◌, ℕ, List, [], ◌∷◌, ◌++◌, Option, Some, None, refl, sym, ap, subst, ◌∙◌, append_assoc}
+use Rattle.std.proofs.Common.{◌≡◌, ◌≢◌, ℕ, List, [], ◌∷◌, ◌++◌, None, ap, subst, ◌∙◌, append_assoc}
 use Rattle.std.proofs.lemmas.List.{append-nil}
-use Rattle.std.specs.List.{flat_map, AllByRecursion}
+use Rattle.std.specs.List.{AllByRecursion}
 use Rattle.std.specs.Borrow.{Bor}
 use Rattle.std.proofs.lemmas.List.Concat.{flat_map-append, flat_map-cons}
-use Rattle.proto_wire.specs.Records.{Record, bytes, fixed64}
+use Rattle.proto_wire.specs.Records.{Record}
 use Rattle.span_ids.specs.Identifiers.{SpellsTraceId, SpellsSpanId}
 use Rattle.span_cli.specs.declared.small.Span.{Span}
-use Rattle.span_cli.specs.declared.span_reading.SpanField.TheVariants.{TraceId, SpanId, Parent, Name, Start, End}
+use Rattle.span_cli.specs.declared.span_reading.SpanField.TheVariants.{TraceId, SpanId, Name}
 use Rattle.span_cli.specs.declared.span_reading.Rows.{Rows}
 use Rattle.proto_wire.specs.Wire.{Wire, Begins}
 use Rattle.span_cli.proofs.Passing.{Passed, Passed-start, OnlyBegins, Passed-step, Passed-end, Passed-stuck}
-use Rattle.span_cli.specs.Small.{IsSpan, IsSpanText, IsSpanField, Required, Singular, bytes_in, bytes_of, fixed64_of, MeansParent, MeansText, MeansNumber}
+use Rattle.span_cli.specs.Small.{IsSpan, IsSpanText, IsSpanField, Required, Singular, bytes_in, bytes_of, MeansText}
 use Rattle.span_cli.specs.Rows.{Gathered, NeverAdds}
 
 required_at : {A B : Type 0} (Means : A → B → Type 0) (before : List A) (held : A) (behind : List A) (value : B) → Required Means (before ++ held ∷ behind) value → Means held value

@@ -1,12 +1,11 @@
 -- A text has one reading as a request of small spans.
-use Rattle.std.proofs.Common.{◌≡◌, ℕ, List, [], ◌∷◌, ◌++◌, Option, Some, None, refl, sym, ap, subst, ◌∙◌, ◌⊎◌, ◌≤◌, ◌<◌, length, replicate, get_or, ◌≢◌, Any, inl, inr, arith}
+use Rattle.std.proofs.Common.{◌≡◌, ℕ, List, [], ◌∷◌, Option, Some, None, refl, sym, ap, subst, ◌∙◌, ◌⊎◌, ◌<◌, length, replicate, get_or, ◌≢◌, Any, inl, inr, arith}
 use Rattle.proto_wire.specs.Records.{Record, bytes}
 use Rattle.proto_wire.specs.Wire.{Wire}
 use Rattle.span_ids.specs.Identifiers.{SpellsTraceId, SpellsSpanId}
 use Rattle.span_cli.specs.declared.small.Span.{Span}
 use Rattle.span_cli.specs.declared.small.Scope.{Scope}
 use Rattle.span_cli.specs.declared.small.Group.{Group}
-use Rattle.span_cli.specs.declared.small.Request.{Request}
 use Rattle.span_cli.specs.Small.{IsSpan, IsSpanText, Required, Singular, IsElement, Elements, IsListText, IsScopeText, IsGroupText, Small, bytes_of, fixed64_of, MeansParent, MeansText, MeansNumber}
 
 -- what law of the wire format the proof rests on
@@ -39,6 +38,7 @@ no_id held id spelled (inr e) = zeros_none (subst (λ (l : List ℕ). Any {X = �
   where
     zero_at : (k x : ℕ) → k < 8 → get_or (replicate 8 0) k x ≡ 0
     zero_at k x lt = grind arith
+
     zeros_none : Any {X = ℕ} (λ b. b ≢ 0) (replicate 8 0) → ⊥
     zeros_none found = found.4 (sym found.3 ∙ zero_at found.0 found.1 found.2)
 

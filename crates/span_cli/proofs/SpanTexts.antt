@@ -1,5 +1,5 @@
 -- The text of a span, written and measured field by field.
-use Rattle.std.proofs.Common.{◌≡◌, ℕ, ◌+◌, List, ◌++◌, length, refl, sym, ap, ◌∙◌, append_assoc, length-append, arith}
+use Rattle.std.proofs.Common.{◌≡◌, ℕ, ◌+◌, List, ◌++◌, length, sym, append_assoc, length-append}
 use Rattle.std.specs.Int.{w64, w128, to_be_bytes}
 use Rattle.span_cli.specs.declared.small.Span.{Span}
 use Rattle.span_cli.specs.Small.{span_text, field_text, parent_text, name_text, time_text}

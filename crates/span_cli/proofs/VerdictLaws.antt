@@ -1,11 +1,10 @@
 -- An input has one verdict.
-use Rattle.std.proofs.Common.{◌≡◌, ◌≤◌, ◌<◌, ℕ, List, length, refl, sym, ap, ◌∙◌, inl, inr, arith, length-append, Option, Some, None, ◌++◌, ◌+◌}
+use Rattle.std.proofs.Common.{◌≡◌, ◌≤◌, ◌<◌, ℕ, List, length, refl, sym, ap, ◌∙◌, inl, inr, arith, length-append, Option, Some, None, ◌+◌}
 use Rattle.std.specs.Prelude.{IfSome}
 use Rattle.std.specs.Io.KnownBytes.{Consumes}
 use Rattle.span_io.specs.declared.cause.Cause.TheVariants.{InputTooLong}
 use Rattle.span_cli.specs.declared.verdict.Ending.{Ending}
 use Rattle.span_cli.specs.declared.verdict.Ending.TheVariants as endings
-use Rattle.span_cli.specs.declared.small.Request.{Request}
 use Rattle.span_cli.specs.declared.verdict.Refusal.{Refusal}
 use Rattle.span_cli.specs.declared.verdict.Verdict.{Verdict}
 use Rattle.span_cli.specs.declared.verdict.Verdict.TheVariants.{Good, Refused}

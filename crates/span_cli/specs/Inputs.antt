@@ -1,5 +1,5 @@
 -- What reading an input whole answers, and what it leaves of the source.
-use Rattle.std.specs.Prelude.{◌≡◌, ℕ, ◌<◌, ◌≤◌, List, [], ◌++◌, length, Result, Ok, Err}
+use Rattle.std.specs.Prelude.{◌≡◌, ℕ, ◌<◌, ◌≤◌, List, ◌++◌, length, Result, Ok, Err}
 use Rattle.std.specs.Io.KnownBytes.{Consumes, IsAtEnd}
 use Rattle.span_io.specs.Outside.{Inlet, InputFails}
 use Rattle.span_cli.specs.declared.input.Input.{Input}

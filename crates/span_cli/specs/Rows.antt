@@ -1,5 +1,5 @@
 -- What a reader has gathered of a span: a value for each field of which a record was seen.
-use Rattle.std.specs.Prelude.{◌≡◌, ℕ, List, [], ◌∷◌, ◌++◌, Option, Some, None}
+use Rattle.std.specs.Prelude.{◌≡◌, List, [], ◌∷◌, ◌++◌, Option, Some, None}
 use Rattle.std.specs.List.{AllByRecursion}
 use Rattle.proto_wire.specs.Records.{Record, bytes, fixed64}
 use Rattle.span_ids.specs.Identifiers.{SpellsTraceId, SpellsSpanId}

@@ -1,5 +1,5 @@
 -- What is to be said of an input: the text to write, the status, and the line that is noted.
-use Rattle.std.specs.Prelude.{◌≡◌, ℕ, ◌<◌, ◌≤◌, ◌⊎◌, ◌==◌, if◌then◌else◌, List, [], ◌∷◌, ◌++◌, length, IsTrue, codes, decimal}
+use Rattle.std.specs.Prelude.{◌≡◌, ℕ, ◌<◌, ◌≤◌, ◌⊎◌, ◌==◌, if◌then◌else◌, List, [], ◌∷◌, ◌++◌, length, Option, IfSome, IsTrue, codes, decimal}
 use Rattle.std.specs.List.{list_any}
 use Rattle.span_io.specs.Outside.{Outlet, Gains, GainsFront, Rose}
 use Rattle.span_io.specs.Causes.{cause_number, cause_name}
@@ -20,6 +20,10 @@ abbrev pub IsVerdict : Verdict → List ℕ → Type 0
 IsVerdict (Good text) bytes = (length bytes ≤ input_limit) × (request : Request) × Small request bytes × (text ≡ small_text request)
 IsVerdict (Refused refusal) bytes = (refusal ≡ record { unit = 0; cause = InputTooLong }) × (input_limit < length bytes)
     ⊎ (refusal ≡ record { unit = 0; cause = Unbuilt }) × (length bytes ≤ input_limit) × ((request : Request) → ¬ Small request bytes)
+
+-- Where the bytes of the input are told, the fact holds of the verdict on them.
+abbrev pub OnVerdict : Option (List ℕ) → (Verdict → Type 0) → Type 0
+OnVerdict left P = IfSome left (λ bytes. (verdict : Verdict) → IsVerdict verdict bytes → P verdict)
 
 -- what is to be written
 abbrev pub text_in : Verdict → List ℕ
@@ -87,13 +91,22 @@ usage_line = codes "usage: spanx convert|losses|show|check|headers|gauge|serve O
 abbrev pub refusal_line : Refusal → List ℕ
 refusal_line refusal = codes "unit " ++ decimal refusal.unit ++ codes ": cause " ++ decimal (cause_number refusal.cause) ++ codes " " ++ cause_name refusal.cause ++ codes "\n"
 
+-- the line of a stage, none where a verdict was carried out
+abbrev pub stage_line : Stage → List ℕ
+stage_line usage = usage_line
+stage_line said = []
+stage_line input_failed = codes "input failed\n"
+stage_line output_failed = codes "output failed\n"
+stage_line no_memory = codes "out of memory\n"
+
+-- the line of a verdict that was carried out, or of another stage
 abbrev pub line_of : Stage → Verdict → List ℕ
-line_of usage verdict = usage_line
+line_of usage verdict = stage_line usage
 line_of said (Good text) = []
 line_of said (Refused refusal) = refusal_line refusal
-line_of input_failed verdict = codes "input failed\n"
-line_of output_failed verdict = codes "output failed\n"
-line_of no_memory verdict = codes "out of memory\n"
+line_of input_failed verdict = stage_line input_failed
+line_of output_failed verdict = stage_line output_failed
+line_of no_memory verdict = stage_line no_memory
 
 abbrev pub ending_line : Ending → List ℕ
 ending_line endings.Whole = []

@@ -15,3 +15,6 @@ mod verdict;
 
 pub use command::{Command, read_words};
 pub use top::run;
+
+#[cfg(test)]
+mod tests;

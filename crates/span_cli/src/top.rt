@@ -1,12 +1,10 @@
 //! The top call.
-ghost use Rattle.std.specs.Prelude.{◌≡◌, ◌≢◌, ◌↔◌, ℕ, List, IfSome};
+ghost use Rattle.std.specs.Prelude.{◌≡◌, ◌≢◌, ◌↔◌, IfSome};
 ghost use Rattle.std.specs.Io.KnownBytes.{IsAtEnd};
 ghost use Rattle.span_io.specs.Outside.{InputFails, OutputFails};
 ghost use Rattle.span_cli.specs.Commands.{texts, Spells};
-ghost use Rattle.span_cli.specs.Verdicts.{IsVerdict, IsStatus, IsJudged, AgreesWith, Writes, Notes, stage_of, status_of, text_in, line_of, ending_line};
+ghost use Rattle.span_cli.specs.Verdicts.{OnVerdict, IsStatus, IsJudged, AgreesWith, Writes, Notes, stage_of, status_of, text_in, stage_line, line_of, ending_line};
 ghost use Rattle.span_cli.specs.declared.command.Command.{Command};
-ghost use Rattle.span_cli.specs.declared.verdict.Verdict.{Verdict};
-ghost use Rattle.span_cli.specs.declared.verdict.Verdict.TheVariants.{Good};
 
 use crate::command::{Command, read_words};
 use crate::input::{Input, ReadStop, read_whole};
@@ -41,16 +39,15 @@ pub fn run<S: Source, K: Sink, N: Sink>(
     ensures all_read { result ≡ 0 → IsAtEnd (S.inlet input.new).left }
 
     // Where the input tells its bytes, the verdict on them says the status, the output and the note.
-    ensures judged { IfSome (S.inlet input.old).left (λ bytes. IsJudged (stage_of result) bytes) }
-    ensures verdict { IfSome (S.inlet input.old).left (λ bytes.
-        (verdict : Verdict) → IsVerdict verdict bytes → AgreesWith (stage_of result) result verdict) }
-    ensures output { IfSome (S.inlet input.old).left (λ bytes.
-        (verdict : Verdict) → IsVerdict verdict bytes → Writes (stage_of result) (text_in verdict) (K.outlet output.old) (K.outlet output.new)) }
-    ensures notes { IfSome (S.inlet input.old).left (λ bytes.
-        (verdict : Verdict) → IsVerdict verdict bytes → Notes (N.outlet notes.old) (N.outlet notes.new) (line_of (stage_of result) verdict)) }
+    ensures judged { IfSome (S.inlet input.old).left (IsJudged (stage_of result)) }
+    ensures verdict { OnVerdict (S.inlet input.old).left (AgreesWith (stage_of result) result) }
+    ensures output { OnVerdict (S.inlet input.old).left
+        (λ verdict. Writes (stage_of result) (text_in verdict) (K.outlet output.old) (K.outlet output.new)) }
+    ensures notes { OnVerdict (S.inlet input.old).left
+        (λ verdict. Notes (N.outlet notes.old) (N.outlet notes.new) (line_of (stage_of result) verdict)) }
 
-    // Each status but 3 has its line, whether or not the input tells its bytes.
-    ensures line { result ≢ 3 → (text : List ℕ) → Notes (N.outlet notes.old) (N.outlet notes.new) (line_of (stage_of result) (Good text)) }
+    // The line of each status but 3 doesn't hang on the input.
+    ensures line { result ≢ 3 → Notes (N.outlet notes.old) (N.outlet notes.new) (stage_line (stage_of result)) }
 {
     let Some(command) = read_words(words) else {
         note_usage(notes);
@@ -69,13 +66,11 @@ fn convert<S: Source, K: Sink>(alloc: Global, input: &mut S, output: &mut K) -> 
     ensures unwritten { status_of result ≡ 5 → output.new ≡ output.old }
     ensures output_fails { status_of result ≡ 6 → OutputFails (K.outlet output.old) (K.outlet output.new) }
     ensures all_read { status_of result ≡ 0 → IsAtEnd (S.inlet input.new).left }
-    ensures judged { IfSome (S.inlet input.old).left (λ bytes. IsJudged (stage_of (status_of result)) bytes) }
-    ensures verdict { IfSome (S.inlet input.old).left (λ bytes.
-        (verdict : Verdict) → IsVerdict verdict bytes → AgreesWith (stage_of (status_of result)) (status_of result) verdict) }
-    ensures output { IfSome (S.inlet input.old).left (λ bytes.
-        (verdict : Verdict) → IsVerdict verdict bytes → Writes (stage_of (status_of result)) (text_in verdict) (K.outlet output.old) (K.outlet output.new)) }
-    ensures line { IfSome (S.inlet input.old).left (λ bytes.
-        (verdict : Verdict) → IsVerdict verdict bytes → ending_line result ≡ line_of (stage_of (status_of result)) verdict) }
+    ensures judged { IfSome (S.inlet input.old).left (IsJudged (stage_of (status_of result))) }
+    ensures verdict { OnVerdict (S.inlet input.old).left (AgreesWith (stage_of (status_of result)) (status_of result)) }
+    ensures output { OnVerdict (S.inlet input.old).left
+        (λ verdict. Writes (stage_of (status_of result)) (text_in verdict) (K.outlet output.old) (K.outlet output.new)) }
+    ensures line { OnVerdict (S.inlet input.old).left (λ verdict. ending_line result ≡ line_of (stage_of (status_of result)) verdict) }
 {
     one_request();
     let bytes = match read_whole(alloc, input) {

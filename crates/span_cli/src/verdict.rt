@@ -64,7 +64,7 @@ pub fn judge(alloc: Global, bytes: &[u8]) -> Result<Verdict, OutOfMemory>
         }
         Err(Halt::OutOfMemory) => return Err(OutOfMemory),
     };
-    let mut text = Blob::new(alloc);
+    let mut text = Blob::with_room(alloc, request.size()? as usize)?;
     request.write(&mut text)?;
     Ok(Verdict::Good(text))
 }

@@ -9,4 +9,6 @@ pub fn identifiers_read_back()
     ensures trace_once { (bytes : List ℕ) (a b : ℕ) → SpellsTraceId bytes a → SpellsTraceId bytes b → a ≡ b }
     ensures span_written { (id : ℕ) → 0 < id → id < 2 ^ 64 → SpellsSpanId (to_be_bytes w64 id) id }
     ensures span_once { (bytes : List ℕ) (a b : ℕ) → SpellsSpanId bytes a → SpellsSpanId bytes b → a ≡ b }
-{}
+{
+    // The clauses are the law.
+}

@@ -55,5 +55,7 @@ impl SpanId {
     pub fn known(self)
         ensures positive { 0 < self }
         ensures fits { self < 2 ^ 64 }
-    {}
+    {
+        // The type keeps it.
+    }
 }

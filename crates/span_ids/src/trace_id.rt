@@ -55,5 +55,7 @@ impl TraceId {
     pub fn known(self)
         ensures positive { 0 < self }
         ensures fits { self < 2 ^ 128 }
-    {}
+    {
+        // The type keeps it.
+    }
 }

@@ -1,18 +1,17 @@
-use Rattle.std.proofs.Common.{◌≡◌, ℕ, List, [], ◌∷◌, Some, None, Option, ap, sym, ◌∙◌, rules}
+use Rattle.std.proofs.Common.{◌≡◌, Some, None, Option, ap, sym, ◌∙◌, rules}
 use Rattle.std.specs.Prelude.{codes}
 use Rattle.span_cli.specs.declared.command.Command.{Command}
 use Rattle.span_cli.specs.declared.command.Side.{Side}
 use Rattle.span_cli.specs.declared.command.Side.TheVariants.{From, To}
-use Rattle.span_cli.specs.Commands.{Spells, side_word, other_side}
-use Rattle.span_cli.proofs.CommandLemmas.{Between, spells_between, spells_sides}
+use Rattle.span_cli.proofs.CommandLemmas.{spells_between, spells_sides}
 use Rattle.span_cli.proofs.command.command_of.Goals as goal
 
 pub returns-in_err-first_side : goal.returns-in_err-first_side
 returns-in_err-first_side c = λ command. (
-    λ same. absurd (let h : ◌≡◌ {A = Option Command} None (Some command) = sym c.from_residual.ensures ∙ same in cc),
-    λ spelled. absurd (spells_sides c.args.mode.now c.args.first.now c.args.first_word.now c.args.second.now c.args.second_word.now command
-      (λ side p q. let h : ◌≡◌ {A = Option Side} None (Some side) = (c.in_err-first_side.ensures side).1 (p, q) in cc) spelled)
-  )
+  λ same. absurd (let h : ◌≡◌ {A = Option Command} None (Some command) = sym c.from_residual.ensures ∙ same in cc),
+  λ spelled. absurd (spells_sides c.args.mode.now c.args.first.now c.args.first_word.now c.args.second.now c.args.second_word.now command
+      (λ side p q. let h : ◌≡◌ {A = Option Side} None (Some side) = (c.in_err-first_side.ensures side).1 (p, q) in cc) spelled),
+)
 
 pub returns-in-From : goal.returns-in-From
 returns-in-From c = λ command.

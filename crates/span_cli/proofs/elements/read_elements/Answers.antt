@@ -1,9 +1,8 @@
-use Rattle.std.proofs.Common.{◌≡◌, ℕ, List, [], ap, sym}
 use Rattle.std.proofs.lemmas.Result.{err_from_is_err_and}
 use Rattle.proto_wire.specs.Records.{plain_record}
-use Rattle.span_cli.proofs.Passing.{OnlyBegins, only_begins}
+use Rattle.span_cli.proofs.Passing.{only_begins}
 use Rattle.span_cli.proofs.Refusals.{WhereRefused-weaker}
-use Rattle.span_cli.proofs.ElementLemmas.{ReadSoFar, read_start, read_step, read_end, none_stuck, none_held}
+use Rattle.span_cli.proofs.ElementLemmas.{read_start, read_step, read_end, none_stuck, none_held}
 use Rattle.span_cli.proofs.elements.read_elements.Goals as goal
 use Rattle.span_cli.proofs.elements.read_elements.Goals.{In-Ok-Some}
 

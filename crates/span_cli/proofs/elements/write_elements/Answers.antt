@@ -10,6 +10,6 @@ loop-item-init g c = sym (append-nil c.args.out.now) ∙ ap (λ (l : List ℕ). 
 pub loop-item-preserved : goal.loop-item-preserved
 loop-item-preserved g c =
     let opening : c.write_opening.new.out ≡ c.loop-item.out ++ opening_text c.args.number (length (g.T.Message.text c.item-item.result)) =
-        c.in_ok-write_opening.ensures.ok ∙ ap (λ (n : ℕ). c.loop-item.out ++ opening_text c.args.number n) c.in_ok-size.ensures in
+    c.in_ok-write_opening.ensures.ok ∙ ap (λ (n : ℕ). c.loop-item.out ++ opening_text c.args.number n) c.in_ok-size.ensures in
     list_more c.args.number g.T.Message.text (c.shortest_record.ensures.opened c.args.number) c.args.out.now c.loop-item.out c.write_opening.new.out c.write.new.out c.args.items.now c.loop-item.item-index c.item-item.result
-      c.loop-item-test.true c.item-item.is c.loop-item.invariant opening c.in_ok-write.ensures
+    c.loop-item-test.true c.item-item.is c.loop-item.invariant opening c.in_ok-write.ensures

@@ -1,7 +1,6 @@
 use Rattle.std.proofs.Common.{List}
 use Rattle.std.proofs.lemmas.Result.{err_from_is_err_and, IfOk-weaker}
 use Rattle.proto_wire.specs.Records.{Record, plain_record}
-use Rattle.span_cli.specs.declared.small.Span.{Span}
 use Rattle.span_cli.specs.Rows.{Gathered}
 use Rattle.span_cli.specs.Small.{IsSpan, IsSpanText}
 use Rattle.span_cli.proofs.Passing.{only_begins}
