@@ -1,6 +1,8 @@
-pub mod Fronts
+pub mod FirstFrame
+pub mod LengthsPast
 pub mod Messages
 pub mod NextClauses
+pub mod OpenBytes
 pub mod Payloads
 pub mod Refusals
 pub mod Shortest

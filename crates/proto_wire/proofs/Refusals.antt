@@ -10,7 +10,7 @@ use Rattle.span_io.specs.Varint.{SpellsVarint, SpellsWithin, IsInsideVarint, IsO
 use Rattle.proto_wire.specs.Records.{Held, varint, fixed64, bytes, fixed32, Record, wire_type, IsFieldNumber}
 use Rattle.proto_wire.specs.Wire.{SpellsHeld, SpellsRecord, Begins, IsKeyThenVarint, IsOpenRecord, records, HasOverlong, HasBadKey}
 use Rattle.proto_wire.specs.Reading.{number_at, held_at, record_at, ◌>>=◌}
-use Rattle.proto_wire.proofs.Fronts.{two_cuts, append_empty_right}
+use Rattle.span_io.proofs.Fronts.{two_cuts, append_empty_right}
 use Rattle.proto_wire.proofs.Varints.{VarintLaws, NumberIs, number_is}
 use Rattle.proto_wire.proofs.Payloads.{WireIs, is_0, is_1, is_2, is_5, IsNoWire, wire_cases, HeldFront, HeldInside, WithVarint, HeldIs, held_is, zero_spelled, zeros, length-zeros}
 use Rattle.proto_wire.proofs.Spellings.{with_number, after_number, after_key, record_none, record_some, FieldIs, field_good, field_refused, field_is, field_in, KeyAt, key_some, IsNoKey, BadKeyAt, OverlongAt, key_parts, spelled_read, begins_read, bad_key_read, overlong_read, inside_read}
@@ -52,11 +52,11 @@ parted_proper key number wire good spelled s = record {
 pub key_proper : (key : List ℕ) (n : ℕ) → IsFieldNumber (n / 8) → WireIs (n % 8) → SpellsVarint key n → IsProperFront records key
 key_proper key n good known spelled = parted_proper key (n / 8) (n % 8) good (subst (λ m. SpellsVarint key m) (key_parts n) spelled) (sample (n % 8) known)
 
-key_then_proper : (key : List ℕ) (h : IsKeyThenVarint key) → WithVarint h.wire_type → IsProperFront records key
+pub key_then_proper : (key : List ℕ) (h : IsKeyThenVarint key) → WithVarint h.wire_type → IsProperFront records key
 key_then_proper key h (inl e) = parted_proper key h.number h.wire_type h.is_number h.spelled (subst Sample (sym e) (sample 0 is_0))
 key_then_proper key h (inr e) = parted_proper key h.number h.wire_type h.is_number h.spelled (subst Sample (sym e) (sample 2 is_2))
 
-front_proper : (a b : List ℕ) → IsProperFront records (a ++ b) → IsProperFront records a
+pub front_proper : (a b : List ℕ) → IsProperFront records (a ++ b) → IsProperFront records a
 front_proper a b p = record {
   more = b ++ p.more;
   some = λ e. p.some (append_empty_right b p.more e);
@@ -67,27 +67,27 @@ eight_spelled : SpellsVarint (8 ∷ []) 8
 unfolding SpellsVarint SpellsWithin
 eight_spelled = (omega arith, refl)
 
-empty_proper : IsProperFront records []
+pub empty_proper : IsProperFront records []
 empty_proper = front_proper [] (8 ∷ []) (parted_proper (8 ∷ []) 1 0 (omega arith, omega arith) eight_spelled (sample 0 is_0))
 
 -- what stands before a varint
-abbrev ThenVarint : List ℕ → Type 0
+abbrev pub ThenVarint : List ℕ → Type 0
 ThenVarint front = (front ≡ []) ⊎ IsKeyThenVarint front
 
-then_varint_proper : (front : List ℕ) → ThenVarint front → IsProperFront records front
+pub then_varint_proper : (front : List ℕ) → ThenVarint front → IsProperFront records front
 then_varint_proper front (inl e) = subst (λ l. IsProperFront records l) (sym e) empty_proper
 then_varint_proper front (inr key) = key_then_proper front key key.with_varint
 
-open_inside : (front inside : List ℕ) → ThenVarint front → IsInsideVarint inside → IsOpenRecord (front ++ inside)
+pub open_inside : (front inside : List ℕ) → ThenVarint front → IsInsideVarint inside → IsOpenRecord (front ++ inside)
 open_inside front [] before h = inl (subst (λ l. IsProperFront records l) (sym (append-nil front)) (then_varint_proper front before))
 open_inside front (b ∷ inside) before h = inr (record { front = front; inside = b ∷ inside; then_varint = before; proper = then_varint_proper front before; some = omega arith; unended = h; parts = refl })
 
 -- fronts of ten bytes that are no varint
-go_on_front : (a b : List ℕ) → AllByRecursion (λ x. 128 ≤ x) (a ++ b) → AllByRecursion (λ x. 128 ≤ x) a
+pub go_on_front : (a b : List ℕ) → AllByRecursion (λ x. 128 ≤ x) (a ++ b) → AllByRecursion (λ x. 128 ≤ x) a
 go_on_front [] b h = tt
 go_on_front (x ∷ a) b h = (h.0, go_on_front a b h.1)
 
-overlong_inside : (text short more : List ℕ) → IsOverlong text → text ≡ short ++ more → more ≢ [] → IsInsideVarint short
+pub overlong_inside : (text short more : List ℕ) → IsOverlong text → text ≡ short ++ more → more ≢ [] → IsInsideVarint short
 overlong_inside text short more h e some = elim (two_cuts short more h.front (h.tenth ∷ []) (sym e ∙ h.parts)) [
   | inl w ↦ record {
     short = omega (arith, h.nine, ap length w.front, length-append short w.between);
@@ -118,7 +118,7 @@ RecordIs text (Err causes.BadWire) = BadKeyAt text
 RecordIs text (Err other) = ⊥
 
 -- the parts of a key before a varint
-key_before : (key : List ℕ) (n : ℕ) → SpellsVarint key n → IsFieldNumber (n / 8) → WithVarint (n % 8) → IsKeyThenVarint key
+pub key_before : (key : List ℕ) (n : ℕ) → SpellsVarint key n → IsFieldNumber (n / 8) → WithVarint (n % 8) → IsKeyThenVarint key
 key_before key n spelled good before = record { number = n / 8; wire_type = n % 8; is_number = good; with_varint = before; spelled = subst (λ m. SpellsVarint key m) (key_parts n) spelled }
 
 held_front_open : (text : List ℕ) (n : ℕ) (rest : List ℕ) → KeyAt text n rest → IsFieldNumber (n / 8) → HeldFront (n % 8) rest → IsProperFront records text
@@ -238,14 +238,14 @@ module _ (L : VarintLaws) where
 
   -- ---- the shortest front that is refused
 
-  refused_of : (text : List ℕ) (cause : Cause) → record_at text ≡ Err cause → cause ≢ causes.Truncated → IsRefused records text
+  pub refused_of : (text : List ℕ) (cause : Cause) → record_at text ≡ Err cause → cause ≢ causes.Truncated → IsRefused records text
   refused_of [] cause e other = let none : record_at [] ≡ Ok (None, []) = record_none in cc
   refused_of (b ∷ text) cause e other = record {
     closed = λ h. (let answer : record_at (b ∷ text) ≡ Err causes.Truncated = open_read (b ∷ text) (λ e. cc) h in other cc);
     none = λ h. (let answer : record_at (b ∷ text) ≡ Ok (Some h.whole.0, h.rest) = begins_read L (b ∷ text) h.rest h.whole.0 (record { text = h.text; spelled = h.whole.1; parts = h.parts }) in cc);
   }
 
-  overlong_least : (front text : List ℕ) → ThenVarint front → IsOverlong text → (shorter more : List ℕ) → front ++ text ≡ shorter ++ more → more ≢ [] → IsOpenRecord shorter
+  pub overlong_least : (front text : List ℕ) → ThenVarint front → IsOverlong text → (shorter more : List ℕ) → front ++ text ≡ shorter ++ more → more ≢ [] → IsOpenRecord shorter
   overlong_least front text before h shorter more e some = elim (two_cuts front text shorter more e) [
     | inl w ↦ subst (λ l. IsOpenRecord l) (sym w.front) (open_inside front w.between before (overlong_inside text w.between more h w.rest some))
     | inr w ↦ inl (front_proper shorter w.between (subst (λ l. IsProperFront records l) w.front (then_varint_proper front before)))
@@ -297,7 +297,7 @@ module _ (L : VarintLaws) where
     ends_in = (h.number, h.key.spelled);
   }
 
-  no_key : (key : List ℕ) (n : ℕ) → SpellsVarint key n → (IsOpenRecord key → ⊥) → FieldIs n → WireIs (n % 8) ⊎ IsNoWire (n % 8) → IsNoKey n
+  pub no_key : (key : List ℕ) (n : ℕ) → SpellsVarint key n → (IsOpenRecord key → ⊥) → FieldIs n → WireIs (n % 8) ⊎ IsNoWire (n % 8) → IsNoKey n
   no_key key n spelled closed (field_refused bad e) wire = inl bad
   no_key key n spelled closed (field_good good) (inr none) = inr none
   no_key key n spelled closed (field_good good) (inl known) = absurd (closed (inl (key_proper key n good known spelled)))

@@ -1,3 +1,4 @@
+pub mod FrameReading
 pub mod Reading
 pub mod Records
 pub mod Wire

@@ -1,8 +1,10 @@
 -- The text of a message: its records, one after the other (proto3 wire format, "Message Structure").
-use Rattle.std.specs.Prelude.{◌≡◌, ℕ, ◌+◌, ◌*◌, ◌⊎◌, List, [], ◌∷◌, ◌++◌, length}
+use Rattle.std.specs.Prelude.{◌≡◌, ℕ, ◌+◌, ◌*◌, ◌<◌, ◌⊎◌, List, [], ◌∷◌, ◌++◌, length}
 use Rattle.std.specs.Int.{w32, w64, from_le_bytes, to_le_bytes}
+use Rattle.span_io.specs.declared.cause.Cause.{Cause}
+use Rattle.span_io.specs.declared.cause.Cause.TheVariants as causes
 use Rattle.span_io.specs.Varint.{SpellsVarint, varint_text}
-use Rattle.span_io.specs.Frames.{Framing, IsOpen, IsRefusedAt, EndsInTenth}
+use Rattle.span_io.specs.Frames.{Framing, IsOpen, IsRefusedAt, EndsInTenth, NeedsMore, DecidedBy, IsItemOf, IsTooLong, IsRefusedIn}
 use Rattle.proto_wire.specs.Records.{Held, varint, fixed64, bytes, fixed32, Record, wire_type, IsFieldNumber}
 
 -- a record begins with the varint of its number times 8 plus its wire type
@@ -46,9 +48,26 @@ pub record IsKeyThenVarint (key : List ℕ) : Type 0 where
   pub with_varint : (wire_type ≡ 0) ⊎ (wire_type ≡ 2)
   pub spelled : SpellsVarint key (number * 8 + wire_type)
 
+-- The bytes hold a length, whole, by which the bytes of a record of wire type 2 end behind `limit` bytes of the record.
+pub record HoldsLengthPast (limit : ℕ) (text : List ℕ) : Type 0 where
+  pub number : ℕ
+  pub is_number : IsFieldNumber number
+  pub key : List ℕ
+  pub key_spelled : SpellsVarint key (number * 8 + 2)
+  pub size : List ℕ
+  pub held : ℕ
+  pub size_spelled : SpellsVarint size held
+  pub others : List ℕ
+  pub parts : text ≡ key ++ (size ++ others)
+  pub past : limit < length key + length size + held
+
 -- records as items of a wire format
 abbrev pub records : Framing
-records = record { Whole = λ text. (r : Record) × SpellsRecord text r; ThenVarint = λ front. (front ≡ []) ⊎ IsKeyThenVarint front }
+records = record {
+  Whole = λ text. (r : Record) × SpellsRecord text r;
+  ThenVarint = λ front. (front ≡ []) ⊎ IsKeyThenVarint front;
+  EndsPast = HoldsLengthPast;
+}
 
 -- a record may yet come of the bytes
 abbrev pub IsOpenRecord : List ℕ → Type 0
@@ -65,6 +84,35 @@ HasOverlong text = IsRefusedAt records (EndsInTenth records) text
 -- the shortest front that is refused ends with a key: its number or its wire type is outside the table
 abbrev pub HasBadKey : List ℕ → Type 0
 HasBadKey text = IsRefusedAt records IsKey text
+
+-- ---- frames: records of at most `limit` bytes
+
+-- the bytes are open, and no front of them is a record or is refused
+abbrev pub NeedsMoreBytes : ℕ → List ℕ → Type 0
+NeedsMoreBytes limit text = NeedsMore records limit text
+
+-- the shortest front that is a record or is refused is a record, and has n bytes
+abbrev pub FirstIsRecord : ℕ → ℕ → List ℕ → Type 0
+FirstIsRecord limit n text = DecidedBy records limit (IsItemOf records n) text
+
+-- that front is open, and too long
+abbrev pub FirstIsTooLong : ℕ → List ℕ → Type 0
+FirstIsTooLong limit text = DecidedBy records limit (IsTooLong records limit) text
+
+-- that front is refused, and ends with the tenth byte of a varint
+abbrev pub FirstIsOverlong : ℕ → List ℕ → Type 0
+FirstIsOverlong limit text = DecidedBy records limit (IsRefusedIn records (EndsInTenth records)) text
+
+-- that front is refused, and ends with a key
+abbrev pub FirstIsBadKey : ℕ → List ℕ → Type 0
+FirstIsBadKey limit text = DecidedBy records limit (IsRefusedIn records IsKey) text
+
+-- why no frame comes of the bytes
+abbrev pub IsRefusedAs : ℕ → List ℕ → Cause → Type 0
+IsRefusedAs limit text causes.UnitTooLong = FirstIsTooLong limit text
+IsRefusedAs limit text causes.BadVarint = FirstIsOverlong limit text
+IsRefusedAs limit text causes.BadWire = FirstIsBadKey limit text
+IsRefusedAs limit text other = ⊥
 
 -- ---- writing
 

@@ -1,7 +1,10 @@
 //! Laws of the wire format, as contracts of functions that do nothing.
-ghost use Rattle.std.specs.Prelude.{◌≡◌, ◌≤◌, ◌<◌, ◌++◌, ℕ, List, [], length, All};
+ghost use Rattle.std.specs.Prelude.{◌≡◌, ◌≤◌, ◌<◌, ◌++◌, ◌⊎◌, ℕ, List, [], length, All, Err};
+ghost use Rattle.span_io.specs.Frames.{BeginsWhole, CanBeCompleted, IsFramed};
+ghost use Rattle.span_io.specs.declared.cause.Cause.TheVariants as causes;
 ghost use Rattle.proto_wire.specs.Records.{Record, IsProper, bytes, IsFieldNumber};
-ghost use Rattle.proto_wire.specs.Wire.{SpellsRecord, Wire, record_text, opening_text};
+ghost use Rattle.proto_wire.specs.Wire.{SpellsRecord, Wire, IsOpenRecord, HasOverlong, HasBadKey, records, record_text, opening_text};
+ghost use Rattle.proto_wire.specs.Reading.{record_at};
 
 /// No record's text is a proper front of another's, and a text has one reading.
 pub fn one_reading()
@@ -18,4 +21,23 @@ pub fn shortest_record()
     ensures opened { (number : ℕ) (held : List ℕ) → record_text (record { number = number; held = bytes held }) ≡ opening_text number (length held) ++ held }
 {
     span_io::laws::shortest_varint();
+}
+
+/// Where reading bytes as a record has neither ended nor refused them, they can be completed to a
+/// record once a varint that isn't ended is dropped at their end.
+pub fn open_fronts()
+    ensures walked { (text : List ℕ) → (text ≡ []) ⊎ (record_at text ≡ Err causes.Truncated) → CanBeCompleted records text }
+    ensures completed { (text : List ℕ) → IsOpenRecord text → CanBeCompleted records text }
+    ensures all { (text : List ℕ) → IsOpenRecord text ⊎ (BeginsWhole records text ⊎ (HasOverlong text ⊎ HasBadKey text)) }
+    ensures fronts { (front more : List ℕ) → IsOpenRecord (front ++ more) → IsOpenRecord front }
+{
+    span_io::laws::varint_readings();
+}
+
+/// Bytes are in one way records of at most `limit` bytes each and a rest that begins with no such
+/// record.
+pub fn one_framing()
+    ensures { (limit : ℕ) (bytes rest other : List ℕ) (items others : List (List ℕ)) → IsFramed records limit items rest bytes → IsFramed records limit others other bytes → (items ≡ others) × (rest ≡ other) }
+{
+    span_io::laws::varint_readings();
 }

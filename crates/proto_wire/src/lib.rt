@@ -1,11 +1,13 @@
 //! Records of the proto3 wire format: reading one at a time, and writing the one shortest spelling.
 #![tactic(auto)]
 
+mod frame;
 pub mod laws;
 mod reading;
 mod record;
 mod writing;
 
+pub use frame::first_frame;
 pub use reading::next_record;
 pub use record::{Payload, WireRecord};
 pub use writing::{opening_size, record_size, write_opening, write_record};

@@ -9,7 +9,7 @@ use span_io::{Cause, Cursor, Lack, Short};
 
 // The number of the varint that stands here.
 #[inline(always)]
-fn number(c: &mut Cursor<'_>) -> Result<u64, Cause>
+pub(crate) fn number(c: &mut Cursor<'_>) -> Result<u64, Cause>
     ensures exact { GivesNumber result c.new.rest (number_at c.old.rest) }
     ensures place { c.new.place + length c.new.rest ≡ c.old.place + length c.old.rest }
 {
@@ -82,7 +82,7 @@ fn sized<'a>(c: &mut Cursor<'a>) -> Result<Payload<'a>, Cause>
 // The field number in a key.
 #[inline(always)]
 #[tactic(auto, unfolding(crate::specs::Reading::field_number))]
-fn field_of(key: u64) -> Result<u32, Cause>
+pub(crate) fn field_of(key: u64) -> Result<u32, Cause>
     ensures exact { result ≡ field_number key }
 {
     let number = key / 8;
@@ -117,7 +117,7 @@ fn record<'a>(c: &mut Cursor<'a>) -> Result<WireRecord<'a>, Cause>
 // The next record, or None at the end. A refusal leaves the place.
 #[inline(always)]
 #[tactic(auto, unfolding(crate::specs::Reading::record_at))]
-fn next<'a>(c: &mut Cursor<'a>) -> Result<Option<WireRecord<'a>>, Cause>
+pub(crate) fn next<'a>(c: &mut Cursor<'a>) -> Result<Option<WireRecord<'a>>, Cause>
     ensures exact { GivesNext result c.new.rest (record_at c.old.rest) }
     ensures place { c.new.place + length c.new.rest ≡ c.old.place + length c.old.rest }
     ensures err { OnErr result (c.new ≡ c.old) }

@@ -1,8 +1,9 @@
-use crate::laws::{one_reading, shortest_record};
+use crate::laws::{one_framing, one_reading, open_fronts, shortest_record};
 use crate::{
-    Payload, WireRecord, next_record, opening_size, record_size, write_opening, write_record,
+    Payload, WireRecord, first_frame, next_record, opening_size, record_size, write_opening,
+    write_record,
 };
-use span_io::{Blob, Cause, Cursor};
+use span_io::{Blob, Cause, Cursor, Step};
 use std::test::Fail;
 
 // Records in their shortest spelling. The second and the third are the examples of the proto3
@@ -127,4 +128,48 @@ fn opens_records(rt: HostRuntime) -> Result<(), Fail> {
     assert_eq!(rt; opening_size(1, 300), 3);
     assert_eq!(rt; opening_size(536_870_911, u64::MAX), 15);
     Ok(())
+}
+
+#[test]
+fn finds_frames(rt: HostRuntime) {
+    open_fronts();
+    one_framing();
+    let too_long = Step::Refused(Cause::UnitTooLong);
+    let table: [(&[u8], usize, Step); 20] = [
+        (b"", 64, Step::Need),
+        (b"\x0a", 64, Step::Need),
+        (b"\x0a\x02a", 64, Step::Need),
+        (b"\x0a\x01a", 64, Step::Unit(3)),
+        (b"\x0a\x01a\xff", 64, Step::Unit(3)),
+        (b"\x0b", 64, Step::Refused(Cause::BadWire)),
+        (
+            b"\xff\xff\xff\xff\xff\xff\xff\xff\xff\x02",
+            64,
+            Step::Refused(Cause::BadVarint),
+        ),
+        (b"\x0a\x01a", 3, Step::Unit(3)),
+        (b"\x0a\x01aaaa", 3, Step::Unit(3)),
+        (b"\x0a\x02", 3, too_long),
+        (b"\x0a\x02aa", 3, too_long),
+        (b"\x08\x80", 2, too_long),
+        (b"\x08", 1, too_long),
+        (b"\x0b", 1, Step::Refused(Cause::BadWire)),
+        (b"\x8b\0", 1, too_long),
+        (b"\x8b\0", 2, Step::Refused(Cause::BadWire)),
+        (b"\xff\xff\xff\xff\xff\xff\xff\xff\xff\x02", 9, too_long),
+        (
+            b"\x0a\x80\x80\x80\x80\x80\x80\x80\x80\x80\x01",
+            64,
+            too_long,
+        ),
+        (
+            b"\x0a\xff\xff\xff\xff\xff\xff\xff\xff\xff\x01",
+            64,
+            too_long,
+        ),
+        (b"\x09\0\0\0\0\0\0\0", 9, Step::Need),
+    ];
+    for (bytes, limit, step) in table {
+        assert_eq!(rt; first_frame(bytes, limit), step, "at {bytes:?}");
+    }
 }

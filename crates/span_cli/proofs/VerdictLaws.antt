@@ -5,7 +5,7 @@ use Rattle.std.specs.Io.KnownBytes.{Consumes}
 use Rattle.span_io.specs.declared.cause.Cause.TheVariants.{InputTooLong}
 use Rattle.span_cli.specs.declared.verdict.Ending.{Ending}
 use Rattle.span_cli.specs.declared.verdict.Ending.TheVariants as endings
-use Rattle.span_cli.specs.declared.verdict.Refusal.{Refusal}
+use Rattle.span_io.specs.declared.refusal.Refusal.{Refusal}
 use Rattle.span_cli.specs.declared.verdict.Verdict.{Verdict}
 use Rattle.span_cli.specs.declared.verdict.Verdict.TheVariants.{Good, Refused}
 use Rattle.span_cli.specs.Limits.{input_limit}

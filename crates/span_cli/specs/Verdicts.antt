@@ -5,7 +5,7 @@ use Rattle.span_io.specs.Outside.{Outlet, Gains, GainsFront, Rose}
 use Rattle.span_io.specs.Causes.{cause_number, cause_name}
 use Rattle.span_io.specs.declared.cause.Cause.TheVariants.{InputTooLong, Unbuilt}
 use Rattle.span_cli.specs.declared.small.Request.{Request}
-use Rattle.span_cli.specs.declared.verdict.Refusal.{Refusal}
+use Rattle.span_io.specs.declared.refusal.Refusal.{Refusal}
 use Rattle.span_cli.specs.declared.verdict.Verdict.{Verdict}
 use Rattle.span_cli.specs.declared.verdict.Verdict.TheVariants.{Good, Refused}
 use Rattle.span_cli.specs.declared.verdict.Ending.{Ending}

@@ -3,10 +3,10 @@ ghost use Rattle.std.specs.Prelude.{OnOk, OnErr};
 ghost use Rattle.span_io.specs.Outside.{Gains, OutputFails};
 ghost use Rattle.span_cli.specs.Verdicts.{Notes, ending_line, refusal_line, usage_line};
 
-use crate::verdict::{Ending, Refusal};
+use crate::verdict::Ending;
 use itoa::Buffer;
 use span_io::laws::gains_then;
-use span_io::{Failed, Sink, write_all};
+use span_io::{Failed, Refusal, Sink, write_all};
 
 /// Notes that the words are no command. What the notes refuse changes nothing.
 pub fn note_usage<N: Sink>(notes: &mut N)

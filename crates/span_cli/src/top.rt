@@ -10,8 +10,8 @@ use crate::command::{Command, read_words};
 use crate::input::{Input, ReadStop, read_whole};
 use crate::laws::one_request;
 use crate::note::{note_ending, note_usage};
-use crate::verdict::{Ending, Refusal, Verdict, judge};
-use span_io::{Cause, Form, Sink, Source, write_all};
+use crate::verdict::{Ending, Verdict, judge};
+use span_io::{Cause, Form, Refusal, Sink, Source, write_all};
 use std::alloc::Global;
 
 /// Runs the command that the words after the program's name spell: it reads the input whole, writes

@@ -5,15 +5,8 @@ ghost use Rattle.span_cli.specs.Limits.{input_limit};
 
 use crate::message::{Message, NotSmall};
 use crate::small::Request;
-use span_io::{Blob, Cause, Halt, OutOfMemory};
+use span_io::{Blob, Cause, Halt, OutOfMemory, Refusal};
 use std::alloc::Global;
-
-/// Why an input has no text: the unit that has no reading, 0 for the input as a whole, and the cause.
-#[derive(Clone, Copy, Debug, PartialEq, Eq)]
-pub struct Refusal {
-    pub unit: u64,
-    pub cause: Cause,
-}
 
 /// What is to be written for an input.
 #[derive(Debug, Drop)]

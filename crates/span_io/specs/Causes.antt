@@ -1,12 +1,18 @@
 -- The numbers and names of causes, as notes print them.
 use Rattle.std.specs.Prelude.{ℕ, List, codes}
 use Rattle.span_io.specs.declared.cause.Cause.{Cause}
-use Rattle.span_io.specs.declared.cause.Cause.TheVariants.{Truncated, BadVarint, BadWire, InputTooLong, Unbuilt}
+use Rattle.span_io.specs.declared.cause.Cause.TheVariants.{Truncated, BadVarint, BadWire, TooDeep, UnitTooLong, FieldTwice, NotText, BadId, BadEnum, InputTooLong, Unbuilt}
 
 abbrev pub cause_number : Cause → ℕ
 cause_number Truncated = 1
 cause_number BadVarint = 2
 cause_number BadWire = 3
+cause_number TooDeep = 5
+cause_number UnitTooLong = 6
+cause_number FieldTwice = 7
+cause_number NotText = 9
+cause_number BadId = 12
+cause_number BadEnum = 13
 cause_number InputTooLong = 17
 cause_number Unbuilt = 18
 
@@ -14,5 +20,11 @@ abbrev pub cause_name : Cause → List ℕ
 cause_name Truncated = codes "Truncated"
 cause_name BadVarint = codes "BadVarint"
 cause_name BadWire = codes "BadWire"
+cause_name TooDeep = codes "TooDeep"
+cause_name UnitTooLong = codes "UnitTooLong"
+cause_name FieldTwice = codes "FieldTwice"
+cause_name NotText = codes "NotText"
+cause_name BadId = codes "BadId"
+cause_name BadEnum = codes "BadEnum"
 cause_name InputTooLong = codes "InputTooLong"
 cause_name Unbuilt = codes "Unbuilt"

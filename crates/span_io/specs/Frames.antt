@@ -1,6 +1,6 @@
 -- Items of a wire format, one after the other, and why no item stands at the front of some bytes. These words serve every wire
--- format: it says which bytes are one whole item, and where in an item a varint stands.
-use Rattle.std.specs.Prelude.{◌≡◌, ◌≢◌, ℕ, ◌<◌, ◌⊎◌, List, [], ◌++◌, length}
+-- format: it says which bytes are one whole item, where in an item a varint stands, and which lengths an item holds.
+use Rattle.std.specs.Prelude.{◌≡◌, ◌≢◌, ℕ, ◌<◌, ◌≤◌, ◌⊎◌, List, [], ◌∷◌, ◌++◌, length}
 use Rattle.span_io.specs.Varint.{IsInsideVarint, IsOverlong}
 
 pub record Framing : Type 1 where
@@ -8,6 +8,8 @@ pub record Framing : Type 1 where
   pub Whole : List ℕ → Type 0
   -- behind these first bytes of an item a varint stands
   pub ThenVarint : List ℕ → Type 0
+  -- the bytes hold a length by which a string or a message ends behind so many bytes of the item
+  pub EndsPast : ℕ → List ℕ → Type 0
 
 -- some bytes can follow that make an item of them
 pub record IsProperFront (F : Framing) (bytes : List ℕ) : Type 0 where
@@ -28,6 +30,14 @@ pub record EndsInVarint (F : Framing) (bytes : List ℕ) : Type 0 where
 -- an item may yet come of the bytes
 abbrev pub IsOpen : Framing → List ℕ → Type 0
 IsOpen F bytes = IsProperFront F bytes ⊎ EndsInVarint F bytes
+
+-- The bytes, less a varint at their end that isn't ended, can be completed to an item.
+pub record CanBeCompleted (F : Framing) (bytes : List ℕ) : Type 0 where
+  pub front : List ℕ
+  pub inside : List ℕ
+  pub parts : bytes ≡ front ++ inside
+  pub unended : IsInsideVarint inside
+  pub proper : IsProperFront F front
 
 -- an item, and then rest
 pub record BeginsWhole (F : Framing) (bytes : List ℕ) : Type 0 where
@@ -61,3 +71,59 @@ pub record IsRefusedAt (F : Framing) (EndsIn : List ℕ → Type 0) (bytes : Lis
   pub front : List ℕ
   pub shortest : ShortestRefused F front bytes
   pub ends_in : EndsIn front
+
+-- ---- items that may have at most `limit` bytes
+
+-- an item of n bytes, at most `limit`, and then rest
+pub record BeginsFrame (F : Framing) (limit n : ℕ) (bytes : List ℕ) : Type 0 where
+  pub text : List ℕ
+  pub rest : List ℕ
+  pub whole : F.Whole text
+  pub parts : bytes ≡ text ++ rest
+  pub size : length text ≡ n
+  pub within : n ≤ limit
+
+-- An item may yet come of the bytes, but it has more than `limit` of them: they are as many already and no item, or they hold a
+-- length that says so.
+pub record IsTooLong (F : Framing) (limit : ℕ) (bytes : List ℕ) : Type 0 where
+  pub may_come : IsOpen F bytes
+  pub beyond : (length bytes ≡ limit) ⊎ F.EndsPast limit bytes
+
+-- the bytes are an item or are refused
+abbrev pub IsDecided : Framing → ℕ → List ℕ → Type 0
+IsDecided F limit bytes = F.Whole bytes ⊎ (IsTooLong F limit bytes ⊎ IsRefused F bytes)
+
+-- The bytes are open, and no front of them is an item or is refused.
+pub record NeedsMore (F : Framing) (limit : ℕ) (bytes : List ℕ) : Type 0 where
+  pub may_come : IsOpen F bytes
+  pub undecided : (front rest : List ℕ) → bytes ≡ front ++ rest → ¬ IsDecided F limit front
+
+-- The shortest front that is an item or is refused is of this kind.
+pub record DecidedBy (F : Framing) (limit : ℕ) (IsOfKind : List ℕ → Type 0) (bytes : List ℕ) : Type 0 where
+  pub front : List ℕ
+  pub rest : List ℕ
+  pub parts : bytes ≡ front ++ rest
+  pub kind : IsOfKind front
+  pub earlier : (shorter more : List ℕ) → front ≡ shorter ++ more → more ≢ [] → ¬ IsDecided F limit shorter
+
+-- ---- the kinds
+
+-- one item of n bytes
+abbrev pub IsItemOf : Framing → ℕ → List ℕ → Type 0
+IsItemOf F n bytes = F.Whole bytes × (length bytes ≡ n)
+
+-- refused, in an item of a kind that names the cause
+abbrev pub IsRefusedIn : Framing → (List ℕ → Type 0) → List ℕ → Type 0
+IsRefusedIn F EndsIn bytes = IsRefused F bytes × EndsIn bytes
+
+-- ---- all items of some bytes
+
+-- the bytes are these items, in order, each of at most `limit` bytes, and then rest
+unfoldable pub ItemsThen : Framing → ℕ → List (List ℕ) → List ℕ → List ℕ → Type 0
+ItemsThen F limit [] rest bytes = bytes ≡ rest
+ItemsThen F limit (item ∷ more) rest bytes = F.Whole item × (length item ≤ limit) × (behind : List ℕ) × (bytes ≡ item ++ behind) × ItemsThen F limit more rest behind
+
+-- the same, and the rest begins with no such item
+pub record IsFramed (F : Framing) (limit : ℕ) (items : List (List ℕ)) (rest bytes : List ℕ) : Type 0 where
+  pub items_then : ItemsThen F limit items rest bytes
+  pub no_more : (n : ℕ) → ¬ BeginsFrame F limit n rest

@@ -3,8 +3,10 @@ pub mod Clones
 pub mod Counting
 pub mod Forms
 pub mod Frames
+pub mod Limits
 pub mod Memory
 pub mod Outside
+pub mod Steps
 pub mod Varint
 pub mod Walks
 pub mod formers

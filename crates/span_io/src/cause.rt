@@ -11,6 +11,18 @@ pub enum Cause {
     BadVarint,
     /// A wire type or field number is outside its table (proto3 wire format).
     BadWire,
+    /// A value lies deeper than 16 levels.
+    TooDeep,
+    /// A unit has more bytes than its limit, or a length in it says so.
+    UnitTooLong,
+    /// A known singular field stands twice in one message, or one value has two members.
+    FieldTwice,
+    /// A text field is not UTF-8.
+    NotText,
+    /// An identifier is zero, or of another length or spelling.
+    BadId,
+    /// An enum value is outside its table.
+    BadEnum,
     /// The input has more bytes than its limit.
     InputTooLong,
     /// The input is no request of small spans, the only ones that are read so far.
@@ -25,6 +37,12 @@ impl Cause {
             Cause::Truncated => 1,
             Cause::BadVarint => 2,
             Cause::BadWire => 3,
+            Cause::TooDeep => 5,
+            Cause::UnitTooLong => 6,
+            Cause::FieldTwice => 7,
+            Cause::NotText => 9,
+            Cause::BadId => 12,
+            Cause::BadEnum => 13,
             Cause::InputTooLong => 17,
             Cause::Unbuilt => 18,
         }
@@ -37,6 +55,12 @@ impl Cause {
             Cause::Truncated => "Truncated",
             Cause::BadVarint => "BadVarint",
             Cause::BadWire => "BadWire",
+            Cause::TooDeep => "TooDeep",
+            Cause::UnitTooLong => "UnitTooLong",
+            Cause::FieldTwice => "FieldTwice",
+            Cause::NotText => "NotText",
+            Cause::BadId => "BadId",
+            Cause::BadEnum => "BadEnum",
             Cause::InputTooLong => "InputTooLong",
             Cause::Unbuilt => "Unbuilt",
         }

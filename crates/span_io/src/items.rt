@@ -42,6 +42,13 @@ impl<T> Items<T> {
     {
         self.items.as_slice()
     }
+
+    /// The elements, in the vector that holds them.
+    pub fn into_vec(self) -> Vec<T>
+        ensures { result.items ≡ self }
+    {
+        self.items
+    }
 }
 
 impl<T: Clone> Items<T> {

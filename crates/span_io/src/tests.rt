@@ -3,8 +3,8 @@ ghost use Rattle.span_io.specs.declared.halt.OutOfMemory.{OutOfMemory};
 ghost use Rattle.span_io.specs.declared.cause.Cause.{Cause};
 
 use crate::{
-    Blob, Cause, CountSink, Failed, Form, Halt, Items, MemSink, MemSource, OutOfMemory,
-    ReaderSource, Sink, Source, Text, WriterSink, write_all,
+    Blob, Cause, CountSink, Failed, Form, Halt, Items, Limits, MemSink, MemSource, OutOfMemory,
+    ReaderSource, Refusal, Sink, Source, Step, Text, WriterSink, write_all,
 };
 use std::alloc::Global;
 use std::io::{self, Read, Write};
@@ -107,6 +107,7 @@ fn lists(rt: HostRuntime) -> Result<(), Fail> {
     let calls = calls_of(rt.alloc(), &[3, 1])?;
     assert_eq!(rt; calls.copy()?.as_slice(), [3, 1].as_slice());
     assert_eq!(rt; calls.len(), 2);
+    assert_eq!(rt; calls.into_vec().as_slice(), [3, 1].as_slice());
     Ok(())
 }
 
@@ -142,6 +143,12 @@ fn causes(rt: HostRuntime) {
         (Cause::Truncated, 1, "Truncated"),
         (Cause::BadVarint, 2, "BadVarint"),
         (Cause::BadWire, 3, "BadWire"),
+        (Cause::TooDeep, 5, "TooDeep"),
+        (Cause::UnitTooLong, 6, "UnitTooLong"),
+        (Cause::FieldTwice, 7, "FieldTwice"),
+        (Cause::NotText, 9, "NotText"),
+        (Cause::BadId, 12, "BadId"),
+        (Cause::BadEnum, 13, "BadEnum"),
         (Cause::InputTooLong, 17, "InputTooLong"),
         (Cause::Unbuilt, 18, "Unbuilt"),
     ] {
@@ -233,4 +240,23 @@ fn writes_writers(rt: HostRuntime) -> Result<(), Fail> {
     assert_eq!(rt; sink.faults(), 2);
     assert_eq!(rt; narrow.taken, 8);
     Ok(())
+}
+
+#[test]
+fn limits(rt: HostRuntime) {
+    let shipped = Limits::shipped();
+    assert_eq!(rt; shipped.unit, 16 * 1024 * 1024);
+    assert_eq!(rt; shipped.json, 64 * 1024 * 1024);
+    assert_eq!(rt; shipped.binary, 1024 * 1024 * 1024 * 1024);
+    assert_eq!(rt; shipped.head, 16 * 1024);
+    assert_eq!(rt; shipped.body, 64 * 1024 * 1024);
+    assert_eq!(rt; shipped.reply, 64 * 1024 * 1024);
+    let refusal = Refusal {
+        unit: 2,
+        cause: Cause::Truncated,
+    };
+    assert_eq!(rt;
+        Step::Refused(refusal.cause),
+        Step::Refused(Cause::Truncated)
+    );
 }

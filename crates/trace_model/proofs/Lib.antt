@@ -1,0 +1,6 @@
+pub mod Gathered
+pub mod Order
+pub mod Places
+pub mod Rising
+pub mod Rows
+pub mod SoundLemmas

@@ -1,0 +1,42 @@
+-- The attributes of a list of pairs: each key with its last value, in the order of the keys' bytes.
+--     Rise keys              each key is below those after it, byte by byte
+--     IsLast pair pairs      it is the last pair of its key
+--     StandsTwice key pairs  the key stands at two places or more
+--     AreAttributes, AreRepeated      what a list of pairs makes
+use Rattle.std.specs.Prelude.{◌≡◌, ◌≢◌, ◌↔◌, ℕ, List, ◌∷◌, ◌++◌, map, All, Contains}
+use Rattle.std.specs.Ordering.{nat_cmp}
+use Rattle.std.specs.Cmp.Lexicographic.{slice_cmp}
+use Rattle.std.specs.List.Sorted.{IsStrictlySortedBy}
+
+-- each key is below those after it, byte by byte
+abbrev pub Rise : List (List ℕ) → Type 0
+Rise keys = IsStrictlySortedBy (slice_cmp nat_cmp) keys
+
+module _ {V : Type 0} where
+  abbrev pub keys : List (List ℕ × V) → List (List ℕ)
+  keys pairs = map (λ pair. pair.0) pairs
+
+  -- no pair of its key stands behind it
+  pub record IsLast (pair : List ℕ × V) (pairs : List (List ℕ × V)) : Type 0 where
+    pub before : List (List ℕ × V)
+    pub behind : List (List ℕ × V)
+    pub split : pairs ≡ before ++ pair ∷ behind
+    pub last : All (λ other. other.0 ≢ pair.0) behind
+
+  pub record StandsTwice (key : List ℕ) (pairs : List (List ℕ × V)) : Type 0 where
+    pub before : List (List ℕ × V)
+    pub one : V
+    pub between : List (List ℕ × V)
+    pub other : V
+    pub behind : List (List ℕ × V)
+    pub split : pairs ≡ before ++ (key, one) ∷ (between ++ (key, other) ∷ behind)
+
+  -- the last pair of each key, in the order of the keys
+  pub record AreAttributes (attributes pairs : List (List ℕ × V)) : Type 0 where
+    pub rising : Rise (keys attributes)
+    pub last : (pair : List ℕ × V) → Contains attributes pair ↔ IsLast pair pairs
+
+  -- the keys that stand more than once, in their order
+  pub record AreRepeated (repeated : List (List ℕ)) (pairs : List (List ℕ × V)) : Type 0 where
+    pub rising : Rise repeated
+    pub twice : (key : List ℕ) → Contains repeated key ↔ StandsTwice key pairs

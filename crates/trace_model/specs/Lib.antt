@@ -1,0 +1,4 @@
+pub mod Attributes
+pub mod Gathering
+pub mod Soundness
+pub mod Values

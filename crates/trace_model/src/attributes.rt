@@ -1,0 +1,75 @@
+ghost use Rattle.std.specs.Prelude.{◌≡◌, All, Contains, IfOk, OnOk, IsSortedBy};
+ghost use Rattle.std.specs.List.Sorted.{IsStableBy};
+ghost use Rattle.trace_model.specs.Attributes.{AreAttributes, AreRepeated, keys};
+ghost use Rattle.trace_model.specs.Gathering.{key_above, ends_with, kept_with, repeated_with};
+ghost use Rattle.trace_model.specs.Values.{IsSound, AreSound};
+
+use crate::value::{Attrs, Value};
+use span_io::{Items, OutOfMemory, Text};
+use std::alloc::Global;
+
+/// The attributes of a list of pairs: each key with its last value, in the order of the keys' bytes.
+/// The second part is the keys that stand more than once, in the same order.
+pub fn attrs_of(
+    alloc: Global,
+    list: Items<(Text, Value)>,
+) -> Result<(Attrs, Items<Text>), OutOfMemory>
+    ensures attributes { IfOk result (λ parts. AreAttributes parts.0 list) }
+    ensures repeated { IfOk result (λ parts. AreRepeated parts.1 list) }
+    ensures among { IfOk result (λ parts. All (λ pair. Contains list pair) parts.0) }
+    ensures sound { All (λ pair. IsSound pair.1) list → IfOk result (λ parts. AreSound parts.0) }
+{
+    let mut pairs = falling(list)?;
+    let mut kept = Items::new(alloc);
+    let mut repeated = Items::new(alloc);
+    'pairs: while let Some(pair) = pairs.pop() {
+        gather(&mut kept, &mut repeated, pair)?;
+    }
+    Ok((kept, repeated))
+}
+
+/// The pairs by falling key; those of one key keep their order.
+fn falling(list: Items<(Text, Value)>) -> Result<Vec<(Text, Value)>, OutOfMemory>
+    ensures sorted { IfOk result (λ pairs. IsSortedBy key_above pairs.items) }
+    ensures stable { IfOk result (λ pairs. IsStableBy key_above list pairs.items) }
+{
+    let mut pairs = list.into_vec();
+    pairs.sort_by(|a, b| b.0.as_str().cmp(a.0.as_str()))?;
+    Ok(pairs)
+}
+
+/// Keeps a pair, or notes its key where that is the last one which was kept.
+fn gather(
+    kept: &mut Attrs,
+    repeated: &mut Items<Text>,
+    pair: (Text, Value),
+) -> Result<(), OutOfMemory>
+    ensures kept { OnOk result (kept.new ≡ kept_with kept.old pair) }
+    ensures repeated { OnOk result (repeated.new ≡ repeated_with kept.old repeated.old pair) }
+{
+    if !last_key_is(kept.as_slice(), &pair.0) {
+        return kept.push(pair);
+    }
+    if last_is(repeated.as_slice(), &pair.0) {
+        return Ok(());
+    }
+    repeated.push(pair.0)
+}
+
+fn last_key_is(pairs: &[(Text, Value)], key: &Text) -> bool
+    ensures { result ≡ ends_with (keys pairs.now) key.now }
+{
+    match pairs.last() {
+        Some(pair) => pair.0.as_str() == key.as_str(),
+        None => false,
+    }
+}
+
+fn last_is(names: &[Text], key: &Text) -> bool
+    ensures { result ≡ ends_with names.now key.now }
+{
+    match names.last() {
+        Some(name) => name.as_str() == key.as_str(),
+        None => false,
+    }
+}

@@ -1,0 +1,20 @@
+//! Traces, as every form of span text is read to them and written from them.
+#![tactic(auto)]
+
+mod attributes;
+pub mod laws;
+mod place;
+mod remark;
+mod span;
+mod trace;
+mod value;
+
+pub use attributes::attrs_of;
+pub use place::Place;
+pub use remark::{Remark, RemarkKind};
+pub use span::{Code, Event, Kind, Link, Span, Status};
+pub use trace::{Group, Scope};
+pub use value::{Attrs, Value, attrs_copy};
+
+#[cfg(test)]
+mod tests;

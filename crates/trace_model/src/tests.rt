@@ -1,0 +1,200 @@
+use crate::laws::{attributes_once, members_of_values};
+use crate::{
+    Attrs, Code, Event, Group, Kind, Link, Place, Remark, RemarkKind, Scope, Span, Status, Value,
+    attrs_copy, attrs_of,
+};
+use span_ids::{Nanos, SpanId, TraceId};
+use span_io::{Blob, Items, OutOfMemory, Text};
+use std::alloc::Global;
+use std::test::Fail;
+
+fn text_of(alloc: Global, piece: &str) -> Result<Text, OutOfMemory> {
+    let mut text = Text::new(alloc);
+    text.append(piece)?;
+    Ok(text)
+}
+
+fn numbers(alloc: Global, list: &[(&str, i64)]) -> Result<Items<(Text, Value)>, OutOfMemory> {
+    let mut pairs = Items::new(alloc);
+    for (key, number) in list {
+        pairs.push((text_of(alloc, key)?, Value::Number(*number)))?;
+    }
+    Ok(pairs)
+}
+
+fn one<T: Drop>(alloc: Global, item: T) -> Result<Items<T>, OutOfMemory> {
+    let mut items = Items::new(alloc);
+    items.push(item)?;
+    Ok(items)
+}
+
+fn are_numbers(attributes: &Attrs, list: &[(&str, i64)]) -> bool {
+    let mut same = attributes.len() == list.len();
+    for ((key, value), (name, number)) in attributes.as_slice().iter().zip(list) {
+        same = same && key.as_str() == *name;
+        same = same && matches!(value, Value::Number(n) if *n == *number);
+    }
+    same
+}
+
+fn are_texts(texts: &Items<Text>, list: &[&str]) -> bool {
+    let mut same = texts.len() == list.len();
+    for (text, name) in texts.as_slice().iter().zip(list) {
+        same = same && text.as_str() == *name;
+    }
+    same
+}
+
+#[test]
+fn keeps_the_last_of_equal_keys(rt: HostRuntime) -> Result<(), Fail> {
+    let table: [(&[(&str, i64)], &[(&str, i64)], &[&str]); 5] = [
+        (&[], &[], &[]),
+        (&[("k", 1), ("k", 2), ("k", 3)], &[("k", 3)], &["k"]),
+        (&[("b", 1), ("a", 2)], &[("a", 2), ("b", 1)], &[]),
+        (
+            &[("b", 1), ("a", 2), ("b", 3), ("", 4), ("ab", 5), ("a", 6)],
+            &[("", 4), ("a", 6), ("ab", 5), ("b", 3)],
+            &["a", "b"],
+        ),
+        (
+            &[("é", 1), ("z", 2), ("Z", 3)],
+            &[("Z", 3), ("z", 2), ("é", 1)],
+            &[],
+        ),
+    ];
+    for (list, kept, repeated) in table {
+        let (attributes, twice) = attrs_of(rt.alloc(), numbers(rt.alloc(), list)?)?;
+        assert!(rt; are_numbers(&attributes, kept));
+        assert!(rt; are_texts(&twice, repeated));
+        assert!(rt; are_numbers(&attrs_copy(rt.alloc(), &attributes)?, kept));
+    }
+    attributes_once();
+    Ok(())
+}
+
+#[test]
+fn gathers_many_pairs(rt: HostRuntime) -> Result<(), Fail> {
+    let mut apart = Items::new(rt.alloc());
+    let mut equal = Items::new(rt.alloc());
+    for number in 0..1000u32 {
+        let key = format!(in rt.alloc(); "{:03}", 999 - number)?;
+        let value = Value::Number(i64::from(number));
+        apart.push((text_of(rt.alloc(), key.as_str())?, value))?;
+        let value = Value::Number(i64::from(number));
+        equal.push((text_of(rt.alloc(), "k")?, value))?;
+    }
+    let (attributes, twice) = attrs_of(rt.alloc(), apart)?;
+    assert_eq!(rt; (attributes.len(), twice.len()), (1000, 0));
+    if let Some((key, _)) = attributes.as_slice().first() {
+        assert_eq!(rt; key.as_str(), "000");
+    }
+    let (attributes, twice) = attrs_of(rt.alloc(), equal)?;
+    assert!(rt; are_numbers(&attributes, &[("k", 999)]));
+    assert!(rt; are_texts(&twice, &["k"]));
+    Ok(())
+}
+
+#[test]
+fn prints_and_copies_values(rt: HostRuntime) -> Result<(), Fail> {
+    let mut bytes = Blob::new(rt.alloc());
+    bytes.append(&[1, 2])?;
+    let pair = (text_of(rt.alloc(), "k")?, Value::Truth(false));
+    for (value, wanted) in [
+        (
+            Value::Text(text_of(rt.alloc(), "t")?),
+            "Text(Text { text: \"t\" })",
+        ),
+        (Value::Truth(true), "Truth(true)"),
+        (Value::Number(-5), "Number(-5)"),
+        (
+            Value::Eight([63, 240, 0, 0, 0, 0, 0, 0]),
+            "Eight([63, 240, 0, 0, 0, 0, 0, 0])",
+        ),
+        (Value::Bytes(bytes), "Bytes(Blob { bytes: [1, 2] })"),
+        (
+            Value::List(one(rt.alloc(), Value::Nothing)?),
+            "List(Items { items: [Nothing] })",
+        ),
+        (
+            Value::Map(one(rt.alloc(), pair)?),
+            "Map(Items { items: [(Text { text: \"k\" }, Truth(false))] })",
+        ),
+    ] {
+        let copy = value.copy(rt.alloc())?;
+        drop(value);
+        assert_eq!(rt; format!(in rt.alloc(); "{copy:?}")?.as_str(), wanted);
+    }
+    members_of_values();
+    Ok(())
+}
+
+#[test]
+fn holds_traces(rt: HostRuntime) -> Result<(), Fail> {
+    let alloc = rt.alloc();
+    let trace = TraceId::from_bytes(&[1; 16])?;
+    let id = SpanId::from_bytes(&[2; 8])?;
+    let event = Event {
+        time: Nanos(7),
+        name: text_of(alloc, "e")?,
+        attributes: numbers(alloc, &[("k", 1)])?,
+        dropped: 1,
+    };
+    let link = Link {
+        trace,
+        span: id,
+        state: Text::new(alloc),
+        attributes: Items::new(alloc),
+        dropped: 2,
+        flags: 3,
+    };
+    let status = Status {
+        code: Code::Fail,
+        message: text_of(alloc, "m")?,
+    };
+    let span = Span {
+        trace,
+        id,
+        state: Text::new(alloc),
+        parent: None,
+        name: text_of(alloc, "s")?,
+        kind: Kind::Server,
+        start: Nanos(5),
+        end: Nanos(9),
+        attributes: Items::new(alloc),
+        dropped_attributes: 4,
+        events: one(alloc, event)?,
+        dropped_events: 5,
+        links: one(alloc, link)?,
+        dropped_links: 6,
+        status,
+        flags: 7,
+    };
+    let scope = Scope {
+        name: text_of(alloc, "n")?,
+        version: Text::new(alloc),
+        attributes: Items::new(alloc),
+        dropped: 8,
+        schema_url: Text::new(alloc),
+        spans: one(alloc, span)?,
+    };
+    let group = Group {
+        resource: Items::new(alloc),
+        dropped: 9,
+        schema_url: Text::new(alloc),
+        scopes: one(alloc, scope)?,
+    };
+    for scope in group.scopes.as_slice() {
+        for span in scope.spans.as_slice() {
+            assert_eq!(rt; (span.kind, span.status.code), (Kind::Server, Code::Fail));
+            assert_eq!(rt; (span.events.len(), span.links.len()), (1, 1));
+        }
+    }
+    let remark = Remark {
+        place: Place::Event(1, 2),
+        kind: RemarkKind::EqualKey,
+        key: text_of(alloc, "k")?,
+    };
+    let wanted = "Remark { place: Event(1, 2), kind: EqualKey, key: Text { text: \"k\" } }";
+    assert_eq!(rt; format!(in alloc; "{remark:?}")?.as_str(), wanted);
+    Ok(())
+}
