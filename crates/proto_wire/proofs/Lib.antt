@@ -2,6 +2,7 @@ pub mod FirstFrame
 pub mod LengthsPast
 pub mod Messages
 pub mod NextClauses
+pub mod OffenceFormat
 pub mod OpenBytes
 pub mod Payloads
 pub mod Refusals

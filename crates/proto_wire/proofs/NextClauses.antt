@@ -9,7 +9,9 @@ use Rattle.proto_wire.specs.declared.record.WireRecord.{WireRecord}
 use Rattle.proto_wire.specs.Records.{Record, plain_record}
 use Rattle.proto_wire.specs.Wire.{SpellsRecord, Begins, IsOpenRecord, HasOverlong, HasBadKey}
 use Rattle.proto_wire.specs.Reading.{record_at, GivesNext, IsNext, IsEnd}
+use Rattle.proto_wire.specs.Messages.{NoRecord}
 use Rattle.proto_wire.proofs.Varints.{VarintLaws}
+use Rattle.proto_wire.proofs.OffenceFormat.{why_none}
 use Rattle.proto_wire.proofs.Spellings.{record_none, begins_read, bad_key_read, overlong_read, spelled_some}
 use Rattle.proto_wire.proofs.Refusals.{RecordIs, record_is, open_read, overlong_has, overlong_from, bad_key_has, bad_key_from, Given, same_rest, same_next}
 
@@ -59,6 +61,10 @@ module _ (L : VarintLaws) (old new : List ℕ) where
     λ h. bad_key_has L old (told (Err causes.BadWire) ((errs result e causes.BadWire).0 h)),
     λ h. (errs result e causes.BadWire).1 (bad_key_read L old (bad_key_from L old h)),
   )
+
+  pub unread : (result : Result (Option WireRecord) Cause) → GivesNext result new (record_at old) → IfErr result (λ cause. NoRecord old (cause_number cause))
+  unread (Ok next) e = tt
+  unread (Err cause) e = why_none L old cause e
 
   few_causes : (cause : Cause) → RecordIs old (Err cause) → cause_number cause ≤ 3
   few_causes causes.Truncated h = omega arith

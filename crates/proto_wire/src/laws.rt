@@ -1,7 +1,10 @@
 //! Laws of the wire format, as contracts of functions that do nothing.
 ghost use Rattle.std.specs.Prelude.{◌≡◌, ◌≤◌, ◌<◌, ◌++◌, ◌⊎◌, ℕ, List, [], length, All, Err};
 ghost use Rattle.span_io.specs.Frames.{BeginsWhole, CanBeCompleted, IsFramed};
+ghost use Rattle.span_io.specs.Offences.{Cut};
+ghost use Rattle.span_io.specs.OffenceLaws.{FormatLaws};
 ghost use Rattle.span_io.specs.declared.cause.Cause.TheVariants as causes;
+ghost use Rattle.proto_wire.specs.Messages.{messages};
 ghost use Rattle.proto_wire.specs.Records.{Record, IsProper, bytes, IsFieldNumber};
 ghost use Rattle.proto_wire.specs.Wire.{SpellsRecord, Wire, IsOpenRecord, HasOverlong, HasBadKey, records, record_text, opening_text};
 ghost use Rattle.proto_wire.specs.Reading.{record_at};
@@ -38,6 +41,16 @@ pub fn open_fronts()
 /// record.
 pub fn one_framing()
     ensures { (limit : ℕ) (bytes rest other : List ℕ) (items others : List (List ℕ)) → IsFramed records limit items rest bytes → IsFramed records limit others other bytes → (items ≡ others) × (rest ≡ other) }
+{
+    span_io::laws::varint_readings();
+}
+
+/// What the search for the offence that counts asks of messages, and that a message's records are
+/// those that a walk to its end passes.
+pub fn message_cuts()
+    ensures laws { FormatLaws messages }
+    ensures whole { (text : List ℕ) (seen : List Record) → Cut messages text seen [] → Wire seen text }
+    ensures cut { (text : List ℕ) (seen : List Record) → Wire seen text → Cut messages text seen [] }
 {
     span_io::laws::varint_readings();
 }

@@ -1,5 +1,6 @@
 ghost use Rattle.std.specs.Prelude.{◌≡◌, ◌≢◌, ◌+◌, ◌*◌, ◌/◌, ◌%◌, ◌<◌, ◌≤◌, ◌↔◌, ℕ, List, [], length, IfOk, IfSome, IfErr, OnErr, IsErrOf};
 ghost use Rattle.span_io.specs.Causes.{cause_number};
+ghost use Rattle.proto_wire.specs.Messages.{NoRecord};
 ghost use Rattle.proto_wire.specs.Records.{Record, plain_record};
 ghost use Rattle.proto_wire.specs.Wire.{Begins, IsOpenRecord, HasOverlong, HasBadKey};
 ghost use Rattle.proto_wire.specs.Reading.{number_at, bytes_at, field_number, held_at, record_at, GivesNumber, GivesBytes, GivesHeld, GivesRecord, GivesNext, IsNext, IsEnd};
@@ -148,6 +149,7 @@ pub fn next_record<'a>(c: &mut Cursor<'a>) -> Result<Option<WireRecord<'a>>, Cau
     ensures truncated { IsErrOf result Cause.Truncated ↔ ((c.old.rest ≢ []) × IsOpenRecord c.old.rest) }
     ensures overlong { IsErrOf result Cause.BadVarint ↔ HasOverlong c.old.rest }
     ensures bad_key { IsErrOf result Cause.BadWire ↔ HasBadKey c.old.rest }
+    ensures unread { IfErr result (λ cause. NoRecord c.old.rest (cause_number cause)) }
     ensures causes { IfErr result (λ cause. cause_number cause ≤ 3) }
 
     // A record takes bytes, and a refusal leaves the place.

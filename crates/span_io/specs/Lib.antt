@@ -5,6 +5,8 @@ pub mod Forms
 pub mod Frames
 pub mod Limits
 pub mod Memory
+pub mod OffenceLaws
+pub mod Offences
 pub mod Outside
 pub mod Steps
 pub mod Varint

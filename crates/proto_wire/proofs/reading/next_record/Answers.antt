@@ -1,4 +1,4 @@
-use Rattle.proto_wire.proofs.NextClauses.{found, only, end, truncated, overlong, bad_key, causes_within, nearer}
+use Rattle.proto_wire.proofs.NextClauses.{found, only, end, truncated, overlong, bad_key, causes_within, nearer, unread}
 use Rattle.proto_wire.proofs.reading.next_record.Goals as goal
 
 pub returns-clause-found : goal.returns-clause-found
@@ -40,3 +40,8 @@ pub returns-clause-nearer : goal.returns-clause-nearer
 returns-clause-nearer c =
     let laws = c.varint_readings.ensures in
     nearer (record { read = laws.read; found = laws.found; short = laws.short; bad = laws.bad; fronts = laws.fronts }) c.args.c.now.rest c.next.new.c.rest c.next.result c.next.ensures.exact
+
+pub returns-clause-unread : goal.returns-clause-unread
+returns-clause-unread c =
+    let laws = c.varint_readings.ensures in
+    unread (record { read = laws.read; found = laws.found; short = laws.short; bad = laws.bad; fronts = laws.fronts }) c.args.c.now.rest c.next.new.c.rest c.next.result c.next.ensures.exact
