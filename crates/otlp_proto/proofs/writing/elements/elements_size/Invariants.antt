@@ -1,0 +1,6 @@
+use Rattle.std.proofs.Common.{◌≡◌, length, take}
+use Rattle.otlp_proto.specs.Texts.{list_text}
+use Rattle.otlp_proto.proofs.writing.elements.elements_size.Given as goal
+
+abbrev pub invariant-loop-item : goal.invariant-loop-item
+invariant-loop-item g l = l.total ≡ length (list_text l.number g.T.Message.text (take l.item-index l.items))
