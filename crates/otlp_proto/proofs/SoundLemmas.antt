@@ -1,0 +1,102 @@
+-- What is read is sound: no deeper than the levels that were left, and the keys of each map in it rise.
+use Rattle.std.proofs.Common.{◌≡◌, ℕ, zero, suc, ◌+◌, ◌≤◌, List, [], ◌∷◌, map, All, get_or, refl, sym, subst, arith}
+use Rattle.std.specs.Prelude.{◌↔◌, Contains}
+use Rattle.std.proofs.lemmas.List.Elements.{All-nil, All-cons, All-contains, Contains-append_right, Contains-get_or}
+use Rattle.trace_model.specs.Attributes.{Rise, keys, IsLast, AreAttributes}
+use Rattle.trace_model.specs.Values.{depth, MapsRise, IsSound}
+use Rattle.trace_model.specs.declared.value.Value.{Value}
+use Rattle.trace_model.specs.declared.value.Value.TheVariants as values
+use Rattle.otlp_proto.specs.declared.noted.NotedValue.{NotedValue}
+use Rattle.otlp_proto.specs.declared.noted.Pair.{Pair}
+use Rattle.otlp_proto.specs.Rows.{bytes_of, Singular}
+use Rattle.otlp_proto.specs.Values.{Member, string_value, bool_value, int_value, double_value, array_value, kvlist_value, bytes_value, members_of, leaf, entry, Each, IsListText, IsMapText, MeansMember, IsValueText, IsPairText, value_in, pair_in, pair_at}
+
+pub record Sound (d : ℕ) (v : Value) : Type 0 where
+  pub shallow : depth v ≤ d
+  pub rising : MapsRise v
+
+each_all : {A B C : Type 0} (Is : B → A → Type 0) (f : B → C) (P : C → Type 0) → ((x : B) (a : A) → Is x a → P (f x)) → (held : List A) (xs : List B) → Each Is held xs → All P (map f xs)
+each_all Is f P so [] [] all = All-nil P
+each_all Is f P so [] (x ∷ xs) all = absurd all
+each_all Is f P so (a ∷ held) [] all = absurd all
+each_all Is f P so (a ∷ held) (x ∷ xs) all = All-cons P (f x) (map f xs) (so x a all.0) (each_all Is f P so held xs all.1)
+
+here : {X : Type 0} (x : X) (xs : List X) → Contains (x ∷ xs) x
+here x xs = (0, omega arith, refl)
+
+-- what all pairs have is so of the last ones too
+kept_all : (P : List ℕ × Value → Type 0) (attributes pairs : List (List ℕ × Value)) → AreAttributes attributes pairs → All P pairs → All P attributes
+kept_all P attributes pairs are all = λ k d lt. of (get_or attributes k d) ((are.last (get_or attributes k d)).0 (Contains-get_or attributes k d lt))
+  where
+    of : (pair : List ℕ × Value) → IsLast pair pairs → P pair
+    of pair is = All-contains P pairs pair all (subst (λ l. Contains l pair) (sym is.split) (Contains-append_right is.before (pair ∷ is.behind) pair (here pair is.behind)))
+
+module _ (list_depth : (d : ℕ) (members : List Value) → (depth (values.List members) ≤ d + 1) ↔ All (λ value. depth value ≤ d) members)
+    (map_depth : (d : ℕ) (pairs : List (List ℕ × Value)) → (depth (values.Map pairs) ≤ d + 1) ↔ All (λ pair. depth pair.1 ≤ d) pairs)
+    (list_rises : (members : List Value) → MapsRise (values.List members) ↔ All MapsRise members)
+    (map_rises : (pairs : List (List ℕ × Value)) → MapsRise (values.Map pairs) ↔ (Rise (keys pairs) × All (λ pair. MapsRise pair.1) pairs)) where
+  module _ (d : ℕ) (IsValue : NotedValue → List ℕ → Type 0) (IsPair : Pair → List ℕ → Type 0)
+      (values_sound : (r : NotedValue) (text : List ℕ) → IsValue r text → Sound d r.value) (pairs_sound : (p : Pair) (text : List ℕ) → IsPair p text → Sound d p.reading.value) where
+    list_sound : (r : NotedValue) (text : List ℕ) → IsListText IsValue r text → Sound (d + 1) r.value
+    list_sound r text is = subst (Sound (d + 1)) (sym is.value) (record {
+      shallow = (list_depth d (map (λ m. m.value) is.members)).1 (each_all IsValue (λ m. m.value) (λ v. depth v ≤ d) (λ x a h. (values_sound x a h).shallow) (bytes_of 1 is.records) is.members is.each);
+      rising = (list_rises (map (λ m. m.value) is.members)).1 (each_all IsValue (λ m. m.value) MapsRise (λ x a h. (values_sound x a h).rising) (bytes_of 1 is.records) is.members is.each);
+    })
+
+    map_sound : (r : NotedValue) (text : List ℕ) → IsMapText IsPair r text → Sound (d + 1) r.value
+    map_sound r text is = subst (Sound (d + 1)) (sym is.value) (record {
+      shallow = (map_depth d is.attributes).1 (kept_all (λ pair. depth pair.1 ≤ d) is.attributes (map entry is.pairs) is.kept
+          (each_all IsPair entry (λ pair. depth pair.1 ≤ d) (λ x a h. (pairs_sound x a h).shallow) (bytes_of 1 is.records) is.pairs is.each));
+      rising = (map_rises is.attributes).1 (
+        is.kept.rising,
+        kept_all (λ pair. MapsRise pair.1) is.attributes (map entry is.pairs) is.kept
+            (each_all IsPair entry (λ pair. MapsRise pair.1) (λ x a h. (pairs_sound x a h).rising) (bytes_of 1 is.records) is.pairs is.each),
+      );
+    })
+
+    leaf_sound : (r : NotedValue) (v : Value) → depth v ≡ 1 → MapsRise v → r ≡ leaf v → Sound (d + 1) r.value
+    leaf_sound r v one rises e = subst (λ (x : NotedValue). Sound (d + 1) x.value) (sym e) (record { shallow = omega (arith, one); rising = rises })
+
+    member_sound : (m : Member) (r : NotedValue) → MeansMember IsValue IsPair m r → Sound (d + 1) r.value
+    member_sound (string_value held) r h = leaf_sound r (values.Text held) refl tt h.1
+    member_sound (bool_value n) r h = leaf_sound r (values.Truth h.0) refl tt h.1
+    member_sound (int_value n) r h = leaf_sound r (values.Number _) refl tt h
+    member_sound (double_value n) r h = leaf_sound r (values.Eight _) refl tt h
+    member_sound (array_value held) r h = list_sound r held h
+    member_sound (kvlist_value held) r h = map_sound r held h
+    member_sound (bytes_value held) r h = leaf_sound r (values.Bytes held) refl tt h
+
+    value_sound : (r : NotedValue) (text : List ℕ) → IsValueText IsValue IsPair r text → Sound (d + 1) r.value
+    value_sound r text is = of (members_of is.records) is.value
+      where
+        of : (ms : List Member) → Singular (MeansMember IsValue IsPair) (λ x. x ≡ leaf values.Nothing) ms r → Sound (d + 1) r.value
+        of [] h = leaf_sound r values.Nothing refl tt h
+        of (m ∷ []) h = member_sound m r h
+        of (m ∷ other ∷ more) h = absurd h
+
+    pair_sound : (p : Pair) (text : List ℕ) → IsPairText (λ r held. IsValueText IsValue IsPair r held) p text → Sound (d + 1) p.reading.value
+    pair_sound p text is = of (bytes_of 2 is.records) is.value
+      where
+        of : (texts : List (List ℕ)) → Singular (λ held r. IsValueText IsValue IsPair r held) (λ r. r ≡ leaf values.Nothing) texts p.reading → Sound (d + 1) p.reading.value
+        of [] h = leaf_sound p.reading values.Nothing refl tt h
+        of (held ∷ []) h = value_sound p.reading held h
+        of (held ∷ other ∷ more) h = absurd h
+
+  mutual
+    unfolding value_in pair_in
+
+    value_in_sound : (left : ℕ) (r : NotedValue) (text : List ℕ) → value_in left r text → Sound left r.value
+    value_in_sound zero r text is = absurd is
+    value_in_sound (suc left) r text is =
+        let so = value_sound left (value_in left) (pair_in left) (value_in_sound left) (pair_in_sound left) r text is in record { shallow = omega (arith, so.shallow); rising = so.rising }
+
+    pair_in_sound : (left : ℕ) (p : Pair) (text : List ℕ) → pair_in left p text → Sound left p.reading.value
+    pair_in_sound zero p text is = absurd is
+    pair_in_sound (suc left) p text is =
+        let so = pair_sound left (value_in left) (pair_in left) (value_in_sound left) (pair_in_sound left) p text is in record { shallow = omega (arith, so.shallow); rising = so.rising }
+
+  pub attributes_sound : (texts : List (List ℕ)) (pairs : List Pair) → Each (λ p held. pair_at 15 p held) texts pairs → All (λ pair. IsSound pair.1) (map entry pairs)
+  attributes_sound texts pairs each = each_all (λ p held. pair_at 15 p held) entry (λ pair. IsSound pair.1) sound texts pairs each
+    where
+      sound : (p : Pair) (held : List ℕ) → pair_at 15 p held → IsSound p.reading.value
+      sound p held is = let so = pair_sound 15 (value_in 15) (pair_in 15) (value_in_sound 15) (pair_in_sound 15) p held is in record { shallow = so.shallow; rising = so.rising }

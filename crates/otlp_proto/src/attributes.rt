@@ -1,0 +1,78 @@
+//! Attributes of a message, as its reader gathers them.
+ghost use Rattle.std.specs.Prelude.{◌≡◌, ◌↔◌, ◌++◌, ◌∷◌, [], ℕ, List, Contains, IfOk, OnOk};
+ghost use Rattle.span_io.specs.Offences.{Offence, Judges};
+ghost use Rattle.proto_wire.specs.Messages.{messages};
+ghost use Rattle.trace_model.specs.Attributes.{Rise};
+ghost use Rattle.trace_model.specs.Values.{AreSound};
+ghost use Rattle.otlp_proto.specs.Attributes.{attribute_rules, AttributesOf, NotedIn, GatheredAttributes};
+
+use crate::shape::{Shape, note_all, pair_of, push_pair};
+use crate::value::read_shape;
+use span_io::{Cause, Halt, Items, OutOfMemory, Text};
+use std::alloc::Global;
+use trace_model::laws::members_of_values;
+use trace_model::{Attrs, Value, attrs_of};
+
+/// The pairs that were read of a message, and the keys that are noted inside their values.
+#[derive(Debug, Drop)]
+pub struct AttributeRows {
+    pairs: Items<(Text, Value)>,
+    noted: Items<Text>,
+}
+
+impl AttributeRows {
+    pub fn new(alloc: Global) -> AttributeRows
+        ensures { GatheredAttributes [] result }
+    {
+        AttributeRows {
+            pairs: Items::new(alloc),
+            noted: Items::new(alloc),
+        }
+    }
+
+    /// Reads one more `KeyValue` message.
+    pub fn add(&mut self, alloc: Global, held: &[u8]) -> Result<(), Halt<Cause>>
+        ensures ok { OnOk result ((earlier : List (List ℕ)) → GatheredAttributes earlier self.old → GatheredAttributes (earlier ++ held.now ∷ []) self.new) }
+        ensures judged { Judges result (Offence messages attribute_rules held.now) }
+    {
+        let rows = read_shape(alloc, 15, Shape::Pair, held)?;
+        push_pair(&mut self.pairs, &mut self.noted, pair_of(alloc, rows))?;
+        Ok(())
+    }
+
+    /// The attributes, and the keys of which the message has a remark, each once.
+    pub fn finish(self, alloc: Global) -> Result<(Attrs, Items<Text>), OutOfMemory>
+        ensures attributes { (texts : List (List ℕ)) → GatheredAttributes texts self → IfOk result (λ parts. AttributesOf texts parts.0) }
+        ensures noted { (texts : List (List ℕ)) → GatheredAttributes texts self → IfOk result (λ parts. NotedIn texts parts.1) }
+        ensures sound { (texts : List (List ℕ)) → GatheredAttributes texts self → IfOk result (λ parts. AreSound parts.0) }
+    {
+        members_of_values();
+        let (attributes, repeated) = attrs_of(alloc, self.pairs)?;
+        let mut noted = self.noted;
+        note_all(&mut noted, repeated)?;
+        let keys = listed(alloc, rising(noted)?)?;
+        Ok((attributes, keys))
+    }
+}
+
+// The texts in the order of their bytes, each once.
+fn rising(texts: Items<Text>) -> Result<Vec<Text>, OutOfMemory>
+    ensures rising { IfOk result (λ list. Rise list.items) }
+    ensures same { IfOk result (λ list. (text : List ℕ) → Contains list.items text ↔ Contains texts text) }
+{
+    let mut sorted = texts.into_vec();
+    sorted.sort_by(|a, b| a.as_str().cmp(b.as_str()))?;
+    sorted.dedup_by(|a, b| a.as_str() == b.as_str());
+    Ok(sorted)
+}
+
+// The same as a list of its own.
+fn listed(alloc: Global, texts: Vec<Text>) -> Result<Items<Text>, OutOfMemory>
+    ensures { IfOk result (λ list. list ≡ texts.items) }
+{
+    let mut list = Items::new(alloc);
+    'texts: for text in texts {
+        list.push(text)?;
+    }
+    Ok(list)
+}
