@@ -3,7 +3,7 @@
 # gone, a directory as input, and closed notes. It ends with 0 where each answers its status and its line.
 cd "$(dirname "$0")/.." || exit 2
 words="convert --from otlp-proto --to otlp-proto"
-sample=examples/small_spans.bin
+sample=examples/checkout.bin
 notes=$(mktemp)
 trap 'rm -f "$notes"' EXIT
 wrong=0

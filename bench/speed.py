@@ -1,88 +1,172 @@
 #!/usr/bin/env python3
-"""Times the built program on a request of small spans, beside `cat` of the same file.
+"""Times the built program on a trace request as exporters write it, beside `cat` of the same file.
 
-Run it at the top as bench/speed.py, after ./spanx has built the program. It makes an input of about 1 MB, runs each
-command five times, and prints the best time of each. These figures are no test: they hang on the machine.
+Run it at the top as bench/speed.py, after ./spanx has built the program. It makes inputs of about 1 MB and 25 MB, runs
+each command five times over them, and prints the best time of each and the program's peak of memory. These figures are
+no test: they hang on the machine and its load. With `--write FILE MEGABYTES` it only writes such an input.
 """
 import os
 import struct
 import subprocess
 import sys
 import tempfile
-import time
 
-TOP = os.path.dirname(os.path.dirname(os.path.abspath(__file__)))
-PROGRAM = os.path.join(TOP, "crates", "spanx", "out", "spanx")
-WORDS = ["convert", "--from", "otlp-proto", "--to", "otlp-proto"]
+from program import BUILD, CONVERT, PROGRAM, Measured, seconds_of
+from wire import bytes_field, fixed32_field, fixed64_field, number_field
+
 RUNS = 5
-LIMIT = 1_048_576
+BEGIN = 1_700_000_000_000_000_000
+SPANS = 50
+SCOPES = 2
+DIFFERENT = 4_000
+ROUTES = ["/", "/cart", "/checkout", "/orders/{id}", "/products/{sku}", "/users/{id}/addresses", "/health", "/search"]
+METHODS = ["GET", "GET", "GET", "POST", "PUT", "DELETE"]
+TABLES = ["orders", "customers", "shipments", "inventory", "prices"]
 
 
-def varint(n):
-    out = bytearray()
-    while n >= 128:
-        out.append(n % 128 + 128)
-        n //= 128
-    out.append(n)
-    return bytes(out)
+def text_value(text):
+    return bytes_field(1, text.encode())
 
 
-def field(number, held):
-    return varint(number * 8 + 2) + varint(len(held)) + held
+def truth_value(truth):
+    return number_field(2, int(truth))
 
 
-def fixed64(number, n):
-    return varint(number * 8 + 1) + struct.pack("<Q", n)
+def number_value(n):
+    return number_field(3, n % 2**64)
 
 
-def span(k):
-    start = 1_700_000_000_000_000_000 + k * 1_000_003
-    text = field(1, struct.pack(">QQ", 0x5B8EFFF798038103, k // 10 + 1)) + field(2, struct.pack(">Q", k + 1))
-    if k % 10:
-        text += field(4, struct.pack(">Q", k - k % 10 + 1))
-    return text + field(5, b"GET /orders/%d" % (k % 997)) + fixed64(7, start) + fixed64(8, start + 1_500_000)
+def pair(key, value):
+    return bytes_field(1, key.encode()) + bytes_field(2, value)
 
 
-def request():
-    """Groups of two scopes of fifty spans, as many as fit the limit of an input."""
-    out, k = b"", 0
+def random_numbers(seed):
+    """Numbers of 64 bits that look random and are the same in each run (splitmix64)."""
+    state = seed
     while True:
-        group = b""
-        for _ in range(2):
-            group += field(2, b"".join(field(2, span(k + i)) for i in range(50)))
-            k += 50
-        group = field(1, group)
-        if len(out) + len(group) > LIMIT:
-            return out
-        out += group
+        state = (state + 0x9E3779B97F4A7C15) % 2**64
+        z = ((state ^ state >> 30) * 0xBF58476D1CE4E5B9) % 2**64
+        z = ((z ^ z >> 27) * 0x94D049BB133111EB) % 2**64
+        yield z ^ z >> 31
 
 
-def best(command, path):
-    times = []
-    for _ in range(RUNS):
-        with open(path, "rb") as source, open(os.devnull, "wb") as sink:
-            start = time.perf_counter()
-            status = subprocess.run(command, stdin=source, stdout=sink).returncode
-            times.append(time.perf_counter() - start)
-        if status != 0:
-            sys.exit(f"{command[0]} ended with {status}")
-    return min(times)
+def attributes(n):
+    """Ten attributes in the order in which an instrumentation sets them."""
+    route, table = ROUTES[n % len(ROUTES)], TABLES[n // 7 % len(TABLES)]
+    return [
+        pair("http.request.method", text_value(METHODS[n // 3 % len(METHODS)])),
+        pair("url.path", text_value(route.replace("{id}", str(n % 99_991)).replace("{sku}", f"A-{n % 9_973}"))),
+        pair("http.route", text_value(route)),
+        pair("http.response.status_code", number_value([200, 200, 200, 201, 404, 503][n // 11 % 6])),
+        pair("server.address", text_value(f"node-{n % 40}.shop.internal")),
+        pair("network.peer.port", number_value(32_768 + n % 28_000)),
+        pair("db.query.text", text_value(f"SELECT id, state FROM {table} WHERE customer = {n % 65_521}")),
+        pair("thread.id", number_value(n % 64)),
+        pair("cache.hit", truth_value(n % 3 == 0)),
+        pair("clock.skew", number_value(n % 2_001 - 1_000)),
+    ]
 
 
-def main():
-    if not os.path.exists(PROGRAM):
-        sys.exit("build the program first: ./spanx convert --from otlp-proto --to otlp-proto < examples/small_spans.bin")
-    text = request()
+def event(n, at):
+    name = ["cache.lookup", "retry", "message", "lock.acquired"][n % 4]
+    held = fixed64_field(1, at) + bytes_field(2, name.encode())
+    held += bytes_field(3, pair("attempt", number_value(n % 5)))
+    return held + bytes_field(3, pair("detail", text_value(f"shard {n % 128} answered in {n % 7_919} us")))
+
+
+def span_rest(n):
+    """All of a span but its identifiers."""
+    start = BEGIN + n % 2**40
+    end = start + 1_000 + n % 900_000_000
+    held = bytes_field(5, f"{METHODS[n // 3 % len(METHODS)]} {ROUTES[n % len(ROUTES)]}".encode()) + number_field(6, 1 + n % 5)
+    held += fixed64_field(7, start) + fixed64_field(8, end)
+    held += b"".join(bytes_field(9, held_pair) for held_pair in attributes(n))
+    held += b"".join(bytes_field(11, event(n // 13 + i, start + 500 * (i + 1))) for i in range(2))
+    if n % 10 == 0:
+        target = bytes_field(1, struct.pack(">QQ", n, n ^ 77)) + bytes_field(2, struct.pack(">Q", n | 1))
+        held += bytes_field(13, target + bytes_field(4, pair("link.kind", text_value("follows"))) + fixed32_field(6, 1))
+    if n % 17 == 0:
+        held += bytes_field(15, bytes_field(2, f"upstream answered {n % 100}".encode()) + number_field(3, 2))
+    return held + fixed32_field(16, 257)
+
+
+def span(k, rest):
+    """A span of a trace of ten, the first of which is the parent of the others."""
+    held = bytes_field(1, struct.pack(">QQ", 0x5B8EFFF798038103, k // 10 + 1)) + bytes_field(2, struct.pack(">Q", k + 1))
+    if k % 10:
+        held += bytes_field(4, struct.pack(">Q", k - k % 10 + 1))
+    return bytes_field(2, held + rest)
+
+
+def resource(g):
+    pairs = [
+        pair("service.name", text_value(f"shop-{g % 23}")),
+        pair("service.version", text_value(f"2.{g % 9}.1")),
+        pair("host.name", text_value(f"node-{g % 40}")),
+        pair("process.pid", number_value(1_000 + g)),
+    ]
+    return bytes_field(1, b"".join(bytes_field(1, held) for held in pairs))
+
+
+def scope(g, spans):
+    origin = bytes_field(1, f"io.shop.instrumentation.{g % 6}".encode()) + bytes_field(2, b"1.27.0")
+    return bytes_field(2, bytes_field(1, origin) + b"".join(spans))
+
+
+def request(size):
+    """Groups of two scopes of fifty spans, as many as fit the size, and the number of spans."""
+    numbers = random_numbers(7)
+    rests = [span_rest(next(numbers)) for _ in range(DIFFERENT)]
+    out, total, k, g = [], 0, 0, 0
+    while True:
+        scopes = []
+        for _ in range(SCOPES):
+            scopes.append(scope(g + len(scopes), [span(k + i, rests[next(numbers) % DIFFERENT]) for i in range(SPANS)]))
+            k += SPANS
+        group = bytes_field(1, resource(g) + b"".join(scopes))
+        if total + len(group) > size:
+            return b"".join(out), k - SCOPES * SPANS
+        out.append(group)
+        total += len(group)
+        g += 1
+
+
+def check(path, size):
+    """What is written has the input's size, since the input has no defaults, and is written again as it is."""
+    with tempfile.NamedTemporaryFile() as once, tempfile.NamedTemporaryFile() as twice:
+        for path_in, sink in [(path, once), (once.name, twice)]:
+            with open(path_in, "rb") as source:
+                if subprocess.run(CONVERT, stdin=source, stdout=sink).returncode != 0:
+                    sys.exit("the program refuses the input")
+                sink.seek(0)
+        first, second = once.read(), twice.read()
+        if len(first) != size or first != second:
+            sys.exit("the program doesn't write the canonical text of the input")
+
+
+def measure(size):
+    text, spans = request(size)
     with tempfile.NamedTemporaryFile() as file:
         file.write(text)
         file.flush()
-        copied = subprocess.run([PROGRAM] + WORDS, stdin=open(file.name, "rb"), stdout=subprocess.PIPE, check=True).stdout
-        if copied != text:
-            sys.exit("the program doesn't write its canonical input as it is")
-        size = len(text) / 1e6
-        for name, command in [("cat", ["cat"]), ("spanx", [PROGRAM] + WORDS)]:
-            seconds = best(command, file.name)
-            print(f"{name}: {size:.2f} MB in {seconds * 1000:.1f} ms, {size / seconds:.0f} MB/s")
+        check(file.name, len(text))
+        megabytes = len(text) / 1e6
+        print(f"{megabytes:.2f} MB, {spans} spans")
+        for name, command in [("cat", ["cat"]), ("spanx", CONVERT)]:
+            seconds = min(seconds_of(command, file.name)[0] for _ in range(RUNS))
+            memory = Measured(command, file.name, 600).memory / 1e6
+            print(f"  {name}: {seconds * 1000:.1f} ms, {megabytes / seconds:.0f} MB/s, memory {memory:.1f} MB")
+
+
+def main():
+    if sys.argv[1:2] == ["--write"]:
+        with open(sys.argv[2], "wb") as out:
+            out.write(request(int(float(sys.argv[3]) * 1e6))[0])
+        return
+    if not os.path.exists(PROGRAM):
+        sys.exit(BUILD)
+    for size in [1_000_000, 25_000_000]:
+        measure(size)
 
 
 if __name__ == "__main__":

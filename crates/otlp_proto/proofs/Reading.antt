@@ -1,10 +1,10 @@
 -- A walk over the records of a message that gathers its rows.
-use Rattle.std.proofs.Common.{◌≡◌, ℕ, List, [], ◌∷◌, ◌++◌, Result, Err, sym, subst}
+use Rattle.std.proofs.Common.{◌≡◌, ℕ, List, [], ◌∷◌, ◌++◌, Result, Ok, Err, sym, subst}
 use Rattle.span_io.specs.declared.cause.Cause.{Cause}
 use Rattle.span_io.specs.declared.halt.Halt.{Halt}
 use Rattle.span_io.specs.declared.halt.Halt.TheVariants as halts
 use Rattle.span_io.specs.Offences.{Rules, Cut, Offence, Least, ItemOffends, Judges, JudgesHere, OnHalt}
-use Rattle.span_io.specs.OffenceLaws.{FormatLaws, RulesLaws, Walked, walked_start, walked_step, least_unread, least_end, none_at_end, judged_item, judged_here}
+use Rattle.span_io.specs.OffenceLaws.{FormatLaws, RulesLaws, Walked, walked_start, walked_step, least_unread, least_end, none_at_end, judged_item, judged_here, judged_inside, none_in_item}
 use Rattle.proto_wire.specs.Messages.{messages, NoRecord}
 use Rattle.proto_wire.specs.Records.{Record}
 use Rattle.proto_wire.specs.Wire.{Begins, Wire}
@@ -20,6 +20,15 @@ pub record Seen (K : Rules Record) (Gathered : List Record → Type 0) (whole re
 pub judged_record : (K : Rules Record) (T : Type 0) (seen : List Record) (r s : Record) → r ≡ s → ((p m : ℕ) → K.inside s p m → ⊥) → (answer : Result T (Halt Cause)) → JudgesHere answer (K.here seen s)
     → Judges answer (ItemOffends Record K seen r)
 judged_record K T seen r s e fine answer h = subst (λ (x : Record). Judges answer (ItemOffends Record K seen x)) (sym e) (judged_here (K.here seen s) (K.inside s) T fine answer h)
+
+-- the same of the message inside it
+pub judged_record_inside : (K : Rules Record) (T : Type 0) (seen : List Record) (r s : Record) → r ≡ s → ((m : ℕ) → K.here seen s m → ⊥) → (answer : Result T (Halt Cause)) → Judges answer (K.inside s)
+    → Judges answer (ItemOffends Record K seen r)
+judged_record_inside K T seen r s e fine answer h = subst (λ (x : Record). Judges answer (ItemOffends Record K seen x)) (sym e) (of answer h)
+  where
+    of : (answer : Result T (Halt Cause)) → Judges answer (K.inside s) → Judges answer (ItemOffends Record K seen s)
+    of (Ok x) none = none_in_item (K.here seen s) (K.inside s) fine none
+    of (Err halt) h = judged_inside (K.here seen s) (K.inside s) T T halt fine h
 
 module _ (L : FormatLaws messages) (K : Rules Record) where
   pub seen_start : (Gathered : List Record → Type 0) (whole : List ℕ) → Gathered [] → Seen K Gathered whole whole

@@ -3,11 +3,12 @@ use Rattle.std.proofs.Common.{◌≡◌, ℕ, zero, suc, ◌+◌, ◌≤◌, Lis
 use Rattle.std.specs.Prelude.{◌↔◌, Contains}
 use Rattle.std.proofs.lemmas.List.Elements.{All-nil, All-cons, All-contains, Contains-append_right, Contains-get_or}
 use Rattle.trace_model.specs.Attributes.{Rise, keys, IsLast, AreAttributes}
-use Rattle.trace_model.specs.Values.{depth, MapsRise, IsSound}
+use Rattle.trace_model.specs.Values.{depth, MapsRise, IsSound, AreSound}
 use Rattle.trace_model.specs.declared.value.Value.{Value}
 use Rattle.trace_model.specs.declared.value.Value.TheVariants as values
 use Rattle.otlp_proto.specs.declared.noted.NotedValue.{NotedValue}
 use Rattle.otlp_proto.specs.declared.noted.Pair.{Pair}
+use Rattle.otlp_proto.specs.Attributes.{AttributesOf}
 use Rattle.otlp_proto.specs.Rows.{bytes_of, Singular}
 use Rattle.otlp_proto.specs.Values.{Member, string_value, bool_value, int_value, double_value, array_value, kvlist_value, bytes_value, members_of, leaf, entry, Each, IsListText, IsMapText, MeansMember, IsValueText, IsPairText, value_in, pair_in, pair_at}
 
@@ -15,7 +16,7 @@ pub record Sound (d : ℕ) (v : Value) : Type 0 where
   pub shallow : depth v ≤ d
   pub rising : MapsRise v
 
-each_all : {A B C : Type 0} (Is : B → A → Type 0) (f : B → C) (P : C → Type 0) → ((x : B) (a : A) → Is x a → P (f x)) → (held : List A) (xs : List B) → Each Is held xs → All P (map f xs)
+pub each_all : {A B C : Type 0} (Is : B → A → Type 0) (f : B → C) (P : C → Type 0) → ((x : B) (a : A) → Is x a → P (f x)) → (held : List A) (xs : List B) → Each Is held xs → All P (map f xs)
 each_all Is f P so [] [] all = All-nil P
 each_all Is f P so [] (x ∷ xs) all = absurd all
 each_all Is f P so (a ∷ held) [] all = absurd all
@@ -25,7 +26,7 @@ here : {X : Type 0} (x : X) (xs : List X) → Contains (x ∷ xs) x
 here x xs = (0, omega arith, refl)
 
 -- what all pairs have is so of the last ones too
-kept_all : (P : List ℕ × Value → Type 0) (attributes pairs : List (List ℕ × Value)) → AreAttributes attributes pairs → All P pairs → All P attributes
+pub kept_all : (P : List ℕ × Value → Type 0) (attributes pairs : List (List ℕ × Value)) → AreAttributes attributes pairs → All P pairs → All P attributes
 kept_all P attributes pairs are all = λ k d lt. of (get_or attributes k d) ((are.last (get_or attributes k d)).0 (Contains-get_or attributes k d lt))
   where
     of : (pair : List ℕ × Value) → IsLast pair pairs → P pair
@@ -100,3 +101,9 @@ module _ (list_depth : (d : ℕ) (members : List Value) → (depth (values.List 
     where
       sound : (p : Pair) (held : List ℕ) → pair_at 15 p held → IsSound p.reading.value
       sound p held is = let so = pair_sound 15 (value_in 15) (pair_in 15) (value_in_sound 15) (pair_in_sound 15) p held is in record { shallow = so.shallow; rising = so.rising }
+
+  pub attributes_of_sound : (texts : List (List ℕ)) (attributes : List (List ℕ × Value)) → AttributesOf texts attributes → AreSound attributes
+  attributes_of_sound texts attributes is = record {
+    rising = is.kept.rising;
+    values = kept_all (λ pair. IsSound pair.1) attributes (map entry is.pairs) is.kept (attributes_sound texts is.pairs is.each);
+  }

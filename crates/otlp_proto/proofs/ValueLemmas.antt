@@ -17,12 +17,12 @@ use Rattle.otlp_proto.specs.declared.noted.NotedValue.{NotedValue}
 use Rattle.otlp_proto.specs.declared.noted.Pair.{Pair}
 use Rattle.otlp_proto.specs.declared.member.LeafField.{LeafField}
 use Rattle.otlp_proto.specs.declared.member.LeafField.TheVariants as leaves
-use Rattle.otlp_proto.specs.declared.shape.Shape.{Shape}
-use Rattle.otlp_proto.specs.declared.shape.Shape.TheVariants as shapes
-use Rattle.otlp_proto.specs.declared.shape.ShapeRows.{ShapeRows}
+use Rattle.otlp_proto.specs.declared.value_rows.ListRows.{ListRows}
+use Rattle.otlp_proto.specs.declared.value_rows.MapRows.{MapRows}
+use Rattle.otlp_proto.specs.declared.value_rows.PairRows.{PairRows}
 use Rattle.otlp_proto.specs.Rows.{bytes_in, bytes_of, MeansText, Twice, NotText, Gave}
 use Rattle.otlp_proto.specs.Values.{Member, member_in, members_of, BadMember, InMember, FirstHere, InFirst, Each, entry, TooDeep, InHeld, KeyHere, ValueHere, many_over, pair_over, value_in, pair_in, value_at, pair_at, value_offends, pair_offends, list_rules, map_rules, value_rules, pair_rules}
-use Rattle.otlp_proto.specs.Shapes.{plain_leaf, plain_bytes, shape_rules, GatheredList, GatheredMap, GatheredPair}
+use Rattle.otlp_proto.specs.ValueRows.{plain_leaf, plain_bytes, GatheredList, GatheredMap, GatheredPair}
 
 -- ---- rows
 
@@ -138,16 +138,16 @@ module _ (below left : ℕ) (deeper : left ≡ suc below) (seen : List Record) (
   pub map_fine : ((p n : ℕ) → Offence messages (pair_rules below) held p n → ⊥) → (p n : ℕ) → ItemOffends Record (map_rules left) seen r p n → ⊥
   map_fine fine = many_fine (pair_offends left) (pair_fine below left held deeper fine)
 
-  pub list_push : (old new : ShapeRows) (v : NotedValue) → value_at below v held → new.list ≡ old.list ++ v.value ∷ [] → new.noted ≡ old.noted ++ v.noted → GatheredList left old seen → GatheredList left new (seen ++ r ∷ [])
-  list_push old new v value list noted so_far = record {
+  pub list_push : (old new : ListRows) (v : NotedValue) → value_at below v held → new.values ≡ old.values ++ v.value ∷ [] → new.noted ≡ old.noted ++ v.noted → GatheredList left old seen → GatheredList left new (seen ++ r ∷ [])
+  list_push old new v value values noted so_far = record {
     members = so_far.members ++ v ∷ [];
     each = subst (λ (l : List (List ℕ)). Each (value_in left) l (so_far.members ++ v ∷ [])) (sym (bytes_more 1 seen r held e))
         (each_push (value_in left) (bytes_of 1 seen) so_far.members held v so_far.each (value_below below left v held deeper value));
-    list = list ∙ ap (λ l. l ++ v.value ∷ []) so_far.list ∙ sym (map-append (λ (m : NotedValue). m.value) so_far.members (v ∷ []));
+    values = values ∙ ap (λ l. l ++ v.value ∷ []) so_far.values ∙ sym (map-append (λ (m : NotedValue). m.value) so_far.members (v ∷ []));
     noted = noted ∙ ap (λ l. l ++ v.noted) so_far.noted ∙ sym (flat_push (λ (m : NotedValue). m.noted) so_far.members v);
   }
 
-  pub map_push : (old new : ShapeRows) (q : Pair) → pair_at below q held → new.pairs ≡ old.pairs ++ entry q ∷ [] → new.noted ≡ old.noted ++ q.reading.noted → GatheredMap left old seen → GatheredMap left new (seen ++ r ∷ [])
+  pub map_push : (old new : MapRows) (q : Pair) → pair_at below q held → new.pairs ≡ old.pairs ++ entry q ∷ [] → new.noted ≡ old.noted ++ q.reading.noted → GatheredMap left old seen → GatheredMap left new (seen ++ r ∷ [])
   map_push old new q pair pairs noted so_far = record {
     members = so_far.members ++ q ∷ [];
     each = subst (λ (l : List (List ℕ)). Each (pair_in left) l (so_far.members ++ q ∷ [])) (sym (bytes_more 1 seen r held e))
@@ -206,7 +206,7 @@ module _ (Offends : List ℕ → ℕ → ℕ → Type 0) (seen : List Record) (r
     field_fine fine p n o = none_in_item (λ m. ⊥ ⊎ Twice (bytes_of 2 seen) m) (λ q m. Offends held q m) fine_here fine p n
         (subst (λ (two : List (List ℕ)). By [] two p n) e (subst (λ (one : List (List ℕ)). By one (bytes_in 2 r) p n) none o))
 
-pub pair_set : (left : ℕ) (old new : ShapeRows) (seen : List Record) (r : Record) (held : List ℕ) (v : NotedValue) → bytes_in 1 r ≡ [] → bytes_in 2 r ≡ held ∷ [] → value_at left v held
+pub pair_set : (left : ℕ) (old new : PairRows) (seen : List Record) (r : Record) (held : List ℕ) (v : NotedValue) → bytes_in 1 r ≡ [] → bytes_in 2 r ≡ held ∷ [] → value_at left v held
     → IsNone old.value → new.key ≡ old.key → new.value ≡ Some v → GatheredPair left old seen → GatheredPair left new (seen ++ r ∷ [])
 pair_set left old new seen r held v none e value empty key set so_far = record {
   key = subst (λ (l : List (List ℕ)). Gave MeansText l new.key) (sym (bytes_same 1 seen r none)) (subst (λ (k : Option (List ℕ)). Gave MeansText (bytes_of 1 seen) k) (sym key) so_far.key);
@@ -224,6 +224,11 @@ leaf_inside L M (leaves.Truth v) p n o = o
 leaf_inside L M (leaves.Number v) p n o = o
 leaf_inside L M (leaves.Eight v) p n o = o
 leaf_inside L M (leaves.Bytes held) p n o = o
+
+-- a member that is a list or a map offends by what is inside it alone
+pub judged_item_inside : (T : Type 0) (K : Rules Record) (held : List ℕ) (answer : Result T (Halt Cause)) → Judges answer (Offence messages K held) → Judges answer (HereOrInside (λ n. ⊥) (Offence messages K held))
+judged_item_inside T K held (Ok x) fine = none_in_item (λ n. ⊥) (Offence messages K held) (λ m h. h) fine
+judged_item_inside T K held (Err halt) h = judged_inside (λ n. ⊥) (Offence messages K held) T T halt (λ m h. h) h
 
 -- a first member offends by itself alone
 module _ (left : ℕ) (seen : List Record) (r : Record) (m : Member) (e : member_in r ≡ m ∷ []) (once : (k : ℕ) → Twice (members_of seen) k → ⊥) where
@@ -253,10 +258,3 @@ module _ (left : ℕ) (seen : List Record) (r : Record) (m : Member) (e : member
   member_halt S T (halts.Why cause) h = subst (λ (ms : List Member). Least (AsFirst ms) (cause_number cause)) (sym e)
       (record { place = h.place; offence = first_of_alone h.place (cause_number cause) h.offence; least = λ p n o. h.least p n (alone_of_first p n o) })
   member_halt S T halts.OutOfMemory h = tt
-
--- these messages don't offend at their end
-pub shape_endless : (shape : Shape) (left : ℕ) (seen : List Record) (n : ℕ) → (shape_rules shape left).ends seen n → ⊥
-shape_endless shapes.Value left seen n h = h
-shape_endless shapes.List left seen n h = h
-shape_endless shapes.Map left seen n h = h
-shape_endless shapes.Pair left seen n h = h

@@ -1,5 +1,5 @@
 -- Attributes of a message, by the bytes of its `KeyValue` records. The value of an attribute stands at level 1 of 16.
-use Rattle.std.specs.Prelude.{◌≡◌, ◌↔◌, ◌⊎◌, ℕ, List, map, Contains}
+use Rattle.std.specs.Prelude.{◌≡◌, ◌↔◌, ◌⊎◌, ℕ, List, [], map, Contains, Option, Some, None}
 use Rattle.std.specs.List.{flat_map}
 use Rattle.span_io.specs.Offences.{Rules}
 use Rattle.proto_wire.specs.Records.{Record}
@@ -34,3 +34,8 @@ pub record GatheredAttributes (texts : List (List ℕ)) (rows : AttributeRows) :
   pub each : Each attribute_at texts members
   pub pairs : rows.pairs ≡ map entry members
   pub noted : rows.noted ≡ flat_map (λ p. p.reading.noted) members
+
+-- the same where nothing stands for none
+abbrev pub GatheredAny : List (List ℕ) → Option AttributeRows → Type 0
+GatheredAny texts None = texts ≡ []
+GatheredAny texts (Some rows) = GatheredAttributes texts rows

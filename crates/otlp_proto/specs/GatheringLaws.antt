@@ -5,11 +5,8 @@ use Rattle.span_io.specs.Offences.{Rules, Offence}
 use Rattle.span_io.specs.OffenceLaws.{FormatLaws, RulesLaws, offence_within}
 use Rattle.proto_wire.specs.Messages.{messages, inner_size}
 use Rattle.proto_wire.specs.Records.{Held, varint, fixed64, bytes, fixed32, Record}
-use Rattle.otlp_proto.specs.declared.shape.Shape.{Shape}
-use Rattle.otlp_proto.specs.declared.shape.Shape.TheVariants as shapes
 use Rattle.otlp_proto.specs.Gathering.{rules_of, no_inside, no_ends}
 use Rattle.otlp_proto.specs.Values.{Member, string_value, bool_value, int_value, double_value, array_value, kvlist_value, bytes_value, InFirst, InMember, value_here, value_inside, value_over, InHeld, held_inside, deep_here, many_over, pair_here, pair_over, value_offends, pair_offends, list_rules, map_rules, value_rules, pair_rules}
-use Rattle.otlp_proto.specs.Shapes.{shape_rules}
 
 -- of a message that has no message inside
 pub flat_laws : (Here : List Record → Record → ℕ → Type 0) (Ends : List Record → ℕ → Type 0) → RulesLaws messages (rules_of Here no_inside Ends)
@@ -101,12 +98,6 @@ module _ (laws : FormatLaws messages) where
 
   pub pair_laws : (left : ℕ) → RulesLaws messages (pair_rules left)
   pair_laws left = pair_laws_over (λ held p n. Offence messages (value_rules left) held p n) (λ held p n o. offence_within messages laws (value_rules left) (value_laws left) held p n o)
-
-  pub shape_laws : (shape : Shape) (left : ℕ) → RulesLaws messages (shape_rules shape left)
-  shape_laws shapes.Value left = value_laws left
-  shape_laws shapes.List left = list_laws left
-  shape_laws shapes.Map left = map_laws left
-  shape_laws shapes.Pair left = pair_laws left
 
   -- a pair offends within its bytes
   pub pair_within : (left : ℕ) (held : List ℕ) (place n : ℕ) → Offence messages (pair_rules left) held place n → place ≤ length held

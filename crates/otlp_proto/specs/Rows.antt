@@ -1,5 +1,5 @@
 -- The rows of a message's table: which of its records belong to a row, what value they give to it, and how they offend.
-use Rattle.std.specs.Prelude.{◌≡◌, ◌≢◌, ℕ, ◌<◌, ◌==◌, if◌then◌else◌, Bool, true, false, List, [], ◌∷◌, Option, Some, None, IsUtf8}
+use Rattle.std.specs.Prelude.{◌≡◌, ◌≢◌, ℕ, ◌%◌, ◌^◌, ◌<◌, ◌==◌, if◌then◌else◌, Bool, true, false, List, [], ◌∷◌, Option, Some, None, IsUtf8}
 use Rattle.std.specs.List.{flat_map}
 use Rattle.proto_wire.specs.Records.{Held, varint, fixed64, bytes, fixed32, Record}
 
@@ -23,12 +23,38 @@ varint_in number r = of r.held
     of (fixed64 n) = []
     of (fixed32 n) = []
 
+-- the same of wire type 1
+abbrev pub fixed64_in : ℕ → Record → List ℕ
+fixed64_in number r = of r.held
+  where
+    of : Held → List ℕ
+    of (fixed64 n) = if r.number == number then n ∷ [] else []
+    of (varint n) = []
+    of (bytes held) = []
+    of (fixed32 n) = []
+
+-- the same of wire type 5
+abbrev pub fixed32_in : ℕ → Record → List ℕ
+fixed32_in number r = of r.held
+  where
+    of : Held → List ℕ
+    of (fixed32 n) = if r.number == number then n ∷ [] else []
+    of (varint n) = []
+    of (fixed64 n) = []
+    of (bytes held) = []
+
 -- what the records of this number and wire type hold, in their order
 abbrev pub bytes_of : ℕ → List Record → List (List ℕ)
 bytes_of number records = flat_map (bytes_in number) records
 
 abbrev pub varints_of : ℕ → List Record → List ℕ
 varints_of number records = flat_map (varint_in number) records
+
+abbrev pub fixed64s_of : ℕ → List Record → List ℕ
+fixed64s_of number records = flat_map (fixed64_in number) records
+
+abbrev pub fixed32s_of : ℕ → List Record → List ℕ
+fixed32s_of number records = flat_map (fixed32_in number) records
 
 -- ---- values
 
@@ -40,6 +66,14 @@ Singular Means IsDefault (held ∷ other ∷ more) value = ⊥
 
 abbrev pub MeansText : List ℕ → List ℕ → Type 0
 MeansText held text = IsUtf8 held × (text ≡ held)
+
+-- a time or flags
+abbrev pub MeansNumber : ℕ → ℕ → Type 0
+MeansNumber n number = number ≡ n
+
+-- a count of 32 bits, the low ones of its varint
+abbrev pub MeansCount : ℕ → ℕ → Type 0
+MeansCount n count = count ≡ n % 2 ^ 32
 
 -- ---- offences
 

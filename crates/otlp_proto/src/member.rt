@@ -2,7 +2,7 @@
 ghost use Rattle.std.specs.Prelude.{◌≡◌, IfOk};
 ghost use Rattle.proto_wire.specs.Records.{bytes, plain_record};
 ghost use Rattle.otlp_proto.specs.Values.{member_in};
-ghost use Rattle.otlp_proto.specs.Shapes.{plain_members};
+ghost use Rattle.otlp_proto.specs.ValueRows.{plain_members};
 
 use proto_wire::{Payload, WireRecord};
 

@@ -1,4 +1,10 @@
-use crate::{AttributeRows, read_status};
+mod events;
+mod groups;
+mod links;
+mod spans;
+
+use crate::attributes::AttributeRows;
+use crate::status::read_status;
 use span_io::{Cause, Halt, Items, OutOfMemory, Text};
 use std::alloc::Global;
 use std::test::Fail;

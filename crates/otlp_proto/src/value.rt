@@ -5,15 +5,13 @@ ghost use Rattle.span_io.specs.Offences.{Offence, HereOrInside, ItemOffends, Jud
 ghost use Rattle.proto_wire.specs.Records.{Record, plain_record};
 ghost use Rattle.proto_wire.specs.Messages.{messages};
 ghost use Rattle.otlp_proto.specs.Rows.{bytes_in};
-ghost use Rattle.otlp_proto.specs.Values.{MeansMember, BadMember, InMember, value_in, pair_in, list_rules, map_rules, value_rules, pair_rules};
-ghost use Rattle.otlp_proto.specs.Shapes.{plain_leaf, plain_member, plain_bytes, shape_rules, Gathered, HasGathered, GatheredList, GatheredMap, GatheredPair, GatheredValue};
+ghost use Rattle.otlp_proto.specs.Values.{MeansMember, BadMember, InMember, IsListText, IsMapText, value_in, pair_in, value_at, pair_at, list_rules, map_rules, value_rules, pair_rules};
+ghost use Rattle.otlp_proto.specs.ValueRows.{plain_leaf, plain_member, plain_bytes, GatheredList, GatheredMap, GatheredPair, GatheredValue};
 
 use crate::member::{LeafField, MemberField, member_of};
-use crate::noted::NotedValue;
+use crate::noted::{NotedValue, Pair};
 use crate::rows::{text_of, text_row};
-use crate::shape::{
-    Shape, ShapeRows, leaf_of, list_of, map_of, no_rows, pair_of, push_pair, push_value, value_of,
-};
+use crate::value_rows::{ListRows, MapRows, PairRows, leaf_of, pair_of, value_of};
 use proto_wire::laws::message_cuts;
 use proto_wire::{Payload, WireRecord, next_record};
 use span_io::{Blob, Cause, Cursor, Halt};
@@ -56,15 +54,8 @@ fn read_member(alloc: Global, left: u8, field: MemberField<'_>) -> Result<NotedV
     ensures judged { Judges result (HereOrInside (BadMember (plain_member field.entry)) (InMember (list_rules left) (map_rules left) (plain_member field.entry))) }
 {
     match field {
-        MemberField::List(held) => {
-            let rows = read_shape(alloc, left, Shape::List, held)?;
-            Ok(list_of(rows))
-        }
-        MemberField::Map(held) => {
-            let rows = read_shape(alloc, left, Shape::Map, held)?;
-            let map = map_of(alloc, rows)?;
-            Ok(map)
-        }
+        MemberField::List(held) => read_list(alloc, left, held),
+        MemberField::Map(held) => read_map(alloc, left, held),
         MemberField::Leaf(leaf) => read_leaf(alloc, leaf),
     }
 }
@@ -106,7 +97,7 @@ fn level_below(left: u8) -> Result<u8, Halt<Cause>>
 fn add_value(
     alloc: Global,
     left: u8,
-    rows: &mut ShapeRows,
+    rows: &mut ListRows,
     found: &WireRecord<'_>,
 ) -> Result<(), Halt<Cause>>
     ensures ok { OnOk result ((seen : List Record) → GatheredList left rows.old seen → GatheredList left rows.new (seen ++ plain_record found.now ∷ [])) }
@@ -116,8 +107,8 @@ fn add_value(
         return Ok(());
     };
     let below = level_below(left)?;
-    let inner = read_shape(alloc, below, Shape::Value, held)?;
-    push_value(rows, value_of(alloc, inner))?;
+    let reading = read_value(alloc, below, held)?;
+    rows.push(reading)?;
     Ok(())
 }
 
@@ -126,7 +117,7 @@ fn add_value(
 fn add_pair(
     alloc: Global,
     left: u8,
-    rows: &mut ShapeRows,
+    rows: &mut MapRows,
     found: &WireRecord<'_>,
 ) -> Result<(), Halt<Cause>>
     ensures ok { OnOk result ((seen : List Record) → GatheredMap left rows.old seen → GatheredMap left rows.new (seen ++ plain_record found.now ∷ [])) }
@@ -136,8 +127,8 @@ fn add_pair(
         return Ok(());
     };
     let below = level_below(left)?;
-    let inner = read_shape(alloc, below, Shape::Pair, held)?;
-    push_pair(&mut rows.pairs, &mut rows.noted, pair_of(alloc, inner))?;
+    let pair = read_pair(alloc, below, held)?;
+    rows.push(pair)?;
     Ok(())
 }
 
@@ -146,7 +137,7 @@ fn add_pair(
 fn add_field(
     alloc: Global,
     left: u8,
-    rows: &mut ShapeRows,
+    rows: &mut PairRows,
     found: &WireRecord<'_>,
 ) -> Result<(), Halt<Cause>>
     ensures ok { OnOk result ((seen : List Record) → GatheredPair left rows.old seen → GatheredPair left rows.new (seen ++ plain_record found.now ∷ [])) }
@@ -161,49 +152,80 @@ fn add_field(
     if rows.value.is_some() {
         return Err(Halt::Why(Cause::FieldTwice));
     }
-    let inner = read_shape(alloc, left, Shape::Value, held)?;
-    rows.value = Some(value_of(alloc, inner));
+    rows.value = Some(read_value(alloc, left, held)?);
     Ok(())
 }
 
-// Adds a record of a message of this shape.
+/// Reads a value below which so many levels are left.
 #[cycle(values)]
-fn add_record(
-    alloc: Global,
-    left: u8,
-    shape: Shape,
-    rows: &mut ShapeRows,
-    found: &WireRecord<'_>,
-) -> Result<(), Halt<Cause>>
-    ensures ok { OnOk result ((seen : List Record) → Gathered shape left rows.old seen → Gathered shape left rows.new (seen ++ plain_record found.now ∷ [])) }
-    ensures judged { (seen : List Record) → Gathered shape left rows.old seen → Judges result (ItemOffends Record (shape_rules shape left) seen (plain_record found.now)) }
+pub fn read_value(alloc: Global, left: u8, bytes: &[u8]) -> Result<NotedValue, Halt<Cause>>
+    ensures value { IfOk result (λ r. value_at left r bytes.now) }
+    ensures judged { Judges result (Offence messages (value_rules left) bytes.now) }
 {
-    match shape {
-        Shape::Value => add_member(alloc, left, &mut rows.value, found),
-        Shape::List => add_value(alloc, left, rows, found),
-        Shape::Map => add_pair(alloc, left, rows, found),
-        Shape::Pair => add_field(alloc, left, rows, found),
+    message_cuts();
+    let mut row = None;
+    let mut cursor = Cursor::new(bytes);
+    'members: loop {
+        match next_record(&mut cursor) {
+            Ok(None) => return Ok(value_of(alloc, row)),
+            Ok(Some(found)) => add_member(alloc, left, &mut row, &found)?,
+            Err(cause) => return Err(Halt::Why(cause)),
+        }
     }
 }
 
-/// Reads a message of this shape, below whose values so many levels are left.
+// Reads a list below which so many levels are left.
 #[cycle(values)]
-pub fn read_shape(
-    alloc: Global,
-    left: u8,
-    shape: Shape,
-    bytes: &[u8],
-) -> Result<ShapeRows, Halt<Cause>>
-    ensures value { IfOk result (λ rows. HasGathered shape left rows bytes.now) }
-    ensures judged { Judges result (Offence messages (shape_rules shape left) bytes.now) }
+fn read_list(alloc: Global, left: u8, bytes: &[u8]) -> Result<NotedValue, Halt<Cause>>
+    ensures value { IfOk result (λ r. IsListText (value_in left) r bytes.now) }
+    ensures judged { Judges result (Offence messages (list_rules left) bytes.now) }
 {
     message_cuts();
-    let mut rows = no_rows(alloc);
+    let mut rows = ListRows::new(alloc);
     let mut cursor = Cursor::new(bytes);
-    'records: loop {
+    'values: loop {
         match next_record(&mut cursor) {
-            Ok(None) => return Ok(rows),
-            Ok(Some(found)) => add_record(alloc, left, shape, &mut rows, &found)?,
+            Ok(None) => return Ok(rows.finish()),
+            Ok(Some(found)) => add_value(alloc, left, &mut rows, &found)?,
+            Err(cause) => return Err(Halt::Why(cause)),
+        }
+    }
+}
+
+// Reads a map below which so many levels are left.
+#[cycle(values)]
+fn read_map(alloc: Global, left: u8, bytes: &[u8]) -> Result<NotedValue, Halt<Cause>>
+    ensures value { IfOk result (λ r. IsMapText (pair_in left) r bytes.now) }
+    ensures judged { Judges result (Offence messages (map_rules left) bytes.now) }
+{
+    message_cuts();
+    let mut rows = MapRows::new(alloc);
+    let mut cursor = Cursor::new(bytes);
+    'pairs: loop {
+        match next_record(&mut cursor) {
+            Ok(None) => return Ok(rows.finish(alloc)?),
+            Ok(Some(found)) => add_pair(alloc, left, &mut rows, &found)?,
+            Err(cause) => return Err(Halt::Why(cause)),
+        }
+    }
+}
+
+/// Reads a pair below whose value so many levels are left.
+#[cycle(values)]
+pub fn read_pair(alloc: Global, left: u8, bytes: &[u8]) -> Result<Pair, Halt<Cause>>
+    ensures value { IfOk result (λ p. pair_at left p bytes.now) }
+    ensures judged { Judges result (Offence messages (pair_rules left) bytes.now) }
+{
+    message_cuts();
+    let mut rows = PairRows {
+        key: None,
+        value: None,
+    };
+    let mut cursor = Cursor::new(bytes);
+    'fields: loop {
+        match next_record(&mut cursor) {
+            Ok(None) => return Ok(pair_of(alloc, rows)),
+            Ok(Some(found)) => add_field(alloc, left, &mut rows, &found)?,
             Err(cause) => return Err(Halt::Why(cause)),
         }
     }

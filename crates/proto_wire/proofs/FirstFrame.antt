@@ -1,5 +1,5 @@
 -- The clauses of first_frame, from the one that it answers what frame_at computes.
-use Rattle.std.proofs.Common.{◌≡◌, ◌≢◌, ◌≤◌, ◌<◌, ◌-◌, ◌%◌, ◌↔◌, ◌++◌, ◌∷◌, ◌⊎◌, inl, inr, ℕ, List, [], length, take, drop, Option, Some, None, Result, Ok, Err, Bool, true, false, cond, eqb, refl, ap, sym, ◌∙◌, subst, arith}
+use Rattle.std.proofs.Common.{◌≡◌, ◌≢◌, ◌*◌, ◌+◌, ◌≤◌, ◌<◌, ◌-◌, ◌%◌, ◌↔◌, ◌++◌, ◌∷◌, ◌⊎◌, inl, inr, ℕ, List, [], length, take, drop, Option, Some, None, Result, Ok, Err, Bool, true, false, cond, eqb, refl, ap, sym, ◌∙◌, subst, arith}
 use Rattle.std.proofs.lemmas.Bool.{eqb-true, eqb-false}
 use Rattle.std.proofs.lemmas.Bool.Decides.{leb_tells}
 use Rattle.std.proofs.lemmas.List.{length-append, length-take, append_assoc, append-nil, take-append-drop, drop_all}
@@ -8,7 +8,7 @@ use Rattle.span_io.specs.declared.cause.Cause.TheVariants as causes
 use Rattle.span_io.specs.declared.step.Step.{Step}
 use Rattle.span_io.specs.declared.step.Step.TheVariants as steps
 use Rattle.span_io.specs.Steps.{IfUnit}
-use Rattle.span_io.specs.Varint.{SpellsVarint}
+use Rattle.span_io.specs.Varint.{SpellsWithin, SpellsVarint}
 use Rattle.span_io.specs.Frames.{EndsInTenth, BeginsFrame, IsTooLong, IsDecided, DecidedBy, IsItemOf, IsRefusedIn}
 use Rattle.span_io.proofs.Framing.{BothOf, same_front, some_length, undecided}
 use Rattle.proto_wire.specs.Records.{Record}
@@ -304,3 +304,49 @@ module _ (L : VarintLaws) where
 
     pub within : IfUnit result (λ n. (1 ≤ n) × (n ≤ limit) × (n ≤ length text))
     within = within_of result (is result refl)
+
+  -- ---- bytes have one first step
+
+  refused_step : (limit : ℕ) (text : List ℕ) (cause : Cause) → IsRefusedAs limit text cause → frame_at limit text ≡ steps.Refused cause
+  refused_step limit text cause h = (refused limit text (frame_at limit text) refl cause).1 h
+
+  needs_step : (limit : ℕ) (text : List ℕ) → NeedsMoreBytes limit text → frame_at limit text ≡ steps.Need
+  needs_step limit text h = (need limit text (frame_at limit text) refl).1 h
+
+  frame_step : (limit n : ℕ) (text : List ℕ) → BeginsFrame records limit n text → frame_at limit text ≡ steps.Unit n
+  frame_step limit n text h = (frame limit text (frame_at limit text) refl n).1 h
+
+  cause_of : Step → Cause
+  cause_of (steps.Refused cause) = cause
+  cause_of other = causes.Truncated
+
+  pub one_cause : (limit : ℕ) (text : List ℕ) (a b : Cause) → IsRefusedAs limit text a → IsRefusedAs limit text b → a ≡ b
+  unfolding cause_of
+  one_cause limit text a b h g = ap cause_of (sym (refused_step limit text a h) ∙ refused_step limit text b g)
+
+  pub no_frame : (limit n : ℕ) (text : List ℕ) (cause : Cause) → IsRefusedAs limit text cause → BeginsFrame records limit n text → ⊥
+  no_frame limit n text cause h g =
+      let e : steps.Refused cause ≡ steps.Unit n = sym (refused_step limit text cause h) ∙ frame_step limit n text g in
+      cc
+
+  pub open_frame : (limit n : ℕ) (text : List ℕ) → NeedsMoreBytes limit text → BeginsFrame records limit n text → ⊥
+  open_frame limit n text h g =
+      let e : steps.Need ≡ steps.Unit n = sym (needs_step limit text h) ∙ frame_step limit n text g in
+      cc
+
+  pub open_refused : (limit : ℕ) (text : List ℕ) (cause : Cause) → NeedsMoreBytes limit text → IsRefusedAs limit text cause → ⊥
+  open_refused limit text cause h g =
+      let e : steps.Need ≡ steps.Refused cause = sym (needs_step limit text h) ∙ refused_step limit text cause g in
+      cc
+
+  no_varint : (text others : List ℕ) (n : ℕ) → SpellsVarint text n → [] ≡ text ++ others → ⊥
+  unfolding SpellsVarint SpellsWithin
+  no_varint [] others n h e = h
+  no_varint (b ∷ text) others n h e = cc
+
+  empty_undecided : (limit : ℕ) → 1 ≤ limit → (front rest : List ℕ) → [] ≡ front ++ rest → IsDecided records limit front → ⊥
+  empty_undecided limit some [] rest e h = few limit [] (inl empty_proper) (omega arith) (λ past. no_varint past.key (past.size ++ past.others) (past.number * 8 + 2) past.key_spelled past.parts) h
+  empty_undecided limit some (b ∷ front) rest e h = cc
+
+  pub empty_needs : (limit : ℕ) → 1 ≤ limit → NeedsMoreBytes limit []
+  empty_needs limit some = record { may_come = inl empty_proper; undecided = empty_undecided limit some }

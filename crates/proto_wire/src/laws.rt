@@ -1,12 +1,13 @@
 //! Laws of the wire format, as contracts of functions that do nothing.
 ghost use Rattle.std.specs.Prelude.{◌≡◌, ◌≤◌, ◌<◌, ◌++◌, ◌⊎◌, ℕ, List, [], length, All, Err};
-ghost use Rattle.span_io.specs.Frames.{BeginsWhole, CanBeCompleted, IsFramed};
+ghost use Rattle.span_io.specs.Frames.{BeginsWhole, BeginsFrame, CanBeCompleted, IsFramed, ItemsThen, GoesOn};
 ghost use Rattle.span_io.specs.Offences.{Cut};
 ghost use Rattle.span_io.specs.OffenceLaws.{FormatLaws};
+ghost use Rattle.span_io.specs.declared.cause.Cause.{Cause};
 ghost use Rattle.span_io.specs.declared.cause.Cause.TheVariants as causes;
 ghost use Rattle.proto_wire.specs.Messages.{messages};
 ghost use Rattle.proto_wire.specs.Records.{Record, IsProper, bytes, IsFieldNumber};
-ghost use Rattle.proto_wire.specs.Wire.{SpellsRecord, Wire, IsOpenRecord, HasOverlong, HasBadKey, records, record_text, opening_text};
+ghost use Rattle.proto_wire.specs.Wire.{SpellsRecord, Wire, IsOpenRecord, HasOverlong, HasBadKey, NeedsMoreBytes, IsRefusedAs, records, record_text, opening_text};
 ghost use Rattle.proto_wire.specs.Reading.{record_at};
 
 /// No record's text is a proper front of another's, and a text has one reading.
@@ -38,9 +39,23 @@ pub fn open_fronts()
 }
 
 /// Bytes are in one way records of at most `limit` bytes each and a rest that begins with no such
-/// record.
+/// record; and of two walks over such records one goes on behind the other.
 pub fn one_framing()
-    ensures { (limit : ℕ) (bytes rest other : List ℕ) (items others : List (List ℕ)) → IsFramed records limit items rest bytes → IsFramed records limit others other bytes → (items ≡ others) × (rest ≡ other) }
+    ensures walks { (limit : ℕ) (bytes rest other : List ℕ) (items others : List (List ℕ)) → ItemsThen records limit items rest bytes → ItemsThen records limit others other bytes
+        → GoesOn records limit items others rest other ⊎ GoesOn records limit others items other rest }
+    ensures once { (limit : ℕ) (bytes rest other : List ℕ) (items others : List (List ℕ)) → IsFramed records limit items rest bytes → IsFramed records limit others other bytes → (items ≡ others) × (rest ≡ other) }
+{
+    span_io::laws::varint_readings();
+}
+
+/// Bytes have one first step: a frame begins, they are refused with one cause, or they need more.
+/// The empty bytes need more.
+pub fn one_step()
+    ensures one_cause { (limit : ℕ) (text : List ℕ) (a b : Cause) → IsRefusedAs limit text a → IsRefusedAs limit text b → a ≡ b }
+    ensures no_frame { (limit n : ℕ) (text : List ℕ) (cause : Cause) → IsRefusedAs limit text cause → ¬ BeginsFrame records limit n text }
+    ensures open_frame { (limit n : ℕ) (text : List ℕ) → NeedsMoreBytes limit text → ¬ BeginsFrame records limit n text }
+    ensures open_refused { (limit : ℕ) (text : List ℕ) (cause : Cause) → NeedsMoreBytes limit text → ¬ IsRefusedAs limit text cause }
+    ensures empty { (limit : ℕ) → 1 ≤ limit → NeedsMoreBytes limit [] }
 {
     span_io::laws::varint_readings();
 }

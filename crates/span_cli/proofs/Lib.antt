@@ -1,12 +1,5 @@
-pub mod CanonicalLaws
 pub mod CommandLemmas
-pub mod ElementLemmas
+pub mod EndingLaws
+pub mod FrontVerdicts
 pub mod InputLemmas
-pub mod ListTexts
 pub mod NoteLemmas
-pub mod Passing
-pub mod Refusals
-pub mod RowLemmas
-pub mod SpanLaws
-pub mod SpanTexts
-pub mod VerdictLaws

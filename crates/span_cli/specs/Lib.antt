@@ -1,7 +1,4 @@
 pub mod Commands
 pub mod Inputs
-pub mod Limits
-pub mod Reading
-pub mod Rows
-pub mod Small
+pub mod Runs
 pub mod Verdicts

@@ -1,34 +1,17 @@
--- What is to be said of an input: the text to write, the status, and the line that is noted.
-use Rattle.std.specs.Prelude.{◌≡◌, ℕ, ◌<◌, ◌≤◌, ◌⊎◌, ◌==◌, if◌then◌else◌, List, [], ◌∷◌, ◌++◌, length, Option, IfSome, IsTrue, codes, decimal}
+-- What is said of the verdict on an input: the status, what is written, and the line that is noted.
+use Rattle.std.specs.Prelude.{◌≡◌, ℕ, ◌⊎◌, ◌==◌, if◌then◌else◌, List, [], ◌∷◌, ◌++◌, Option, IfSome, IsTrue, codes, decimal}
 use Rattle.std.specs.List.{list_any}
-use Rattle.span_io.specs.Outside.{Outlet, Gains, GainsFront, Rose}
 use Rattle.span_io.specs.Causes.{cause_number, cause_name}
-use Rattle.span_io.specs.declared.cause.Cause.TheVariants.{InputTooLong, Unbuilt}
-use Rattle.span_cli.specs.declared.small.Request.{Request}
+use Rattle.span_io.specs.Limits.{shipped_limits}
+use Rattle.span_io.specs.Outside.{Outlet, Gains, GainsFront, Rose}
 use Rattle.span_io.specs.declared.refusal.Refusal.{Refusal}
-use Rattle.span_cli.specs.declared.verdict.Verdict.{Verdict}
-use Rattle.span_cli.specs.declared.verdict.Verdict.TheVariants.{Good, Refused}
-use Rattle.span_cli.specs.declared.verdict.Ending.{Ending}
-use Rattle.span_cli.specs.declared.verdict.Ending.TheVariants as endings
-use Rattle.span_cli.specs.Limits.{input_limit}
-use Rattle.span_cli.specs.Small.{Small, small_text}
+use Rattle.span_convert.specs.Verdicts.{Verdict, good, refused, IsVerdict}
+use Rattle.span_cli.specs.declared.ending.Ending.{Ending}
+use Rattle.span_cli.specs.declared.ending.Ending.TheVariants as endings
 
--- More bytes than the limit are too long, whatever they are. Other bytes are good where they are a text of a request of small
--- spans, and what is to be written is the canonical text of that request; where they are a text of no request they are refused.
--- Both refusals speak of the input as a whole, unit 0.
-abbrev pub IsVerdict : Verdict → List ℕ → Type 0
-IsVerdict (Good text) bytes = (length bytes ≤ input_limit) × (request : Request) × Small request bytes × (text ≡ small_text request)
-IsVerdict (Refused refusal) bytes = (refusal ≡ record { unit = 0; cause = InputTooLong }) × (input_limit < length bytes)
-    ⊎ (refusal ≡ record { unit = 0; cause = Unbuilt }) × (length bytes ≤ input_limit) × ((request : Request) → ¬ Small request bytes)
-
--- Where the bytes of the input are told, the fact holds of the verdict on them.
+-- Where the bytes of the input are told, the fact holds of each verdict on them.
 abbrev pub OnVerdict : Option (List ℕ) → (Verdict → Type 0) → Type 0
-OnVerdict left P = IfSome left (λ bytes. (verdict : Verdict) → IsVerdict verdict bytes → P verdict)
-
--- what is to be written
-abbrev pub text_in : Verdict → List ℕ
-text_in (Good text) = text
-text_in (Refused refusal) = []
+OnVerdict left P = IfSome left (λ bytes. (verdict : Verdict) → IsVerdict shipped_limits bytes verdict → P verdict)
 
 -- ---- how a run ends
 
@@ -60,21 +43,21 @@ IsStatus status = IsTrue (list_any (λ known. known == status) (0 ∷ 2 ∷ 3 �
 -- where the verdict was carried out there is one
 abbrev pub IsJudged : Stage → List ℕ → Type 0
 IsJudged usage bytes = Unit {0}
-IsJudged said bytes = (verdict : Verdict) × IsVerdict verdict bytes
+IsJudged said bytes = (verdict : Verdict) × IsVerdict shipped_limits bytes verdict
 IsJudged input_failed bytes = Unit {0}
 IsJudged output_failed bytes = Unit {0}
 IsJudged no_memory bytes = Unit {0}
 
--- a verdict that was carried out is told by the status: 0 for a text, 3 for a refusal
+-- a verdict that was carried out is told by the status: 0 for a good one, 3 for a refusal
 abbrev pub AgreesWith : Stage → ℕ → Verdict → Type 0
 AgreesWith usage status verdict = Unit {0}
-AgreesWith said status (Good text) = status ≡ 0
-AgreesWith said status (Refused refusal) = status ≡ 3
+AgreesWith said status (good text tally) = status ≡ 0
+AgreesWith said status (refused refusal text) = status ≡ 3
 AgreesWith input_failed status verdict = Unit {0}
 AgreesWith output_failed status verdict = Unit {0}
 AgreesWith no_memory status verdict = Unit {0}
 
--- What the output gains: the text where the verdict was carried out, a front of it where the output failed or memory was
+-- What the output gains: the text of the verdict where it was carried out, a front of it where the output failed or memory was
 -- wanted, and nothing before.
 abbrev pub Writes : Stage → List ℕ → Outlet → Outlet → Type 0
 Writes usage text before now = Gains before now []
@@ -102,8 +85,8 @@ stage_line no_memory = codes "out of memory\n"
 -- the line of a verdict that was carried out, or of another stage
 abbrev pub line_of : Stage → Verdict → List ℕ
 line_of usage verdict = stage_line usage
-line_of said (Good text) = []
-line_of said (Refused refusal) = refusal_line refusal
+line_of said (good text tally) = []
+line_of said (refused refusal text) = refusal_line refusal
 line_of input_failed verdict = stage_line input_failed
 line_of output_failed verdict = stage_line output_failed
 line_of no_memory verdict = stage_line no_memory

@@ -1,47 +1,36 @@
-//! Reading an input whole.
-ghost use Rattle.std.specs.Prelude.{◌≡◌, ◌≤◌, ◌<◌, length, vec_len, IfOk};
-ghost use Rattle.span_cli.specs.Inputs.{IsRead, IsReadOn};
+//! Feeding an input to a converter.
+ghost use Rattle.std.specs.Prelude.{◌≡◌, ◌<◌, [], length, vec_len, IfOk, OnOk, OnErr};
+ghost use Rattle.span_io.specs.Limits.{shipped_limits};
+ghost use Rattle.span_convert.specs.Converters.{Fed};
+ghost use Rattle.span_cli.specs.Inputs.{IsFed};
+ghost use Rattle.span_cli.specs.Runs.{EndsEarly};
 
-use span_io::{Blob, OutOfMemory, Source};
+use crate::ending::Ending;
+use span_convert::Converter;
+use span_io::{OutOfMemory, Sink, Source};
 use std::alloc::Global;
-
-/// The most bytes that an input may have.
-const INPUT_LIMIT: usize = 1_048_576;
 
 /// The most bytes that one read asks for.
 const PIECE: usize = 65_536;
 
-/// An input, to its end or beyond its limit.
-#[derive(Debug, Drop)]
-pub enum Input {
-    Whole(Blob),
-    TooLong,
-}
-
-/// Why an input wasn't read.
-#[derive(Clone, Copy, Debug, PartialEq, Eq)]
-pub enum ReadStop {
-    Failed,
-    OutOfMemory,
-}
-
-impl From<OutOfMemory> for ReadStop {
-    ghost use Rattle.std.specs.Prelude.{◌≡◌};
-    ghost use Rattle.span_cli.specs.declared.input.ReadStop.TheVariants as stops;
-
-    ghost from_gives = { λ _ stop. stop ≡ stops.OutOfMemory };
-
-    fn from(_error: OutOfMemory) -> ReadStop {
-        ReadStop::OutOfMemory
-    }
-}
-
-/// Reads a source to its end, or until it has given more bytes than an input may have.
-pub fn read_whole<S: Source>(alloc: Global, source: &mut S) -> Result<Input, ReadStop>
-    ensures { IsRead result (S.inlet source.old) (S.inlet source.new) }
+/// Feeds an input to a converter, piece by piece, to the end of the input. Where the run ends before,
+/// the answer is how.
+pub fn feed_input<S: Source, K: Sink>(
+    alloc: Global,
+    converter: &mut Converter,
+    input: &mut S,
+    output: &mut K,
+) -> Result<(), Ending>
+    requires fresh { Fed converter.old [] }
+    requires limits { converter.old.limits ≡ shipped_limits }
+    ensures fed { OnOk result (IsFed (S.inlet input.old) (S.inlet input.new) converter.new) }
+    ensures unwritten { OnOk result (output.new ≡ output.old) }
+    ensures ended { EndsEarly K.outlet result (S.inlet input.old) (S.inlet input.new) output.old output.new }
 {
-    let mut buffer = room(alloc, PIECE)?;
-    read_pieces(Blob::new(alloc), source, buffer.as_mut_slice())
+    let Ok(mut buffer) = room(alloc, PIECE) else {
+        return Err(Ending::NoMemory);
+    };
+    feed_pieces(converter, input, output, buffer.as_mut_slice())
 }
 
 // So many bytes of room.
@@ -51,26 +40,29 @@ fn room(alloc: Global, size: usize) -> Result<Vec<u8>, OutOfMemory>
     Ok(Vec::from_elem(alloc, 0u8, size)?)
 }
 
-// Reads on, behind the bytes that were read.
-fn read_pieces<S: Source>(
-    mut bytes: Blob,
-    source: &mut S,
+// The same with room for a piece.
+fn feed_pieces<S: Source, K: Sink>(
+    converter: &mut Converter,
+    input: &mut S,
+    output: &mut K,
     buffer: &mut [u8],
-) -> Result<Input, ReadStop>
+) -> Result<(), Ending>
     requires room { 0 < length buffer.old }
-    requires within { length bytes ≤ INPUT_LIMIT }
-    ensures { IsReadOn bytes result (S.inlet source.old) (S.inlet source.new) }
+    requires fresh { Fed converter.old [] }
+    requires limits { converter.old.limits ≡ shipped_limits }
+    ensures fed { OnOk result (IsFed (S.inlet input.old) (S.inlet input.new) converter.new) }
+    ensures unwritten { OnOk result (output.new ≡ output.old) }
+    ensures ended { EndsEarly K.outlet result (S.inlet input.old) (S.inlet input.new) output.old output.new }
 {
     'pieces: loop {
-        let Ok(given) = source.read(buffer) else {
-            return Err(ReadStop::Failed);
+        let Ok(given) = input.read(buffer) else {
+            return Err(Ending::InputFailed);
         };
         if given == 0 {
-            return Ok(Input::Whole(bytes));
+            return Ok(());
         }
-        bytes.append(&buffer[..given])?;
-        if bytes.len() > INPUT_LIMIT {
-            return Ok(Input::TooLong);
+        if let Err(stop) = converter.feed(&buffer[..given], output) {
+            return Err(Ending::at_stop(converter, stop));
         }
     }
 }

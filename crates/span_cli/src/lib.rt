@@ -2,16 +2,10 @@
 #![tactic(auto)]
 
 mod command;
-mod elements;
+mod ending;
 mod input;
-pub mod laws;
-mod message;
 mod note;
-mod small;
-mod span_reading;
-mod span_writing;
 mod top;
-mod verdict;
 
 pub use command::{Command, read_words};
 pub use top::run;

@@ -3,7 +3,7 @@ ghost use Rattle.std.specs.Prelude.{OnOk, OnErr};
 ghost use Rattle.span_io.specs.Outside.{Gains, OutputFails};
 ghost use Rattle.span_cli.specs.Verdicts.{Notes, ending_line, refusal_line, usage_line};
 
-use crate::verdict::Ending;
+use crate::ending::Ending;
 use itoa::Buffer;
 use span_io::laws::gains_then;
 use span_io::{Failed, Refusal, Sink, write_all};

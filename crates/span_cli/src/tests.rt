@@ -14,7 +14,7 @@ const ONE_SPAN_TURNED: &str =
 const ONE_SPAN_LONG: &str =
     "8a808080808080808000b4009200b0009280808000a6808080008a009000000000000000000000000000000000\
     0192808000080000000000000002aa00810061";
-// The same with unknown fields and an empty resource.
+// The same with fields that OTLP doesn't have, and an empty resource.
 const ONE_SPAN_UNKNOWN: &str =
     "0a3c12381236a006052a0161120800000000000000020a1000000000000000000000000000000001a906000000\
     0000000000b20601ffbd06000000000a00";
@@ -32,7 +32,14 @@ const ALL_TURNED: &str =
 const ALL: &str =
     "0a3f123d123b0a100000000000000000000000000000000112080000000000000002220800000000000000032a\
     0161390100000000000000410200000000000000";
-// `examples/small_spans.bin`, which a stock protobuf library wrote.
+// A request of one span with a resource, a scope, attributes, a kind and flags.
+const SHOP: &str =
+    "0ac0010a2b0a110a09686f73742e6e616d6512040a026e310a160a0c736572766963652e6e616d6512060a047368\
+    6f701290010a0a0a036c69621203312e301281010a100af7651916cd43dd8448eb211c80319c1208b7ad6b716920\
+    33312a09474554202f6361727430033915cd853dfe9c97174115ae7b43fe9c97174a1c0a13687474702e72657175\
+    6573742e6d6574686f6412050a034745544a200a19687474702e726573706f6e73652e7374617475735f636f6465\
+    120318c801850101010000";
+// A request of four spans that a stock protobuf library wrote.
 const STOCK: &str =
     "0a9401129101123e0a105b8efff798038103d269b633813fc60c1208eee19b7ec3c1b1742a0e504f5354202f63\
     6865636b6f757439004859e3faeb6f15410012f41efbeb6f15124f0a105b8efff798038103d269b633813fc60c\
@@ -44,8 +51,6 @@ const STOCK: &str =
 const CONVERT: [&str; 5] = ["convert", "--from", "otlp-proto", "--to", "otlp-proto"];
 
 const USAGE: &str = "usage: spanx convert|losses|show|check|headers|gauge|serve OPTIONS\n";
-
-const UNBUILT: &str = "unit 0: cause 18 Unbuilt\n";
 
 // What a run answered: its status, output and note.
 #[derive(Debug, Drop)]
@@ -128,10 +133,15 @@ fn converts(rt: HostRuntime) -> Result<(), Fail> {
         (ONE_SPAN, ONE_SPAN),
         (ONE_SPAN_TURNED, ONE_SPAN),
         (ONE_SPAN_LONG, ONE_SPAN),
+        (ONE_SPAN_UNKNOWN, ONE_SPAN),
         (DEFAULTS, BARE),
         (ALL_TURNED, ALL),
+        (SHOP, SHOP),
         ("0a00", "0a00"),
         ("0a0212000a00", "0a0212000a00"),
+        // Records of another number, and of another wire type, hold no group.
+        ("1200", ""),
+        ("0800", ""),
         (STOCK, STOCK),
     ];
     for (input, output) in rows {
@@ -147,76 +157,87 @@ fn converts(rt: HostRuntime) -> Result<(), Fail> {
 #[test]
 fn refuses(rt: HostRuntime) -> Result<(), Fail> {
     let rows = [
-        ("unknown fields", ONE_SPAN_UNKNOWN),
-        ("a byte is missing", &ONE_SPAN[..72]),
+        ("0a", "unit 1: cause 1 Truncated\n"),
+        ("0a05", "unit 1: cause 1 Truncated\n"),
+        (&ONE_SPAN[..72], "unit 1: cause 1 Truncated\n"),
+        ("ffffffffffffffffff02", "unit 1: cause 2 BadVarint\n"),
+        ("0b", "unit 1: cause 3 BadWire\n"),
+        // Two names.
         (
-            "a trace id of zeros",
-            "0a231221121f0a1000000000000000000000000000000000120800000000000000022a0161",
-        ),
-        (
-            "a span id of seven bytes",
-            "0a221220121e0a10000000000000000000000000000000011207000000000000022a0161",
-        ),
-        (
-            "no span id",
-            "0a19121712150a10000000000000000000000000000000012a0161",
-        ),
-        (
-            "two names",
             "0a26122412220a1000000000000000000000000000000001120800000000000000022a01612a0161",
+            "unit 1: cause 7 FieldTwice\n",
+        ),
+        // A name that isn't UTF-8.
+        (
+            "0a231221121f0a1000000000000000000000000000000001120800000000000000022a01ff",
+            "unit 1: cause 9 NotText\n",
+        ),
+        // A trace identifier of zeros.
+        (
+            "0a231221121f0a1000000000000000000000000000000000120800000000000000022a0161",
+            "unit 1: cause 12 BadId\n",
+        ),
+        // A span identifier of seven bytes, and none.
+        (
+            "0a221220121e0a10000000000000000000000000000000011207000000000000022a0161",
+            "unit 1: cause 12 BadId\n",
         ),
         (
-            "a name that isn't UTF-8",
-            "0a231221121f0a1000000000000000000000000000000001120800000000000000022a01ff",
+            "0a19121712150a10000000000000000000000000000000012a0161",
+            "unit 1: cause 12 BadId\n",
         ),
-        ("a group of another number", "1200"),
-        ("a varint as a group", "0800"),
-        ("a group that ends early", "0a05"),
-        ("a wire type that is none", "0b"),
+        // A kind beyond the last.
+        (
+            "0a25122312210a1000000000000000000000000000000001120800000000000000022a01613006",
+            "unit 1: cause 13 BadEnum\n",
+        ),
     ];
-    for (row, input) in rows {
-        let bytes = bytes_of(rt.alloc(), input)?;
-        let answer = run_cut(rt.alloc(), &CONVERT, bytes, 65_536, &[], &[])?;
-        expect_answer(&rt, rt.alloc(), &answer, 3, "", UNBUILT, row)?;
+    for (input, note) in rows {
+        for cut in [1, 65_536] {
+            let bytes = bytes_of(rt.alloc(), input)?;
+            let answer = run_cut(rt.alloc(), &CONVERT, bytes, cut, &[], &[])?;
+            expect_answer(&rt, rt.alloc(), &answer, 3, "", note, input)?;
+        }
     }
     Ok(())
 }
 
-// An input of so many bytes, each of them zero.
-fn zeros(alloc: Global, pieces: u32, more: &[u8]) -> Result<Blob, Fail> {
-    let piece = [0u8; 1024];
-    let mut bytes = Blob::new(alloc);
-    for _ in 0..pieces {
-        bytes.append(&piece)?;
-    }
-    bytes.append(more)?;
-    Ok(bytes)
+// A refusal leaves the groups before it written.
+#[test]
+fn refuses_behind_a_group(rt: HostRuntime) -> Result<(), Fail> {
+    let mut bytes = bytes_of(rt.alloc(), ONE_SPAN)?;
+    let cut_off = bytes_of(rt.alloc(), &ONE_SPAN[..72])?;
+    bytes.append(cut_off.as_slice())?;
+    let answer = run_cut(rt.alloc(), &CONVERT, bytes, 65_536, &[], &[])?;
+    expect_answer(
+        &rt,
+        rt.alloc(),
+        &answer,
+        3,
+        ONE_SPAN,
+        "unit 2: cause 1 Truncated\n",
+        "a byte is missing behind a group",
+    )
 }
 
+// More bytes than one read asks for: records that hold no group, and then one that does.
 #[test]
-fn limits_the_input(rt: HostRuntime) -> Result<(), Fail> {
-    let long = zeros(rt.alloc(), 1024, &[0])?;
-    assert_eq!(rt; long.len(), 1_048_577);
-    let answer = run_cut(rt.alloc(), &CONVERT, long, 65_536, &[], &[])?;
+fn reads_on(rt: HostRuntime) -> Result<(), Fail> {
+    let mut bytes = Blob::new(rt.alloc());
+    for _ in 0..40_000 {
+        bytes.append(b"\x12\x00")?;
+    }
+    let group = bytes_of(rt.alloc(), ONE_SPAN)?;
+    bytes.append(group.as_slice())?;
+    let answer = run_cut(rt.alloc(), &CONVERT, bytes, 100_000, &[], &[])?;
     expect_answer(
         &rt,
         rt.alloc(),
         &answer,
-        3,
+        0,
+        ONE_SPAN,
         "",
-        "unit 0: cause 17 InputTooLong\n",
-        "too long",
-    )?;
-    let full = zeros(rt.alloc(), 1024, &[])?;
-    let answer = run_cut(rt.alloc(), &CONVERT, full, 65_536, &[], &[])?;
-    expect_answer(
-        &rt,
-        rt.alloc(),
-        &answer,
-        3,
-        "",
-        UNBUILT,
-        "as long as an input may be",
+        "more than one piece",
     )
 }
 

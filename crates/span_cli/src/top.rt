@@ -3,21 +3,24 @@ ghost use Rattle.std.specs.Prelude.{◌≡◌, ◌≢◌, ◌↔◌, IfSome};
 ghost use Rattle.std.specs.Io.KnownBytes.{IsAtEnd};
 ghost use Rattle.span_io.specs.Outside.{InputFails, OutputFails};
 ghost use Rattle.span_cli.specs.Commands.{texts, Spells};
-ghost use Rattle.span_cli.specs.Verdicts.{OnVerdict, IsStatus, IsJudged, AgreesWith, Writes, Notes, stage_of, status_of, text_in, stage_line, line_of, ending_line};
+ghost use Rattle.span_convert.specs.Verdicts.{text_in};
+ghost use Rattle.span_cli.specs.Runs.{Ends};
+ghost use Rattle.span_cli.specs.Verdicts.{OnVerdict, IsStatus, IsJudged, AgreesWith, Writes, Notes, stage_of, stage_line, line_of};
 ghost use Rattle.span_cli.specs.declared.command.Command.{Command};
 
 use crate::command::{Command, read_words};
-use crate::input::{Input, ReadStop, read_whole};
-use crate::laws::one_request;
+use crate::ending::Ending;
+use crate::input::feed_input;
 use crate::note::{note_ending, note_usage};
-use crate::verdict::{Ending, Verdict, judge};
-use span_io::{Cause, Form, Refusal, Sink, Source, write_all};
+use span_convert::Converter;
+use span_io::{Form, Limits, Sink, Source};
 use std::alloc::Global;
 
-/// Runs the command that the words after the program's name spell: it reads the input whole, writes
-/// its canonical text to the output, and notes a refusal or a fault in one line. The answer is the
-/// exit status: 0 the whole text was written, 2 the words are no command, 3 the input is refused,
-/// 5 the input failed, 6 the output failed, 7 no memory was found.
+/// Runs the command that the words after the program's name spell: it reads the input to its end,
+/// writes its canonical text to the output, and notes a refusal or a fault in one line. The answer is
+/// the exit status: 0 the whole text was written, 2 the words are no command, 3 the input is refused,
+/// and the text of the groups before was written, 5 the input failed, 6 the output failed, 7 no
+/// memory was found.
 pub fn run<S: Source, K: Sink, N: Sink>(
     alloc: Global,
     words: &[String],
@@ -54,42 +57,28 @@ pub fn run<S: Source, K: Sink, N: Sink>(
         return 2;
     };
     let ending = match command {
-        Command::Convert(Form::OtlpProto, Form::OtlpProto) => convert(alloc, input, output),
+        Command::Convert(from, to) => convert(alloc, from, to, input, output),
     };
     note_ending(notes, ending);
     ending.status()
 }
 
-// Reads the input whole, and then writes what is to be said of it.
-fn convert<S: Source, K: Sink>(alloc: Global, input: &mut S, output: &mut K) -> Ending
-    ensures input_fails { status_of result ≡ 5 → InputFails (S.inlet input.old) (S.inlet input.new) }
-    ensures unwritten { status_of result ≡ 5 → output.new ≡ output.old }
-    ensures output_fails { status_of result ≡ 6 → OutputFails (K.outlet output.old) (K.outlet output.new) }
-    ensures all_read { status_of result ≡ 0 → IsAtEnd (S.inlet input.new).left }
-    ensures judged { IfSome (S.inlet input.old).left (IsJudged (stage_of (status_of result))) }
-    ensures verdict { OnVerdict (S.inlet input.old).left (AgreesWith (stage_of (status_of result)) (status_of result)) }
-    ensures output { OnVerdict (S.inlet input.old).left
-        (λ verdict. Writes (stage_of (status_of result)) (text_in verdict) (K.outlet output.old) (K.outlet output.new)) }
-    ensures line { OnVerdict (S.inlet input.old).left (λ verdict. ending_line result ≡ line_of (stage_of (status_of result)) verdict) }
+// Feeds the input to a converter, and then ends it.
+fn convert<S: Source, K: Sink>(
+    alloc: Global,
+    from: Form,
+    to: Form,
+    input: &mut S,
+    output: &mut K,
+) -> Ending
+    ensures { Ends K.outlet result (S.inlet input.old) (S.inlet input.new) output.old output.new }
 {
-    one_request();
-    let bytes = match read_whole(alloc, input) {
-        Ok(Input::Whole(bytes)) => bytes,
-        Ok(Input::TooLong) => {
-            return Ending::Refused(Refusal {
-                unit: 0,
-                cause: Cause::InputTooLong,
-            });
-        }
-        Err(ReadStop::Failed) => return Ending::InputFailed,
-        Err(ReadStop::OutOfMemory) => return Ending::NoMemory,
-    };
-    match judge(alloc, bytes.as_slice()) {
-        Ok(Verdict::Good(text)) => match write_all(output, text.as_slice()) {
-            Ok(()) => Ending::Whole,
-            Err(_) => Ending::OutputFailed,
-        },
-        Ok(Verdict::Refused(refusal)) => Ending::Refused(refusal),
-        Err(_) => Ending::NoMemory,
+    let mut converter = Converter::new(alloc, from, to, &Limits::shipped());
+    if let Err(ending) = feed_input(alloc, &mut converter, input, output) {
+        return ending;
+    }
+    match converter.finish(output) {
+        Ok(_) => Ending::Whole,
+        Err(stop) => Ending::at_stop(&converter, stop),
     }
 }

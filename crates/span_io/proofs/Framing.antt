@@ -1,7 +1,7 @@
 -- Which front of some bytes decides, for every wire format.
-use Rattle.std.proofs.Common.{◌≡◌, ◌≢◌, ◌≤◌, ◌<◌, ◌++◌, ◌∷◌, inl, inr, ℕ, List, [], length, refl, ap, sym, ◌∙◌, subst, arith}
+use Rattle.std.proofs.Common.{◌≡◌, ◌≢◌, ◌≤◌, ◌<◌, ◌++◌, ◌∷◌, ◌⊎◌, inl, inr, ℕ, List, [], length, refl, ap, sym, ◌∙◌, subst, arith}
 use Rattle.std.proofs.lemmas.List.{append-nil}
-use Rattle.span_io.specs.Frames.{Framing, IsOpen, BeginsWhole, BeginsFrame, IsDecided, DecidedBy, ItemsThen}
+use Rattle.span_io.specs.Frames.{Framing, IsOpen, BeginsWhole, BeginsFrame, IsDecided, DecidedBy, ItemsThen, GoesOn}
 use Rattle.span_io.proofs.Fronts.{two_cuts}
 
 pub some_length : (bytes : List ℕ) → bytes ≢ [] → 0 < length bytes
@@ -64,3 +64,18 @@ module _ (F : Framing) (one : (text other more : List ℕ) → F.Whole text → 
       let same : (a ≡ b) × (h.2 ≡ g.2) = same_items a h.2 b g.2 h.0 g.0 (sym h.3 ∙ g.3) in
       let more : (items ≡ others) × (rest ≡ other) = one_framing items others rest other g.2 (subst (λ l. ItemsThen F limit items rest l) same.1 h.4) g.4 none end in
       (ap (λ x. x ∷ items) same.0 ∙ ap (λ l. b ∷ l) more.0, more.1)
+
+  longer_walk : (a b : List ℕ) (items others : List (List ℕ)) (rest other : List ℕ) → a ≡ b → GoesOn F limit items others rest other → GoesOn F limit (a ∷ items) (b ∷ others) rest other
+  longer_walk a b items others rest other e w = record { more = w.more; parts = cc; items_then = w.items_then }
+
+  -- of two walks over one text one goes on behind the other
+  pub one_walk : (items others : List (List ℕ)) (rest other bytes : List ℕ) → ItemsThen F limit items rest bytes → ItemsThen F limit others other bytes → GoesOn F limit items others rest other ⊎ GoesOn F limit others items other rest
+  unfolding ItemsThen
+  one_walk [] others rest other bytes h g = inl (record { more = others; parts = refl; items_then = subst (λ l. ItemsThen F limit others other l) h g })
+  one_walk (a ∷ items) [] rest other bytes h g = inr (record { more = a ∷ items; parts = refl; items_then = subst (λ l. ItemsThen F limit (a ∷ items) rest l) g h })
+  one_walk (a ∷ items) (b ∷ others) rest other bytes h g =
+      let same : (a ≡ b) × (h.2 ≡ g.2) = same_items a h.2 b g.2 h.0 g.0 (sym h.3 ∙ g.3) in
+      elim (one_walk items others rest other g.2 (subst (λ l. ItemsThen F limit items rest l) same.1 h.4) g.4) [
+        | inl w ↦ inl (longer_walk a b items others rest other same.0 w)
+        | inr w ↦ inr (longer_walk b a others items other rest (sym same.0) w)
+      ]

@@ -1,7 +1,7 @@
 -- The numbers and names of causes, as notes print them.
 use Rattle.std.specs.Prelude.{ℕ, List, codes}
 use Rattle.span_io.specs.declared.cause.Cause.{Cause}
-use Rattle.span_io.specs.declared.cause.Cause.TheVariants.{Truncated, BadVarint, BadWire, TooDeep, UnitTooLong, FieldTwice, NotText, BadId, BadEnum, InputTooLong, Unbuilt}
+use Rattle.span_io.specs.declared.cause.Cause.TheVariants.{Truncated, BadVarint, BadWire, TooDeep, UnitTooLong, FieldTwice, NotText, BadId, BadEnum, InputTooLong}
 
 abbrev pub cause_number : Cause → ℕ
 cause_number Truncated = 1
@@ -14,7 +14,6 @@ cause_number NotText = 9
 cause_number BadId = 12
 cause_number BadEnum = 13
 cause_number InputTooLong = 17
-cause_number Unbuilt = 18
 
 abbrev pub cause_name : Cause → List ℕ
 cause_name Truncated = codes "Truncated"
@@ -27,4 +26,3 @@ cause_name NotText = codes "NotText"
 cause_name BadId = codes "BadId"
 cause_name BadEnum = codes "BadEnum"
 cause_name InputTooLong = codes "InputTooLong"
-cause_name Unbuilt = codes "Unbuilt"

@@ -127,3 +127,9 @@ ItemsThen F limit (item ∷ more) rest bytes = F.Whole item × (length item ≤ 
 pub record IsFramed (F : Framing) (limit : ℕ) (items : List (List ℕ)) (rest bytes : List ℕ) : Type 0 where
   pub items_then : ItemsThen F limit items rest bytes
   pub no_more : (n : ℕ) → ¬ BeginsFrame F limit n rest
+
+-- behind these items and their rest others go on, to a rest of their own
+pub record GoesOn (F : Framing) (limit : ℕ) (items others : List (List ℕ)) (rest other : List ℕ) : Type 0 where
+  pub more : List (List ℕ)
+  pub parts : others ≡ items ++ more
+  pub items_then : ItemsThen F limit more other rest

@@ -25,8 +25,6 @@ pub enum Cause {
     BadEnum,
     /// The input has more bytes than its limit.
     InputTooLong,
-    /// The input is no request of small spans, the only ones that are read so far.
-    Unbuilt,
 }
 
 impl Cause {
@@ -44,7 +42,6 @@ impl Cause {
             Cause::BadId => 12,
             Cause::BadEnum => 13,
             Cause::InputTooLong => 17,
-            Cause::Unbuilt => 18,
         }
     }
 
@@ -62,7 +59,6 @@ impl Cause {
             Cause::BadId => "BadId",
             Cause::BadEnum => "BadEnum",
             Cause::InputTooLong => "InputTooLong",
-            Cause::Unbuilt => "Unbuilt",
         }
     }
 }

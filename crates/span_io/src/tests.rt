@@ -150,7 +150,6 @@ fn causes(rt: HostRuntime) {
         (Cause::BadId, 12, "BadId"),
         (Cause::BadEnum, 13, "BadEnum"),
         (Cause::InputTooLong, 17, "InputTooLong"),
-        (Cause::Unbuilt, 18, "Unbuilt"),
     ] {
         assert_eq!(rt; cause.number(), number);
         assert_eq!(rt; cause.name(), name);

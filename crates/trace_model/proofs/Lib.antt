@@ -1,6 +1,9 @@
+pub mod AllLemmas
 pub mod Gathered
 pub mod Order
 pub mod Places
+pub mod ProperRows
 pub mod Rising
+pub mod RisingAttributes
 pub mod Rows
 pub mod SoundLemmas

@@ -1,4 +1,5 @@
 pub mod Attributes
 pub mod Gathering
+pub mod Proper
 pub mod Soundness
 pub mod Values

@@ -4,6 +4,7 @@
 mod attributes;
 pub mod laws;
 mod place;
+mod proper;
 mod remark;
 mod span;
 mod trace;
@@ -11,6 +12,7 @@ mod value;
 
 pub use attributes::attrs_of;
 pub use place::Place;
+pub use proper::proper_group;
 pub use remark::{Remark, RemarkKind};
 pub use span::{Code, Event, Kind, Link, Span, Status};
 pub use trace::{Group, Scope};

@@ -1,7 +1,9 @@
-use crate::laws::{attributes_once, members_of_values};
+use crate::laws::{
+    attributes_once, members_of_proper_values, members_of_values, rising_attributes,
+};
 use crate::{
     Attrs, Code, Event, Group, Kind, Link, Place, Remark, RemarkKind, Scope, Span, Status, Value,
-    attrs_copy, attrs_of,
+    attrs_copy, attrs_of, proper_group,
 };
 use span_ids::{Nanos, SpanId, TraceId};
 use span_io::{Blob, Items, OutOfMemory, Text};
@@ -69,6 +71,7 @@ fn keeps_the_last_of_equal_keys(rt: HostRuntime) -> Result<(), Fail> {
         assert!(rt; are_numbers(&attrs_copy(rt.alloc(), &attributes)?, kept));
     }
     attributes_once();
+    rising_attributes();
     Ok(())
 }
 
@@ -125,6 +128,7 @@ fn prints_and_copies_values(rt: HostRuntime) -> Result<(), Fail> {
         assert_eq!(rt; format!(in rt.alloc(); "{copy:?}")?.as_str(), wanted);
     }
     members_of_values();
+    members_of_proper_values();
     Ok(())
 }
 
@@ -183,6 +187,7 @@ fn holds_traces(rt: HostRuntime) -> Result<(), Fail> {
         schema_url: Text::new(alloc),
         scopes: one(alloc, scope)?,
     };
+    proper_group(&group);
     for scope in group.scopes.as_slice() {
         for span in scope.spans.as_slice() {
             assert_eq!(rt; (span.kind, span.status.code), (Kind::Server, Code::Fail));

@@ -1,3 +1,4 @@
+use crate::canonical::written_again;
 use crate::{values_by_members, write_group};
 use span_ids::{Nanos, SpanId, TraceId};
 use span_io::{Blob, Items, OutOfMemory, Text};
@@ -245,5 +246,6 @@ fn writes_values(rt: HostRuntime) -> Result<(), Fail> {
     write_group(&mut out, &group)?;
     assert_eq!(rt; out.as_slice(), VALUES);
     values_by_members();
+    written_again();
     Ok(())
 }

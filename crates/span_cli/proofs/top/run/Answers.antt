@@ -1,6 +1,6 @@
 use Rattle.std.proofs.Common.{ℕ, refl, sym, subst, ◌∙◌}
 use Rattle.span_cli.specs.Verdicts.{IsStatus}
-use Rattle.span_cli.proofs.VerdictLaws.{never_usage, is_status}
+use Rattle.span_cli.proofs.EndingLaws.{never_usage, is_status}
 use Rattle.span_cli.proofs.top.run.Goals as goal
 
 pub returns-clause-usage : goal.returns-clause-usage

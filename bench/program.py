@@ -1,0 +1,46 @@
+"""Runs the built program. It needs Debian's `time` for the peak of memory."""
+import os
+import signal
+import subprocess
+import tempfile
+import time
+
+TOP = os.path.dirname(os.path.dirname(os.path.abspath(__file__)))
+PROGRAM = os.path.join(TOP, "crates", "spanx", "out", "spanx")
+CONVERT = [PROGRAM, "convert", "--from", "otlp-proto", "--to", "otlp-proto"]
+BUILD = "build the program first: ./spanx convert --from otlp-proto --to otlp-proto < examples/checkout.bin"
+
+
+def convert(text):
+    """The status, the output and the note for an input."""
+    done = subprocess.run(CONVERT, input=text, capture_output=True)
+    return done.returncode, done.stdout, done.stderr.decode(errors="replace")
+
+
+def seconds_of(command, path):
+    """How long a command takes over a file, with the output thrown away, and its status."""
+    with open(path, "rb") as source, open(os.devnull, "wb") as sink:
+        start = time.perf_counter()
+        status = subprocess.run(command, stdin=source, stdout=sink, stderr=subprocess.DEVNULL).returncode
+        return time.perf_counter() - start, status
+
+
+class Measured:
+    """One run over a file: seconds, status, note, output and the peak of memory in bytes."""
+
+    def __init__(self, command, path, limit):
+        with tempfile.TemporaryFile() as out, tempfile.NamedTemporaryFile() as peak, open(path, "rb") as source:
+            timed = ["/usr/bin/time", "--quiet", "-f", "%M", "-o", peak.name] + command
+            start = time.perf_counter()
+            process = subprocess.Popen(timed, stdin=source, stdout=out, stderr=subprocess.PIPE, start_new_session=True)
+            try:
+                note = process.communicate(timeout=limit)[1]
+                self.status, self.note = process.returncode, note.decode(errors="replace").strip()
+            except subprocess.TimeoutExpired:
+                os.killpg(process.pid, signal.SIGKILL)
+                process.communicate()
+                self.status, self.note = None, f"ended after {limit} seconds"
+            self.seconds = time.perf_counter() - start
+            out.seek(0)
+            self.output = out.read()
+            self.memory = int((peak.read().split() or [b"0"])[-1]) * 1024

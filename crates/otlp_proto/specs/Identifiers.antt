@@ -1,0 +1,20 @@
+-- Identifiers in a message (OTLP trace.proto: `trace_id` of 16 bytes, `span_id` and `parent_span_id` of 8). Empty bytes, and as many
+-- zeros, are no identifier.
+use Rattle.std.specs.Prelude.{◌≡◌, ◌≢◌, ◌⊎◌, ℕ, List, [], length, Option, Some, None, Any}
+use Rattle.span_ids.specs.Identifiers.{SpellsTraceId, SpellsSpanId}
+
+-- no bytes, or so many zeros
+abbrev pub IsNoId : ℕ → List ℕ → Type 0
+IsNoId size held = (held ≡ []) ⊎ ((length held ≡ size) × ¬ Any (λ b. b ≢ 0) held)
+
+abbrev pub MeansTraceId : List ℕ → Option ℕ → Type 0
+MeansTraceId held None = IsNoId 16 held
+MeansTraceId held (Some id) = SpellsTraceId held id
+
+abbrev pub MeansSpanId : List ℕ → Option ℕ → Type 0
+MeansSpanId held None = IsNoId 8 held
+MeansSpanId held (Some id) = SpellsSpanId held id
+
+-- BadId: there are bytes, and not so many
+abbrev pub WrongLength : ℕ → List ℕ → ℕ → Type 0
+WrongLength size held number = (number ≡ 12) × (held ≢ []) × (length held ≢ size)

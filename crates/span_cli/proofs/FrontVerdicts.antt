@@ -1,0 +1,81 @@
+-- Of an input that is longer than its limit only a front is looked at: what stands behind changes no verdict.
+use Rattle.std.proofs.Common.{◌≡◌, ◌≤◌, ◌<◌, ℕ, List, ◌++◌, length, take, sym, subst, inl, inr, arith, length-append, Err, Option, Some, None}
+use Rattle.std.specs.Prelude.{IfSome}
+use Rattle.std.proofs.lemmas.List.{take-append-le}
+use Rattle.std.specs.Io.KnownBytes.{Consumes}
+use Rattle.span_io.specs.Frames.{ItemsThen}
+use Rattle.span_io.specs.declared.cause.Cause.{Cause}
+use Rattle.span_io.specs.declared.limits.Limits.{Limits}
+use Rattle.proto_wire.specs.Wire.{records}
+use Rattle.span_convert.specs.Units.{HoldsUnits, RestCause}
+use Rattle.span_convert.specs.Verdicts.{Verdict, good, refused, IsVerdict, IsJudged}
+use Rattle.span_convert.specs.declared.stop.Stop.{Stop}
+use Rattle.span_convert.specs.declared.stop.Stop.TheVariants as stops
+
+same_cause : (limits : Limits) (size other : ℕ) (rest : List ℕ) (cause : Cause) → limits.binary < size → limits.binary < other → RestCause limits size rest cause → RestCause limits other rest cause
+same_cause limits size other rest cause long longer (inl refused_as) = inl refused_as
+same_cause limits size other rest cause long longer (inr (needs, inl (is, beyond))) = inr (needs, inl (is, longer))
+same_cause limits size other rest cause long longer (inr (needs, inr (is, within, some))) = absurd (let h : size ≤ limits.binary = within in omega arith)
+
+module _ (limits : Limits) (bytes others : List ℕ) (long : limits.binary < length bytes) (longer : limits.binary < length others) (same : take limits.binary bytes ≡ take limits.binary others) where
+  same_units : (units : List (List ℕ)) (rest : List ℕ) → HoldsUnits limits bytes units rest → HoldsUnits limits others units rest
+  same_units units rest held = record {
+    frames = held.frames;
+    framed = subst (λ (l : List ℕ). ItemsThen records limits.unit held.frames rest l) same held.framed;
+    units_of = held.units_of;
+  }
+
+  pub same_verdict : (verdict : Verdict) → IsVerdict limits bytes verdict → IsVerdict limits others verdict
+  same_verdict (good text tally) is = absurd (let h : length bytes ≤ limits.binary = is.within in omega arith)
+  same_verdict (refused refusal text) (inl bad) = inl (record {
+    before = bad.before;
+    unit = bad.unit;
+    rest = bad.rest;
+    held = same_units _ bad.rest bad.held;
+    groups = bad.groups;
+    are_groups = bad.are_groups;
+    cause = bad.cause;
+    number = bad.number;
+    partial = bad.partial;
+  })
+  same_verdict (refused refusal text) (inr bad) = inr (record {
+    units = bad.units;
+    rest = bad.rest;
+    held = same_units bad.units bad.rest bad.held;
+    groups = bad.groups;
+    are_groups = bad.are_groups;
+    cause = same_cause limits (length bytes) (length others) bad.rest refusal.cause long longer bad.cause;
+    number = bad.number;
+    partial = bad.partial;
+  })
+
+module _ (limits : Limits) (fed rest : List ℕ) (long : limits.binary < length fed) where
+  longer_whole : limits.binary < length (fed ++ rest)
+  longer_whole = omega (arith, length-append fed rest)
+
+  same_front : take limits.binary (fed ++ rest) ≡ take limits.binary fed
+  same_front = take-append-le limits.binary fed rest (omega arith)
+
+  -- a verdict on a front that is too long is one on the whole, and the other way round
+  pub front_whole : (verdict : Verdict) → IsVerdict limits fed verdict → IsVerdict limits (fed ++ rest) verdict
+  front_whole = same_verdict limits fed (fed ++ rest) long longer_whole (sym same_front)
+
+  pub whole_front : (verdict : Verdict) → IsVerdict limits (fed ++ rest) verdict → IsVerdict limits fed verdict
+  whole_front = same_verdict limits (fed ++ rest) fed longer_whole long same_front
+
+  pub judged_whole : (stop : Stop) → IsJudged {T = Unit} limits fed (Err stop) → IsJudged {T = Unit} limits (fed ++ rest) (Err stop)
+  judged_whole stops.Refused (verdict, is) = (verdict, front_whole verdict is)
+  judged_whole stops.Write judged = tt
+  judged_whole stops.OutOfMemory judged = tt
+
+module _ (limits : Limits) (fed : List ℕ) (long : limits.binary < length fed) where
+  -- the same of the bytes that a source tells
+  pub judged_told : (left now : Option (List ℕ)) (stop : Stop) → Consumes left now fed → IsJudged {T = Unit} limits fed (Err stop) → IfSome left (λ bytes. IsJudged {T = Unit} limits bytes (Err stop))
+  judged_told None now stop gave judged = tt
+  judged_told (Some bytes) None stop gave judged = absurd gave
+  judged_told (Some bytes) (Some rest) stop gave judged = subst (λ (l : List ℕ). IsJudged {T = Unit} limits l (Err stop)) (sym gave) (judged_whole limits fed rest long stop judged)
+
+  pub verdict_told : (left now : Option (List ℕ)) (P : Verdict → Type 0) → Consumes left now fed → ((verdict : Verdict) → IsVerdict limits fed verdict → P verdict) → IfSome left (λ bytes. (verdict : Verdict) → IsVerdict limits bytes verdict → P verdict)
+  verdict_told None now P gave on = tt
+  verdict_told (Some bytes) None P gave on = absurd gave
+  verdict_told (Some bytes) (Some rest) P gave on = λ verdict is. on verdict (whole_front limits fed rest long verdict (subst (λ (l : List ℕ). IsVerdict limits l verdict) gave is))

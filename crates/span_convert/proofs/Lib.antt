@@ -1,0 +1,5 @@
+pub mod CarryLemmas
+pub mod OutputLaws
+pub mod TextLaws
+pub mod VerdictLaws
+pub mod WalkLemmas

@@ -1,0 +1,38 @@
+use Rattle.std.proofs.Common.{Bool, List, ℕ, ◌≡◌, sym, subst}
+use Rattle.span_io.specs.declared.limits.Limits.{Limits}
+use Rattle.span_convert.specs.Verdicts.{good, refused}
+use Rattle.span_convert.specs.Walks.{IsLookedAt}
+use Rattle.span_convert.proofs.CarryLemmas.{carries_whole, carries_refused, carries_write, carries_memory}
+use Rattle.span_convert.proofs.converter.Converter.carry_out.Goals as goal
+
+seen_there : (limits : Limits) (whole held lent : List ℕ) (too_long : Bool) → lent ≡ held → IsLookedAt limits whole held too_long → IsLookedAt limits whole lent too_long
+seen_there limits whole held lent too_long same seen = subst (λ (l : List ℕ). IsLookedAt limits whole l too_long) (sym same) seen
+
+pub returns-in-Ok-clause-judged : goal.returns-in-Ok-clause-judged
+returns-in-Ok-clause-judged g c = λ whole valid seen.
+    let w = c.in-Ok.ensures.walk whole (seen_there _ whole _ _ _ c.as_slice.ensures seen) in
+    (good w.text c.in-Ok.tally, w.is_good)
+
+pub returns-in-Ok-clause-verdict : goal.returns-in-Ok-clause-verdict
+returns-in-Ok-clause-verdict g c = λ whole valid seen verdict is_verdict.
+    carries_whole _ whole valid verdict is_verdict c.one_verdict.ensures.once _ _ c.in-Ok.tally (c.in-Ok.ensures.walk whole (seen_there _ whole _ _ _ c.as_slice.ensures seen))
+
+pub returns-in-Err-Refused-clause-judged : goal.returns-in-Err-Refused-clause-judged
+returns-in-Err-Refused-clause-judged g c = λ whole valid seen.
+    let w = (rw c.in-Err-Refused.field-0-is at c.in-Err-Refused.ensures).walk whole (seen_there _ whole _ _ _ c.as_slice.ensures seen) in
+    (refused c.in-Err-Refused.refusal w.text, w.is_bad)
+
+pub returns-in-Err-Refused-clause-verdict : goal.returns-in-Err-Refused-clause-verdict
+returns-in-Err-Refused-clause-verdict g c = λ whole valid seen verdict is_verdict.
+    carries_refused _ whole valid verdict is_verdict c.one_verdict.ensures.once _ _ c.in-Err-Refused.refusal
+    ((rw c.in-Err-Refused.field-0-is at c.in-Err-Refused.ensures).walk whole (seen_there _ whole _ _ _ c.as_slice.ensures seen))
+
+pub returns-in-Err-Write-clause-verdict : goal.returns-in-Err-Write-clause-verdict
+returns-in-Err-Write-clause-verdict g c = λ whole valid seen verdict is_verdict.
+    let w = (rw c.in-Err-Write.field-0-is at c.in-Err-Write.ensures).walk whole (seen_there _ whole _ _ _ c.as_slice.ensures seen) in
+    carries_write _ whole valid verdict is_verdict c.one_verdict.ensures.so_far _ _ w.0 w.1
+
+pub returns-in-Err-OutOfMemory-clause-verdict : goal.returns-in-Err-OutOfMemory-clause-verdict
+returns-in-Err-OutOfMemory-clause-verdict g c = λ whole valid seen verdict is_verdict.
+    carries_memory _ whole valid verdict is_verdict c.one_verdict.ensures.so_far _ _
+    ((rw c.in-Err-OutOfMemory.field-0-is at c.in-Err-OutOfMemory.ensures).walk whole (seen_there _ whole _ _ _ c.as_slice.ensures seen))

@@ -1,0 +1,13 @@
+use Rattle.std.proofs.Common.{◌+◌, ◌≤◌, ℕ, List, length}
+use Rattle.span_convert.specs.Walks.{IsLookedAt, Walked}
+use Rattle.span_convert.proofs.walk.write_units.Given as goal
+
+abbrev pub invariant-frames : goal.invariant-frames
+invariant-frames g l = record {
+  walked : (whole : List ℕ) → IsLookedAt l.limits whole l.bytes l.too_long → Walked l.limits whole l.rest (g.K.Sink.outlet l.initial.out) (g.K.Sink.outlet l.out) l.progress;
+  room : l.progress.tally.units + length l.rest ≤ length l.bytes;
+  counted : (g.K.Sink.outlet l.initial.out).faults ≤ (g.K.Sink.outlet l.out).faults;
+}
+
+abbrev pub decreases-frames : goal.decreases-frames
+decreases-frames g l = length l.rest

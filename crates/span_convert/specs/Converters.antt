@@ -1,0 +1,78 @@
+-- What a converter holds, and what it was fed.
+use Rattle.std.specs.Prelude.{◌≡◌, ℕ, ◌≤◌, Bool, true, false, List, length, Option, Some, None, Result, Ok, Err}
+use Rattle.span_io.specs.Limits.{AreLimits}
+use Rattle.span_io.specs.declared.refusal.Refusal.{Refusal}
+use Rattle.span_convert.specs.Verdicts.{Verdict, good, refused}
+use Rattle.span_convert.specs.declared.converter.Converter.{Converter}
+use Rattle.span_convert.specs.declared.converter.State.{State}
+use Rattle.span_convert.specs.declared.converter.State.TheVariants as states
+use Rattle.span_convert.specs.declared.why.Why.{Why}
+use Rattle.span_convert.specs.declared.why.Why.TheVariants as whys
+use Rattle.span_convert.specs.declared.stop.Stop.{Stop}
+use Rattle.span_convert.specs.declared.stop.Stop.TheVariants as stops
+
+-- the stop that was answered, if one was
+abbrev pub stop_in : State → Option Stop
+stop_in states.Open = None
+stop_in states.Ended = None
+stop_in (states.Refused refusal) = Some stops.Refused
+stop_in states.Write = Some stops.Write
+stop_in states.OutOfMemory = Some stops.OutOfMemory
+
+abbrev pub refusal_in : State → Option Refusal
+refusal_in states.Open = None
+refusal_in states.Ended = None
+refusal_in (states.Refused refusal) = Some refusal
+refusal_in states.Write = None
+refusal_in states.OutOfMemory = None
+
+abbrev pub is_ended : State → Bool
+is_ended states.Open = false
+is_ended states.Ended = true
+is_ended (states.Refused refusal) = false
+is_ended states.Write = false
+is_ended states.OutOfMemory = false
+
+-- it answered no stop, isn't ended, and was fed these bytes
+pub record Fed (c : Converter) (bytes : List ℕ) : Type 0 where
+  pub going : c.state ≡ states.Open
+  pub held : c.held ≡ bytes
+  pub within : length bytes ≤ c.limits.binary
+  pub limits : AreLimits c.limits
+
+-- the refusal that is kept is that of the verdict
+abbrev pub KeepsRefusal : Verdict → State → Type 0
+KeepsRefusal (good text tally) (states.Refused refusal) = ⊥
+KeepsRefusal (refused why text) (states.Refused refusal) = refusal ≡ why
+KeepsRefusal verdict states.Open = Unit {0}
+KeepsRefusal verdict states.Ended = Unit {0}
+KeepsRefusal verdict states.Write = Unit {0}
+KeepsRefusal verdict states.OutOfMemory = Unit {0}
+
+-- a call on a converter that had stopped answers the same, and changes nothing
+abbrev pub SameStop : {T : Type 0} → Option Stop → Result T Stop → Type 0 → Type 0
+SameStop None result Unchanged = Unit {0}
+SameStop (Some stop) result Unchanged = (result ≡ Err stop) × Unchanged
+
+-- the stop that a call answers is kept
+abbrev pub KeepsStop : {T : Type 0} → Result T Stop → State → Type 0
+KeepsStop (Ok x) state = Unit {0}
+KeepsStop (Err stop) state = stop_in state ≡ Some stop
+
+-- only want of memory keeps the call from going on
+abbrev pub OnlyWants : {T : Type 0} → Result T Stop → Type 0
+OnlyWants (Ok x) = Unit {0}
+OnlyWants (Err stops.OutOfMemory) = Unit {0}
+OnlyWants (Err stops.Refused) = ⊥
+OnlyWants (Err stops.Write) = ⊥
+
+-- a call that didn't go on to the end
+abbrev pub Stopped : {T : Type 0} → Result T Stop → (Stop → Type 0) → Type 0
+Stopped (Ok x) P = ⊥
+Stopped (Err stop) P = P stop
+
+abbrev pub IsWhy : Why → Option Refusal → Type 0
+IsWhy whys.Nothing None = Unit {0}
+IsWhy whys.Nothing (Some refusal) = ⊥
+IsWhy (whys.Refusal kept) None = ⊥
+IsWhy (whys.Refusal kept) (Some refusal) = kept.now ≡ refusal

@@ -1,0 +1,5 @@
+pub mod Canonical
+pub mod Converters
+pub mod Units
+pub mod Verdicts
+pub mod Walks

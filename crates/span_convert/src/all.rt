@@ -1,0 +1,87 @@
+//! Conversion in one call.
+ghost use Rattle.std.specs.Prelude.{◌≡◌, ◌<◌, ◌^◌, length, All, IfOk};
+ghost use Rattle.span_io.specs.Limits.{AreLimits};
+ghost use Rattle.span_convert.specs.Canonical.{ReadsBack};
+ghost use Rattle.span_convert.specs.Verdicts.{Verdict, IsVerdict, Answers, IsAnswered};
+ghost use Rattle.span_convert.specs.Walks.{IsLookedAt};
+
+use crate::bad::Bad;
+use crate::laws::{one_verdict, output_read_back};
+use crate::progress::WalkStop;
+use crate::walk::write_units;
+use span_io::{Blob, Failed, Form, Limits, OutOfMemory, Sink};
+use std::alloc::Global;
+
+/// A sink that keeps all that it takes. It fails where memory is wanted.
+#[derive(Debug, Drop)]
+struct GrowingSink {
+    text: Blob,
+    faults: u64,
+}
+
+impl Sink for GrowingSink {
+    ghost use Rattle.std.specs.Prelude.{Some, length};
+
+    ghost outlet = { λ s. record { held = Some s.text; taken = Some (length s.text); faults = s.faults } };
+
+    fn write(&mut self, piece: &[u8]) -> Result<usize, Failed> {
+        match self.text.append(piece) {
+            Ok(()) => Ok(piece.len()),
+            Err(OutOfMemory) => {
+                self.faults = self.faults.saturating_add(1);
+                Err(Failed)
+            }
+        }
+    }
+}
+
+// The bytes of an input that are looked at, and whether it has others.
+fn looked_at<'a>(bytes: &'a [u8], limits: &Limits) -> (&'a [u8], bool)
+    ensures { IsLookedAt limits.now bytes.now result.0.now result.1 }
+{
+    if bytes.len() as u64 > limits.binary {
+        return (&bytes[..limits.binary as usize], true);
+    }
+    (bytes, false)
+}
+
+// Bytes in memory are below 256, and fewer than 2^63.
+fn bytes_known(bytes: &[u8])
+    ensures size { length bytes.now < 2 ^ 63 }
+    ensures each { All (λ b. b < 256) bytes.now }
+{
+    // The type keeps it.
+}
+
+/// Converts a whole input. The answer is its canonical text in the target form, or why it has none.
+pub fn convert_all(
+    alloc: Global,
+    from: Form,
+    to: Form,
+    bytes: &[u8],
+    limits: &Limits,
+) -> Result<Blob, Bad>
+    requires limits { AreLimits limits.now }
+    ensures judged { IsAnswered limits.now bytes.now result }
+    ensures verdict { (verdict : Verdict) → IsVerdict limits.now bytes.now verdict → Answers verdict result }
+
+    // What is answered is read back as the input's trace.
+    ensures back { IfOk result (λ out. ReadsBack limits.now bytes.now out) }
+{
+    one_verdict();
+    output_read_back();
+    let (looked, too_long) = looked_at(bytes, limits);
+    let mut out = GrowingSink {
+        text: Blob::new(alloc),
+        faults: 0,
+    };
+    match write_units(alloc, looked, too_long, limits, &mut out) {
+        Ok(_) => {
+            bytes_known(bytes);
+            bytes_known(out.text.as_slice());
+            Ok(out.text)
+        }
+        Err(WalkStop::Refused(refusal)) => Err(Bad::Refused(refusal)),
+        Err(WalkStop::Write | WalkStop::OutOfMemory) => Err(Bad::OutOfMemory),
+    }
+}

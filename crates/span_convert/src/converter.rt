@@ -1,0 +1,213 @@
+//! Conversion of an input that comes in pieces.
+ghost use Rattle.std.specs.Prelude.{◌≡◌, ◌≢◌, ◌++◌, [], ℕ, List, length, ◌≤◌, ◌<◌, true, Err, None, OnOk, OnErr, IsErr};
+ghost use Rattle.span_io.specs.Limits.{AreLimits};
+ghost use Rattle.span_io.specs.Outside.{OutputFails};
+ghost use Rattle.span_convert.specs.Converters.{Fed, KeepsRefusal, SameStop, KeepsStop, OnlyWants, Stopped, IsWhy, stop_in, refusal_in, is_ended};
+ghost use Rattle.span_convert.specs.Verdicts.{Verdict, IsVerdict, IsJudged, Carries, Stops};
+ghost use Rattle.span_convert.specs.Walks.{IsLookedAt};
+ghost use Rattle.span_convert.specs.declared.converter.State.TheVariants as states;
+ghost use Rattle.span_convert.specs.declared.stop.Stop.TheVariants as stops;
+
+use crate::laws::one_verdict;
+use crate::progress::WalkStop;
+use crate::stop::Stop;
+use crate::tally::Tally;
+use crate::walk::write_units;
+use crate::why::Why;
+use span_io::{Blob, Form, Limits, OutOfMemory, Refusal, Sink};
+use std::alloc::Global;
+
+/// How far a converter has come.
+#[derive(Clone, Copy, Debug, PartialEq, Eq)]
+enum State {
+    Open,
+    /// The whole text was written.
+    Ended,
+    Refused(Refusal),
+    Write,
+    OutOfMemory,
+}
+
+impl State {
+    // The stop that was answered, if one was.
+    fn stop(&self) -> Option<Stop>
+        ensures { result ≡ stop_in self.now }
+    {
+        match self {
+            State::Open | State::Ended => None,
+            State::Refused(_) => Some(Stop::Refused),
+            State::Write => Some(Stop::Write),
+            State::OutOfMemory => Some(Stop::OutOfMemory),
+        }
+    }
+}
+
+/// Converts an input that is fed in pieces. Binary input is kept until it ends, or is longer than
+/// its limit; then its text is written.
+#[derive(Debug, Drop)]
+pub struct Converter {
+    alloc: Global,
+    from: Form,
+    to: Form,
+    limits: Limits,
+    held: Blob,
+    state: State,
+}
+
+impl Converter {
+    /// A converter that was fed nothing.
+    pub fn new(alloc: Global, from: Form, to: Form, limits: &Limits) -> Converter
+        requires limits { AreLimits limits.now }
+        ensures fed { Fed result [] }
+        ensures limits { result.limits ≡ limits.now }
+    {
+        Converter {
+            alloc,
+            from,
+            to,
+            limits: *limits,
+            held: Blob::new(alloc),
+            state: State::Open,
+        }
+    }
+
+    // Adds bytes to those that are held.
+    fn hold(&mut self, piece: &[u8]) -> Result<(), Stop>
+        ensures limits { self.new.limits ≡ self.old.limits }
+        ensures ok { OnOk result ((self.new.held ≡ self.old.held ++ piece.now) × (self.new.state ≡ self.old.state)) }
+        ensures err { OnErr result ((result ≡ Err stops.OutOfMemory) × (self.new.state ≡ states.OutOfMemory)) }
+    {
+        match self.held.append(piece) {
+            Ok(()) => Ok(()),
+            Err(OutOfMemory) => {
+                self.state = State::OutOfMemory;
+                Err(Stop::OutOfMemory)
+            }
+        }
+    }
+
+    // Writes what the input comes to, of which the bytes that are held are looked at.
+    fn carry_out<K: Sink>(&mut self, too_long: bool, out: &mut K) -> Result<Tally, Stop>
+        ensures stays { KeepsStop result self.new.state }
+        ensures ended { OnOk result (self.new.state ≡ states.Ended) }
+        ensures limits { self.new.limits ≡ self.old.limits }
+        ensures judged { (whole : List ℕ) → AreLimits self.old.limits → IsLookedAt self.old.limits whole self.old.held too_long → IsJudged self.old.limits whole result }
+        ensures verdict { (whole : List ℕ) → AreLimits self.old.limits → IsLookedAt self.old.limits whole self.old.held too_long → (verdict : Verdict) → IsVerdict self.old.limits whole verdict
+            → Carries verdict result (K.outlet out.old) (K.outlet out.new) × KeepsRefusal verdict self.new.state }
+        ensures fails { result ≡ Err stops.Write → OutputFails (K.outlet out.old) (K.outlet out.new) }
+        ensures longer { too_long ≡ true → IsErr result }
+    {
+        one_verdict();
+        match write_units(
+            self.alloc,
+            self.held.as_slice(),
+            too_long,
+            &self.limits,
+            out,
+        ) {
+            Ok(tally) => {
+                self.state = State::Ended;
+                Ok(tally)
+            }
+            Err(WalkStop::Refused(refusal)) => {
+                self.state = State::Refused(refusal);
+                Err(Stop::Refused)
+            }
+            Err(WalkStop::Write) => {
+                self.state = State::Write;
+                Err(Stop::Write)
+            }
+            Err(WalkStop::OutOfMemory) => {
+                self.state = State::OutOfMemory;
+                Err(Stop::OutOfMemory)
+            }
+        }
+    }
+
+    // Takes the last bytes that are looked at of an input that has others, and writes what it comes
+    // to.
+    fn refuse_longer<K: Sink>(&mut self, piece: &[u8], out: &mut K) -> Result<(), Stop>
+        ensures stays { KeepsStop result self.new.state }
+        ensures limits { self.new.limits ≡ self.old.limits }
+        ensures ended { IsErr result }
+        ensures judged { (whole : List ℕ) → AreLimits self.old.limits → IsLookedAt self.old.limits whole (self.old.held ++ piece.now) true → Stopped result (λ stop. IsJudged {T = Unit} self.old.limits whole (Err stop)) }
+        ensures verdict { (whole : List ℕ) → AreLimits self.old.limits → IsLookedAt self.old.limits whole (self.old.held ++ piece.now) true → (verdict : Verdict) → IsVerdict self.old.limits whole verdict
+            → Stopped result (λ stop. Stops verdict stop (K.outlet out.old) (K.outlet out.new)) × KeepsRefusal verdict self.new.state }
+        ensures fails { result ≡ Err stops.Write → OutputFails (K.outlet out.old) (K.outlet out.new) }
+    {
+        self.hold(piece)?;
+        match self.carry_out(true, out) {
+            Ok(_) => unreachable!(),
+            Err(stop) => Err(stop),
+        }
+    }
+
+    /// Takes the next piece of the input.
+    pub fn feed<K: Sink>(&mut self, piece: &[u8], out: &mut K) -> Result<(), Stop>
+        requires going { is_ended self.old.state ≢ true }
+
+        // Behind a stop each call answers the same, and calls no sink.
+        ensures stopped { SameStop (stop_in self.old.state) result ((self.new ≡ self.old) × (out.new ≡ out.old)) }
+        ensures stays { KeepsStop result self.new.state }
+        ensures limits { self.new.limits ≡ self.old.limits }
+
+        // Within the limit the bytes are kept, and nothing is written.
+        ensures kept { (bytes : List ℕ) → Fed self.old bytes → length (bytes ++ piece.now) ≤ self.old.limits.binary → OnlyWants result × (out.new ≡ out.old) }
+        ensures fed { (bytes : List ℕ) → Fed self.old bytes → OnOk result (Fed self.new (bytes ++ piece.now)) }
+
+        // Beyond it the verdict on all bytes so far is carried out, which is a refusal.
+        ensures beyond { (bytes : List ℕ) → Fed self.old bytes → self.old.limits.binary < length (bytes ++ piece.now)
+            → Stopped result (λ stop. IsJudged {T = Unit} self.old.limits (bytes ++ piece.now) (Err stop)) }
+        ensures verdict { (bytes : List ℕ) → Fed self.old bytes → self.old.limits.binary < length (bytes ++ piece.now)
+            → (verdict : Verdict) → IsVerdict self.old.limits (bytes ++ piece.now) verdict
+            → Stopped result (λ stop. Stops verdict stop (K.outlet out.old) (K.outlet out.new)) × KeepsRefusal verdict self.new.state }
+
+        // The sink failed only where its count rose.
+        ensures fails { stop_in self.old.state ≡ None → result ≡ Err stops.Write → OutputFails (K.outlet out.old) (K.outlet out.new) }
+    {
+        if let Some(stop) = self.state.stop() {
+            return Err(stop);
+        }
+        let room = self.limits.binary.saturating_sub(self.held.len() as u64);
+        if piece.len() as u64 <= room {
+            return self.hold(piece);
+        }
+        self.refuse_longer(&piece[..room as usize], out)
+    }
+
+    /// Ends the input: its text is written, and the answer says how much was converted.
+    pub fn finish<K: Sink>(&mut self, out: &mut K) -> Result<Tally, Stop>
+        requires going { is_ended self.old.state ≢ true }
+        ensures stopped { SameStop (stop_in self.old.state) result ((self.new ≡ self.old) × (out.new ≡ out.old)) }
+        ensures stays { KeepsStop result self.new.state }
+        ensures ended { OnOk result (self.new.state ≡ states.Ended) }
+
+        // The verdict on all bytes is carried out.
+        ensures judged { (bytes : List ℕ) → Fed self.old bytes → IsJudged self.old.limits bytes result }
+        ensures verdict { (bytes : List ℕ) → Fed self.old bytes → (verdict : Verdict) → IsVerdict self.old.limits bytes verdict
+            → Carries verdict result (K.outlet out.old) (K.outlet out.new) × KeepsRefusal verdict self.new.state }
+        ensures fails { stop_in self.old.state ≡ None → result ≡ Err stops.Write → OutputFails (K.outlet out.old) (K.outlet out.new) }
+    {
+        if let Some(earlier) = self.state.stop() {
+            return Err(earlier);
+        }
+        self.carry_out(false, out)
+    }
+
+    /// Whether the whole text was written.
+    pub fn ended(&self) -> bool
+        ensures { result ≡ is_ended self.now.state }
+    {
+        matches!(self.state, State::Ended)
+    }
+
+    /// The refusal, if one was answered.
+    pub fn why(&self) -> Why<'_>
+        ensures { IsWhy result (refusal_in self.now.state) }
+    {
+        match &self.state {
+            State::Refused(refusal) => Why::Refusal(refusal),
+            _ => Why::Nothing,
+        }
+    }
+}

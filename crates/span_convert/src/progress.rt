@@ -1,0 +1,111 @@
+//! What a walk over the units of an input has converted so far.
+ghost use Rattle.std.specs.Prelude.{◌≡◌, ◌+◌, ◌<◌, min, [], ℕ, List, ◌++◌, length, IfOk, OnOk, OnErr, Err};
+ghost use Rattle.std.specs.List.{flat_map};
+ghost use Rattle.span_io.specs.Causes.{cause_number};
+ghost use Rattle.span_io.specs.Offences.{Offence, Least};
+ghost use Rattle.span_io.specs.Outside.{Gains, GainsFront, OutputFails, last_count};
+ghost use Rattle.proto_wire.specs.Messages.{messages};
+ghost use Rattle.otlp_proto.specs.Group.{group_rules};
+ghost use Rattle.span_convert.specs.Walks.{AddsUnit, IfWhy, WritesOut};
+
+use crate::tally::Tally;
+use otlp_proto::{read_group, write_group};
+use span_io::{Blob, Cause, Failed, Halt, Refusal, Sink, write_all};
+use std::alloc::Global;
+use trace_model::Group;
+
+/// Why a walk goes no further.
+#[derive(Clone, Copy, Debug, PartialEq, Eq)]
+pub(crate) enum WalkStop {
+    Refused(Refusal),
+    /// The sink failed.
+    Write,
+    OutOfMemory,
+}
+
+/// The text that isn't written yet, and how much was converted.
+#[derive(Debug, Drop)]
+pub(crate) struct Progress {
+    unwritten: Blob,
+    tally: Tally,
+}
+
+// How many spans a group has, at the most where the count stands still.
+fn spans_in(group: &Group) -> u64
+    ensures { result ≡ min (length (flat_map (λ s. s.spans) group.now.scopes)) last_count }
+{
+    let mut count: u64 = 0;
+    for scope in group.scopes.as_slice() {
+        count = count.saturating_add(scope.spans.len() as u64);
+    }
+    count
+}
+
+impl Progress {
+    pub(crate) fn none(alloc: Global) -> Progress
+        ensures { result ≡ record { unwritten = []; tally = record { units = 0; spans = 0 } } }
+    {
+        Progress {
+            unwritten: Blob::new(alloc),
+            tally: Tally { units: 0, spans: 0 },
+        }
+    }
+
+    /// The number of bytes that aren't written yet.
+    pub(crate) fn unwritten(&self) -> usize
+        ensures { result ≡ length self.now.unwritten }
+    {
+        self.unwritten.len()
+    }
+
+    /// Adds the canonical text of a unit, and counts the unit and its spans.
+    pub(crate) fn add_unit(&mut self, alloc: Global, unit: &[u8]) -> Result<(), Halt<Cause>>
+        requires { self.old.tally.units < last_count }
+        ensures ok { OnOk result (AddsUnit unit.now self.old self.new) }
+        ensures why { IfWhy result (λ cause. Least (Offence messages group_rules unit.now) (cause_number cause) × (self.new ≡ self.old)) }
+    {
+        let (group, _remarks) = read_group(alloc, unit)?;
+        write_group(&mut self.unwritten, &group)?;
+        self.tally.units += 1;
+        self.tally.spans = self.tally.spans.saturating_add(spans_in(&group));
+        Ok(())
+    }
+
+    /// Writes the text that isn't written yet.
+    pub(crate) fn flush<K: Sink>(&mut self, out: &mut K) -> Result<(), Failed>
+        ensures tally { self.new.tally ≡ self.old.tally }
+        ensures ok { OnOk result ((self.new.unwritten ≡ []) × Gains (K.outlet out.old) (K.outlet out.new) self.old.unwritten) }
+        ensures failed { OnErr result (OutputFails (K.outlet out.old) (K.outlet out.new)) }
+        ensures front { OnErr result (GainsFront (K.outlet out.old) (K.outlet out.new) self.old.unwritten) }
+    {
+        write_all(out, self.unwritten.as_slice())?;
+        self.unwritten.clear();
+        Ok(())
+    }
+
+    /// Writes the last text, and answers how much was converted.
+    pub(crate) fn finish<K: Sink>(&mut self, out: &mut K) -> Result<Tally, WalkStop>
+        ensures ok { IfOk result (λ tally. (tally ≡ self.old.tally) × Gains (K.outlet out.old) (K.outlet out.new) self.old.unwritten) }
+        ensures failed { OnErr result ((result ≡ Err WalkStop.Write) × OutputFails (K.outlet out.old) (K.outlet out.new)) }
+        ensures front { OnErr result (GainsFront (K.outlet out.old) (K.outlet out.new) self.old.unwritten) }
+    {
+        match self.flush(out) {
+            Ok(()) => Ok(self.tally),
+            Err(Failed) => Err(WalkStop::Write),
+        }
+    }
+
+    /// Writes the last text, behind which the input is refused.
+    pub(crate) fn refuse<K: Sink>(&mut self, cause: Cause, out: &mut K) -> WalkStop
+        requires { self.old.tally.units < last_count }
+        ensures { WritesOut result (record { unit = self.old.tally.units + 1; cause = cause }) self.old.unwritten (K.outlet out.old) (K.outlet out.new) }
+    {
+        match self.flush(out) {
+            Ok(()) => WalkStop::Refused(Refusal {
+                unit: self.tally.units + 1,
+                cause,
+            }),
+            Err(Failed) => WalkStop::Write,
+        }
+    }
+}

@@ -1,0 +1,9 @@
+/// Why a converter goes no further.
+#[derive(Clone, Copy, Debug, PartialEq, Eq)]
+pub enum Stop {
+    /// The input is refused; `Converter::why` tells the unit and the cause.
+    Refused,
+    /// The sink failed.
+    Write,
+    OutOfMemory,
+}
