@@ -10,13 +10,13 @@ use Rattle.span_io.proofs.VarintLemmas.{after_high, within_end, within_more, wit
 abbrev pub added : ℕ → ℕ → ℕ × List ℕ → Result (ℕ × List ℕ) Lack
 added number weight high = Ok (number + weight * high.0, high.1)
 
-pub record Walked (whole rest : List ℕ) (passed number weight : ℕ) : Type 0 where
+pub record WalkedVarint (whole rest : List ℕ) (passed number weight : ℕ) : Type 0 where
   pub weighs : weight ≡ 128 ^ passed
   pub below : number < weight
   pub nearer : length rest ≤ length whole
   pub continues : varint_at whole ≡ (varint_within (10 - passed) rest >>= added number weight)
 
-pub walked_none : (whole : List ℕ) → Walked whole whole 0 0 1
+pub walked_none : (whole : List ℕ) → WalkedVarint whole whole 0 0 1
 unfolding varint_at
 walked_none whole = record { weighs = refl; below = omega arith; nearer = omega arith; continues = all (varint_within 10 whole) }
   where
@@ -42,7 +42,7 @@ group_bounds passed number weight group less weighs below group_below =
 
 -- ---- steps
 
-pub walked_more : (whole left rest : List ℕ) (b passed number weight : ℕ) → left ≡ b ∷ rest → passed < 9 → b < 256 → 128 ≤ b → Walked whole left passed number weight → Walked whole rest (passed + 1) (number + weight * (b - 128)) (weight * 128)
+pub walked_more : (whole left rest : List ℕ) (b passed number weight : ℕ) → left ≡ b ∷ rest → passed < 9 → b < 256 → 128 ≤ b → WalkedVarint whole left passed number weight → WalkedVarint whole rest (passed + 1) (number + weight * (b - 128)) (weight * 128)
 walked_more whole left rest b passed number weight parts less byte most w =
     let bounds = group_bounds passed number weight (b - 128) less w.weighs w.below (omega arith) in
     let room : 10 - passed ≡ suc (suc (8 - passed)) = omega arith in
@@ -56,26 +56,26 @@ walked_more whole left rest b passed number weight parts less byte most w =
       continues = w.continues ∙ (ap (λ r. r >>= added number weight) step ∙ added_after (varint_within (10 - (passed + 1)) rest) number weight b);
     }
 
-walked_end : (whole left rest : List ℕ) (b room passed number weight : ℕ) → left ≡ b ∷ rest → 10 - passed ≡ suc room → b < end_below room → Walked whole left passed number weight → varint_at whole ≡ Ok (number + weight * b, rest)
+walked_end : (whole left rest : List ℕ) (b room passed number weight : ℕ) → left ≡ b ∷ rest → 10 - passed ≡ suc room → b < end_below room → WalkedVarint whole left passed number weight → varint_at whole ≡ Ok (number + weight * b, rest)
 walked_end whole left rest b room passed number weight parts room_is below w =
     let step : varint_within (10 - passed) left ≡ Ok (b, rest) = rw (room_is, parts) (within_end room b rest below) in
     w.continues ∙ ap (λ r. r >>= added number weight) step
 
-pub walked_low : (whole left rest : List ℕ) (b passed number weight : ℕ) → left ≡ b ∷ rest → passed < 9 → b < 128 → Walked whole left passed number weight → varint_at whole ≡ Ok (number + weight * b, rest)
+pub walked_low : (whole left rest : List ℕ) (b passed number weight : ℕ) → left ≡ b ∷ rest → passed < 9 → b < 128 → WalkedVarint whole left passed number weight → varint_at whole ≡ Ok (number + weight * b, rest)
 walked_low whole left rest b passed number weight parts less below w =
     walked_end whole left rest b (suc (8 - passed)) passed number weight parts (omega arith) below w
 
-pub walked_tenth : (whole left rest : List ℕ) (b passed number weight : ℕ) → left ≡ b ∷ rest → passed ≡ 9 → b < 2 → Walked whole left passed number weight → varint_at whole ≡ Ok (number + weight * b, rest)
+pub walked_tenth : (whole left rest : List ℕ) (b passed number weight : ℕ) → left ≡ b ∷ rest → passed ≡ 9 → b < 2 → WalkedVarint whole left passed number weight → varint_at whole ≡ Ok (number + weight * b, rest)
 walked_tenth whole left rest b passed number weight parts nine below w = walked_end whole left rest b 0 passed number weight parts (omega arith) below w
 
-pub walked_short : (whole left : List ℕ) (passed number weight : ℕ) → length left ≡ 0 → passed < 10 → Walked whole left passed number weight → varint_at whole ≡ Err Short
+pub walked_short : (whole left : List ℕ) (passed number weight : ℕ) → length left ≡ 0 → passed < 10 → WalkedVarint whole left passed number weight → varint_at whole ≡ Err Short
 walked_short whole [] passed number weight none less w =
     let room : 10 - passed ≡ suc (9 - passed) = omega arith in
     let step : varint_within (10 - passed) [] ≡ Err Short = rw room (within_none (9 - passed)) in
     w.continues ∙ ap (λ r. r >>= added number weight) step
 walked_short whole (b ∷ left) passed number weight none less w = absurd (omega arith)
 
-pub walked_above : (whole left rest : List ℕ) (b passed number weight : ℕ) → left ≡ b ∷ rest → passed ≡ 9 → 1 < b → Walked whole left passed number weight → varint_at whole ≡ Err BadVarint
+pub walked_above : (whole left rest : List ℕ) (b passed number weight : ℕ) → left ≡ b ∷ rest → passed ≡ 9 → 1 < b → WalkedVarint whole left passed number weight → varint_at whole ≡ Err BadVarint
 walked_above whole left rest b passed number weight parts nine above w =
     let room : 10 - passed ≡ 1 = omega arith in
     let step : varint_within (10 - passed) left ≡ Err BadVarint = rw (room, parts) (within_above b rest above) in

@@ -1,6 +1,6 @@
 -- What contracts see of sources and sinks in memory.
-use Rattle.std.specs.Prelude.{ℕ, List, length, Some}
-use Rattle.span_io.specs.Outside.{Inlet, Outlet}
+use Rattle.std.specs.Prelude.{◌≡◌, ℕ, ◌+◌, ◌<◌, ◌⊎◌, List, length, Contains, Some, Result, Ok, Err, false, ◌==◌}
+use Rattle.span_io.specs.Outside.{Inlet, Outlet, counted}
 
 -- the bytes still to come, how many a call gives at the most, the calls that fail, and two counts
 pub record SourceState : Type 0 where
@@ -10,8 +10,9 @@ pub record SourceState : Type 0 where
   pub calls : ℕ
   pub faults : ℕ
 
+-- a source with no call that fails is steady
 abbrev pub inlet_of : SourceState → Inlet
-inlet_of s = record { left = Some s.left; faults = s.faults }
+inlet_of s = record { left = Some s.left; faults = s.faults; steady = length s.fail == 0 }
 
 -- the bytes taken, the room for all of them, the calls that fail, and two counts
 pub record SinkState : Type 0 where
@@ -21,5 +22,15 @@ pub record SinkState : Type 0 where
   pub calls : ℕ
   pub faults : ℕ
 
+-- a piece may be beyond the room, so the sink isn't steady
 abbrev pub outlet_of : SinkState → Outlet
-outlet_of s = record { held = Some s.held; taken = Some (length s.held); faults = s.faults }
+outlet_of s = record { held = Some s.held; taken = Some (length s.held); faults = s.faults; steady = false }
+
+-- the next call is listed, or the piece is beyond the room left
+abbrev pub Refuses : SinkState → List ℕ → Type 0
+Refuses s piece = Contains s.fail (counted s.calls) ⊎ (s.room < length s.held + length piece)
+
+-- a failure was counted once, and nothing else was
+abbrev pub CountsFault : {T E : Type 0} → Result T E → ℕ → ℕ → Type 0
+CountsFault (Ok x) before now = now ≡ before
+CountsFault (Err e) before now = now ≡ counted before

@@ -1,17 +1,19 @@
 -- What contracts see of the outside: what a source has left, what a sink took, and how often each was refused.
-use Rattle.std.specs.Prelude.{◌≡◌, ℕ, ◌+◌, ◌-◌, ◌^◌, ◌≤◌, min, List, ◌++◌, length, Option, Some, None, ⊤}
+use Rattle.std.specs.Prelude.{◌≡◌, ℕ, ◌+◌, ◌-◌, ◌^◌, ◌≤◌, min, Bool, List, ◌++◌, length, Option, Some, None, ⊤}
 use Rattle.std.specs.Io.KnownBytes.{Appends}
 
--- A source: the bytes still to come, where they are told, and its count of faults.
+-- A source: the bytes still to come, where they are told, its count of faults, and whether it is steady: one that never fails.
 pub record Inlet : Type 0 where
   pub left : Option (List ℕ)
   pub faults : ℕ
+  pub steady : Bool
 
--- A sink: the bytes that it took and their number, each where it is told, and its count of faults.
+-- A sink: the bytes that it took and their number, each where it is told, its count of faults, and whether it never fails.
 pub record Outlet : Type 0 where
   pub held : Option (List ℕ)
   pub taken : Option ℕ
   pub faults : ℕ
+  pub steady : Bool
 
 -- where a count of 64 bits stands still
 abbrev pub last_count : ℕ
@@ -62,3 +64,10 @@ pub record GrowsFront (old new bytes : List ℕ) : Type 0 where
   pub front : List ℕ
   pub is_front : IsFront front bytes
   pub grows : new ≡ old ++ front
+
+-- What a sink gains in one call after the other it gains in both; and a count that rose has risen since before.
+pub record GainLaws : Type 0 where
+  pub both : (a b c : Outlet) (first second : List ℕ) → Gains a b first → Gains b c second → Gains a c (first ++ second)
+  pub front : (a b c : Outlet) (first second : List ℕ) → Gains a b first → GainsFront b c second
+      → GainsFront a c (first ++ second)
+  pub rose : (a b c : ℕ) → Rose a b → b ≤ c → Rose a c

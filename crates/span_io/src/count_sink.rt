@@ -1,4 +1,4 @@
-ghost use Rattle.std.specs.Prelude.{◌≡◌, ◌+◌, ◌<◌, ◌≤◌, [], length, take, min, IfOk, OnErr, Ok};
+ghost use Rattle.std.specs.Prelude.{◌≡◌, ◌+◌, ◌<◌, ◌≤◌, [], length, take, min, IfOk, OnErr, IsOk, IsTrue, Ok};
 ghost use Rattle.span_io.specs.Outside.{OutputFails, Gains, last_count};
 ghost use Rattle.span_io.specs.Counting.{counting_outlet};
 
@@ -46,6 +46,9 @@ impl Sink for CountSink {
         ensures ok { IfOk result (λ n. Gains (counting_outlet self.old) (counting_outlet self.new) (take n piece.now)) }
         ensures err { OnErr result (Gains (counting_outlet self.old) (counting_outlet self.new) []) }
         ensures failed { OnErr result (OutputFails (counting_outlet self.old) (counting_outlet self.new)) }
+        ensures quiet { IfOk result (λ _. (counting_outlet self.new).faults ≡ (counting_outlet self.old).faults) }
+        ensures answers { IsTrue (counting_outlet self.old).steady → IsOk result }
+        ensures steady { (counting_outlet self.new).steady ≡ (counting_outlet self.old).steady }
 
         // It takes all, and counts it.
         ensures takes { result ≡ Ok (length piece.now) }

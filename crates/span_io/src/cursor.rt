@@ -176,7 +176,8 @@ impl<'a> Cursor<'a> {
 // tenth byte can be too large.
 #[inline(never)]
 fn long_varint(bytes: &[u8]) -> Result<(u64, &[u8]), Lack>
-    ensures exact { MatchResult result (λ read. varint_at bytes.now ≡ Ok (read.0, read.1.now)) (λ lack. varint_at bytes.now ≡ Err lack) }
+    ensures exact { MatchResult result (λ read. varint_at bytes.now ≡ Ok (read.0, read.1.now))
+        (λ lack. varint_at bytes.now ≡ Err lack) }
     ensures shorter { IfOk result (λ read. length read.1.now ≤ length bytes.now) }
 {
     let mut number: u64 = 0;

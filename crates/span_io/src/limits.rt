@@ -16,7 +16,8 @@ pub struct Limits {
 impl Limits {
     /// The limits that the program has. No call takes larger ones.
     pub fn shipped() -> Limits
-        ensures values { result ≡ record { unit = 16777216; json = 67108864; binary = 2 ^ 40; head = 16384; body = 67108864; reply = 67108864 } }
+        ensures values { result
+            ≡ record { unit = 16777216; json = 67108864; binary = 2 ^ 40; head = 16384; body = 67108864; reply = 67108864 } }
         ensures valid { AreLimits result }
     {
         Limits {

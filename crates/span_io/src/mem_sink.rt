@@ -1,6 +1,6 @@
-ghost use Rattle.std.specs.Prelude.{◌≡◌, ◌+◌, ◌<◌, ◌≤◌, ◌⊎◌, ◌↔◌, [], length, take, Contains, IfOk, OnErr, IsErr};
+ghost use Rattle.std.specs.Prelude.{◌≡◌, ◌<◌, ◌≤◌, ◌↔◌, [], length, take, IfOk, OnErr, IsOk, IsErr, IsTrue};
 ghost use Rattle.span_io.specs.Outside.{OutputFails, Gains, counted};
-ghost use Rattle.span_io.specs.Memory.{outlet_of};
+ghost use Rattle.span_io.specs.Memory.{outlet_of, Refuses, CountsFault};
 
 use crate::halt::OutOfMemory;
 use crate::items::Items;
@@ -62,11 +62,15 @@ impl Sink for MemSink {
         ensures ok { IfOk result (λ n. Gains (outlet_of self.old) (outlet_of self.new) (take n piece.now)) }
         ensures err { OnErr result (Gains (outlet_of self.old) (outlet_of self.new) []) }
         ensures failed { OnErr result (OutputFails (outlet_of self.old) (outlet_of self.new)) }
+        ensures quiet { IfOk result (λ _. (outlet_of self.new).faults ≡ (outlet_of self.old).faults) }
+        ensures answers { IsTrue (outlet_of self.old).steady → IsOk result }
+        ensures steady { (outlet_of self.new).steady ≡ (outlet_of self.old).steady }
 
         // It fails exactly on the listed calls and where the piece doesn't fit, and else takes all.
-        ensures fails { IsErr result ↔ (Contains self.old.fail (counted self.old.calls) ⊎ (self.old.room < length self.old.held + length piece.now)) }
+        ensures fails { IsErr result ↔ Refuses self.old piece.now }
         ensures takes { IfOk result (λ n. n ≡ length piece.now) }
         ensures calls { self.new.calls ≡ counted self.old.calls }
+        ensures faults { CountsFault result self.old.faults self.new.faults }
         ensures stays { (self.new.fail ≡ self.old.fail) × (self.new.room ≡ self.old.room) }
     {
         self.calls = self.calls.saturating_add(1);

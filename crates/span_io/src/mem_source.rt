@@ -1,8 +1,8 @@
-ghost use Rattle.std.specs.Prelude.{◌≡◌, ◌-◌, ◌≤◌, ◌↔◌, length, min, max, Contains, IfOk, OnErr, IsErr, Some};
+ghost use Rattle.std.specs.Prelude.{◌≡◌, ◌-◌, ◌≤◌, ◌↔◌, length, min, max, Contains, IfOk, OnErr, IsOk, IsErr, IsTrue, Some};
 ghost use Rattle.std.specs.Io.{ReadsAtMost};
 ghost use Rattle.std.specs.Io.KnownBytes.{ReadConsumes};
 ghost use Rattle.span_io.specs.Outside.{InputFails, counted};
-ghost use Rattle.span_io.specs.Memory.{inlet_of};
+ghost use Rattle.span_io.specs.Memory.{inlet_of, CountsFault};
 
 use crate::blob::Blob;
 use crate::items::Items;
@@ -56,12 +56,16 @@ impl Source for MemSource {
         ensures bytes { ReadConsumes (inlet_of self.old).left (inlet_of self.new).left result buf.new }
         ensures counted { (inlet_of self.old).faults ≤ (inlet_of self.new).faults }
         ensures failed { OnErr result (InputFails (inlet_of self.old) (inlet_of self.new)) }
+        ensures quiet { IfOk result (λ _. (inlet_of self.new).faults ≡ (inlet_of self.old).faults) }
+        ensures answers { IsTrue (inlet_of self.old).steady → IsOk result }
+        ensures steady { (inlet_of self.new).steady ≡ (inlet_of self.old).steady }
 
         // It fails exactly on the listed calls, and else gives as many bytes as its cut, the room and
         // its rest allow.
         ensures fails { IsErr result ↔ Contains self.old.fail (counted self.old.calls) }
         ensures gives { IfOk result (λ n. n ≡ min (min self.old.cut (length buf.old)) (length self.old.left)) }
         ensures calls { self.new.calls ≡ counted self.old.calls }
+        ensures faults { CountsFault result self.old.faults self.new.faults }
         ensures stays { (self.new.fail ≡ self.old.fail) × (self.new.cut ≡ self.old.cut) }
     {
         self.calls = self.calls.saturating_add(1);

@@ -1,4 +1,4 @@
-ghost use Rattle.std.specs.Prelude.{◌≤◌, OnErr};
+ghost use Rattle.std.specs.Prelude.{◌≡◌, ◌≤◌, IfOk, OnErr, IsOk, IsTrue};
 ghost use Rattle.std.specs.Io.{ReadsAtMost};
 ghost use Rattle.std.specs.Io.KnownBytes.{ReadConsumes};
 ghost use Rattle.span_io.specs.Outside.{Inlet, InputFails};
@@ -8,7 +8,7 @@ ghost use Rattle.span_io.specs.Outside.{Inlet, InputFails};
 pub struct Failed;
 
 /// Where bytes come from. Contracts see a source as its `inlet`: the bytes still to come, where they
-/// are told, and a count of its faults, which stays at the end of 64 bits.
+/// are told, a count of its faults, which stays at the end of 64 bits, and whether it is steady.
 pub trait Source {
     ghost inlet: { Self → Inlet };
 
@@ -18,5 +18,10 @@ pub trait Source {
         ensures bound { ReadsAtMost result buf.new }
         ensures bytes { ReadConsumes (inlet self.old).left (inlet self.new).left result buf.new }
         ensures counted { (inlet self.old).faults ≤ (inlet self.new).faults }
-        ensures failed { OnErr result (InputFails (inlet self.old) (inlet self.new)) };
+        ensures failed { OnErr result (InputFails (inlet self.old) (inlet self.new)) }
+        ensures quiet { IfOk result (λ _. (inlet self.new).faults ≡ (inlet self.old).faults) }
+
+        // A steady source never fails, and one that isn't never becomes so.
+        ensures answers { IsTrue (inlet self.old).steady → IsOk result }
+        ensures steady { (inlet self.new).steady ≡ (inlet self.old).steady };
 }

@@ -241,6 +241,29 @@ fn writes_writers(rt: HostRuntime) -> Result<(), Fail> {
     Ok(())
 }
 
+// A piece above the 65,536 bytes that one read asks for.
+#[test]
+fn moves_large_pieces(rt: HostRuntime) -> Result<(), Fail> {
+    let mut bytes = Blob::new(rt.alloc());
+    for _ in 0..7_000 {
+        bytes.append(b"0123456789")?;
+    }
+    let mut buf = Vec::from_elem(rt.alloc(), 0u8, 65_536)?;
+    let mut source = ReaderSource::new(io::Cursor::new(bytes.as_slice()));
+    assert_eq!(rt; source.read(buf.as_mut_slice()), Ok(65_536));
+    assert!(rt; bytes.as_slice().starts_with(buf.as_slice()));
+    assert_eq!(rt; source.read(buf.as_mut_slice()), Ok(4_464));
+    assert_eq!(rt; source.read(buf.as_mut_slice()), Ok(0));
+    let mut held: Vec<u8> = Vec::new(rt.alloc());
+    let mut sink = WriterSink::new(&mut held);
+    assert_eq!(rt; write_all(&mut sink, bytes.as_slice()), Ok(()));
+    assert_eq!(rt; held.as_slice(), bytes.as_slice());
+    let mut source = MemSource::new(bytes, 100_000, Items::new(rt.alloc()));
+    assert_eq!(rt; source.read(buf.as_mut_slice()), Ok(65_536));
+    assert!(rt; held.as_slice().starts_with(buf.as_slice()));
+    Ok(())
+}
+
 #[test]
 fn limits(rt: HostRuntime) {
     let shipped = Limits::shipped();

@@ -1,4 +1,4 @@
-ghost use Rattle.std.specs.Prelude.{◌≡◌, None};
+ghost use Rattle.std.specs.Prelude.{◌≡◌, None, false};
 
 use crate::sink::Sink;
 use crate::source::Failed;
@@ -14,7 +14,8 @@ pub struct WriterSink<W> {
 
 impl<W: Write> WriterSink<W> {
     pub fn new(writer: W) -> WriterSink<W>
-        ensures { ⟦<WriterSink<W> as Sink>⟧.outlet result ≡ record { held = W.contents writer; taken = None; faults = 0 } }
+        ensures { ⟦<WriterSink<W> as Sink>⟧.outlet result
+            ≡ record { held = W.contents writer; taken = None; faults = 0; steady = false } }
     {
         WriterSink { writer, faults: 0 }
     }
@@ -28,7 +29,7 @@ impl<W: Write> WriterSink<W> {
 }
 
 impl<W: Write> Sink for WriterSink<W> {
-    ghost outlet = { λ s. record { held = W.contents s.writer; taken = None; faults = s.faults } };
+    ghost outlet = { λ s. record { held = W.contents s.writer; taken = None; faults = s.faults; steady = false } };
 
     fn write(&mut self, piece: &[u8]) -> Result<usize, Failed> {
         match self.writer.write(piece) {

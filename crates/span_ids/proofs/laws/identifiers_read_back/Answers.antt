@@ -1,8 +1,13 @@
+use Rattle.std.proofs.Common.{◌≡◌, ℕ, List, sym, ◌∙◌}
+use Rattle.span_ids.specs.Identifiers.{SpellsTraceId, SpellsSpanId}
 use Rattle.span_ids.proofs.BigEndian.{trace_spelled, span_spelled}
 use Rattle.span_ids.proofs.laws.identifiers_read_back.Goals as goal
 
-pub returns-clause-trace_written : goal.returns-clause-trace_written
-returns-clause-trace_written c = trace_spelled
+trace_once : (bytes : List ℕ) (a b : ℕ) → SpellsTraceId bytes a → SpellsTraceId bytes b → a ≡ b
+trace_once bytes a b one other = one.1 ∙ sym other.1
 
-pub returns-clause-span_written : goal.returns-clause-span_written
-returns-clause-span_written c = span_spelled
+span_once : (bytes : List ℕ) (a b : ℕ) → SpellsSpanId bytes a → SpellsSpanId bytes b → a ≡ b
+span_once bytes a b one other = one.1 ∙ sym other.1
+
+pub returns : goal.returns
+returns c = record { trace_written = trace_spelled; trace_once = trace_once; span_written = span_spelled; span_once = span_once }

@@ -1,5 +1,5 @@
-use Rattle.span_io.proofs.VarintWalk.{Walked}
+use Rattle.span_io.proofs.VarintWalk.{WalkedVarint}
 use Rattle.span_io.proofs.cursor.long_varint.Given as goal
 
 abbrev pub invariant-groups : goal.invariant-groups
-invariant-groups l = Walked l.bytes l.rest l._passed l.number l.weight
+invariant-groups l = WalkedVarint l.bytes l.rest l._passed l.number l.weight

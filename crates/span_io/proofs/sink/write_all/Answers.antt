@@ -1,4 +1,4 @@
-use Rattle.std.proofs.Common.{arith}
+use Rattle.std.proofs.Common.{◌∙◌, arith}
 use Rattle.std.proofs.lemmas.List.{take_rest, length-drop}
 use Rattle.std.proofs.lemmas.Result.{err_from_is_err_and}
 use Rattle.span_io.proofs.Gains.{gains_next, gains_front_here}
@@ -12,4 +12,7 @@ writes-preserved g c = record {
   within = let bound = rw take_rest at c.in_ok-done.ensures.bound in omega (arith, simp length-drop at bound);
   gained = gains_next _ _ _ c.args.piece.now c.writes.done c.in_ok-done.field-0 c.writes.invariant.gained
       (rw take_rest at c.in_ok-done.ensures.ok);
+  quiet = c.in_ok-done.ensures.quiet ∙ c.writes.invariant.quiet;
+  steady = c.write.ensures.steady ∙ c.writes.invariant.steady;
+  empty = λ none. absurd (omega (arith, none));
 }

@@ -1,0 +1,107 @@
+-- Tables of messages. A message's table has a row for each of its fields: which items belong to it, what they mean together, and how
+-- they offend. These words serve every wire format. An item of no row is free: it is passed over.
+use Rattle.std.specs.Prelude.{◌≡◌, ◌≢◌, ℕ, List, [], ◌∷◌, ◌++◌, IsUtf8}
+use Rattle.std.specs.List.{flat_map}
+use Rattle.span_io.specs.Offences.{Rules}
+
+-- A row, over the items of a wire format.
+pub record Row (Item : Type 0) : Type 1 where
+  -- an item of the row gives one such thing, what it holds, and another item gives nothing
+  pub Given : Type 0
+  pub given : Item → List Given
+  -- what all that was given means
+  pub Value : Type 0
+  pub Means : List Given → Value → Type 0
+  -- how an item offends by what it holds, behind what was given before
+  pub here : List Given → Given → ℕ → Type 0
+  -- what offends in the message that it holds, at a place in it
+  pub inside : Given → ℕ → ℕ → Type 0
+
+-- ---- what offends in a message, by its table
+
+-- what is said of the one thing that was given, else of the others
+abbrev pub OfFirst : {A : Type 0} → List A → (A → Type 0) → Type 0 → Type 0
+OfFirst [] Says Else = Else
+OfFirst (x ∷ more) Says Else = Says x
+
+module _ {Item : Type 0} where
+  abbrev pub table_here : List (Row Item) → List Item → Item → ℕ → Type 0
+  table_here [] seen this number = ⊥
+  table_here (row ∷ table) seen this number =
+      OfFirst (row.given this) (λ x. row.here (flat_map row.given seen) x number) (table_here table seen this number)
+
+  abbrev pub table_inside : List (Row Item) → Item → ℕ → ℕ → Type 0
+  table_inside [] this place number = ⊥
+  table_inside (row ∷ table) this place number = OfFirst (row.given this) (λ x. row.inside x place number) (table_inside table this place number)
+
+  -- the rules of a message with this table, which may offend at its end
+  abbrev pub rules_by : List (Row Item) → (List Item → ℕ → Type 0) → Rules Item
+  rules_by table ends = record {
+    here = λ seen this number. table_here table seen this number;
+    inside = λ this place number. table_inside table this place number;
+    ends = λ seen number. ends seen number;
+  }
+
+  -- of a message that doesn't offend at its end
+  abbrev pub no_ends : List Item → ℕ → Type 0
+  no_ends seen number = ⊥
+
+  -- the item is of no row
+  abbrev pub IsFree : List (Row Item) → Item → Type 0
+  IsFree [] this = Unit {0}
+  IsFree (row ∷ table) this = (row.given this ≡ []) × IsFree table this
+
+  -- ---- what the items of a message give to its rows, and what that means
+
+  abbrev pub Givens : List (Row Item) → Type 0
+  Givens [] = Unit {0}
+  Givens (row ∷ table) = List row.Given × Givens table
+
+  abbrev pub givens : (table : List (Row Item)) → List Item → Givens table
+  givens [] items = tt
+  givens (row ∷ table) items = (flat_map row.given items, givens table items)
+
+  abbrev pub Values : List (Row Item) → Type 0
+  Values [] = Unit {0}
+  Values (row ∷ table) = row.Value × Values table
+
+  -- each row's value is what was given to it means
+  abbrev pub Mean : (table : List (Row Item)) → Givens table → Values table → Type 0
+  Mean [] given values = Unit {0}
+  Mean (row ∷ table) given values = row.Means given.0 values.0 × Mean table given.1 values.1
+
+-- ---- for a reader that goes on item by item
+
+-- the one thing more
+abbrev pub pushed : {A : Type 0} → List A → List A → List A
+pushed before [] = before
+pushed before (x ∷ more) = before ++ x ∷ []
+
+module _ {Item : Type 0} where
+  -- what is given with one item more
+  abbrev pub givens_with : (table : List (Row Item)) → Givens table → Item → Givens table
+  givens_with [] given this = tt
+  givens_with (row ∷ table) given this = (pushed given.0 (row.given this), givens_with table given.1 this)
+
+-- ---- rows of many formats
+
+-- a singular row has at most one item, and without one the value that is its default
+abbrev pub Singular : {A B : Type 0} → (A → B → Type 0) → (B → Type 0) → List A → B → Type 0
+Singular Means IsDefault [] value = IsDefault value
+Singular Means IsDefault (held ∷ []) value = Means held value
+Singular Means IsDefault (held ∷ other ∷ more) value = ⊥
+
+-- of a repeated row they are, in order, what was given means
+abbrev pub Each : {A B : Type 0} → (B → A → Type 0) → List A → List B → Type 0
+Each Is [] [] = Unit {0}
+Each Is [] (x ∷ xs) = ⊥
+Each Is (held ∷ more) [] = ⊥
+Each Is (held ∷ more) (x ∷ xs) = Is x held × Each Is more xs
+
+-- FieldTwice: a singular row has an earlier item
+abbrev pub Twice : {A : Type 0} → List A → ℕ → Type 0
+Twice earlier number = (number ≡ 7) × (earlier ≢ [])
+
+-- NotText: the bytes are no text
+abbrev pub NotText : List ℕ → ℕ → Type 0
+NotText held number = (number ≡ 9) × ¬ IsUtf8 held
