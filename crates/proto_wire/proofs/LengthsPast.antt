@@ -1,16 +1,16 @@
--- A length by which a record has more bytes than the limit.
-use Rattle.std.proofs.Common.{◌≡◌, ◌≤◌, ◌<◌, ◌+◌, ◌-◌, ◌*◌, ◌/◌, ◌%◌, ◌++◌, ℕ, List, [], length, Result, Ok, Err, Bool, true, false, cond, eqb, refl, ap, sym, ◌∙◌, subst, arith}
-use Rattle.std.proofs.lemmas.Bool.{lt-ltb, ltb-true, eqb-true, eq-eqb}
-use Rattle.std.proofs.lemmas.List.{length-append, append_assoc, append-nil}
+-- A length by which a record has more bytes than the limit, and how reading finds it.
+use Rattle.std.proofs.Common.{◌≡◌, ◌≢◌, ◌≤◌, ◌<◌, ◌+◌, ◌-◌, ◌*◌, ◌/◌, ◌%◌, ◌++◌, ◌↔◌, ◌⊎◌, inl, inr, ℕ, List, length, true, ltb, Result, Ok, Err, refl, ap, sym, ◌∙◌, subst, arith}
+use Rattle.std.proofs.lemmas.Bool.{lt-ltb, ltb-true}
+use Rattle.std.proofs.lemmas.Bool.Decides.{leb_tells, eqb_tells}
+use Rattle.std.proofs.lemmas.List.{length-append, append_assoc}
 use Rattle.span_io.specs.declared.cause.Cause.{Cause}
 use Rattle.span_io.specs.declared.cause.Cause.TheVariants as causes
 use Rattle.span_io.specs.Varint.{SpellsVarint}
-use Rattle.span_io.proofs.Fronts.{append_empty_right}
+use Rattle.span_io.specs.VarintLaws.{VarintLaws}
 use Rattle.proto_wire.specs.Records.{bytes, IsFieldNumber}
 use Rattle.proto_wire.specs.Wire.{HoldsLengthPast}
 use Rattle.proto_wire.specs.Reading.{number_at, bytes_at, field_number, record_at, ◌>>=◌}
-use Rattle.proto_wire.specs.FrameReading.{is_past, is_past_behind, is_past_key, holds_length_past}
-use Rattle.proto_wire.proofs.Varints.{VarintLaws, NumberIs, number_is, number_read}
+use Rattle.proto_wire.proofs.Varints.{NumberIs, number_is, number_read}
 use Rattle.proto_wire.proofs.Payloads.{is_2, held_2}
 use Rattle.proto_wire.proofs.Spellings.{with_number, FieldIs, field_good, field_refused, field_is, field_in, key_parts, key_number, key_wire, parted_key}
 
@@ -28,82 +28,38 @@ past_more limit text more h = record {
   past = h.past;
 }
 
--- the key and the length alone
-pub past_alone : (limit : ℕ) (text : List ℕ) (h : HoldsLengthPast limit text) → HoldsLengthPast limit (h.key ++ h.size)
-past_alone limit text h = record {
-  number = h.number;
-  is_number = h.is_number;
-  key = h.key;
-  key_spelled = h.key_spelled;
-  size = h.size;
-  held = h.held;
-  size_spelled = h.size_spelled;
-  others = [];
-  parts = ap (λ l. h.key ++ l) (sym (append-nil h.size));
-  past = h.past;
-}
-
 bytes_short : (size : ℕ) (text : List ℕ) → length text < size → bytes_at size text ≡ Err causes.Truncated
 bytes_short size text h = rw (lt-ltb (length text) size h) refl
 
 past_length : (key size others text : List ℕ) → text ≡ key ++ (size ++ others) → length text ≡ length key + (length size + length others)
 past_length key size others text e = omega (arith, ap length e, length-append key (size ++ others), length-append size others)
 
--- ---- the computation
-
-known_behind : (limit whole : ℕ) (key : ℕ × List ℕ) (r : Result ℕ Cause) (number : ℕ) → r ≡ Ok number → key.0 % 8 ≡ 2 → is_past_behind limit whole key r ≡ is_past limit whole (number_at key.1)
-known_behind limit whole key r number e wire = ap (is_past_behind limit whole key) e ∙ rw (eq-eqb (key.0 % 8) 2 wire) refl
-
-record Sized (limit whole : ℕ) (text : List ℕ) : Type 0 where
-  size : List ℕ
-  held : ℕ
-  spelled : SpellsVarint size held
-  others : List ℕ
-  parts : text ≡ size ++ others
-  past : limit - (whole - length others) < held
-
-sized_past : (limit whole : ℕ) (text : List ℕ) (r : Result (ℕ × List ℕ) Cause) → NumberIs text r → is_past limit whole r ≡ true → Sized limit whole text
-sized_past limit whole text (Ok x) h e = record { size = h.text; held = x.0; spelled = h.spelled; others = x.1; parts = h.parts; past = ltb-true (limit - (whole - length x.1)) x.0 e }
-sized_past limit whole text (Err cause) h e = cc
-
-behind_past : (limit whole : ℕ) (key : ℕ × List ℕ) (number : ℕ) (b : Bool) → eqb (key.0 % 8) 2 ≡ b → cond b (is_past limit whole (number_at key.1)) false ≡ true → (key.0 % 8 ≡ 2) × (is_past limit whole (number_at key.1) ≡ true)
-behind_past limit whole key number true f e = (eqb-true (key.0 % 8) 2 f, e)
-behind_past limit whole key number false f e = cc
-
-past_found : (limit : ℕ) (text key others : List ℕ) (n : ℕ) → SpellsVarint key n → text ≡ key ++ others → IsFieldNumber (n / 8) → n % 8 ≡ 2 → length text ≤ limit → Sized limit (length text) others → HoldsLengthPast limit text
-past_found limit text key others n spelled parts good wire within s = record {
-  number = n / 8;
-  is_number = good;
-  key = key;
-  key_spelled = subst (λ m. SpellsVarint key m) (key_parts n ∙ ap (λ w. n / 8 * 8 + w) wire) spelled;
-  size = s.size;
-  held = s.held;
-  size_spelled = s.spelled;
-  others = s.others;
-  parts = parts ∙ ap (λ l. key ++ l) s.parts;
-  past = omega (arith, past_length key s.size s.others text (parts ∙ ap (λ l. key ++ l) s.parts), s.past);
-}
+-- what reading finds of it: a key that a length follows, and the length
+pub record ReadsLengthPast (limit : ℕ) (text : List ℕ) : Type 0 where
+  pub key : ℕ
+  pub behind : List ℕ
+  pub size : ℕ
+  pub others : List ℕ
+  pub key_read : number_at text ≡ Ok (key, behind)
+  pub field_read : field_number key ≡ Ok (key / 8)
+  pub wire : key % 8 ≡ 2
+  pub size_read : number_at behind ≡ Ok (size, others)
+  pub past : limit - (length text - length others) < size
 
 abbrev Number : ℕ × List ℕ → Result (ℕ × List ℕ) Cause
 Number x = Ok x
 
-same_others : (x y : ℕ × List ℕ) → Number x ≡ Number y → x.1 ≡ y.1
-same_others x y e = let pairs : x ≡ y = cc in ap (λ p. p.1) pairs
+same_number : (x y : ℕ × List ℕ) → Number x ≡ Number y → x ≡ y
+same_number x y e = cc
+
+known_field : (key n : ℕ) → field_number key ≡ Ok n → IsFieldNumber (key / 8)
+known_field key n e = by_field (field_is key)
+  where
+    by_field : FieldIs key → IsFieldNumber (key / 8)
+    by_field (field_good good) = good
+    by_field (field_refused bad f) = cc
 
 module _ (L : VarintLaws) where
-  pub one_number : (n m : ℕ) (a b r s : List ℕ) → SpellsVarint a n → SpellsVarint b m → a ++ r ≡ b ++ s → r ≡ s
-  one_number n m a b r s first second e =
-      let both : Number (n, r) ≡ Number (m, s) = sym (number_read L n a r first) ∙ ap number_at e ∙ number_read L m b s second in
-      same_others (n, r) (m, s) both
-
-  -- no byte of the key and of the length is missing
-  pub past_whole : (limit : ℕ) (text : List ℕ) (h : HoldsLengthPast limit text) (shorter more : List ℕ) → h.key ++ h.size ≡ shorter ++ more → HoldsLengthPast limit shorter → more ≡ []
-  past_whole limit text h shorter more e g =
-      let cut : h.key ++ h.size ≡ g.key ++ (g.size ++ (g.others ++ more)) = e ∙ ap (λ l. l ++ more) g.parts ∙ append_assoc g.key (g.size ++ g.others) more ∙ ap (λ l. g.key ++ l) (append_assoc g.size g.others more) in
-      let sizes : h.size ≡ g.size ++ (g.others ++ more) = one_number (h.number * 8 + 2) (g.number * 8 + 2) h.key g.key h.size (g.size ++ (g.others ++ more)) h.key_spelled g.key_spelled cut in
-      let none : [] ≡ g.others ++ more = one_number h.held g.held h.size g.size [] (g.others ++ more) h.size_spelled g.size_spelled (append-nil h.size ∙ sizes) in
-      append_empty_right g.others more (sym none)
-
   -- bytes within the limit that hold such a length end inside the record
   pub past_read : (limit : ℕ) (text : List ℕ) → HoldsLengthPast limit text → length text ≤ limit → record_at text ≡ Err causes.Truncated
   past_read limit text h within =
@@ -114,32 +70,95 @@ module _ (L : VarintLaws) where
       ∙ ap (λ r. r >>= λ n. bytes_at n.0 n.1 >>= λ b. Ok (bytes b.0, b.1)) (number_read L h.held h.size h.others h.size_spelled)
       ∙ ap (λ r. r >>= λ b. Ok (bytes b.0, b.1)) (bytes_short h.held h.others few))
 
-  key_past : (limit : ℕ) (text : List ℕ) → length text ≤ limit → (r : Result (ℕ × List ℕ) Cause) → NumberIs text r → is_past_key limit (length text) r ≡ true → HoldsLengthPast limit text
-  key_past limit text within (Ok key) h e = field_past (field_is key.0)
-    where
-      good_past : IsFieldNumber (key.0 / 8) → (key.0 % 8 ≡ 2) × (is_past limit (length text) (number_at key.1) ≡ true) → HoldsLengthPast limit text
-      good_past good g = past_found limit text h.text key.1 key.0 h.spelled h.parts good g.0 within (sized_past limit (length text) key.1 (number_at key.1) (number_is L key.1) g.1)
-
-      field_past : FieldIs key.0 → HoldsLengthPast limit text
-      field_past (field_good good) =
-          let f : is_past_behind limit (length text) key (Ok (key.0 / 8)) ≡ true = ap (is_past_behind limit (length text) key) (sym (field_in key.0 good)) ∙ e in
-          good_past good (behind_past limit (length text) key (key.0 / 8) (eqb (key.0 % 8) 2) refl f)
-      field_past (field_refused bad f) =
-          let g : false ≡ true = ap (is_past_behind limit (length text) key) (sym f) ∙ e in cc
-  key_past limit text within (Err cause) h e = cc
-
-  pub past_true : (limit : ℕ) (text : List ℕ) → length text ≤ limit → holds_length_past limit text ≡ true → HoldsLengthPast limit text
-  unfolding holds_length_past
-  past_true limit text within e = key_past limit text within (number_at text) (number_is L text) e
-
-  pub past_is : (limit : ℕ) (text : List ℕ) → length text ≤ limit → HoldsLengthPast limit text → holds_length_past limit text ≡ true
-  unfolding holds_length_past
-  past_is limit text within h =
-      let n : ℕ = h.number * 8 + 2 in
+  pub past_reads : (limit : ℕ) (text : List ℕ) → length text ≤ limit → HoldsLengthPast limit text → ReadsLengthPast limit text
+  past_reads limit text within h =
       let number_e : (h.number * 8 + 2) / 8 ≡ h.number = key_number h.number 2 (omega arith) in
-      let field : field_number (h.number * 8 + 2) ≡ Ok ((h.number * 8 + 2) / 8) = field_in (h.number * 8 + 2) (subst IsFieldNumber (sym number_e) h.is_number) in
-      let key : number_at text ≡ Ok (h.number * 8 + 2, h.size ++ h.others) = ap number_at h.parts ∙ number_read L (h.number * 8 + 2) h.key (h.size ++ h.others) h.key_spelled in
-      ap (is_past_key limit (length text)) key
-      ∙ known_behind limit (length text) (h.number * 8 + 2, h.size ++ h.others) (field_number (h.number * 8 + 2)) ((h.number * 8 + 2) / 8) field (key_wire h.number 2 (omega arith))
-      ∙ ap (is_past limit (length text)) (number_read L h.held h.size h.others h.size_spelled)
-      ∙ lt-ltb (limit - (length text - length h.others)) h.held (omega (arith, past_length h.key h.size h.others text h.parts, h.past))
+      record {
+        key = h.number * 8 + 2;
+        behind = h.size ++ h.others;
+        size = h.held;
+        others = h.others;
+        key_read = ap number_at h.parts ∙ number_read L (h.number * 8 + 2) h.key (h.size ++ h.others) h.key_spelled;
+        field_read = field_in (h.number * 8 + 2) (subst IsFieldNumber (sym number_e) h.is_number);
+        wire = key_wire h.number 2 (omega arith);
+        size_read = number_read L h.held h.size h.others h.size_spelled;
+        past = omega (arith, past_length h.key h.size h.others text h.parts, h.past);
+      }
+
+  pub past_found : (limit : ℕ) (text behind others : List ℕ) (key size : ℕ) → length text ≤ limit → number_at text ≡ Ok (key, behind) → IsFieldNumber (key / 8) → key % 8 ≡ 2
+      → number_at behind ≡ Ok (size, others) → limit - (length text - length others) < size → HoldsLengthPast limit text
+  past_found limit text behind others key size within key_read good wire size_read past =
+      let k = subst (NumberIs text) key_read (number_is L text) in
+      let s = subst (NumberIs behind) size_read (number_is L behind) in
+      let parts : text ≡ k.text ++ (s.text ++ others) = k.parts ∙ ap (λ l. k.text ++ l) s.parts in
+      record {
+        number = key / 8;
+        is_number = good;
+        key = k.text;
+        key_spelled = subst (λ m. SpellsVarint k.text m) (key_parts key ∙ ap (λ w. key / 8 * 8 + w) wire) k.spelled;
+        size = s.text;
+        held = size;
+        size_spelled = s.spelled;
+        others = others;
+        parts = parts;
+        past = omega (arith, past_length k.text s.text others text parts, past);
+      }
+
+  -- ---- what each step of reading says of it
+
+  module _ (limit : ℕ) (text : List ℕ) (within : length text ≤ limit) where
+    pub no_key : (cause : Cause) → number_at text ≡ Err cause → HoldsLengthPast limit text → ⊥
+    no_key cause e h = let r = (past_reads limit text within h).key_read in cc
+
+    module _ (key : ℕ) (behind : List ℕ) (key_read : number_at text ≡ Ok (key, behind)) where
+      -- the same key is read
+      keyed : (r : ReadsLengthPast limit text) → (r.key ≡ key) × (r.behind ≡ behind)
+      keyed r = let pairs = same_number (r.key, r.behind) (key, behind) (sym r.key_read ∙ key_read) in (ap (λ x. x.0) pairs, ap (λ x. x.1) pairs)
+
+      pub no_field : (cause : Cause) → field_number key ≡ Err cause → HoldsLengthPast limit text → ⊥
+      no_field cause e h =
+          let r = past_reads limit text within h in
+          let known : field_number key ≡ Ok (key / 8) = subst (λ k. field_number k ≡ Ok (k / 8)) (keyed r).0 r.field_read in cc
+
+      pub no_wire : key % 8 ≢ 2 → HoldsLengthPast limit text → ⊥
+      no_wire other h = let r = past_reads limit text within h in other (subst (λ k. k % 8 ≡ 2) (keyed r).0 r.wire)
+
+      pub no_size : (cause : Cause) → number_at behind ≡ Err cause → HoldsLengthPast limit text → ⊥
+      no_size cause e h =
+          let r = past_reads limit text within h in
+          let known : number_at behind ≡ Ok (r.size, r.others) = ap number_at (sym (keyed r).1) ∙ r.size_read in cc
+
+      pub size_past : (size : ℕ) (others : List ℕ) → number_at behind ≡ Ok (size, others) → HoldsLengthPast limit text → limit - (length text - length others) < size
+      size_past size others e h =
+          let r = past_reads limit text within h in
+          let pairs = same_number (r.size, r.others) (size, others) (sym r.size_read ∙ ap number_at (keyed r).1 ∙ e) in
+          omega (arith, r.past, ap (λ x. x.0) pairs, ap (λ x. length x.1) pairs)
+
+      pub past_exactly : (n size place : ℕ) (others : List ℕ) → field_number key ≡ Ok n → key % 8 ≡ 2 → number_at behind ≡ Ok (size, others) → place + length others ≡ length text
+          → (ltb (limit - place) size ≡ true) ↔ HoldsLengthPast limit text
+      past_exactly n size place others field wire e at = (
+        λ less. past_found limit text behind others key size within key_read (known_field key n field) wire e (omega (arith, at, ltb-true (limit - place) size less)),
+        λ h. lt-ltb (limit - place) size (omega (arith, at, size_past size others e h)),
+      )
+
+      -- it is there, or isn't
+      size_tells : IsFieldNumber (key / 8) → key % 8 ≡ 2 → (r : Result (ℕ × List ℕ) Cause) → number_at behind ≡ r → HoldsLengthPast limit text ⊎ (HoldsLengthPast limit text → ⊥)
+      size_tells good wire (Err cause) e = inr (no_size cause e)
+      size_tells good wire (Ok x) e = elim (leb_tells x.0 (limit - (length text - length x.1))) as (λ d. HoldsLengthPast limit text ⊎ (HoldsLengthPast limit text → ⊥)) [
+        | inl within_limit ↦ inr (λ h. omega (arith, within_limit.1, size_past x.0 x.1 e h))
+        | inr beyond ↦ inl (past_found limit text behind x.1 key x.0 within key_read good wire e (omega (arith, beyond.1)))
+      ]
+
+      key_tells : FieldIs key → HoldsLengthPast limit text ⊎ (HoldsLengthPast limit text → ⊥)
+      key_tells (field_refused bad e) = inr (no_field causes.BadWire e)
+      key_tells (field_good good) = elim (eqb_tells (key % 8) 2) as (λ d. HoldsLengthPast limit text ⊎ (HoldsLengthPast limit text → ⊥)) [
+        | inl wire ↦ size_tells good wire.1 (number_at behind) refl
+        | inr other ↦ inr (no_wire other.1)
+      ]
+
+    tells_by : (r : Result (ℕ × List ℕ) Cause) → number_at text ≡ r → HoldsLengthPast limit text ⊎ (HoldsLengthPast limit text → ⊥)
+    tells_by (Err cause) e = inr (no_key cause e)
+    tells_by (Ok x) e = key_tells x.0 x.1 e (field_is x.0)
+
+    pub tells_past : HoldsLengthPast limit text ⊎ (HoldsLengthPast limit text → ⊥)
+    tells_past = tells_by (number_at text) refl

@@ -7,7 +7,7 @@ use Rattle.span_io.specs.Varint.{varint_text}
 use Rattle.proto_wire.specs.Records.{Held, varint, fixed64, bytes, fixed32, Record, wire_type, IsFieldNumber, IsProper, FitsHeld}
 use Rattle.proto_wire.specs.Wire.{SpellsHeld, SpellsRecord, Begins, Wire, key_of, held_text, record_text, opening_text}
 use Rattle.proto_wire.specs.Reading.{record_at}
-use Rattle.proto_wire.proofs.Varints.{VarintLaws, ShortestLaws}
+use Rattle.span_io.specs.VarintLaws.{VarintLaws, ShortestLaws}
 use Rattle.proto_wire.proofs.Spellings.{record_none, spelled_read, begins_read}
 use Rattle.proto_wire.proofs.Refusals.{Given, same_rest, same_next}
 

@@ -1,37 +1,34 @@
 -- Messages keep what the laws of offences ask of a wire format.
-use Rattle.std.proofs.Common.{◌≡◌, ◌≢◌, ◌≤◌, ◌<◌, ◌+◌, ◌∷◌, ◌⊎◌, inl, inr, ℕ, List, [], length, Some, None, Ok, Err, Result, Option, refl, ap, sym, subst, ◌∙◌, arith}
+use Rattle.std.proofs.Common.{◌≡◌, ◌≤◌, ◌<◌, ◌+◌, ◌∷◌, ◌⊎◌, inl, inr, ℕ, List, [], length, Some, None, Ok, Err, Result, Option, refl, ap, sym, ◌∙◌, arith}
 use Rattle.std.proofs.lemmas.List.{length-append}
 use Rattle.span_io.specs.Causes.{cause_number}
 use Rattle.span_io.specs.declared.cause.Cause.{Cause}
 use Rattle.span_io.specs.declared.cause.Cause.TheVariants as causes
 use Rattle.span_io.specs.Offences.{Cut}
 use Rattle.span_io.specs.OffenceLaws.{FormatLaws}
+use Rattle.span_io.specs.Cuts.{some_length}
 use Rattle.proto_wire.specs.Messages.{messages, NoRecord, inner_size}
 use Rattle.proto_wire.specs.Records.{Held, varint, fixed64, bytes, fixed32, Record}
 use Rattle.proto_wire.specs.Wire.{SpellsHeld, Begins, Wire}
 use Rattle.proto_wire.specs.Reading.{record_at}
-use Rattle.proto_wire.proofs.Varints.{VarintLaws}
+use Rattle.span_io.specs.VarintLaws.{VarintLaws}
 use Rattle.proto_wire.proofs.Spellings.{record_none, begins_read, bad_key_read, overlong_read, spelled_some}
-use Rattle.proto_wire.proofs.Refusals.{RecordIs, record_is, open_read, overlong_has, overlong_from, bad_key_has, bad_key_from, Given, same_rest, same_next}
+use Rattle.proto_wire.proofs.Refusals.{RecordIs, told, open_read, overlong_has, overlong_from, bad_key_has, bad_key_from, Given, same_rest, same_next}
 
 -- the cause of a number
 abbrev numbered : ℕ → Result (Option Record × List ℕ) Cause → Type 0
 numbered n read = ((n ≡ 1) × (read ≡ Err causes.Truncated)) ⊎ ((n ≡ 2) × (read ≡ Err causes.BadVarint)) ⊎ ((n ≡ 3) × (read ≡ Err causes.BadWire))
 
-some_text : (text : List ℕ) → text ≢ [] → 0 < length text
-some_text [] some = absurd (some refl)
-some_text (b ∷ text) some = omega arith
-
 held_room : (payload : List ℕ) (held : Held) → SpellsHeld payload held → inner_size held + 1 ≤ length payload
-held_room payload (varint n) h = some_text payload (spelled_some payload n h)
+held_room payload (varint n) h = some_length payload (spelled_some payload n h)
 held_room payload (fixed64 n) h = omega (arith, h.0)
-held_room payload (bytes held) h = omega (arith, some_text h.0 (spelled_some h.0 (length held) h.1), length-append h.0 held, ap length h.2)
+held_room payload (bytes held) h = omega (arith, some_length h.0 (spelled_some h.0 (length held) h.1), length-append h.0 held, ap length h.2)
 held_room payload (fixed32 n) h = omega (arith, h.0)
 
 pub record_room : (r : Record) (rest after : List ℕ) → Begins r rest after → length after + inner_size r.held + 2 ≤ length rest
 record_room r rest after h =
     let s = h.spelled in
-    omega (arith, some_text s.key (spelled_some s.key _ s.key_spelled), held_room s.payload r.held s.payload_spelled, length-append s.key s.payload, length-append h.text after, ap length s.parts, ap length h.parts)
+    omega (arith, some_length s.key (spelled_some s.key _ s.key_spelled), held_room s.payload r.held s.payload_spelled, length-append s.key s.payload, length-append h.text after, ap length s.parts, ap length h.parts)
 
 module _ (L : VarintLaws) where
   read_by : (rest : List ℕ) (n : ℕ) → NoRecord rest n → numbered n (record_at rest)
@@ -77,7 +74,7 @@ module _ (L : VarintLaws) where
   }
 
   pub why_none : (rest : List ℕ) (cause : Cause) → record_at rest ≡ Err cause → NoRecord rest (cause_number cause)
-  why_none rest cause e = by_cause cause (subst (λ (x : Result (Option Record × List ℕ) Cause). RecordIs rest x) e (record_is L rest))
+  why_none rest cause e = by_cause cause (told L rest (Err cause) e)
     where
       by_cause : (cause : Cause) → RecordIs rest (Err cause) → NoRecord rest (cause_number cause)
       by_cause causes.Truncated h = inl (refl, h.0, h.1)

@@ -9,7 +9,8 @@ use Rattle.span_io.specs.Varint.{SpellsVarint, SpellsWithin, BeginsVarint, IsIns
 use Rattle.proto_wire.specs.Records.{Held, varint, fixed64, bytes, fixed32, wire_type}
 use Rattle.proto_wire.specs.Wire.{SpellsHeld}
 use Rattle.proto_wire.specs.Reading.{number_at, bytes_at, held_at, ◌>>=◌}
-use Rattle.proto_wire.proofs.Varints.{VarintLaws, NumberIs, number_is, number_read}
+use Rattle.span_io.specs.VarintLaws.{VarintLaws}
+use Rattle.proto_wire.proofs.Varints.{NumberIs, number_is, number_read}
 
 -- ---- the next bytes
 

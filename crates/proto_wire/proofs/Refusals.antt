@@ -8,10 +8,12 @@ use Rattle.span_io.specs.declared.cause.Cause.TheVariants as causes
 use Rattle.span_io.specs.Frames.{IsProperFront, IsRefused}
 use Rattle.span_io.specs.Varint.{SpellsVarint, SpellsWithin, IsInsideVarint, IsOverlong}
 use Rattle.proto_wire.specs.Records.{Held, varint, fixed64, bytes, fixed32, Record, wire_type, IsFieldNumber}
-use Rattle.proto_wire.specs.Wire.{SpellsHeld, SpellsRecord, Begins, IsKeyThenVarint, IsOpenRecord, records, HasOverlong, HasBadKey}
+use Rattle.proto_wire.specs.Wire.{SpellsHeld, Begins, IsKeyThenVarint, IsOpenRecord, records, HasOverlong, HasBadKey}
 use Rattle.proto_wire.specs.Reading.{number_at, held_at, record_at, ◌>>=◌}
-use Rattle.span_io.proofs.Fronts.{two_cuts, append_empty_right}
-use Rattle.proto_wire.proofs.Varints.{VarintLaws, NumberIs, number_is}
+use Rattle.span_io.specs.Cuts.{two_cuts, append_empty_right, all_front}
+use Rattle.span_io.specs.FramingLaws.{proper_front}
+use Rattle.span_io.specs.VarintLaws.{VarintLaws}
+use Rattle.proto_wire.proofs.Varints.{NumberIs, number_is}
 use Rattle.proto_wire.proofs.Payloads.{WireIs, is_0, is_1, is_2, is_5, IsNoWire, wire_cases, HeldFront, HeldInside, WithVarint, HeldIs, held_is, zero_spelled, zeros, length-zeros}
 use Rattle.proto_wire.proofs.Spellings.{with_number, after_number, after_key, record_none, record_some, FieldIs, field_good, field_refused, field_is, field_in, KeyAt, key_some, IsNoKey, BadKeyAt, OverlongAt, key_parts, spelled_read, begins_read, bad_key_read, overlong_read, inside_read}
 
@@ -56,19 +58,12 @@ pub key_then_proper : (key : List ℕ) (h : IsKeyThenVarint key) → WithVarint 
 key_then_proper key h (inl e) = parted_proper key h.number h.wire_type h.is_number h.spelled (subst Sample (sym e) (sample 0 is_0))
 key_then_proper key h (inr e) = parted_proper key h.number h.wire_type h.is_number h.spelled (subst Sample (sym e) (sample 2 is_2))
 
-pub front_proper : (a b : List ℕ) → IsProperFront records (a ++ b) → IsProperFront records a
-front_proper a b p = record {
-  more = b ++ p.more;
-  some = λ e. p.some (append_empty_right b p.more e);
-  whole = subst (λ l. (r : Record) × SpellsRecord l r) (append_assoc a b p.more) p.whole;
-}
-
 eight_spelled : SpellsVarint (8 ∷ []) 8
 unfolding SpellsVarint SpellsWithin
 eight_spelled = (omega arith, refl)
 
 pub empty_proper : IsProperFront records []
-empty_proper = front_proper [] (8 ∷ []) (parted_proper (8 ∷ []) 1 0 (omega arith, omega arith) eight_spelled (sample 0 is_0))
+empty_proper = proper_front records [] (8 ∷ []) (parted_proper (8 ∷ []) 1 0 (omega arith, omega arith) eight_spelled (sample 0 is_0))
 
 -- what stands before a varint
 abbrev pub ThenVarint : List ℕ → Type 0
@@ -83,15 +78,11 @@ open_inside front [] before h = inl (subst (λ l. IsProperFront records l) (sym 
 open_inside front (b ∷ inside) before h = inr (record { front = front; inside = b ∷ inside; then_varint = before; proper = then_varint_proper front before; some = omega arith; unended = h; parts = refl })
 
 -- fronts of ten bytes that are no varint
-pub go_on_front : (a b : List ℕ) → AllByRecursion (λ x. 128 ≤ x) (a ++ b) → AllByRecursion (λ x. 128 ≤ x) a
-go_on_front [] b h = tt
-go_on_front (x ∷ a) b h = (h.0, go_on_front a b h.1)
-
 pub overlong_inside : (text short more : List ℕ) → IsOverlong text → text ≡ short ++ more → more ≢ [] → IsInsideVarint short
 overlong_inside text short more h e some = elim (two_cuts short more h.front (h.tenth ∷ []) (sym e ∙ h.parts)) [
   | inl w ↦ record {
     short = omega (arith, h.nine, ap length w.front, length-append short w.between);
-    go_on = go_on_front short w.between (subst (λ l. AllByRecursion (λ x. 128 ≤ x) l) w.front h.go_on);
+    go_on = all_front (λ x. 128 ≤ x) short w.between (subst (λ l. AllByRecursion (λ x. 128 ≤ x) l) w.front h.go_on);
   }
   | inr w ↦ ended short more h.front h.tenth w.between w.front w.rest some h.nine h.go_on
 ]
@@ -197,6 +188,9 @@ module _ (L : VarintLaws) where
       let some : (b ∷ text) ≢ [] = λ e. cc in
       subst (λ r. RecordIs (b ∷ text) r) (sym (record_some (b ∷ text) some)) (number_record (b ∷ text) some (number_at (b ∷ text)) (number_is L (b ∷ text)))
 
+  pub told : (text : List ℕ) (r : Result (Option Record × List ℕ) Cause) → record_at text ≡ r → RecordIs text r
+  told text r e = subst (λ x. RecordIs text x) e (record_is text)
+
   -- ---- open bytes are answered Truncated
 
   proper_read : (text : List ℕ) → text ≢ [] → (p : IsProperFront records text) → (r : Result (Option Record × List ℕ) Cause) → record_at text ≡ r → RecordIs text r → r ≡ Err causes.Truncated
@@ -248,7 +242,7 @@ module _ (L : VarintLaws) where
   pub overlong_least : (front text : List ℕ) → ThenVarint front → IsOverlong text → (shorter more : List ℕ) → front ++ text ≡ shorter ++ more → more ≢ [] → IsOpenRecord shorter
   overlong_least front text before h shorter more e some = elim (two_cuts front text shorter more e) [
     | inl w ↦ subst (λ l. IsOpenRecord l) (sym w.front) (open_inside front w.between before (overlong_inside text w.between more h w.rest some))
-    | inr w ↦ inl (front_proper shorter w.between (subst (λ l. IsProperFront records l) w.front (then_varint_proper front before)))
+    | inr w ↦ inl (proper_front records shorter w.between (subst (λ l. IsProperFront records l) w.front (then_varint_proper front before)))
   ]
 
   pub overlong_has : (text : List ℕ) → OverlongAt text → HasOverlong text

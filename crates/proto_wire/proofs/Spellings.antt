@@ -10,7 +10,8 @@ use Rattle.span_io.specs.Varint.{SpellsVarint, SpellsWithin, IsInsideVarint, IsO
 use Rattle.proto_wire.specs.Records.{Held, varint, bytes, Record, wire_type, IsFieldNumber, last_number}
 use Rattle.proto_wire.specs.Wire.{SpellsRecord, Begins, IsKeyThenVarint, records}
 use Rattle.proto_wire.specs.Reading.{number_at, bytes_at, held_at, field_number, record_at, ◌>>=◌}
-use Rattle.proto_wire.proofs.Varints.{VarintLaws, number_read, number_short, number_bad}
+use Rattle.span_io.specs.VarintLaws.{VarintLaws}
+use Rattle.proto_wire.proofs.Varints.{number_read, number_short, number_bad}
 use Rattle.proto_wire.proofs.Payloads.{WireIs, is_0, is_1, is_2, is_5, IsNoWire, wire_type_is, held_0, held_2, held_none, held_read, WithVarint}
 
 -- ---- the steps of the reading function

@@ -1,22 +1,12 @@
--- What the law functions of span_io say of varints, bundled, and the same of the numbers of this crate's reading functions.
-use Rattle.std.proofs.Common.{◌≡◌, ◌≤◌, ◌<◌, ◌^◌, ◌↔◌, ◌++◌, ℕ, List, [], length, Result, Ok, Err, All, refl, ap}
+-- What is known of varints, said of the numbers of the reading functions.
+use Rattle.std.proofs.Common.{◌≡◌, ◌++◌, ℕ, List, Result, Ok, Err, refl, ap}
 use Rattle.span_io.specs.declared.cause.Cause.{Cause}
 use Rattle.span_io.specs.declared.cause.Cause.TheVariants as causes
 use Rattle.span_io.specs.declared.cursor.Lack.{Lack}
 use Rattle.span_io.specs.declared.cursor.Lack.TheVariants as lacks
-use Rattle.span_io.specs.Varint.{SpellsVarint, BeginsVarint, IsInsideVarint, IsOverlong, BeginsOverlong, varint_at, varint_text}
+use Rattle.span_io.specs.Varint.{SpellsVarint, BeginsVarint, IsInsideVarint, IsOverlong, BeginsOverlong, varint_at}
+use Rattle.span_io.specs.VarintLaws.{VarintLaws}
 use Rattle.proto_wire.specs.Reading.{with_cause, number_at}
-
-pub record VarintLaws : Type 0 where
-  pub read : (n : ℕ) (bytes rest : List ℕ) → BeginsVarint n bytes rest → varint_at bytes ≡ Ok (n, rest)
-  pub found : (n : ℕ) (bytes rest : List ℕ) → varint_at bytes ≡ Ok (n, rest) → BeginsVarint n bytes rest
-  pub short : (bytes : List ℕ) → (varint_at bytes ≡ Err lacks.Short) ↔ IsInsideVarint bytes
-  pub bad : (bytes : List ℕ) → (varint_at bytes ≡ Err lacks.BadVarint) ↔ BeginsOverlong bytes
-  pub fronts : (n : ℕ) (front more : List ℕ) → SpellsVarint (front ++ more) n → (more ≡ [] → ⊥) → IsInsideVarint front
-
-pub record ShortestLaws : Type 0 where
-  pub spelled : (n : ℕ) → n < 2 ^ 64 → SpellsVarint (varint_text n) n
-  pub shortest : (n : ℕ) (text : List ℕ) → All (λ b. b < 256) text → SpellsVarint text n → length (varint_text n) ≤ length text
 
 -- what stands where a number was looked for
 abbrev pub NumberIs : List ℕ → Result (ℕ × List ℕ) Cause → Type 0

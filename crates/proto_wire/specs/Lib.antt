@@ -1,4 +1,5 @@
-pub mod FrameReading
+pub mod FirstFrames
+pub mod Laws
 pub mod Messages
 pub mod Reading
 pub mod Records

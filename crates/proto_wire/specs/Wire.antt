@@ -4,7 +4,9 @@ use Rattle.std.specs.Int.{w32, w64, from_le_bytes, to_le_bytes}
 use Rattle.span_io.specs.declared.cause.Cause.{Cause}
 use Rattle.span_io.specs.declared.cause.Cause.TheVariants as causes
 use Rattle.span_io.specs.Varint.{SpellsVarint, varint_text}
-use Rattle.span_io.specs.Frames.{Framing, IsOpen, IsRefusedAt, EndsInTenth, NeedsMore, DecidedBy, IsItemOf, IsTooLong, IsRefusedIn}
+use Rattle.span_io.specs.declared.step.Step.{Step}
+use Rattle.span_io.specs.Frames.{Framing, IsOpen, IsRefusedAt, EndsInTenth, NeedsMore}
+use Rattle.span_io.specs.Steps.{NoFrame, StepIs}
 use Rattle.proto_wire.specs.Records.{Held, varint, fixed64, bytes, fixed32, Record, wire_type, IsFieldNumber}
 
 -- a record begins with the varint of its number times 8 plus its wire type
@@ -87,32 +89,23 @@ HasBadKey text = IsRefusedAt records IsKey text
 
 -- ---- frames: records of at most `limit` bytes
 
+-- what the shortest refused front of a record ends in, by the cause that this names
+abbrev pub RefusedBy : Cause → List ℕ → Type 0
+RefusedBy causes.BadVarint front = EndsInTenth records front
+RefusedBy causes.BadWire front = IsKey front
+RefusedBy other front = ⊥
+
+-- what each answer on the first record says of the bytes
+abbrev pub FirstIs : ℕ → List ℕ → Step → Type 0
+FirstIs limit text step = StepIs records RefusedBy limit text step
+
 -- the bytes are open, and no front of them is a record or is refused
 abbrev pub NeedsMoreBytes : ℕ → List ℕ → Type 0
 NeedsMoreBytes limit text = NeedsMore records limit text
 
--- the shortest front that is a record or is refused is a record, and has n bytes
-abbrev pub FirstIsRecord : ℕ → ℕ → List ℕ → Type 0
-FirstIsRecord limit n text = DecidedBy records limit (IsItemOf records n) text
-
--- that front is open, and too long
-abbrev pub FirstIsTooLong : ℕ → List ℕ → Type 0
-FirstIsTooLong limit text = DecidedBy records limit (IsTooLong records limit) text
-
--- that front is refused, and ends with the tenth byte of a varint
-abbrev pub FirstIsOverlong : ℕ → List ℕ → Type 0
-FirstIsOverlong limit text = DecidedBy records limit (IsRefusedIn records (EndsInTenth records)) text
-
--- that front is refused, and ends with a key
-abbrev pub FirstIsBadKey : ℕ → List ℕ → Type 0
-FirstIsBadKey limit text = DecidedBy records limit (IsRefusedIn records IsKey) text
-
 -- why no frame comes of the bytes
 abbrev pub IsRefusedAs : ℕ → List ℕ → Cause → Type 0
-IsRefusedAs limit text causes.UnitTooLong = FirstIsTooLong limit text
-IsRefusedAs limit text causes.BadVarint = FirstIsOverlong limit text
-IsRefusedAs limit text causes.BadWire = FirstIsBadKey limit text
-IsRefusedAs limit text other = ⊥
+IsRefusedAs limit text cause = NoFrame records RefusedBy limit text cause
 
 -- ---- writing
 

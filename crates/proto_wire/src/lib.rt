@@ -7,9 +7,9 @@ mod reading;
 mod record;
 mod writing;
 
-pub use frame::first_frame;
+pub use frame::{first_frame, first_record};
 pub use reading::next_record;
-pub use record::{Payload, WireRecord};
+pub use record::{Frame, Payload, WireRecord};
 pub use writing::{opening_size, record_size, write_opening, write_record};
 
 #[cfg(test)]

@@ -1,7 +1,7 @@
 use crate::laws::{one_framing, one_reading, open_fronts, shortest_record};
 use crate::{
-    Payload, WireRecord, first_frame, next_record, opening_size, record_size, write_opening,
-    write_record,
+    Frame, Payload, WireRecord, first_frame, first_record, next_record, opening_size, record_size,
+    write_opening, write_record,
 };
 use span_io::{Blob, Cause, Cursor, Step};
 use std::test::Fail;
@@ -172,4 +172,12 @@ fn finds_frames(rt: HostRuntime) {
     for (bytes, limit, step) in table {
         assert_eq!(rt; first_frame(bytes, limit), step, "at {bytes:?}");
     }
+    let record = WireRecord {
+        number: 1,
+        payload: Payload::Bytes(b"a"),
+    };
+    assert_eq!(rt;
+        first_record(b"\x0a\x01a\xff", 64),
+        Ok(Some(Frame { size: 3, record }))
+    );
 }

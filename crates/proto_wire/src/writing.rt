@@ -110,7 +110,8 @@ pub fn record_size(number: u32, payload: &Payload<'_>) -> u64
 pub fn write_record(out: &mut Blob, number: u32, payload: Payload<'_>) -> Result<(), OutOfMemory>
     requires { IsFieldNumber number }
     ensures ok { OnOk result (out.new ≡ out.old ++ record_text (record { number = number; held = plain_payload payload.entry })) }
-    ensures err { OnErr result (GrowsFront out.old out.new (record_text (record { number = number; held = plain_payload payload.entry }))) }
+    ensures err { OnErr result (GrowsFront out.old out.new
+        (record_text (record { number = number; held = plain_payload payload.entry }))) }
 {
     match payload {
         Payload::Varint(n) => {
