@@ -1,4 +1,5 @@
 pub mod AllLemmas
+pub mod Existence
 pub mod Gathered
 pub mod Order
 pub mod Places

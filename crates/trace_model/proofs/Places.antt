@@ -97,6 +97,15 @@ module _ {V : Type 0} where
       record { before = p ∷ rest.before; value = rest.value; behind = rest.behind; split = ap (λ l. p ∷ l) rest.split })
       (contains_cases p.0 (keys pairs) key there)
 
+  -- some pair has each of the keys
+  pub pair_of_key : (key : List ℕ) (pairs : List (List ℕ × V)) → Contains (keys pairs) key → (value : V) × Contains pairs (key, value)
+  pair_of_key key pairs there =
+      let at = split_at key pairs there in (
+        at.value,
+        subst (λ (l : List (List ℕ × V)). Contains l (key, at.value)) (sym at.split)
+            (Contains-append_right at.before ((key, at.value) ∷ at.behind) (key, at.value) (contains_here (key, at.value) at.behind)),
+      )
+
   pub twice_here : (p : List ℕ × V) (pairs : List (List ℕ × V)) → Contains (keys pairs) p.0 → StandsTwice p.0 (p ∷ pairs)
   twice_here p pairs there =
       let rest = split_at p.0 pairs there in

@@ -19,7 +19,7 @@ module _ {X : Type 0} (key : X → List ℕ) where
       (λ (h : Contains xs y). above_in k xs (All-tail (λ q. slice_cmp nat_cmp k q ≡ Less) (key x) (map key xs) all) y h)
       (contains_cases x xs y there)
 
-  above : (x : X) (xs : List X) → Rise (map key (x ∷ xs)) → (y : X) → Contains xs y → slice_cmp nat_cmp (key x) (key y) ≡ Less
+  pub above : (x : X) (xs : List X) → Rise (map key (x ∷ xs)) → (y : X) → Contains xs y → slice_cmp nat_cmp (key x) (key y) ≡ Less
   above x xs up = above_in (key x) xs
       (All-from_recursion (λ q. slice_cmp nat_cmp (key x) q ≡ Less) (map key xs) (sorted_head (slice_cmp nat_cmp) (key x) (map key xs) up))
 

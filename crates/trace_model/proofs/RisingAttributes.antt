@@ -15,7 +15,7 @@ use Rattle.trace_model.proofs.Places.{contains_here, contains_cases, contains_no
 abbrev cmp : List ℕ → List ℕ → Ordering
 cmp = slice_cmp nat_cmp
 
-none_rise : Rise []
+pub none_rise : Rise []
 unfolding IsStrictlySortedBy
 none_rise = tt
 

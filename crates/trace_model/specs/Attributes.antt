@@ -2,6 +2,7 @@
 --     Rise keys              each key is below those after it, byte by byte
 --     IsLast pair pairs      it is the last pair of its key
 --     StandsTwice key pairs  the key stands at two places or more
+--     AreKeysInOrder keys all         the keys are those of all, each once, in their order
 --     AreAttributes, AreRepeated      what a list of pairs makes
 use Rattle.std.specs.Prelude.{◌≡◌, ◌≢◌, ◌↔◌, ℕ, List, ◌∷◌, ◌++◌, map, All, Contains}
 use Rattle.std.specs.Ordering.{nat_cmp}
@@ -11,6 +12,11 @@ use Rattle.std.specs.List.Sorted.{IsStrictlySortedBy}
 -- each key is below those after it, byte by byte
 abbrev pub Rise : List (List ℕ) → Type 0
 Rise keys = IsStrictlySortedBy (slice_cmp nat_cmp) keys
+
+-- each of these keys once, in their order
+pub record AreKeysInOrder (keys all : List (List ℕ)) : Type 0 where
+  pub rising : Rise keys
+  pub same : (key : List ℕ) → Contains keys key ↔ Contains all key
 
 module _ {V : Type 0} where
   abbrev pub keys : List (List ℕ × V) → List (List ℕ)

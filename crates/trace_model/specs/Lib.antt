@@ -1,5 +1,7 @@
 pub mod Attributes
+pub mod Flat
 pub mod Gathering
+pub mod Laws
 pub mod Proper
 pub mod Soundness
 pub mod Values

@@ -7,14 +7,15 @@ use Rattle.trace_model.specs.declared.span.Link.{Link}
 use Rattle.trace_model.specs.declared.span.Span.{Span}
 use Rattle.trace_model.specs.declared.trace.Scope.{Scope}
 use Rattle.trace_model.specs.declared.trace.Group.{Group}
-use Rattle.trace_model.specs.declared.value.Value.{Value, Text, Number, Eight, Row_of-Value, end_of-Value, more_of-Value, Row_of-Value-Map-0-2, end_of-Value-Map-0-2, more_of-Value-Map-0-2, List', Map'}
+use Rattle.trace_model.specs.declared.value.Value.{Value, Text, Number, Eight, Bytes, Row_of-Value, end_of-Value, more_of-Value, Row_of-Value-Map-0-2, end_of-Value-Map-0-2, more_of-Value-Map-0-2, List', Map'}
 
 abbrev mutual
-  -- a text is UTF-8, an integer has 64 bits, a double eight bytes, and the members of a list or map are proper
+  -- a text is UTF-8, an integer has 64 bits, a double eight bytes, bytes are bytes, and the members of a list or map are proper
   pub IsProperValue : Value → Type 0
   IsProperValue (Text text) = IsUtf8 text
   IsProperValue (Number n) = FitsSigned w64 n
   IsProperValue (Eight double) = (length double ≡ 8) × All (λ b. b < 256) double
+  IsProperValue (Bytes held) = All (λ b. b < 256) held
   IsProperValue (List' shape members) = IsProperEach members
   IsProperValue (Map' shape members) = IsProperEachPair members
   IsProperValue _ = ⊤

@@ -1,4 +1,4 @@
-ghost use Rattle.std.specs.Prelude.{◌≡◌, All, Contains, IfOk, OnOk, IsSortedBy};
+ghost use Rattle.std.specs.Prelude.{◌≡◌, All, IfOk, OnOk, IsSortedBy};
 ghost use Rattle.std.specs.List.Sorted.{IsStableBy};
 ghost use Rattle.trace_model.specs.Attributes.{AreAttributes, AreRepeated, keys};
 ghost use Rattle.trace_model.specs.Gathering.{key_above, ends_with, kept_with, repeated_with};
@@ -16,7 +16,6 @@ pub fn attrs_of(
 ) -> Result<(Attrs, Items<Text>), OutOfMemory>
     ensures attributes { IfOk result (λ parts. AreAttributes parts.0 list) }
     ensures repeated { IfOk result (λ parts. AreRepeated parts.1 list) }
-    ensures among { IfOk result (λ parts. All (λ pair. Contains list pair) parts.0) }
     ensures sound { All (λ pair. IsSound pair.1) list → IfOk result (λ parts. AreSound parts.0) }
 {
     let mut pairs = falling(list)?;

@@ -1,5 +1,6 @@
 use crate::laws::{
-    attributes_once, members_of_proper_values, members_of_values, rising_attributes,
+    attributes_exist, attributes_once, members_of_proper_values, members_of_values,
+    rising_attributes,
 };
 use crate::{
     Attrs, Code, Event, Group, Kind, Link, Place, Remark, RemarkKind, Scope, Span, Status, Value,
@@ -71,6 +72,7 @@ fn keeps_the_last_of_equal_keys(rt: HostRuntime) -> Result<(), Fail> {
         assert!(rt; are_numbers(&attrs_copy(rt.alloc(), &attributes)?, kept));
     }
     attributes_once();
+    attributes_exist();
     rising_attributes();
     Ok(())
 }

@@ -2,7 +2,7 @@ use Rattle.std.proofs.Common.{◌≡◌, [], ◌++◌, sym, ap, ◌∙◌, subst
 use Rattle.std.proofs.lemmas.Grind.{common_steps}
 use Rattle.trace_model.specs.Attributes.{AreAttributes, AreRepeated}
 use Rattle.trace_model.proofs.Gathered.{kept_of, repeated_of, attributes_from, repeated_from}
-use Rattle.trace_model.proofs.SoundLemmas.{among_from, sound_from}
+use Rattle.trace_model.proofs.SoundLemmas.{sound_from}
 use Rattle.trace_model.proofs.attributes.attrs_of.Goals as goal
 
 pub returns-clause-attributes : goal.returns-clause-attributes
@@ -21,6 +21,3 @@ returns-clause-repeated c =
 
 pub returns-clause-sound : goal.returns-clause-sound
 returns-clause-sound c = sound_from c.pairs.kept c.args.list (returns-clause-attributes c)
-
-pub returns-clause-among : goal.returns-clause-among
-returns-clause-among c = among_from c.pairs.kept c.args.list (returns-clause-attributes c)

@@ -1,0 +1,38 @@
+-- What the laws of attributes and values say.
+use Rattle.std.specs.Prelude.{◌≡◌, ◌↔◌, ℕ, ◌+◌, ◌≤◌, List, [], All, Contains}
+use Rattle.trace_model.specs.Attributes.{Rise, keys, AreKeysInOrder, AreAttributes, AreRepeated}
+use Rattle.trace_model.specs.Proper.{IsProperValue, AreProper}
+use Rattle.trace_model.specs.Values.{depth, MapsRise}
+use Rattle.trace_model.specs.declared.value.Value.{Value}
+use Rattle.trace_model.specs.declared.value.Value.TheVariants as values
+
+-- a list of pairs makes one list of attributes at most, all of them among the pairs, and one list of repeated keys
+pub record AttributesOnce : Type 0 where
+  pub attributes : (pairs first second : List (List ℕ × Value)) → AreAttributes first pairs → AreAttributes second pairs → first ≡ second
+  pub among : (attributes pairs : List (List ℕ × Value)) → AreAttributes attributes pairs → All (λ pair. Contains pairs pair) attributes
+  pub repeated : (pairs : List (List ℕ × Value)) (first second : List (List ℕ)) → AreRepeated first pairs → AreRepeated second pairs → first ≡ second
+  -- lists in order that hold the same keys are equal
+  pub same_keys : (first second : List (List ℕ)) → Rise first → Rise second → ((key : List ℕ) → Contains first key ↔ Contains second key) → first ≡ second
+
+-- a list of pairs makes attributes and repeated keys, and a list of keys can be put in order
+pub record AttributesExist : Type 0 where
+  pub attributes : (pairs : List (List ℕ × Value)) → (kept : List (List ℕ × Value)) × AreAttributes kept pairs
+  pub repeated : (pairs : List (List ℕ × Value)) → (names : List (List ℕ)) × AreRepeated names pairs
+  pub in_order : (all : List (List ℕ)) → (names : List (List ℕ)) × AreKeysInOrder names all
+
+-- how deep a list or map is, and where the maps in it rise, by its members
+pub record MembersOfValues : Type 0 where
+  pub list_depth : (d : ℕ) (members : List Value) → (depth (values.List members) ≤ d + 1) ↔ All (λ value. depth value ≤ d) members
+  pub map_depth : (d : ℕ) (pairs : List (List ℕ × Value)) → (depth (values.Map pairs) ≤ d + 1) ↔ All (λ pair. depth pair.1 ≤ d) pairs
+  pub list_rises : (members : List Value) → MapsRise (values.List members) ↔ All MapsRise members
+  pub map_rises : (pairs : List (List ℕ × Value)) → MapsRise (values.Map pairs) ↔ (Rise (keys pairs) × All (λ pair. MapsRise pair.1) pairs)
+
+-- a list or map is proper where its members are
+pub record MembersOfProperValues : Type 0 where
+  pub list : (members : List Value) → IsProperValue (values.List members) ↔ All IsProperValue members
+  pub map : (pairs : List (List ℕ × Value)) → IsProperValue (values.Map pairs) ↔ AreProper pairs
+
+-- pairs whose keys rise are their own attributes, and none of their keys is repeated
+pub record RisingAttributes : Type 0 where
+  pub themselves : (pairs : List (List ℕ × Value)) → Rise (keys pairs) → AreAttributes pairs pairs
+  pub unrepeated : (pairs : List (List ℕ × Value)) → Rise (keys pairs) → AreRepeated [] pairs
