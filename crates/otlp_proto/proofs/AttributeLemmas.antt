@@ -2,7 +2,6 @@
 use Rattle.std.proofs.Common.{◌≡◌, ℕ, List, [], ◌∷◌, ◌++◌, map, ◌⊎◌, inl, inr, ⊎_elim, refl, sym, ap, subst, ◌∙◌}
 use Rattle.std.specs.Prelude.{◌↔◌, Contains}
 use Rattle.std.specs.Cmp.{IsEquivalence}
-use Rattle.std.specs.List.{flat_map}
 use Rattle.std.specs.Str.{bytes_eq}
 use Rattle.std.proofs.lemmas.Cmp.{eq_by_cmp_equiv, nat_list_cmp_total}
 use Rattle.std.proofs.lemmas.Map.Text.{is_eq-slice_cmp}
@@ -12,18 +11,18 @@ use Rattle.trace_model.specs.Attributes.{AreRepeated, Rise, StandsTwice}
 use Rattle.trace_model.specs.declared.value.Value.{Value}
 use Rattle.std.proofs.lemmas.List.{map-append}
 use Rattle.otlp_proto.specs.declared.attributes.AttributeRows.{AttributeRows}
-use Rattle.otlp_proto.specs.declared.noted.Pair.{Pair}
-use Rattle.otlp_proto.specs.Values.{entry, pair_at}
-use Rattle.otlp_proto.specs.Attributes.{attribute_at, NotedIn, GatheredAttributes}
-use Rattle.otlp_proto.proofs.ValueLemmas.{each_push, flat_push}
+use Rattle.otlp_proto.specs.Values.{KeyValue, entry, keys_inside}
+use Rattle.otlp_proto.specs.Attributes.{attribute_at, NotedIn}
+use Rattle.otlp_proto.specs.AttributesSoFar.{GatheredAttributes}
+use Rattle.otlp_proto.proofs.Repeated.{each_push, flat_push}
 
-pub attribute_push : (earlier : List (List ℕ)) (held : List ℕ) (old new : AttributeRows) (p : Pair) → pair_at 15 p held → new.pairs ≡ old.pairs ++ entry p ∷ [] → new.noted ≡ old.noted ++ p.reading.noted
+pub attribute_push : (earlier : List (List ℕ)) (held : List ℕ) (old new : AttributeRows) (p : KeyValue) → attribute_at p held → new.pairs ≡ old.pairs ++ entry p ∷ [] → new.noted ≡ old.noted ++ p.value.notes
     → GatheredAttributes earlier old → GatheredAttributes (earlier ++ held ∷ []) new
 attribute_push earlier held old new p pair pairs noted so_far = record {
   members = so_far.members ++ p ∷ [];
   each = each_push attribute_at earlier so_far.members held p so_far.each pair;
   pairs = pairs ∙ ap (λ l. l ++ entry p ∷ []) so_far.pairs ∙ sym (map-append entry so_far.members (p ∷ []));
-  noted = noted ∙ ap (λ l. l ++ p.reading.noted) so_far.noted ∙ sym (flat_push (λ (m : Pair). m.reading.noted) so_far.members p);
+  noted = noted ∙ ap (λ l. l ++ p.value.notes) so_far.noted ∙ sym (flat_push (λ (m : KeyValue). m.value.notes) so_far.members p);
 }
 
 -- the keys that are noted: those inside the values, and those that stand more than once
@@ -39,16 +38,16 @@ noted_in texts rows repeated noted keys gathered twice e rising same = record {
     of_members : AreRepeated repeated (map entry gathered.members)
     of_members = subst (λ (l : List (List ℕ × Value)). AreRepeated repeated l) gathered.pairs twice
 
-    given : (key : List ℕ) → Contains noted key → StandsTwice key (map entry gathered.members) ⊎ Contains (flat_map (λ p. p.reading.noted) gathered.members) key
+    given : (key : List ℕ) → Contains noted key → StandsTwice key (map entry gathered.members) ⊎ Contains (keys_inside gathered.members) key
     given key there = ⊎_elim
         (λ (h : Contains rows.noted key). inr (subst (λ (l : List (List ℕ)). Contains l key) gathered.noted h))
         (λ (h : Contains repeated key). inl ((of_members.twice key).0 h))
         (Contains-append_cases rows.noted repeated key (subst (λ (l : List (List ℕ)). Contains l key) e there))
 
-    back : (key : List ℕ) → StandsTwice key (map entry gathered.members) ⊎ Contains (flat_map (λ p. p.reading.noted) gathered.members) key → Contains noted key
+    back : (key : List ℕ) → StandsTwice key (map entry gathered.members) ⊎ Contains (keys_inside gathered.members) key → Contains noted key
     back key is = subst (λ (l : List (List ℕ)). Contains l key) (sym e) (⊎_elim
         (λ (h : StandsTwice key (map entry gathered.members)). Contains-append_right rows.noted repeated key ((of_members.twice key).1 h))
-        (λ (h : Contains (flat_map (λ p. p.reading.noted) gathered.members) key). Contains-append_left rows.noted repeated key (subst (λ (l : List (List ℕ)). Contains l key) (sym gathered.noted) h))
+        (λ (h : Contains (keys_inside gathered.members) key). Contains-append_left rows.noted repeated key (subst (λ (l : List (List ℕ)). Contains l key) (sym gathered.noted) h))
         is)
 
 -- texts are told apart by their bytes

@@ -2,34 +2,36 @@
 use Rattle.std.proofs.Common.{◌≡◌, ℕ, List, [], Option, None, refl}
 use Rattle.std.specs.Option.{unwrap_or}
 use Rattle.proto_wire.specs.Records.{Record}
+use Rattle.span_io.specs.Tables.{givens}
+use Rattle.trace_model.specs.declared.span.Link.{Link}
 use Rattle.trace_model.specs.declared.value.Value.{Value}
 use Rattle.otlp_proto.specs.declared.link.LinkRows.{LinkRows}
-use Rattle.otlp_proto.specs.declared.noted.NotedLink.{NotedLink}
 use Rattle.otlp_proto.specs.Attributes.{AttributesOf, NotedIn}
 use Rattle.otlp_proto.specs.Identifiers.{MeansTraceId, MeansSpanId}
-use Rattle.otlp_proto.specs.Link.{LinkParts, IsLink, link_of}
-use Rattle.otlp_proto.specs.LinkRows.{GatheredLink}
+use Rattle.otlp_proto.specs.Link.{LinkParts, IsLink, link_of, link_table}
+use Rattle.otlp_proto.specs.LinkSoFar.{GatheredLink}
+use Rattle.otlp_proto.specs.Notes.{Keys, Noted}
 use Rattle.otlp_proto.specs.Rows.{bytes_of, varints_of, fixed32s_of, MeansText, MeansNumber, MeansCount}
 use Rattle.otlp_proto.proofs.RowLemmas.{gave_or}
 
 -- what stands in the link of these rows beside its identifiers
-abbrev pub parts_of : LinkRows → List (List ℕ × Value) → List (List ℕ) → LinkParts
-parts_of rows attributes noted = record {
+abbrev pub parts_of : LinkRows → List (List ℕ × Value) → Keys → LinkParts
+parts_of rows attributes keys = record {
   state = unwrap_or rows.state [];
   attributes = attributes;
-  noted = noted;
+  keys = keys;
   dropped = unwrap_or rows.dropped 0;
   flags = unwrap_or rows.flags 0;
 }
 
-pub link_is : (l : Option NotedLink) (rows : LinkRows) (records : List Record) (attributes : List (List ℕ × Value)) (noted : List (List ℕ)) → AttributesOf (bytes_of 4 records) attributes → NotedIn (bytes_of 4 records) noted
-    → l ≡ link_of (unwrap_or rows.trace None) (unwrap_or rows.span None) (parts_of rows attributes noted) → GatheredLink rows records → IsLink l records
-link_is l rows records attributes noted of_records in_records link gathered = record {
+pub link_is : (l : Option (Noted Link Keys)) (rows : LinkRows) (records : List Record) (attributes : List (List ℕ × Value)) (keys : Keys) → AttributesOf (bytes_of 4 records) attributes → NotedIn (bytes_of 4 records) keys
+    → l ≡ link_of (unwrap_or rows.trace None) (unwrap_or rows.span None) (parts_of rows attributes keys) → GatheredLink rows (givens link_table records) → IsLink l records
+link_is l rows records attributes keys of_records in_records link gathered = record {
   trace = unwrap_or rows.trace None;
   trace_id = gave_or MeansTraceId (λ id. id ≡ None) (bytes_of 1 records) rows.trace None refl gathered.trace;
   span = unwrap_or rows.span None;
   span_id = gave_or MeansSpanId (λ id. id ≡ None) (bytes_of 2 records) rows.span None refl gathered.span;
-  parts = parts_of rows attributes noted;
+  parts = parts_of rows attributes keys;
   state = gave_or MeansText (λ text. text ≡ []) (bytes_of 3 records) rows.state [] refl gathered.state;
   attributes = of_records;
   noted = in_records;

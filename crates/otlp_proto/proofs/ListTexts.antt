@@ -1,23 +1,25 @@
 -- Messages one after the other in records of one number: measured and written up to one of them.
-use Rattle.std.proofs.Common.{◌≡◌, ℕ, ◌+◌, ◌<◌, List, [], ◌∷◌, ◌++◌, length, take, drop, get_or, sym, ap, subst, ◌∙◌, append_assoc, arith, length-append}
+use Rattle.std.proofs.Common.{◌≡◌, ℕ, ◌+◌, ◌<◌, List, [], ◌∷◌, ◌++◌, length, take, drop, get_or, refl, sym, ap, subst, ◌∙◌, append_assoc}
 use Rattle.std.proofs.lemmas.List.{append-nil, take_more, flat_map_more, take-append-drop}
-use Rattle.std.proofs.lemmas.List.Concat.{flat_map-append}
+use Rattle.std.proofs.lemmas.List.Concat.{flat_map-append, flat_map-cons}
 use Rattle.span_io.specs.Outside.{GrowsFront}
 use Rattle.otlp_proto.specs.Texts.{bytes_field, list_text}
 use Rattle.otlp_proto.proofs.Growth.{joins, grows_first, grows_second}
 
 module _ {A : Type 0} (number : ℕ) (text : A → List ℕ) where
+  pub list_none : list_text number text [] ≡ []
+  unfolding list_text
+  list_none = refl
+
+  pub list_first : (x : A) (xs : List A) → list_text number text (x ∷ xs) ≡ bytes_field number (text x) ++ list_text number text xs
+  unfolding list_text
+  list_first x xs = flat_map-cons (λ (y : A). bytes_field number (text y)) x xs
+
   pub list_push : (xs : List A) (i : ℕ) (x : A) → i < length xs → x ≡ get_or xs i x → list_text number text (take (i + 1) xs) ≡ list_text number text (take i xs) ++ bytes_field number (text x)
   unfolding list_text
   list_push xs i x lt is =
       ap (list_text number text) (take_more xs i x lt ∙ ap (λ (y : A). take i xs ++ y ∷ []) (sym is))
       ∙ sym (flat_map_more (λ (y : A). bytes_field number (text y)) [] (take i xs) x)
-
-  pub size_more : (total size next : ℕ) (xs : List A) (i : ℕ) (x : A) → i < length xs → x ≡ get_or xs i x → total ≡ length (list_text number text (take i xs)) → size ≡ length (bytes_field number (text x)) → next ≡ total + size
-      → next ≡ length (list_text number text (take (i + 1) xs))
-  size_more total size next xs i x lt is so_far held e =
-      let whole : length (list_text number text (take (i + 1) xs)) ≡ length (list_text number text (take i xs)) + length (bytes_field number (text x)) = ap length (list_push xs i x lt is) ∙ length-append (list_text number text (take i xs)) (bytes_field number (text x)) in
-      omega arith
 
   pub list_start : (old : List ℕ) (xs : List A) → old ≡ old ++ list_text number text (take 0 xs)
   unfolding list_text

@@ -1,4 +1,4 @@
--- What is read of values is proper: texts are UTF-8, integers have 64 bits, and doubles eight bytes.
+-- What is read of values is proper: texts are UTF-8, integers have 64 bits, doubles eight bytes, and bytes are bytes.
 use Rattle.std.proofs.Common.{◌≡◌, ℕ, zero, suc, ◌<◌, ◌^◌, ◌%◌, ◌∷◌, List, [], map, All, refl, sym, subst, arith}
 use Rattle.std.specs.Prelude.{◌↔◌, ◌==◌, ⊤, IsUtf8, FitsSigned, pos}
 use Rattle.std.specs.Int.{w64, cast_signed, to_be_bytes, int_wrap}
@@ -6,36 +6,35 @@ use Rattle.std.specs.List.{AllByRecursion}
 use Rattle.std.proofs.lemmas.Int.{SFits-int_wrap}
 use Rattle.std.proofs.lemmas.List.Elements.{All-nil, All-cons, All-from_recursion}
 use Rattle.std.proofs.lemmas.Str.{IsUtf8-nil}
+use Rattle.span_io.specs.Tables.{Singular, Each}
 use Rattle.proto_wire.specs.Records.{Held, varint, fixed64, bytes, fixed32, Record}
 use Rattle.trace_model.specs.Proper.{IsProperValue, IsProperPair, AreProper}
 use Rattle.trace_model.specs.declared.value.Value.{Value}
 use Rattle.trace_model.specs.declared.value.Value.TheVariants as values
-use Rattle.otlp_proto.specs.declared.noted.NotedValue.{NotedValue}
-use Rattle.otlp_proto.specs.declared.noted.Pair.{Pair}
-use Rattle.otlp_proto.specs.Attributes.{AttributesOf}
-use Rattle.otlp_proto.specs.Rows.{bytes_of, Singular, MeansText}
-use Rattle.otlp_proto.specs.Values.{Member, string_value, bool_value, int_value, double_value, array_value, kvlist_value, bytes_value, member_in, members_of, leaf, entry, Each, IsListText, IsMapText, MeansMember, IsValueText, IsPairText, value_in, pair_in, pair_at}
+use Rattle.otlp_proto.specs.Attributes.{levels_below, attribute_at, AttributesOf}
+use Rattle.otlp_proto.specs.Rows.{bytes_of, MeansText}
+use Rattle.otlp_proto.specs.Values.{Member, string_value, bool_value, int_value, double_value, array_value, kvlist_value, bytes_value, member_in, members_of, NotedValue, KeyValue, leaf, entry, IsListText, IsMapText, MeansMember, IsValueText, IsKeyValueText, value_in, key_value_in}
 use Rattle.otlp_proto.proofs.Ranges.{AreBytes, InRange, AllInRange, wire_in_range, all_bytes, in_each, chosen}
 use Rattle.otlp_proto.proofs.SoundLemmas.{kept_all}
 
 -- ---- rows
 
 -- the value of a singular row has what its default and each that is meant have
-pub singular_has : {A B : Type 0} (Means : A → B → Type 0) (absent : B) (Q : A → Type 0) (P : B → Type 0) → P absent → ((x : A) (b : B) → Q x → Means x b → P b)
+pub singular_in_range : {A B : Type 0} (Means : A → B → Type 0) (absent : B) (Q : A → Type 0) (P : B → Type 0) → P absent → ((x : A) (b : B) → Q x → Means x b → P b)
     → (xs : List A) (b : B) → AllByRecursion Q xs → Singular Means (λ x. x ≡ absent) xs b → P b
-singular_has Means absent Q P none some [] b all h = subst P (sym h) none
-singular_has Means absent Q P none some (x ∷ []) b all h = some x b all.0 h
-singular_has Means absent Q P none some (x ∷ other ∷ more) b all h = absurd h
+singular_in_range Means absent Q P none some [] b all h = subst P (sym h) none
+singular_in_range Means absent Q P none some (x ∷ []) b all h = some x b all.0 h
+singular_in_range Means absent Q P none some (x ∷ other ∷ more) b all h = absurd h
 
-pub each_has : {A B C : Type 0} (Is : B → A → Type 0) (f : B → C) (Q : A → Type 0) (P : C → Type 0) → ((x : B) (a : A) → Q a → Is x a → P (f x))
+pub each_in_range : {A B C : Type 0} (Is : B → A → Type 0) (f : B → C) (Q : A → Type 0) (P : C → Type 0) → ((x : B) (a : A) → Q a → Is x a → P (f x))
     → (held : List A) (xs : List B) → AllByRecursion Q held → Each Is held xs → All P (map f xs)
-each_has Is f Q P so [] [] all each = All-nil P
-each_has Is f Q P so [] (x ∷ xs) all each = absurd each
-each_has Is f Q P so (a ∷ held) [] all each = absurd each
-each_has Is f Q P so (a ∷ held) (x ∷ xs) all each = All-cons P (f x) (map f xs) (so x a all.0 each.0) (each_has Is f Q P so held xs all.1 each.1)
+each_in_range Is f Q P so [] [] all each = All-nil P
+each_in_range Is f Q P so [] (x ∷ xs) all each = absurd each
+each_in_range Is f Q P so (a ∷ held) [] all each = absurd each
+each_in_range Is f Q P so (a ∷ held) (x ∷ xs) all each = All-cons P (f x) (map f xs) (so x a all.0 each.0) (each_in_range Is f Q P so held xs all.1 each.1)
 
 pub text_proper : (texts : List (List ℕ)) (text : List ℕ) → AllByRecursion AreBytes texts → Singular MeansText (λ t. t ≡ []) texts text → IsUtf8 text
-text_proper texts text all h = singular_has MeansText [] AreBytes IsUtf8 IsUtf8-nil (λ x t b m. subst IsUtf8 (sym m.1) m.0) texts text all h
+text_proper texts text all h = singular_in_range MeansText [] AreBytes IsUtf8 IsUtf8-nil (λ x t b m. subst IsUtf8 (sym m.1) m.0) texts text all h
 
 -- ---- members of values
 
@@ -46,13 +45,13 @@ MemberInRange (kvlist_value held) = AreBytes held
 MemberInRange (string_value held) = ⊤
 MemberInRange (bool_value n) = ⊤
 MemberInRange (double_value n) = ⊤
-MemberInRange (bytes_value held) = ⊤
+MemberInRange (bytes_value held) = AreBytes held
 
 member_in_range : (own : ℕ) (held : Held) → InRange held → AllByRecursion MemberInRange (member_in (record { number = own; held = held }))
 member_in_range own (varint n) h = chosen MemberInRange (own == 2) (bool_value n) _ tt (chosen MemberInRange (own == 3) (int_value n) [] h tt)
 member_in_range own (fixed64 n) h = chosen MemberInRange (own == 4) (double_value n) [] tt tt
 member_in_range own (bytes held) h =
-    chosen MemberInRange (own == 1) (string_value held) _ tt (chosen MemberInRange (own == 5) (array_value held) _ h (chosen MemberInRange (own == 6) (kvlist_value held) _ h (chosen MemberInRange (own == 7) (bytes_value held) [] tt tt)))
+    chosen MemberInRange (own == 1) (string_value held) _ tt (chosen MemberInRange (own == 5) (array_value held) _ h (chosen MemberInRange (own == 6) (kvlist_value held) _ h (chosen MemberInRange (own == 7) (bytes_value held) [] h tt)))
 member_in_range own (fixed32 n) h = tt
 
 members_in_range : (records : List Record) → AllInRange records → AllByRecursion MemberInRange (members_of records)
@@ -72,53 +71,53 @@ double_proper n = (refl, All-from_recursion (λ b. b < 256) (to_be_bytes w64 n) 
 
 module _ (list_proper : (members : List Value) → IsProperValue (values.List members) ↔ All IsProperValue members)
     (map_proper : (pairs : List (List ℕ × Value)) → IsProperValue (values.Map pairs) ↔ AreProper pairs) where
-  module _ (IsValue : NotedValue → List ℕ → Type 0) (IsPair : Pair → List ℕ → Type 0)
-      (values_proper : (r : NotedValue) (text : List ℕ) → AreBytes text → IsValue r text → IsProperValue r.value) (pairs_proper : (p : Pair) (text : List ℕ) → AreBytes text → IsPair p text → IsProperPair (entry p)) where
-    list_member_proper : (r : NotedValue) (text : List ℕ) → AreBytes text → IsListText IsValue r text → IsProperValue r.value
+  module _ (IsValue : NotedValue → List ℕ → Type 0) (IsKeyValue : KeyValue → List ℕ → Type 0)
+      (values_proper : (r : NotedValue) (text : List ℕ) → AreBytes text → IsValue r text → IsProperValue r.means) (key_values_proper : (p : KeyValue) (text : List ℕ) → AreBytes text → IsKeyValue p text → IsProperPair (entry p)) where
+    list_member_proper : (r : NotedValue) (text : List ℕ) → AreBytes text → IsListText IsValue r text → IsProperValue r.means
     list_member_proper r text all is = subst IsProperValue (sym is.value)
-        ((list_proper (map (λ m. m.value) is.members)).1 (each_has IsValue (λ m. m.value) AreBytes IsProperValue (λ x a b h. values_proper x a b h) (bytes_of 1 is.records) is.members (all_bytes 1 is.records (wire_in_range is.records text all is.wire)) is.each))
+        ((list_proper (map (λ m. m.means) is.members)).1 (each_in_range IsValue (λ m. m.means) AreBytes IsProperValue (λ x a b h. values_proper x a b h) (bytes_of 1 is.records) is.members (all_bytes 1 is.records (wire_in_range is.records text all is.wire)) is.each))
 
-    map_member_proper : (r : NotedValue) (text : List ℕ) → AreBytes text → IsMapText IsPair r text → IsProperValue r.value
+    map_member_proper : (r : NotedValue) (text : List ℕ) → AreBytes text → IsMapText IsKeyValue r text → IsProperValue r.means
     map_member_proper r text all is = subst IsProperValue (sym is.value) ((map_proper is.attributes).1 (kept_all IsProperPair is.attributes (map entry is.pairs) is.kept
-        (each_has IsPair entry AreBytes IsProperPair (λ x a b h. pairs_proper x a b h) (bytes_of 1 is.records) is.pairs (all_bytes 1 is.records (wire_in_range is.records text all is.wire)) is.each)))
+        (each_in_range IsKeyValue entry AreBytes IsProperPair (λ x a b h. key_values_proper x a b h) (bytes_of 1 is.records) is.pairs (all_bytes 1 is.records (wire_in_range is.records text all is.wire)) is.each)))
 
-    leaf_proper : (r : NotedValue) (v : Value) → IsProperValue v → r ≡ leaf v → IsProperValue r.value
-    leaf_proper r v so e = subst (λ (x : NotedValue). IsProperValue x.value) (sym e) so
+    leaf_proper : (r : NotedValue) (v : Value) → IsProperValue v → r ≡ leaf v → IsProperValue r.means
+    leaf_proper r v so e = subst (λ (x : NotedValue). IsProperValue x.means) (sym e) so
 
-    member_proper : (m : Member) (r : NotedValue) → MemberInRange m → MeansMember IsValue IsPair m r → IsProperValue r.value
+    member_proper : (m : Member) (r : NotedValue) → MemberInRange m → MeansMember IsValue IsKeyValue m r → IsProperValue r.means
     member_proper (string_value held) r in_range h = leaf_proper r (values.Text held) h.0 h.1
     member_proper (bool_value n) r in_range h = leaf_proper r (values.Truth h.0) tt h.1
     member_proper (int_value n) r in_range h = leaf_proper r (values.Number (cast_signed w64 n)) (signed_fits n in_range) h
     member_proper (double_value n) r in_range h = leaf_proper r (values.Eight (to_be_bytes w64 n)) (double_proper n) h
     member_proper (array_value held) r in_range h = list_member_proper r held in_range h
     member_proper (kvlist_value held) r in_range h = map_member_proper r held in_range h
-    member_proper (bytes_value held) r in_range h = leaf_proper r (values.Bytes held) tt h
+    member_proper (bytes_value held) r in_range h = leaf_proper r (values.Bytes held) in_range h
 
-    value_proper : (r : NotedValue) (text : List ℕ) → AreBytes text → IsValueText IsValue IsPair r text → IsProperValue r.value
-    value_proper r text all is = singular_has (MeansMember IsValue IsPair) (leaf values.Nothing) MemberInRange (λ x. IsProperValue x.value) tt (λ m x b h. member_proper m x b h)
+    value_proper : (r : NotedValue) (text : List ℕ) → AreBytes text → IsValueText IsValue IsKeyValue r text → IsProperValue r.means
+    value_proper r text all is = singular_in_range (MeansMember IsValue IsKeyValue) (leaf values.Nothing) MemberInRange (λ x. IsProperValue x.means) tt (λ m x b h. member_proper m x b h)
         (members_of is.records) r (members_in_range is.records (wire_in_range is.records text all is.wire)) is.value
 
-    pair_proper : (p : Pair) (text : List ℕ) → AreBytes text → IsPairText (λ r held. IsValueText IsValue IsPair r held) p text → IsProperPair (entry p)
-    pair_proper p text all is = record {
+    key_value_proper : (p : KeyValue) (text : List ℕ) → AreBytes text → IsKeyValueText (λ r held. IsValueText IsValue IsKeyValue r held) p text → IsProperPair (entry p)
+    key_value_proper p text all is = record {
       key = text_proper (bytes_of 1 is.records) p.key (all_bytes 1 is.records (wire_in_range is.records text all is.wire)) is.key;
-      value = singular_has (λ held (r : NotedValue). IsValueText IsValue IsPair r held) (leaf values.Nothing) AreBytes (λ x. IsProperValue x.value) tt (λ held x b h. value_proper x held b h)
-          (bytes_of 2 is.records) p.reading (all_bytes 2 is.records (wire_in_range is.records text all is.wire)) is.value;
+      value = singular_in_range (λ held (r : NotedValue). IsValueText IsValue IsKeyValue r held) (leaf values.Nothing) AreBytes (λ x. IsProperValue x.means) tt (λ held x b h. value_proper x held b h)
+          (bytes_of 2 is.records) p.value (all_bytes 2 is.records (wire_in_range is.records text all is.wire)) is.value;
     }
 
   mutual
-    unfolding value_in pair_in
+    unfolding value_in key_value_in
 
-    value_in_proper : (left : ℕ) (r : NotedValue) (text : List ℕ) → AreBytes text → value_in left r text → IsProperValue r.value
+    value_in_proper : (left : ℕ) (r : NotedValue) (text : List ℕ) → AreBytes text → value_in left r text → IsProperValue r.means
     value_in_proper zero r text all is = absurd is
-    value_in_proper (suc left) r text all is = value_proper (value_in left) (pair_in left) (value_in_proper left) (pair_in_proper left) r text all is
+    value_in_proper (suc left) r text all is = value_proper (value_in left) (key_value_in left) (value_in_proper left) (key_value_in_proper left) r text all is
 
-    pair_in_proper : (left : ℕ) (p : Pair) (text : List ℕ) → AreBytes text → pair_in left p text → IsProperPair (entry p)
-    pair_in_proper zero p text all is = absurd is
-    pair_in_proper (suc left) p text all is = pair_proper (value_in left) (pair_in left) (value_in_proper left) (pair_in_proper left) p text all is
+    key_value_in_proper : (left : ℕ) (p : KeyValue) (text : List ℕ) → AreBytes text → key_value_in left p text → IsProperPair (entry p)
+    key_value_in_proper zero p text all is = absurd is
+    key_value_in_proper (suc left) p text all is = key_value_proper (value_in left) (key_value_in left) (value_in_proper left) (key_value_in_proper left) p text all is
 
-  attribute_proper : (p : Pair) (text : List ℕ) → AreBytes text → pair_at 15 p text → IsProperPair (entry p)
-  attribute_proper p text all is = pair_proper (value_in 15) (pair_in 15) (value_in_proper 15) (pair_in_proper 15) p text all is
+  attribute_proper : (p : KeyValue) (text : List ℕ) → AreBytes text → attribute_at p text → IsProperPair (entry p)
+  attribute_proper p text all is = key_value_proper (value_in levels_below) (key_value_in levels_below) (value_in_proper levels_below) (key_value_in_proper levels_below) p text all is
 
   pub attributes_proper : (texts : List (List ℕ)) (attributes : List (List ℕ × Value)) → AllByRecursion AreBytes texts → AttributesOf texts attributes → AreProper attributes
   attributes_proper texts attributes all is = kept_all IsProperPair attributes (map entry is.pairs) is.kept
-      (each_has (λ p held. pair_at 15 p held) entry AreBytes IsProperPair (λ p held b h. attribute_proper p held b h) texts is.pairs all is.each)
+      (each_in_range (λ p held. attribute_at p held) entry AreBytes IsProperPair (λ p held b h. attribute_proper p held b h) texts is.pairs all is.each)

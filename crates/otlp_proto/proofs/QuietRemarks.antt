@@ -1,82 +1,70 @@
 -- Where nothing is noted there are no remarks.
-use Rattle.std.proofs.Common.{◌≡◌, ℕ, suc, ◌+◌, Bool, false, List, [], ◌∷◌, ◌++◌, length, map, refl, ap, ◌∙◌}
-use Rattle.std.specs.Prelude.{Option, Some}
+use Rattle.std.proofs.Common.{◌≡◌, ℕ, suc, ◌+◌, false, List, [], ◌∷◌, ◌++◌, length, map, refl, ap, ◌∙◌}
+use Rattle.std.specs.Prelude.{Option, Some, is_none}
+use Rattle.std.specs.List.{list_any}
 use Rattle.std.proofs.lemmas.List.Concat.{flat_map-cons}
 use Rattle.trace_model.specs.declared.place.Place.TheVariants as places
 use Rattle.trace_model.specs.declared.remark.Remark.{Remark}
-use Rattle.trace_model.specs.declared.span.Event.{Event}
 use Rattle.trace_model.specs.declared.span.Link.{Link}
 use Rattle.trace_model.specs.declared.span.Span.{Span}
 use Rattle.trace_model.specs.declared.trace.Scope.{Scope}
-use Rattle.otlp_proto.specs.declared.noted.NotedEvent.{NotedEvent}
-use Rattle.otlp_proto.specs.declared.noted.NotedLink.{NotedLink}
-use Rattle.otlp_proto.specs.declared.noted.NotedSpan.{NotedSpan}
-use Rattle.otlp_proto.specs.declared.noted.NotedScope.{NotedScope}
-use Rattle.otlp_proto.specs.Remarks.{numbered, event_remarks, link_remarks, kept_link, kept_links, any_dropped, link_dropped, span_remarks, behind, scope_remarks, scopes_remarks, group_remarks}
+use Rattle.otlp_proto.specs.Notes.{Keys, Noted, SpanNotes, ScopeNotes}
+use Rattle.otlp_proto.specs.Remarks.{equal_keys, numbered, link_remarks, span_remarks, scopes_remarks}
+use Rattle.otlp_proto.specs.Span.{kept_link, kept_links}
 
-abbrev pub quiet_event : Event → NotedEvent
-quiet_event event = record { event = event; noted = [] }
+-- what is written has nothing noted
+abbrev pub quiet : {A : Type 0} → A → Noted A Keys
+quiet x = record { means = x; notes = [] }
 
-abbrev pub noted_link : Link → NotedLink
-noted_link link = record { link = link; noted = [] }
+abbrev pub quiet_link : Link → Option (Noted Link Keys)
+quiet_link link = Some (quiet link)
 
-abbrev pub quiet_link : Link → Option NotedLink
-quiet_link link = Some (noted_link link)
+abbrev pub quiet_notes : Span → SpanNotes
+quiet_notes span = record { keys = []; dropped = false; events = map (λ e. []) span.events; links = map (λ l. []) span.links }
 
-abbrev pub quiet_span : Span → NotedSpan
-quiet_span span = record { span = span; remarks = [] }
+abbrev pub quiet_span : Span → Noted Span SpanNotes
+quiet_span span = record { means = span; notes = quiet_notes span }
 
-abbrev pub quiet_scope : Scope → NotedScope
-quiet_scope scope = record { scope = scope; remarks = [] }
+abbrev pub quiet_scope : Scope → Noted Scope ScopeNotes
+quiet_scope scope = record { means = scope; notes = record { keys = []; spans = map quiet_notes scope.spans } }
 
-none_numbered : {A B : Type 0} (remarks : ℕ → A → List Remark) (quiet : B → A) → ((n : ℕ) (x : B) → remarks n (quiet x) ≡ []) → (n : ℕ) (xs : List B) → numbered remarks n (map quiet xs) ≡ []
+none_numbered : {A B : Type 0} (remarks : ℕ → A → List Remark) (of : B → A) → ((n : ℕ) (x : B) → remarks n (of x) ≡ []) → (n : ℕ) (xs : List B) → numbered remarks n (map of xs) ≡ []
 unfolding numbered
-none_numbered remarks quiet none n [] = refl
-none_numbered remarks quiet none n (x ∷ xs) = ap (λ (l : List Remark). l ++ numbered remarks (suc n) (map quiet xs)) (none n x) ∙ none_numbered remarks quiet none (suc n) xs
+none_numbered remarks of none n [] = refl
+none_numbered remarks of none n (x ∷ xs) = ap (λ (l : List Remark). l ++ numbered remarks (suc n) (map of xs)) (none n x) ∙ none_numbered remarks of none (suc n) xs
 
-pub links_kept : (links : List Link) → kept_links (map quiet_link links) ≡ map noted_link links
-links_kept [] = refl
-links_kept (l ∷ links) = flat_map-cons kept_link (quiet_link l) (map quiet_link links) ∙ ap (λ (x : List NotedLink). noted_link l ∷ x) (links_kept links)
+quiet_in_span : (n : ℕ) (s : Span) → span_remarks n (quiet_notes s) ≡ []
+quiet_in_span n s =
+    ap (λ (l : List Remark). l ++ link_remarks n (map (λ l. []) s.links)) (none_numbered (λ k keys. equal_keys (places.Event n k) keys) (λ e. []) (λ k x. refl) 1 s.events)
+    ∙ none_numbered (λ k keys. equal_keys (places.Link n k) keys) (λ l. []) (λ k x. refl) 1 s.links
 
-none_dropped : (links : List Link) → any_dropped (map quiet_link links) ≡ false
-none_dropped [] = refl
-none_dropped (l ∷ links) = none_dropped links
-
-pub quiet_in_span : (events : List Event) (links : List Link) → span_remarks [] (map quiet_event events) (map quiet_link links) ≡ []
-quiet_in_span events links =
-    ap (λ (b : Bool). link_dropped (places.Span 1) b ++ (numbered event_remarks 1 (map quiet_event events) ++ numbered link_remarks 1 (kept_links (map quiet_link links)))) (none_dropped links)
-    ∙ ap (λ (l : List Remark). l ++ numbered link_remarks 1 (kept_links (map quiet_link links))) (none_numbered event_remarks quiet_event (λ n x. refl) 1 events)
-    ∙ ap (numbered link_remarks 1) (links_kept links)
-    ∙ none_numbered link_remarks noted_link (λ n x. refl) 1 links
-
-pub quiet_in_scope : (spans : List Span) → scope_remarks [] (map quiet_span spans) ≡ []
-quiet_in_scope spans = none_numbered (λ n span. map (behind 0 n) span.remarks) quiet_span (λ n x. refl) 0 spans
-
-quiet_scopes : (before spans : ℕ) (scopes : List Scope) → scopes_remarks before spans (map quiet_scope scopes) ≡ []
+pub quiet_scopes : (scope span : ℕ) (scopes : List Scope) → scopes_remarks scope span (map (λ s. (quiet_scope s).notes) scopes) ≡ []
 unfolding scopes_remarks
-quiet_scopes before spans [] = refl
-quiet_scopes before spans (s ∷ scopes) = quiet_scopes (suc before) (spans + length s.spans) scopes
-
-pub quiet_in_group : (scopes : List Scope) → group_remarks [] (map quiet_scope scopes) ≡ []
-quiet_in_group scopes = quiet_scopes 0 0 scopes
+quiet_scopes scope span [] = refl
+quiet_scopes scope span (s ∷ scopes) =
+    ap (λ (l : List Remark). l ++ scopes_remarks (suc scope) (span + length (map quiet_notes s.spans)) (map (λ s. (quiet_scope s).notes) scopes)) (none_numbered span_remarks quiet_notes quiet_in_span span s.spans)
+    ∙ quiet_scopes (suc scope) (span + length (map quiet_notes s.spans)) scopes
 
 -- ---- what was put into them
 
-pub events_back : (events : List Event) → map (λ (e : NotedEvent). e.event) (map quiet_event events) ≡ events
-events_back [] = refl
-events_back (e ∷ events) = ap (λ l. e ∷ l) (events_back events)
+pub mapped : {A B C : Type 0} (f : B → C) (g : A → B) (xs : List A) → map f (map g xs) ≡ map (λ x. f (g x)) xs
+mapped f g [] = refl
+mapped f g (x ∷ xs) = ap (λ l. f (g x) ∷ l) (mapped f g xs)
 
-links_back_from : (links : List Link) → map (λ (l : NotedLink). l.link) (map noted_link links) ≡ links
-links_back_from [] = refl
-links_back_from (l ∷ links) = ap (λ x. l ∷ x) (links_back_from links)
+pub all_back : {A B : Type 0} (f : B → A) (g : A → B) → ((x : A) → f (g x) ≡ x) → (xs : List A) → map f (map g xs) ≡ xs
+all_back f g back [] = refl
+all_back f g back (x ∷ xs) = ap (λ y. y ∷ map f (map g xs)) (back x) ∙ ap (λ l. x ∷ l) (all_back f g back xs)
 
-pub links_back : (links : List Link) → map (λ (l : NotedLink). l.link) (kept_links (map quiet_link links)) ≡ links
-links_back links = ap (map (λ (l : NotedLink). l.link)) (links_kept links) ∙ links_back_from links
+links_kept : (links : List Link) → kept_links (map quiet_link links) ≡ map quiet links
+links_kept [] = refl
+links_kept (l ∷ links) = flat_map-cons kept_link (quiet_link l) (map quiet_link links) ∙ ap (λ (x : List (Noted Link Keys)). quiet l ∷ x) (links_kept links)
 
-pub spans_back : (spans : List Span) → map (λ (s : NotedSpan). s.span) (map quiet_span spans) ≡ spans
-spans_back [] = refl
-spans_back (s ∷ spans) = ap (λ l. s ∷ l) (spans_back spans)
+pub none_dropped : (links : List Link) → list_any (λ (l : Option (Noted Link Keys)). is_none l) (map quiet_link links) ≡ false
+none_dropped [] = refl
+none_dropped (l ∷ links) = none_dropped links
 
-pub scopes_back : (scopes : List Scope) → map (λ (s : NotedScope). s.scope) (map quiet_scope scopes) ≡ scopes
-scopes_back [] = refl
-scopes_back (s ∷ scopes) = ap (λ l. s ∷ l) (scopes_back scopes)
+pub links_back : (links : List Link) → map (λ (l : Noted Link Keys). l.means) (kept_links (map quiet_link links)) ≡ links
+links_back links = ap (map (λ (l : Noted Link Keys). l.means)) (links_kept links) ∙ all_back (λ (l : Noted Link Keys). l.means) quiet (λ l. refl) links
+
+pub links_noted : (links : List Link) → map (λ (l : Noted Link Keys). l.notes) (kept_links (map quiet_link links)) ≡ map (λ l. []) links
+links_noted links = ap (map (λ (l : Noted Link Keys). l.notes)) (links_kept links) ∙ mapped (λ (l : Noted Link Keys). l.notes) quiet links

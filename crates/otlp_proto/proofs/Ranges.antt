@@ -147,7 +147,7 @@ wire_in_range (r ∷ records) text all h =
 
 -- ---- rows
 
-both : {A : Type 0} (P : A → Type 0) (xs ys : List A) → AllByRecursion P xs → AllByRecursion P ys → AllByRecursion P (xs ++ ys)
+pub both : {A : Type 0} (P : A → Type 0) (xs ys : List A) → AllByRecursion P xs → AllByRecursion P ys → AllByRecursion P (xs ++ ys)
 both P [] ys h g = g
 both P (x ∷ xs) ys h g = (h.0, both P xs ys h.1 g)
 

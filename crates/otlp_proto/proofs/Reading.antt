@@ -1,9 +1,13 @@
 -- A walk over the records of a message that gathers its rows.
-use Rattle.std.proofs.Common.{◌≡◌, ℕ, List, [], ◌∷◌, ◌++◌, Result, Ok, Err, sym, subst}
+use Rattle.std.proofs.Common.{◌≡◌, ℕ, List, [], ◌∷◌, ◌++◌, Result, Ok, Err, sym, ap, subst, ◌∙◌}
+use Rattle.std.proofs.lemmas.Result.{err_from_is_err_and}
+use Rattle.std.specs.Result.{IsErrAnd}
 use Rattle.span_io.specs.declared.cause.Cause.{Cause}
 use Rattle.span_io.specs.declared.halt.Halt.{Halt}
 use Rattle.span_io.specs.declared.halt.Halt.TheVariants as halts
-use Rattle.span_io.specs.Offences.{Rules, Cut, Offence, Least, ItemOffends, Judges, JudgesHere, OnHalt}
+use Rattle.span_io.specs.Offences.{Rules, Cut, Offence, Least, ItemOffends, HereOrInside, Judges, JudgesHere, OnHalt}
+use Rattle.span_io.specs.Tables.{Row, table_here, table_inside}
+use Rattle.otlp_proto.specs.RowsSoFar.{JudgesCause}
 use Rattle.span_io.specs.OffenceLaws.{FormatLaws, RulesLaws, Walked, walked_start, walked_step, least_unread, least_end, none_at_end, judged_item, judged_here, judged_inside, none_in_item}
 use Rattle.proto_wire.specs.Messages.{messages, NoRecord}
 use Rattle.proto_wire.specs.Records.{Record}
@@ -16,19 +20,28 @@ pub record Seen (K : Rules Record) (Gathered : List Record → Type 0) (whole re
   pub walked : Walked messages K whole seen rest
   pub gathered : Gathered seen
 
--- what was answered of a record
-pub judged_record : (K : Rules Record) (T : Type 0) (seen : List Record) (r s : Record) → r ≡ s → ((p m : ℕ) → K.inside s p m → ⊥) → (answer : Result T (Halt Cause)) → JudgesHere answer (K.here seen s)
-    → Judges answer (ItemOffends Record K seen r)
-judged_record K T seen r s e fine answer h = subst (λ (x : Record). Judges answer (ItemOffends Record K seen x)) (sym e) (judged_here (K.here seen s) (K.inside s) T fine answer h)
+-- what was answered of a record by its row, in which no message stands
+pub judged_at : (table : List (Row Record)) (seen : List Record) (r s : Record) → r ≡ s → ((p m : ℕ) → table_inside table s p m → ⊥) → (answer : Result Unit (Halt Cause)) → JudgesHere answer (λ n. table_here table seen s n)
+    → Judges answer (HereOrInside (table_here table seen r) (table_inside table r))
+judged_at table seen r s e fine answer h =
+    subst (λ (x : Record). Judges answer (HereOrInside (table_here table seen x) (table_inside table x))) (sym e) (judged_here (λ n. table_here table seen s n) (λ p n. table_inside table s p n) Unit fine answer h)
 
--- the same of the message inside it
-pub judged_record_inside : (K : Rules Record) (T : Type 0) (seen : List Record) (r s : Record) → r ≡ s → ((m : ℕ) → K.here seen s m → ⊥) → (answer : Result T (Halt Cause)) → Judges answer (K.inside s)
-    → Judges answer (ItemOffends Record K seen r)
-judged_record_inside K T seen r s e fine answer h = subst (λ (x : Record). Judges answer (ItemOffends Record K seen x)) (sym e) (of answer h)
+-- the same of a row that needs no memory
+pub refused_at : (table : List (Row Record)) (seen : List Record) (r s : Record) → r ≡ s → ((p m : ℕ) → table_inside table s p m → ⊥) → (cause : Cause) → JudgesCause {T = Unit} (Err cause) (λ n. table_here table seen s n)
+    → (answer : Result Unit (Halt Cause)) → IsErrAnd answer (λ halt. halt ≡ halts.Why cause) → Judges answer (HereOrInside (table_here table seen r) (table_inside table r))
+refused_at table seen r s e fine cause h answer is =
+    let p = err_from_is_err_and answer is in
+    subst (λ (a : Result Unit (Halt Cause)). Judges a (HereOrInside (table_here table seen r) (table_inside table r))) (sym (p.1 ∙ ap Err p.2)) (judged_at table seen r s e fine (Err (halts.Why cause)) h)
+
+-- what was answered of the message inside a record that doesn't offend by itself
+pub judged_inside_at : (table : List (Row Record)) (seen : List Record) (r s : Record) → r ≡ s → ((m : ℕ) → table_here table seen s m → ⊥) → (answer : Result Unit (Halt Cause)) → Judges answer (λ p n. table_inside table s p n)
+    → Judges answer (HereOrInside (table_here table seen r) (table_inside table r))
+judged_inside_at table seen r s e fine answer h =
+    subst (λ (x : Record). Judges answer (HereOrInside (table_here table seen x) (table_inside table x))) (sym e) (of answer h)
   where
-    of : (answer : Result T (Halt Cause)) → Judges answer (K.inside s) → Judges answer (ItemOffends Record K seen s)
-    of (Ok x) none = none_in_item (K.here seen s) (K.inside s) fine none
-    of (Err halt) h = judged_inside (K.here seen s) (K.inside s) T T halt fine h
+    of : (answer : Result Unit (Halt Cause)) → Judges answer (λ p n. table_inside table s p n) → Judges answer (HereOrInside (table_here table seen s) (table_inside table s))
+    of (Ok x) none = none_in_item (λ n. table_here table seen s n) (λ p n. table_inside table s p n) fine none
+    of (Err halt) h = judged_inside (λ n. table_here table seen s n) (λ p n. table_inside table s p n) Unit Unit halt fine h
 
 module _ (L : FormatLaws messages) (K : Rules Record) where
   pub seen_start : (Gathered : List Record → Type 0) (whole : List ℕ) → Gathered [] → Seen K Gathered whole whole

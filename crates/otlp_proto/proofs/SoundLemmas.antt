@@ -6,11 +6,10 @@ use Rattle.trace_model.specs.Attributes.{Rise, keys, IsLast, AreAttributes}
 use Rattle.trace_model.specs.Values.{depth, MapsRise, IsSound, AreSound}
 use Rattle.trace_model.specs.declared.value.Value.{Value}
 use Rattle.trace_model.specs.declared.value.Value.TheVariants as values
-use Rattle.otlp_proto.specs.declared.noted.NotedValue.{NotedValue}
-use Rattle.otlp_proto.specs.declared.noted.Pair.{Pair}
 use Rattle.otlp_proto.specs.Attributes.{AttributesOf}
-use Rattle.otlp_proto.specs.Rows.{bytes_of, Singular}
-use Rattle.otlp_proto.specs.Values.{Member, string_value, bool_value, int_value, double_value, array_value, kvlist_value, bytes_value, members_of, leaf, entry, Each, IsListText, IsMapText, MeansMember, IsValueText, IsPairText, value_in, pair_in, pair_at}
+use Rattle.span_io.specs.Tables.{Singular, Each}
+use Rattle.otlp_proto.specs.Rows.{bytes_of}
+use Rattle.otlp_proto.specs.Values.{Member, string_value, bool_value, int_value, double_value, array_value, kvlist_value, bytes_value, members_of, NotedValue, KeyValue, leaf, entry, IsListText, IsMapText, MeansMember, IsValueText, IsKeyValueText, value_in, key_value_in, key_value_at}
 
 pub record Sound (d : ℕ) (v : Value) : Type 0 where
   pub shallow : depth v ≤ d
@@ -36,29 +35,29 @@ module _ (list_depth : (d : ℕ) (members : List Value) → (depth (values.List 
     (map_depth : (d : ℕ) (pairs : List (List ℕ × Value)) → (depth (values.Map pairs) ≤ d + 1) ↔ All (λ pair. depth pair.1 ≤ d) pairs)
     (list_rises : (members : List Value) → MapsRise (values.List members) ↔ All MapsRise members)
     (map_rises : (pairs : List (List ℕ × Value)) → MapsRise (values.Map pairs) ↔ (Rise (keys pairs) × All (λ pair. MapsRise pair.1) pairs)) where
-  module _ (d : ℕ) (IsValue : NotedValue → List ℕ → Type 0) (IsPair : Pair → List ℕ → Type 0)
-      (values_sound : (r : NotedValue) (text : List ℕ) → IsValue r text → Sound d r.value) (pairs_sound : (p : Pair) (text : List ℕ) → IsPair p text → Sound d p.reading.value) where
-    list_sound : (r : NotedValue) (text : List ℕ) → IsListText IsValue r text → Sound (d + 1) r.value
+  module _ (d : ℕ) (IsValue : NotedValue → List ℕ → Type 0) (IsKeyValue : KeyValue → List ℕ → Type 0)
+      (values_sound : (r : NotedValue) (text : List ℕ) → IsValue r text → Sound d r.means) (pairs_sound : (p : KeyValue) (text : List ℕ) → IsKeyValue p text → Sound d p.value.means) where
+    list_sound : (r : NotedValue) (text : List ℕ) → IsListText IsValue r text → Sound (d + 1) r.means
     list_sound r text is = subst (Sound (d + 1)) (sym is.value) (record {
-      shallow = (list_depth d (map (λ m. m.value) is.members)).1 (each_all IsValue (λ m. m.value) (λ v. depth v ≤ d) (λ x a h. (values_sound x a h).shallow) (bytes_of 1 is.records) is.members is.each);
-      rising = (list_rises (map (λ m. m.value) is.members)).1 (each_all IsValue (λ m. m.value) MapsRise (λ x a h. (values_sound x a h).rising) (bytes_of 1 is.records) is.members is.each);
+      shallow = (list_depth d (map (λ m. m.means) is.members)).1 (each_all IsValue (λ m. m.means) (λ v. depth v ≤ d) (λ x a h. (values_sound x a h).shallow) (bytes_of 1 is.records) is.members is.each);
+      rising = (list_rises (map (λ m. m.means) is.members)).1 (each_all IsValue (λ m. m.means) MapsRise (λ x a h. (values_sound x a h).rising) (bytes_of 1 is.records) is.members is.each);
     })
 
-    map_sound : (r : NotedValue) (text : List ℕ) → IsMapText IsPair r text → Sound (d + 1) r.value
+    map_sound : (r : NotedValue) (text : List ℕ) → IsMapText IsKeyValue r text → Sound (d + 1) r.means
     map_sound r text is = subst (Sound (d + 1)) (sym is.value) (record {
       shallow = (map_depth d is.attributes).1 (kept_all (λ pair. depth pair.1 ≤ d) is.attributes (map entry is.pairs) is.kept
-          (each_all IsPair entry (λ pair. depth pair.1 ≤ d) (λ x a h. (pairs_sound x a h).shallow) (bytes_of 1 is.records) is.pairs is.each));
+          (each_all IsKeyValue entry (λ pair. depth pair.1 ≤ d) (λ x a h. (pairs_sound x a h).shallow) (bytes_of 1 is.records) is.pairs is.each));
       rising = (map_rises is.attributes).1 (
         is.kept.rising,
         kept_all (λ pair. MapsRise pair.1) is.attributes (map entry is.pairs) is.kept
-            (each_all IsPair entry (λ pair. MapsRise pair.1) (λ x a h. (pairs_sound x a h).rising) (bytes_of 1 is.records) is.pairs is.each),
+            (each_all IsKeyValue entry (λ pair. MapsRise pair.1) (λ x a h. (pairs_sound x a h).rising) (bytes_of 1 is.records) is.pairs is.each),
       );
     })
 
-    leaf_sound : (r : NotedValue) (v : Value) → depth v ≡ 1 → MapsRise v → r ≡ leaf v → Sound (d + 1) r.value
-    leaf_sound r v one rises e = subst (λ (x : NotedValue). Sound (d + 1) x.value) (sym e) (record { shallow = omega (arith, one); rising = rises })
+    leaf_sound : (r : NotedValue) (v : Value) → depth v ≡ 1 → MapsRise v → r ≡ leaf v → Sound (d + 1) r.means
+    leaf_sound r v one rises e = subst (λ (x : NotedValue). Sound (d + 1) x.means) (sym e) (record { shallow = omega (arith, one); rising = rises })
 
-    member_sound : (m : Member) (r : NotedValue) → MeansMember IsValue IsPair m r → Sound (d + 1) r.value
+    member_sound : (m : Member) (r : NotedValue) → MeansMember IsValue IsKeyValue m r → Sound (d + 1) r.means
     member_sound (string_value held) r h = leaf_sound r (values.Text held) refl tt h.1
     member_sound (bool_value n) r h = leaf_sound r (values.Truth h.0) refl tt h.1
     member_sound (int_value n) r h = leaf_sound r (values.Number _) refl tt h
@@ -67,40 +66,40 @@ module _ (list_depth : (d : ℕ) (members : List Value) → (depth (values.List 
     member_sound (kvlist_value held) r h = map_sound r held h
     member_sound (bytes_value held) r h = leaf_sound r (values.Bytes held) refl tt h
 
-    value_sound : (r : NotedValue) (text : List ℕ) → IsValueText IsValue IsPair r text → Sound (d + 1) r.value
+    value_sound : (r : NotedValue) (text : List ℕ) → IsValueText IsValue IsKeyValue r text → Sound (d + 1) r.means
     value_sound r text is = of (members_of is.records) is.value
       where
-        of : (ms : List Member) → Singular (MeansMember IsValue IsPair) (λ x. x ≡ leaf values.Nothing) ms r → Sound (d + 1) r.value
+        of : (ms : List Member) → Singular (MeansMember IsValue IsKeyValue) (λ x. x ≡ leaf values.Nothing) ms r → Sound (d + 1) r.means
         of [] h = leaf_sound r values.Nothing refl tt h
         of (m ∷ []) h = member_sound m r h
         of (m ∷ other ∷ more) h = absurd h
 
-    pair_sound : (p : Pair) (text : List ℕ) → IsPairText (λ r held. IsValueText IsValue IsPair r held) p text → Sound (d + 1) p.reading.value
+    pair_sound : (p : KeyValue) (text : List ℕ) → IsKeyValueText (λ r held. IsValueText IsValue IsKeyValue r held) p text → Sound (d + 1) p.value.means
     pair_sound p text is = of (bytes_of 2 is.records) is.value
       where
-        of : (texts : List (List ℕ)) → Singular (λ held r. IsValueText IsValue IsPair r held) (λ r. r ≡ leaf values.Nothing) texts p.reading → Sound (d + 1) p.reading.value
-        of [] h = leaf_sound p.reading values.Nothing refl tt h
-        of (held ∷ []) h = value_sound p.reading held h
+        of : (texts : List (List ℕ)) → Singular (λ held r. IsValueText IsValue IsKeyValue r held) (λ r. r ≡ leaf values.Nothing) texts p.value → Sound (d + 1) p.value.means
+        of [] h = leaf_sound p.value values.Nothing refl tt h
+        of (held ∷ []) h = value_sound p.value held h
         of (held ∷ other ∷ more) h = absurd h
 
   mutual
-    unfolding value_in pair_in
+    unfolding value_in key_value_in
 
-    value_in_sound : (left : ℕ) (r : NotedValue) (text : List ℕ) → value_in left r text → Sound left r.value
+    value_in_sound : (left : ℕ) (r : NotedValue) (text : List ℕ) → value_in left r text → Sound left r.means
     value_in_sound zero r text is = absurd is
     value_in_sound (suc left) r text is =
-        let so = value_sound left (value_in left) (pair_in left) (value_in_sound left) (pair_in_sound left) r text is in record { shallow = omega (arith, so.shallow); rising = so.rising }
+        let so = value_sound left (value_in left) (key_value_in left) (value_in_sound left) (key_value_in_sound left) r text is in record { shallow = omega (arith, so.shallow); rising = so.rising }
 
-    pair_in_sound : (left : ℕ) (p : Pair) (text : List ℕ) → pair_in left p text → Sound left p.reading.value
-    pair_in_sound zero p text is = absurd is
-    pair_in_sound (suc left) p text is =
-        let so = pair_sound left (value_in left) (pair_in left) (value_in_sound left) (pair_in_sound left) p text is in record { shallow = omega (arith, so.shallow); rising = so.rising }
+    key_value_in_sound : (left : ℕ) (p : KeyValue) (text : List ℕ) → key_value_in left p text → Sound left p.value.means
+    key_value_in_sound zero p text is = absurd is
+    key_value_in_sound (suc left) p text is =
+        let so = pair_sound left (value_in left) (key_value_in left) (value_in_sound left) (key_value_in_sound left) p text is in record { shallow = omega (arith, so.shallow); rising = so.rising }
 
-  pub attributes_sound : (texts : List (List ℕ)) (pairs : List Pair) → Each (λ p held. pair_at 15 p held) texts pairs → All (λ pair. IsSound pair.1) (map entry pairs)
-  attributes_sound texts pairs each = each_all (λ p held. pair_at 15 p held) entry (λ pair. IsSound pair.1) sound texts pairs each
+  pub attributes_sound : (texts : List (List ℕ)) (pairs : List KeyValue) → Each (λ p held. key_value_at 15 p held) texts pairs → All (λ pair. IsSound pair.1) (map entry pairs)
+  attributes_sound texts pairs each = each_all (λ p held. key_value_at 15 p held) entry (λ pair. IsSound pair.1) sound texts pairs each
     where
-      sound : (p : Pair) (held : List ℕ) → pair_at 15 p held → IsSound p.reading.value
-      sound p held is = let so = pair_sound 15 (value_in 15) (pair_in 15) (value_in_sound 15) (pair_in_sound 15) p held is in record { shallow = so.shallow; rising = so.rising }
+      sound : (p : KeyValue) (held : List ℕ) → key_value_at 15 p held → IsSound p.value.means
+      sound p held is = let so = pair_sound 15 (value_in 15) (key_value_in 15) (value_in_sound 15) (key_value_in_sound 15) p held is in record { shallow = so.shallow; rising = so.rising }
 
   pub attributes_of_sound : (texts : List (List ℕ)) (attributes : List (List ℕ × Value)) → AttributesOf texts attributes → AreSound attributes
   attributes_of_sound texts attributes is = record {

@@ -1,41 +1,39 @@
 -- Attributes of a message, by the bytes of its `KeyValue` records. The value of an attribute stands at level 1 of 16.
-use Rattle.std.specs.Prelude.{◌≡◌, ◌↔◌, ◌⊎◌, ℕ, List, [], map, Contains, Option, Some, None}
-use Rattle.std.specs.List.{flat_map}
-use Rattle.span_io.specs.Offences.{Rules}
+use Rattle.std.specs.Prelude.{◌↔◌, ◌⊎◌, ℕ, List, map, Contains}
+use Rattle.span_io.specs.Offences.{Rules, Offence}
+use Rattle.span_io.specs.Tables.{Row, Each}
+use Rattle.proto_wire.specs.Messages.{messages}
 use Rattle.proto_wire.specs.Records.{Record}
 use Rattle.trace_model.specs.Attributes.{AreAttributes, Rise, StandsTwice}
 use Rattle.trace_model.specs.declared.value.Value.{Value}
-use Rattle.otlp_proto.specs.declared.attributes.AttributeRows.{AttributeRows}
-use Rattle.otlp_proto.specs.declared.noted.Pair.{Pair}
-use Rattle.otlp_proto.specs.Values.{Each, entry, pair_at, pair_rules}
+use Rattle.otlp_proto.specs.Notes.{Keys, Noted}
+use Rattle.otlp_proto.specs.Rows.{bytes_row}
+use Rattle.otlp_proto.specs.Values.{KeyValue, entry, keys_inside, key_value_at, key_value_rules}
 
-abbrev pub attribute_at : Pair → List ℕ → Type 0
-attribute_at p held = pair_at 15 p held
+-- how many levels are left below the value of an attribute
+abbrev pub levels_below : ℕ
+levels_below = 15
+
+abbrev pub attribute_at : KeyValue → List ℕ → Type 0
+attribute_at p held = key_value_at levels_below p held
 
 abbrev pub attribute_rules : Rules Record
-attribute_rules = pair_rules 15
+attribute_rules = key_value_rules levels_below
 
 -- the last value of each key, in the order of the keys
 pub record AttributesOf (texts : List (List ℕ)) (attributes : List (List ℕ × Value)) : Type 0 where
-  pub pairs : List Pair
+  pub pairs : List KeyValue
   pub each : Each attribute_at texts pairs
   pub kept : AreAttributes attributes (map entry pairs)
 
 -- the keys that stand more than once among them or in a map inside a value of them, in their order
-pub record NotedIn (texts : List (List ℕ)) (keys : List (List ℕ)) : Type 0 where
-  pub pairs : List Pair
+pub record NotedIn (texts : List (List ℕ)) (keys : Keys) : Type 0 where
+  pub pairs : List KeyValue
   pub each : Each attribute_at texts pairs
   pub rising : Rise keys
-  pub noted : (key : List ℕ) → Contains keys key ↔ (StandsTwice key (map entry pairs) ⊎ Contains (flat_map (λ p. p.reading.noted) pairs) key)
+  pub noted : (key : List ℕ) → Contains keys key ↔ (StandsTwice key (map entry pairs) ⊎ Contains (keys_inside pairs) key)
 
--- what was gathered of these records
-pub record GatheredAttributes (texts : List (List ℕ)) (rows : AttributeRows) : Type 0 where
-  pub members : List Pair
-  pub each : Each attribute_at texts members
-  pub pairs : rows.pairs ≡ map entry members
-  pub noted : rows.noted ≡ flat_map (λ p. p.reading.noted) members
-
--- the same where nothing stands for none
-abbrev pub GatheredAny : List (List ℕ) → Option AttributeRows → Type 0
-GatheredAny texts None = texts ≡ []
-GatheredAny texts (Some rows) = GatheredAttributes texts rows
+-- repeated `KeyValue`s
+abbrev pub attributes : ℕ → Row Record
+attributes number = bytes_row number (Noted (List (List ℕ × Value)) Keys) (λ held a. AttributesOf held a.means × NotedIn held a.notes) (λ earlier held n. ⊥)
+    (λ held place n. Offence messages attribute_rules held place n)

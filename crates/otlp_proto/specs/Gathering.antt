@@ -1,21 +1,23 @@
--- What the walk over a message gives: all its records are gathered, and only its end may still offend.
-use Rattle.std.specs.Prelude.{ℕ, ◌≤◌, List}
-use Rattle.span_io.specs.Offences.{Rules, Offence, Least}
+-- What the walk over a message does with one record more, and what it gives at the end.
+use Rattle.std.specs.Prelude.{ℕ, ◌≤◌, List, [], ◌∷◌, ◌++◌, Result}
+use Rattle.span_io.specs.declared.cause.Cause.{Cause}
+use Rattle.span_io.specs.declared.halt.Halt.{Halt}
+use Rattle.span_io.specs.Offences.{Rules, Offence, Least, HereOrInside, Judges}
+use Rattle.span_io.specs.Tables.{Row, table_here, table_inside}
 use Rattle.proto_wire.specs.Messages.{messages}
 use Rattle.proto_wire.specs.Records.{Record}
 use Rattle.proto_wire.specs.Wire.{Wire}
 
-abbrev pub rules_of : (List Record → Record → ℕ → Type 0) → (Record → ℕ → ℕ → Type 0) → (List Record → ℕ → Type 0) → Rules Record
-rules_of Here Inside Ends = record { here = λ seen r number. Here seen r number; inside = λ r place number. Inside r place number; ends = λ seen number. Ends seen number }
+-- the record is added, whatever records were gathered before it from the first rows on
+abbrev pub AddsRecord : {R : Type 0} → (R → R → List Record → Type 0) → Record → R → R → Type 0
+AddsRecord {R} Gathered this old new = (first : R) (seen : List Record) → Gathered first old seen → Gathered first new (seen ++ this ∷ [])
 
--- for a message that doesn't offend at its end
-abbrev pub no_ends : List Record → ℕ → Type 0
-no_ends seen number = ⊥
+-- what is answered of it: how it offends by its table, by itself or in the message that it holds
+abbrev pub JudgesRecord : {R T : Type 0} → (R → R → List Record → Type 0) → List (Row Record) → Record → R → Result T (Halt Cause) → Type 0
+JudgesRecord {R} Gathered table this old result =
+    (first : R) (seen : List Record) → Gathered first old seen → Judges result (HereOrInside (table_here table seen this) (table_inside table this))
 
--- for a message that has no message inside
-abbrev pub no_inside : Record → ℕ → ℕ → Type 0
-no_inside r place number = ⊥
-
+-- all its records are gathered, and only its end may still offend
 pub record GatheredAll (K : Rules Record) (Gathered : List Record → Type 0) (text : List ℕ) : Type 0 where
   pub records : List Record
   pub wire : Wire records text

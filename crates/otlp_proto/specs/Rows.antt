@@ -1,7 +1,10 @@
--- The rows of a message's table: which of its records belong to a row, what value they give to it, and how they offend.
-use Rattle.std.specs.Prelude.{◌≡◌, ◌≢◌, ℕ, ◌%◌, ◌^◌, ◌<◌, ◌==◌, if◌then◌else◌, Bool, true, false, List, [], ◌∷◌, Option, Some, None, IsUtf8}
+-- Rows of the tables of OTLP's messages: which records belong to a row, by the number of its field and its wire type, what value they
+-- give to it, and how they offend.
+use Rattle.std.specs.Prelude.{◌≡◌, ℕ, ◌%◌, ◌^◌, ◌<◌, ◌⊎◌, ◌==◌, if◌then◌else◌, List, [], ◌∷◌, Option, None, IsUtf8}
 use Rattle.std.specs.List.{flat_map}
+use Rattle.span_io.specs.Tables.{Row, Singular, Each, Twice, NotText}
 use Rattle.proto_wire.specs.Records.{Held, varint, fixed64, bytes, fixed32, Record}
+use Rattle.otlp_proto.specs.Identifiers.{MeansTraceId, MeansSpanId, WrongLength}
 
 -- what a record holds, if it is of this number and of wire type 2
 abbrev pub bytes_in : ℕ → Record → List (List ℕ)
@@ -56,13 +59,7 @@ fixed64s_of number records = flat_map (fixed64_in number) records
 abbrev pub fixed32s_of : ℕ → List Record → List ℕ
 fixed32s_of number records = flat_map (fixed32_in number) records
 
--- ---- values
-
--- a singular row has at most one record, and without one the value that is its default
-abbrev pub Singular : {A B : Type 0} → (A → B → Type 0) → (B → Type 0) → List A → B → Type 0
-Singular Means IsDefault [] value = IsDefault value
-Singular Means IsDefault (held ∷ []) value = Means held value
-Singular Means IsDefault (held ∷ other ∷ more) value = ⊥
+-- ---- what one record of a row means
 
 abbrev pub MeansText : List ℕ → List ℕ → Type 0
 MeansText held text = IsUtf8 held × (text ≡ held)
@@ -75,30 +72,70 @@ MeansNumber n number = number ≡ n
 abbrev pub MeansCount : ℕ → ℕ → Type 0
 MeansCount n count = count ≡ n % 2 ^ 32
 
--- ---- offences
-
-abbrev pub Choice : Bool → Type 0 → Type 0 → Type 0
-Choice true Then Else = Then
-Choice false Then Else = Else
-
--- FieldTwice: a singular row has an earlier record
-abbrev pub Twice : {A : Type 0} → List A → ℕ → Type 0
-Twice earlier number = (number ≡ 7) × (earlier ≢ [])
-
--- NotText: the bytes are no text
-abbrev pub NotText : List ℕ → ℕ → Type 0
-NotText held number = (number ≡ 9) × ¬ IsUtf8 held
-
 -- BadEnum: the value is above the last of the enum
 abbrev pub Above : ℕ → ℕ → ℕ → Type 0
 Above last n number = (number ≡ 13) × (last < n)
 
--- ---- for a reader that gathers rows
+-- ---- rows by wire type
 
--- no record of the row was seen, or one that means this value
-abbrev pub Gave : {A B : Type 0} → (A → B → Type 0) → List A → Option B → Type 0
-Gave Means [] None = Unit {0}
-Gave Means [] (Some value) = ⊥
-Gave Means (held ∷ []) None = ⊥
-Gave Means (held ∷ []) (Some value) = Means held value
-Gave Means (held ∷ other ∷ more) row = ⊥
+abbrev pub bytes_row : ℕ → (B : Type 0) → (List (List ℕ) → B → Type 0) → (List (List ℕ) → List ℕ → ℕ → Type 0) → (List ℕ → ℕ → ℕ → Type 0) → Row Record
+bytes_row number B Means Here Inside = record {
+  Given = List ℕ;
+  given = λ r. bytes_in number r;
+  Value = B;
+  Means = λ held value. Means held value;
+  here = λ earlier held n. Here earlier held n;
+  inside = λ held place n. Inside held place n;
+}
+
+-- of numbers, as `give` finds them
+abbrev pub number_row : (Record → List ℕ) → (B : Type 0) → (List ℕ → B → Type 0) → (List ℕ → ℕ → ℕ → Type 0) → Row Record
+number_row give B Means Here = record {
+  Given = ℕ;
+  given = λ r. give r;
+  Value = B;
+  Means = λ held value. Means held value;
+  here = λ earlier k n. Here earlier k n;
+  inside = λ k place n. ⊥;
+}
+
+abbrev pub nothing_inside : List ℕ → ℕ → ℕ → Type 0
+nothing_inside held place n = ⊥
+
+-- ---- the rows of the tables, each with the number of its field
+
+-- string
+abbrev pub text : ℕ → Row Record
+text number = bytes_row number (List ℕ) (λ held t. Singular MeansText (λ x. x ≡ []) held t) (λ earlier held n. Twice earlier n ⊎ NotText held n) nothing_inside
+
+-- fixed64, a time
+abbrev pub time : ℕ → Row Record
+time number = number_row (fixed64_in number) ℕ (λ held n. Singular MeansNumber (λ x. x ≡ 0) held n) (λ earlier k n. Twice earlier n)
+
+-- fixed32
+abbrev pub flags : ℕ → Row Record
+flags number = number_row (fixed32_in number) ℕ (λ held n. Singular MeansNumber (λ x. x ≡ 0) held n) (λ earlier k n. Twice earlier n)
+
+-- uint32
+abbrev pub count : ℕ → Row Record
+count number = number_row (varint_in number) ℕ (λ held n. Singular MeansCount (λ x. x ≡ 0) held n) (λ earlier k n. Twice earlier n)
+
+-- an enum of 0 to `last`, by the number of each of its values
+abbrev pub enum : ℕ → ℕ → (E : Type 0) → (E → ℕ) → E → Row Record
+enum number last E number_of default = number_row (varint_in number) E (λ held e. Singular (λ n x. n ≡ number_of x) (λ x. x ≡ default) held e) (λ earlier k n. Twice earlier n ⊎ Above last k n)
+
+-- bytes, the identifier of a trace
+abbrev pub trace_id : ℕ → Row Record
+trace_id number = bytes_row number (Option ℕ) (λ held id. Singular MeansTraceId (λ x. x ≡ None) held id) (λ earlier held n. Twice earlier n ⊎ WrongLength 16 held n) nothing_inside
+
+-- bytes, the identifier of a span
+abbrev pub span_id : ℕ → Row Record
+span_id number = bytes_row number (Option ℕ) (λ held id. Singular MeansSpanId (λ x. x ≡ None) held id) (λ earlier held n. Twice earlier n ⊎ WrongLength 8 held n) nothing_inside
+
+-- one message, with what its absence means
+abbrev pub message : ℕ → (B : Type 0) → (B → List ℕ → Type 0) → B → (List ℕ → ℕ → ℕ → Type 0) → Row Record
+message number B Is absent Offends = bytes_row number B (λ held x. Singular (λ h y. Is y h) (λ y. y ≡ absent) held x) (λ earlier held n. Twice earlier n) Offends
+
+-- repeated messages
+abbrev pub messages_of : ℕ → (B : Type 0) → (B → List ℕ → Type 0) → (List ℕ → ℕ → ℕ → Type 0) → Row Record
+messages_of number B Is Offends = bytes_row number (List B) (λ held xs. Each Is held xs) (λ earlier held n. ⊥) Offends

@@ -1,9 +1,10 @@
 -- The one canonical text of each message: fields by rising number, repeated ones in their order, each varint in its shortest
 -- spelling. A field is left out where it is its default, and a message inside where all of it is. An element of a list is always
 -- written, and so is the one member of a value.
-use Rattle.std.specs.Prelude.{ℕ, ◌==◌, if◌then◌else◌, Bool, List, [], ◌∷◌, ◌++◌, Option, Some, None}
+use Rattle.std.specs.Prelude.{ℕ, ◌==◌, min, if◌then◌else◌, Bool, List, [], ◌∷◌, ◌++◌, length, Option, Some, None}
 use Rattle.std.specs.List.{flat_map}
 use Rattle.std.specs.Int.{w64, w128, to_be_bytes, from_be_bytes, cast_unsigned}
+use Rattle.span_io.specs.Outside.{last_count}
 use Rattle.proto_wire.specs.Records.{varint, fixed64, bytes, fixed32}
 use Rattle.proto_wire.specs.Wire.{record_text}
 use Rattle.trace_model.specs.declared.span.Kind.{Kind}
@@ -45,6 +46,10 @@ flags_field number n = if n == 0 then [] else record_text (record { number = num
 unfoldable pub list_text : {A : Type 0} → ℕ → (A → List ℕ) → List A → List ℕ
 list_text number text xs = flat_map (λ x. bytes_field number (text x)) xs
 
+-- the number of bytes of a text, at the most where a count of 64 bits stands still
+unfoldable pub size_of : List ℕ → ℕ
+size_of text = min (length text) last_count
+
 -- ---- values (common.proto)
 
 abbrev pub truth_bit : Bool → ℕ
@@ -72,12 +77,12 @@ abbrev mutual
   entries_text end_of-Value-Map-0-2 = []
   entries_text (more_of-Value-Map-0-2 key value rest) = bytes_field 1 (filled_field 1 key ++ filled_field 2 (value_text value)) ++ entries_text rest
 
-abbrev pub pair_text : List ℕ × Value → List ℕ
-pair_text pair = filled_field 1 pair.0 ++ filled_field 2 (value_text pair.1)
+abbrev pub key_value_text : List ℕ × Value → List ℕ
+key_value_text pair = filled_field 1 pair.0 ++ filled_field 2 (value_text pair.1)
 
 -- attributes, under the number that they have in their message
 abbrev pub attributes_text : ℕ → List (List ℕ × Value) → List ℕ
-attributes_text number attributes = list_text number pair_text attributes
+attributes_text number attributes = list_text number key_value_text attributes
 
 -- ---- spans (trace.proto)
 
@@ -112,42 +117,30 @@ abbrev pub parent_field : ℕ → Option ℕ → List ℕ
 parent_field number None = []
 parent_field number (Some id) = span_field number id
 
--- `Link`: trace_id 1, span_id 2, trace_state 3
-unfoldable pub target_text : Link → List ℕ
-target_text link = trace_field 1 link.trace ++ (span_field 2 link.span ++ filled_field 3 link.state)
-
--- attributes 4, dropped_attributes_count 5, flags 6
+-- `Link`: trace_id 1, span_id 2, trace_state 3, attributes 4, dropped_attributes_count 5, flags 6
 unfoldable pub link_text : Link → List ℕ
-link_text link = target_text link ++ (attributes_text 4 link.attributes ++ (count_field 5 link.dropped ++ flags_field 6 link.flags))
+link_text link = trace_field 1 link.trace ++ (span_field 2 link.span ++ (filled_field 3 link.state
+    ++ (attributes_text 4 link.attributes ++ (count_field 5 link.dropped ++ flags_field 6 link.flags))))
 
--- `Span`: trace_id 1, span_id 2, trace_state 3, parent_span_id 4
-unfoldable pub identity_text : Span → List ℕ
-identity_text span = trace_field 1 span.trace ++ (span_field 2 span.id ++ (filled_field 3 span.state ++ parent_field 4 span.parent))
-
--- name 5, kind 6, start_time_unix_nano 7, end_time_unix_nano 8
-unfoldable pub course_text : Span → List ℕ
-course_text span = filled_field 5 span.name ++ (count_field 6 (kind_number span.kind) ++ (time_field 7 span.start ++ time_field 8 span.end))
-
--- attributes 9, dropped_attributes_count 10, events 11, dropped_events_count 12
-unfoldable pub happenings_text : Span → List ℕ
-happenings_text span = attributes_text 9 span.attributes ++ (count_field 10 span.dropped_attributes ++ (list_text 11 event_text span.events ++ count_field 12 span.dropped_events))
-
--- links 13, dropped_links_count 14, status 15, flags 16
-unfoldable pub outcome_text : Span → List ℕ
-outcome_text span = list_text 13 link_text span.links ++ (count_field 14 span.dropped_links ++ (filled_field 15 (status_text span.status) ++ flags_field 16 span.flags))
-
+-- `Span`: trace_id 1, span_id 2, trace_state 3, parent_span_id 4, name 5, kind 6, start_time_unix_nano 7, end_time_unix_nano 8,
+-- attributes 9, dropped_attributes_count 10, events 11, dropped_events_count 12, links 13, dropped_links_count 14, status 15,
+-- flags 16
 unfoldable pub span_text : Span → List ℕ
-span_text span = identity_text span ++ (course_text span ++ (happenings_text span ++ outcome_text span))
+span_text span = trace_field 1 span.trace ++ (span_field 2 span.id ++ (filled_field 3 span.state ++ (parent_field 4 span.parent
+    ++ (filled_field 5 span.name ++ (count_field 6 (kind_number span.kind) ++ (time_field 7 span.start ++ (time_field 8 span.end
+    ++ (attributes_text 9 span.attributes ++ (count_field 10 span.dropped_attributes ++ (list_text 11 event_text span.events
+    ++ (count_field 12 span.dropped_events ++ (list_text 13 link_text span.links ++ (count_field 14 span.dropped_links
+    ++ (filled_field 15 (status_text span.status) ++ flags_field 16 span.flags))))))))))))))
 
 -- ---- groups (trace.proto, resource.proto)
 
 -- `InstrumentationScope`: name 1, version 2, attributes 3, dropped_attributes_count 4
-unfoldable pub origin_text : Scope → List ℕ
-origin_text scope = filled_field 1 scope.name ++ (filled_field 2 scope.version ++ (attributes_text 3 scope.attributes ++ count_field 4 scope.dropped))
+unfoldable pub instrumentation_scope_text : Scope → List ℕ
+instrumentation_scope_text scope = filled_field 1 scope.name ++ (filled_field 2 scope.version ++ (attributes_text 3 scope.attributes ++ count_field 4 scope.dropped))
 
 -- `ScopeSpans`: scope 1, spans 2, schema_url 3
 unfoldable pub scope_text : Scope → List ℕ
-scope_text scope = filled_field 1 (origin_text scope) ++ (list_text 2 span_text scope.spans ++ filled_field 3 scope.schema_url)
+scope_text scope = filled_field 1 (instrumentation_scope_text scope) ++ (list_text 2 span_text scope.spans ++ filled_field 3 scope.schema_url)
 
 -- `Resource`: attributes 1, dropped_attributes_count 2
 unfoldable pub resource_text : Group → List ℕ

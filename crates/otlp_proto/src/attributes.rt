@@ -4,14 +4,19 @@ ghost use Rattle.span_io.specs.Offences.{Offence, Judges};
 ghost use Rattle.proto_wire.specs.Messages.{messages};
 ghost use Rattle.trace_model.specs.Attributes.{Rise};
 ghost use Rattle.trace_model.specs.Values.{AreSound};
-ghost use Rattle.otlp_proto.specs.Attributes.{attribute_rules, AttributesOf, NotedIn, GatheredAttributes, GatheredAny};
+ghost use Rattle.otlp_proto.specs.Attributes.{attribute_rules, AttributesOf, NotedIn};
+ghost use Rattle.otlp_proto.specs.AttributesSoFar.{GatheredAttributes};
+ghost use Rattle.otlp_proto.specs.RowsSoFar.{Adds};
 
-use crate::value::read_pair;
-use crate::value_rows::{note_all, push_pair};
+use crate::value::read_key_value;
+use crate::value_rows::{note_all, push_key_value};
 use span_io::{Cause, Halt, Items, OutOfMemory, Text};
 use std::alloc::Global;
 use trace_model::laws::members_of_values;
 use trace_model::{Attrs, Value, attrs_of};
+
+/// How many levels are left below the value of an attribute, which stands at level 1 of 16.
+const LEVELS_BELOW: u8 = 15;
 
 /// The pairs that were read of a message, and the keys that are noted inside their values.
 #[derive(Debug, Drop)]
@@ -21,7 +26,8 @@ pub struct AttributeRows {
 }
 
 impl AttributeRows {
-    pub fn new(alloc: Global) -> AttributeRows
+    /// Nothing was read.
+    pub fn none(alloc: Global) -> AttributeRows
         ensures { GatheredAttributes [] result }
     {
         AttributeRows {
@@ -32,17 +38,18 @@ impl AttributeRows {
 
     /// Reads one more `KeyValue` message.
     pub fn add(&mut self, alloc: Global, held: &[u8]) -> Result<(), Halt<Cause>>
-        ensures ok { OnOk result ((earlier : List (List ℕ)) → GatheredAttributes earlier self.old → GatheredAttributes (earlier ++ held.now ∷ []) self.new) }
+        ensures ok { OnOk result (Adds GatheredAttributes held.now self.old self.new) }
         ensures judged { Judges result (Offence messages attribute_rules held.now) }
     {
-        let pair = read_pair(alloc, 15, held)?;
-        push_pair(&mut self.pairs, &mut self.noted, pair)?;
+        let pair = read_key_value(alloc, LEVELS_BELOW, held)?;
+        push_key_value(&mut self.pairs, &mut self.noted, pair)?;
         Ok(())
     }
 
     /// The attributes, and the keys of which the message has a remark, each once.
     pub fn finish(self, alloc: Global) -> Result<(Attrs, Items<Text>), OutOfMemory>
-        ensures attributes { (texts : List (List ℕ)) → GatheredAttributes texts self → IfOk result (λ parts. AttributesOf texts parts.0) }
+        ensures attributes { (texts : List (List ℕ)) → GatheredAttributes texts self
+            → IfOk result (λ parts. AttributesOf texts parts.0) }
         ensures noted { (texts : List (List ℕ)) → GatheredAttributes texts self → IfOk result (λ parts. NotedIn texts parts.1) }
         ensures sound { (texts : List (List ℕ)) → GatheredAttributes texts self → IfOk result (λ parts. AreSound parts.0) }
     {
@@ -75,44 +82,4 @@ fn listed(alloc: Global, texts: Vec<Text>) -> Result<Items<Text>, OutOfMemory>
         list.push(text)?;
     }
     Ok(list)
-}
-
-/// Reads one more `KeyValue` message of rows that begin with the first of them.
-pub fn attribute_row(
-    alloc: Global,
-    row: &mut Option<AttributeRows>,
-    held: &[u8],
-) -> Result<(), Halt<Cause>>
-    ensures ok { OnOk result ((earlier : List (List ℕ)) → GatheredAny earlier row.old → GatheredAny (earlier ++ held.now ∷ []) row.new) }
-    ensures judged { Judges result (Offence messages attribute_rules held.now) }
-{
-    if let Some(rows) = row {
-        return rows.add(alloc, held);
-    }
-    let mut rows = AttributeRows::new(alloc);
-    rows.add(alloc, held)?;
-    *row = Some(rows);
-    Ok(())
-}
-
-// The rows, where nothing stands for none.
-fn any_rows(alloc: Global, row: Option<AttributeRows>) -> AttributeRows
-    ensures { (texts : List (List ℕ)) → GatheredAny texts row → GatheredAttributes texts result }
-{
-    match row {
-        Some(rows) => rows,
-        None => AttributeRows::new(alloc),
-    }
-}
-
-/// The attributes of such rows, and the keys that are noted.
-pub fn attributes_of(
-    alloc: Global,
-    row: Option<AttributeRows>,
-) -> Result<(Attrs, Items<Text>), OutOfMemory>
-    ensures attributes { (texts : List (List ℕ)) → GatheredAny texts row → IfOk result (λ parts. AttributesOf texts parts.0) }
-    ensures noted { (texts : List (List ℕ)) → GatheredAny texts row → IfOk result (λ parts. NotedIn texts parts.1) }
-    ensures sound { (texts : List (List ℕ)) → GatheredAny texts row → IfOk result (λ parts. AreSound parts.0) }
-{
-    any_rows(alloc, row).finish(alloc)
 }

@@ -2,15 +2,13 @@
 #![tactic(auto)]
 
 mod attributes;
-pub mod canonical;
 mod event;
 mod group;
+mod instrumentation_scope;
 pub mod laws;
 mod link;
-mod member;
 mod message;
 mod noted;
-mod origin;
 mod remarks;
 mod resource;
 mod rows;
@@ -23,9 +21,10 @@ mod writing;
 
 pub use group::read_group;
 pub use noted::{
-    NotedEvent, NotedLink, NotedOrigin, NotedResource, NotedScope, NotedSpan, NotedValue, Pair,
+    ReadEvent, ReadInstrumentationScope, ReadKeyValue, ReadLink, ReadResource, ReadScope, ReadSpan,
+    ReadValue,
 };
-pub use writing::{values_by_members, write_group};
+pub use writing::write_group;
 
 #[cfg(test)]
 mod tests;

@@ -1,14 +1,15 @@
 //! `Span.Link` (OTLP trace.proto).
-ghost use Rattle.std.specs.Prelude.{IfOk, List};
+ghost use Rattle.std.specs.Prelude.{[], IfOk};
 ghost use Rattle.span_io.specs.Offences.{Offence, Judges};
-ghost use Rattle.proto_wire.specs.Records.{Record, plain_record};
+ghost use Rattle.span_io.specs.Tables.{givens};
 ghost use Rattle.proto_wire.specs.Messages.{messages};
-ghost use Rattle.otlp_proto.specs.Link.{IsLink, IsLinkText, link_rules};
-ghost use Rattle.otlp_proto.specs.LinkRows.{IsLinkField, GatheredLink};
+ghost use Rattle.otlp_proto.specs.Link.{IsLinkText, link_table, link_rules};
+ghost use Rattle.otlp_proto.specs.LinkSoFar.{GatheredLink, MakesLink};
+ghost use Rattle.otlp_proto.specs.ReadParts.{link_read};
 
-use crate::attributes::{AttributeRows, attribute_row, attributes_of};
+use crate::attributes::AttributeRows;
 use crate::message::{Rows, read_rows};
-use crate::noted::NotedLink;
+use crate::noted::ReadLink;
 use crate::rows::{count_row, flags_row, span_id_row, text_row, trace_id_row};
 use proto_wire::{Payload, WireRecord};
 use span_ids::{SpanId, TraceId};
@@ -16,97 +17,74 @@ use span_io::{Cause, Halt, OutOfMemory, Text};
 use std::alloc::Global;
 use trace_model::Link;
 
-/// A field of a link.
-#[derive(Clone, Copy, Debug)]
-enum LinkField<'a> {
-    Trace(&'a [u8]),
-    Span(&'a [u8]),
-    State(&'a [u8]),
-    Attribute(&'a [u8]),
-    Dropped(u64),
-    Flags(u32),
-    Free,
-}
-
 /// What was gathered of a link so far.
 #[derive(Debug, Drop)]
 struct LinkRows {
     trace: Option<Option<TraceId>>,
     span: Option<Option<SpanId>>,
     state: Option<Text>,
-    attributes: Option<AttributeRows>,
+    attributes: AttributeRows,
     dropped: Option<u32>,
     flags: Option<u32>,
 }
 
-// Which field of a link the record is.
-fn field_of<'a>(found: &WireRecord<'a>) -> LinkField<'a>
-    ensures { IsLinkField result (plain_record found.now) }
-{
-    match found.payload {
-        Payload::Bytes(held) => match found.number {
-            1 => LinkField::Trace(held),
-            2 => LinkField::Span(held),
-            3 => LinkField::State(held),
-            4 => LinkField::Attribute(held),
-            _ => LinkField::Free,
-        },
-        Payload::Varint(n) => match found.number {
-            5 => LinkField::Dropped(n),
-            _ => LinkField::Free,
-        },
-        Payload::Fixed32(n) => match found.number {
-            6 => LinkField::Flags(n),
-            _ => LinkField::Free,
-        },
-        Payload::Fixed64(_) => LinkField::Free,
-    }
-}
-
-impl Rows for LinkRows {
-    ghost use Rattle.otlp_proto.specs.Gathering.{no_ends};
-    ghost use Rattle.otlp_proto.specs.Link.{link_here, link_inside};
-    ghost use Rattle.otlp_proto.specs.LinkRows.{GatheredLink, link_laws};
-
-    ghost here = { link_here };
-
-    ghost inside = { link_inside };
-
-    ghost ends = { no_ends };
-
-    ghost gathered = { GatheredLink };
-
-    ghost laws = { link_laws };
-
-    fn none() -> LinkRows {
+impl LinkRows {
+    // Nothing was read.
+    fn none(alloc: Global) -> LinkRows
+        ensures { GatheredLink result (givens link_table []) }
+    {
         LinkRows {
             trace: None,
             span: None,
             state: None,
-            attributes: None,
+            attributes: AttributeRows::none(alloc),
             dropped: None,
             flags: None,
         }
     }
+}
+
+impl Rows for LinkRows {
+    ghost use Rattle.span_io.specs.Tables.{givens, no_ends};
+    ghost use Rattle.otlp_proto.specs.Link.{link_table};
+    ghost use Rattle.otlp_proto.specs.LinkSoFar.{GatheredLink};
+    ghost use Rattle.otlp_proto.specs.Shapes.{link_laws};
+
+    ghost table = { link_table };
+
+    ghost ends = { no_ends };
+
+    ghost gathered = { λ first rows seen. GatheredLink rows (givens link_table seen) };
+
+    ghost laws = { link_laws };
 
     fn gather(&mut self, alloc: Global, found: &WireRecord<'_>) -> Result<(), Halt<Cause>> {
-        match field_of(found) {
-            LinkField::Trace(held) => trace_id_row(&mut self.trace, held),
-            LinkField::Span(held) => span_id_row(&mut self.span, held),
-            LinkField::State(held) => text_row(alloc, &mut self.state, held),
-            LinkField::Attribute(held) => attribute_row(alloc, &mut self.attributes, held),
-            LinkField::Dropped(n) => count_row(&mut self.dropped, n),
-            LinkField::Flags(n) => flags_row(&mut self.flags, n),
-            LinkField::Free => Ok(()),
+        match found.payload {
+            Payload::Bytes(held) => match found.number {
+                1 => Ok(trace_id_row(&mut self.trace, held)?),
+                2 => Ok(span_id_row(&mut self.span, held)?),
+                3 => text_row(alloc, &mut self.state, held),
+                4 => self.attributes.add(alloc, held),
+                _ => Ok(()),
+            },
+            Payload::Varint(n) => match found.number {
+                5 => Ok(count_row(&mut self.dropped, n)?),
+                _ => Ok(()),
+            },
+            Payload::Fixed32(n) => match found.number {
+                6 => Ok(flags_row(&mut self.flags, n)?),
+                _ => Ok(()),
+            },
+            Payload::Fixed64(_) => Ok(()),
         }
     }
 }
 
 // The link of the rows, if they have both identifiers.
-fn link_of(alloc: Global, rows: LinkRows) -> Result<Option<NotedLink>, OutOfMemory>
-    ensures { (records : List Record) → GatheredLink rows records → IfOk result (λ read. IsLink read records) }
+fn link_of(alloc: Global, rows: LinkRows) -> Result<Option<ReadLink>, OutOfMemory>
+    ensures { MakesLink rows result }
 {
-    let (attributes, noted) = attributes_of(alloc, rows.attributes)?;
+    let (attributes, keys) = rows.attributes.finish(alloc)?;
     let state = rows.state.unwrap_or(Text::new(alloc));
     let Some(trace) = rows.trace.unwrap_or(None) else {
         return Ok(None);
@@ -122,15 +100,15 @@ fn link_of(alloc: Global, rows: LinkRows) -> Result<Option<NotedLink>, OutOfMemo
         dropped: rows.dropped.unwrap_or(0),
         flags: rows.flags.unwrap_or(0),
     };
-    Ok(Some(NotedLink { link, noted }))
+    Ok(Some(ReadLink { link, keys }))
 }
 
 /// Reads a link from its message; a link without one of its identifiers is none.
-pub fn read_link(alloc: Global, bytes: &[u8]) -> Result<Option<NotedLink>, Halt<Cause>>
-    ensures value { IfOk result (λ read. IsLinkText read bytes.now) }
+pub fn read_link(alloc: Global, bytes: &[u8]) -> Result<Option<ReadLink>, Halt<Cause>>
+    ensures value { IfOk result (λ read. IsLinkText (link_read read) bytes.now) }
     ensures judged { Judges result (Offence messages link_rules bytes.now) }
 {
-    let rows = read_rows::<LinkRows>(alloc, bytes)?;
+    let rows = read_rows(alloc, LinkRows::none(alloc), bytes)?;
     let read = link_of(alloc, rows)?;
     Ok(read)
 }

@@ -1,66 +1,66 @@
-//! What the bytes of messages mean, with what is noted of them: keys that stand more than once, or
-//! remarks.
+//! What was read of bytes, with the keys that stand more than once in it, or the remarks on it.
 use span_io::{Items, Text};
 use trace_model::{Attrs, Event, Link, Remark, Scope, Span, Value};
 
 /// A value, and the keys that stand more than once in a map inside it.
 #[derive(Debug, Drop)]
-pub struct NotedValue {
+pub struct ReadValue {
     pub value: Value,
-    pub noted: Items<Text>,
+    pub keys: Items<Text>,
 }
 
-/// A key and its value.
+/// A key and its value (OTLP `KeyValue`).
 #[derive(Debug, Drop)]
-pub struct Pair {
+pub struct ReadKeyValue {
     pub key: Text,
-    pub reading: NotedValue,
+    pub read: ReadValue,
 }
 
-/// An event, and the keys of its attributes that are noted.
+/// An event, and the keys that stand more than once in its attributes.
 #[derive(Debug, Drop)]
-pub struct NotedEvent {
+pub struct ReadEvent {
     pub event: Event,
-    pub noted: Items<Text>,
+    pub keys: Items<Text>,
 }
 
-/// A link, and the keys of its attributes that are noted.
+/// A link, and the keys that stand more than once in its attributes.
 #[derive(Debug, Drop)]
-pub struct NotedLink {
+pub struct ReadLink {
     pub link: Link,
-    pub noted: Items<Text>,
+    pub keys: Items<Text>,
 }
 
-/// A span, and the remarks on it as if it were the first of its group.
+/// A span, and the remarks on it.
 #[derive(Debug, Drop)]
-pub struct NotedSpan {
+pub struct ReadSpan {
     pub span: Span,
     pub remarks: Items<Remark>,
 }
 
-/// What an `InstrumentationScope` gives to its scope, and the keys of its attributes that are noted.
+/// What an `InstrumentationScope` gives to its scope, and the keys that stand more than once in its
+/// attributes.
 #[derive(Debug, Drop)]
-pub struct NotedOrigin {
+pub struct ReadInstrumentationScope {
     pub name: Text,
     pub version: Text,
     pub attributes: Attrs,
     /// The number of attributes that were dropped.
     pub dropped: u32,
-    pub noted: Items<Text>,
+    pub keys: Items<Text>,
 }
 
-/// A scope, and the remarks on it and its spans as if it were the first of its group.
+/// A scope, and the remarks on it and its spans.
 #[derive(Debug, Drop)]
-pub struct NotedScope {
+pub struct ReadScope {
     pub scope: Scope,
     pub remarks: Items<Remark>,
 }
 
-/// What a `Resource` gives to its group, and the keys of its attributes that are noted.
+/// What a `Resource` gives to its group, and the keys that stand more than once in its attributes.
 #[derive(Debug, Drop)]
-pub struct NotedResource {
+pub struct ReadResource {
     pub attributes: Attrs,
     /// The number of attributes that were dropped.
     pub dropped: u32,
-    pub noted: Items<Text>,
+    pub keys: Items<Text>,
 }

@@ -1,68 +1,21 @@
 //! Remarks on what was read, at their places in a group. A place whose number takes more than 32
 //! bits is answered as want of memory: no unit below 4 GiB has so many scopes or spans.
-ghost use Rattle.std.specs.Prelude.{◌≡◌, ◌+◌, ◌++◌, map, IfOk, OnOk};
-ghost use Rattle.otlp_proto.specs.Remarks.{behind, place_behind, equal_keys};
+ghost use Rattle.std.specs.Prelude.{◌≡◌, ◌+◌, ◌++◌, ◌<◌, ◌^◌, ◌↔◌, IfOk, IsOk, OnOk};
+ghost use Rattle.otlp_proto.specs.Remarks.{equal_keys};
 
 use span_io::{Items, OutOfMemory, Text};
 use std::alloc::Global;
 use trace_model::{Place, Remark, RemarkKind};
 
-/// A count of scopes or spans.
-pub fn count_of(length: usize) -> Result<u32, OutOfMemory>
-    ensures { IfOk result (λ count. count ≡ length) }
+/// The number of a member behind so many others, of which the first has that number.
+pub fn number_behind(first: u32, before: usize) -> Result<u32, OutOfMemory>
+    ensures value { IfOk result (λ number. number ≡ first + before) }
+    ensures fits { IsOk result ↔ (first + before < 2 ^ 32) }
 {
-    let Ok(count) = u32::try_from(length) else {
+    let Ok(before) = u32::try_from(before) else {
         return Err(OutOfMemory);
     };
-    Ok(count)
-}
-
-/// The number behind so many.
-pub fn number_behind(before: u32, number: u32) -> Result<u32, OutOfMemory>
-    ensures { IfOk result (λ sum. sum ≡ before + number) }
-{
-    before.checked_add(number).ok_or(OutOfMemory)
-}
-
-// The place behind so many scopes and spans.
-fn moved_place(place: Place, scopes: u32, spans: u32) -> Result<Place, OutOfMemory>
-    ensures { IfOk result (λ moved. moved ≡ place_behind scopes spans place) }
-{
-    Ok(match place {
-        Place::Whole => Place::Whole,
-        Place::Resource => Place::Resource,
-        Place::Scope(n) => Place::Scope(number_behind(scopes, n)?),
-        Place::Span(n) => Place::Span(number_behind(spans, n)?),
-        Place::Event(n, event) => Place::Event(number_behind(spans, n)?, event),
-        Place::Link(n, link) => Place::Link(number_behind(spans, n)?, link),
-    })
-}
-
-/// The remark at its place behind so many scopes and spans.
-pub fn moved_remark(remark: Remark, scopes: u32, spans: u32) -> Result<Remark, OutOfMemory>
-    ensures { IfOk result (λ moved. moved ≡ behind scopes spans remark) }
-{
-    let place = moved_place(remark.place, scopes, spans)?;
-    Ok(Remark {
-        place,
-        kind: remark.kind,
-        key: remark.key,
-    })
-}
-
-/// Adds remarks at the end, at their places behind so many scopes and spans.
-pub fn remark_behind(
-    remarks: &mut Items<Remark>,
-    more: Items<Remark>,
-    scopes: u32,
-    spans: u32,
-) -> Result<(), OutOfMemory>
-    ensures { OnOk result (remarks.new ≡ remarks.old ++ map (behind scopes spans) more) }
-{
-    'remarks: for remark in more.into_vec() {
-        remarks.push(moved_remark(remark, scopes, spans)?)?;
-    }
-    Ok(())
+    first.checked_add(before).ok_or(OutOfMemory)
 }
 
 /// Adds remarks at the end.

@@ -1,101 +1,86 @@
 //! `Resource` (OTLP resource.proto).
-ghost use Rattle.std.specs.Prelude.{List, IfOk};
+ghost use Rattle.std.specs.Prelude.{[], IfOk};
 ghost use Rattle.span_io.specs.Offences.{Offence, Judges};
-ghost use Rattle.proto_wire.specs.Records.{Record, plain_record};
+ghost use Rattle.span_io.specs.Tables.{givens};
 ghost use Rattle.proto_wire.specs.Messages.{messages};
-ghost use Rattle.otlp_proto.specs.Group.{IsResource, IsResourceText, resource_rules};
-ghost use Rattle.otlp_proto.specs.GroupRows.{IsResourceField, GatheredResource};
+ghost use Rattle.otlp_proto.specs.Group.{IsResourceText, resource_table, resource_rules};
+ghost use Rattle.otlp_proto.specs.GroupSoFar.{GatheredResource, MakesResource};
+ghost use Rattle.otlp_proto.specs.ReadParts.{resource_read};
 
-use crate::attributes::{AttributeRows, attribute_row, attributes_of};
+use crate::attributes::AttributeRows;
 use crate::message::{Rows, read_rows};
-use crate::noted::NotedResource;
+use crate::noted::ReadResource;
 use crate::rows::count_row;
 use proto_wire::{Payload, WireRecord};
 use span_io::{Cause, Halt, OutOfMemory};
 use std::alloc::Global;
 
-/// A field of a resource.
-#[derive(Clone, Copy, Debug)]
-enum ResourceField<'a> {
-    Attribute(&'a [u8]),
-    Dropped(u64),
-    Free,
-}
-
 /// What was gathered of a resource so far.
 #[derive(Debug, Drop)]
 struct ResourceRows {
-    attributes: Option<AttributeRows>,
+    attributes: AttributeRows,
     dropped: Option<u32>,
 }
 
-// Which field of a resource the record is.
-fn field_of<'a>(found: &WireRecord<'a>) -> ResourceField<'a>
-    ensures { IsResourceField result (plain_record found.now) }
-{
-    match found.payload {
-        Payload::Bytes(held) => match found.number {
-            1 => ResourceField::Attribute(held),
-            _ => ResourceField::Free,
-        },
-        Payload::Varint(n) => match found.number {
-            2 => ResourceField::Dropped(n),
-            _ => ResourceField::Free,
-        },
-        _ => ResourceField::Free,
+impl ResourceRows {
+    // Nothing was read.
+    fn none(alloc: Global) -> ResourceRows
+        ensures { GatheredResource result (givens resource_table []) }
+    {
+        ResourceRows {
+            attributes: AttributeRows::none(alloc),
+            dropped: None,
+        }
     }
 }
 
 impl Rows for ResourceRows {
-    ghost use Rattle.otlp_proto.specs.Gathering.{no_ends};
-    ghost use Rattle.otlp_proto.specs.Group.{resource_here, resource_inside};
-    ghost use Rattle.otlp_proto.specs.GroupRows.{GatheredResource};
-    ghost use Rattle.otlp_proto.specs.ScopeLaws.{resource_laws};
+    ghost use Rattle.span_io.specs.Tables.{givens, no_ends};
+    ghost use Rattle.otlp_proto.specs.Group.{resource_table};
+    ghost use Rattle.otlp_proto.specs.GroupSoFar.{GatheredResource};
+    ghost use Rattle.otlp_proto.specs.Shapes.{resource_laws};
 
-    ghost here = { resource_here };
-
-    ghost inside = { resource_inside };
+    ghost table = { resource_table };
 
     ghost ends = { no_ends };
 
-    ghost gathered = { GatheredResource };
+    ghost gathered = { λ first rows seen. GatheredResource rows (givens resource_table seen) };
 
     ghost laws = { resource_laws };
 
-    fn none() -> ResourceRows {
-        ResourceRows {
-            attributes: None,
-            dropped: None,
-        }
-    }
-
     fn gather(&mut self, alloc: Global, found: &WireRecord<'_>) -> Result<(), Halt<Cause>> {
-        match field_of(found) {
-            ResourceField::Attribute(held) => attribute_row(alloc, &mut self.attributes, held),
-            ResourceField::Dropped(n) => count_row(&mut self.dropped, n),
-            ResourceField::Free => Ok(()),
+        match found.payload {
+            Payload::Bytes(held) => match found.number {
+                1 => self.attributes.add(alloc, held),
+                _ => Ok(()),
+            },
+            Payload::Varint(n) => match found.number {
+                2 => Ok(count_row(&mut self.dropped, n)?),
+                _ => Ok(()),
+            },
+            Payload::Fixed64(_) | Payload::Fixed32(_) => Ok(()),
         }
     }
 }
 
 // The resource of the rows.
-fn resource_of(alloc: Global, rows: ResourceRows) -> Result<NotedResource, OutOfMemory>
-    ensures { (records : List Record) → GatheredResource rows records → IfOk result (λ read. IsResource read records) }
+fn resource_of(alloc: Global, rows: ResourceRows) -> Result<ReadResource, OutOfMemory>
+    ensures { IfOk result (λ read. MakesResource rows read) }
 {
-    let (attributes, noted) = attributes_of(alloc, rows.attributes)?;
-    Ok(NotedResource {
+    let (attributes, keys) = rows.attributes.finish(alloc)?;
+    Ok(ReadResource {
         attributes,
         dropped: rows.dropped.unwrap_or(0),
-        noted,
+        keys,
     })
 }
 
 /// Reads a resource from its message.
-pub fn read_resource(alloc: Global, bytes: &[u8]) -> Result<NotedResource, Halt<Cause>>
-    ensures value { IfOk result (λ read. IsResourceText read bytes.now) }
+pub fn read_resource(alloc: Global, bytes: &[u8]) -> Result<ReadResource, Halt<Cause>>
+    ensures value { IfOk result (λ read. IsResourceText (resource_read read) bytes.now) }
     ensures judged { Judges result (Offence messages resource_rules bytes.now) }
 {
-    let rows = read_rows::<ResourceRows>(alloc, bytes)?;
+    let rows = read_rows(alloc, ResourceRows::none(alloc), bytes)?;
     let read = resource_of(alloc, rows)?;
     Ok(read)
 }

@@ -1,12 +1,26 @@
-//! Rows of a message's table, as a reader gathers them.
-ghost use Rattle.std.specs.Prelude.{◌≡◌, ◌++◌, ◌∷◌, [], ◌⊎◌, ℕ, List, IfOk, OnOk};
+//! Rows of a message's table, as a reader sets them.
+ghost use Rattle.std.specs.Prelude.{◌≡◌, ℕ, List, None, Err, IsSome, IfOk, OnOk, OnErr};
 ghost use Rattle.span_io.specs.Offences.{JudgesHere};
+ghost use Rattle.span_io.specs.Tables.{Twice, NotText};
 ghost use Rattle.otlp_proto.specs.Identifiers.{MeansTraceId, MeansSpanId, WrongLength};
-ghost use Rattle.otlp_proto.specs.Rows.{Gave, MeansText, MeansNumber, MeansCount, Twice, NotText};
+ghost use Rattle.otlp_proto.specs.Rows.{MeansText, MeansNumber, MeansCount};
+ghost use Rattle.otlp_proto.specs.RowsSoFar.{Gave, Sets, JudgesCause, JudgesText, JudgesIdentifier};
+ghost use Rattle.span_io.specs.declared.cause.Cause.TheVariants as causes;
 
 use span_ids::{SpanId, TraceId};
 use span_io::{Cause, Halt, Text};
 use std::alloc::Global;
+
+/// Refuses a second record of a singular row.
+pub fn once<T>(row: &Option<T>) -> Result<(), Cause>
+    ensures ok { OnOk result (row.now ≡ None) }
+    ensures err { OnErr result ((result ≡ Err causes.FieldTwice) × IsSome row.now) }
+{
+    if row.is_some() {
+        return Err(Cause::FieldTwice);
+    }
+    Ok(())
+}
 
 /// The text of these bytes.
 pub fn text_of(alloc: Global, held: &[u8]) -> Result<Text, Halt<Cause>>
@@ -21,102 +35,90 @@ pub fn text_of(alloc: Global, held: &[u8]) -> Result<Text, Halt<Cause>>
     Ok(copy)
 }
 
-/// Sets a singular row that holds a text.
+/// Sets a row that holds a text.
 pub fn text_row(alloc: Global, row: &mut Option<Text>, held: &[u8]) -> Result<(), Halt<Cause>>
-    ensures ok { OnOk result ((earlier : List (List ℕ)) → Gave MeansText earlier row.old → Gave MeansText (earlier ++ held.now ∷ []) row.new) }
-    ensures judged { (earlier : List (List ℕ)) → Gave MeansText earlier row.old → JudgesHere result (λ n. Twice earlier n ⊎ NotText held.now n) }
+    ensures ok { OnOk result (Sets MeansText held.now row.old row.new) }
+    ensures judged { JudgesText row.old held.now result }
 {
-    if row.is_some() {
-        return Err(Halt::Why(Cause::FieldTwice));
-    }
+    once(row)?;
     *row = Some(text_of(alloc, held)?);
     Ok(())
 }
 
-/// Sets a singular row that holds a time.
-pub fn number_row(row: &mut Option<u64>, n: u64) -> Result<(), Halt<Cause>>
-    ensures ok { OnOk result ((earlier : List ℕ) → Gave MeansNumber earlier row.old → Gave MeansNumber (earlier ++ n ∷ []) row.new) }
-    ensures judged { (earlier : List ℕ) → Gave MeansNumber earlier row.old → JudgesHere result (λ number. Twice earlier number) }
+/// Sets a row that holds a time.
+pub fn time_row(row: &mut Option<u64>, n: u64) -> Result<(), Cause>
+    ensures ok { OnOk result (Sets MeansNumber n row.old row.new) }
+    ensures judged { (earlier : List ℕ) → Gave MeansNumber earlier row.old → JudgesCause result (λ number. Twice earlier number) }
 {
-    if row.is_some() {
-        return Err(Halt::Why(Cause::FieldTwice));
-    }
+    once(row)?;
     *row = Some(n);
     Ok(())
 }
 
-/// Sets a singular row that holds flags.
-pub fn flags_row(row: &mut Option<u32>, n: u32) -> Result<(), Halt<Cause>>
-    ensures ok { OnOk result ((earlier : List ℕ) → Gave MeansNumber earlier row.old → Gave MeansNumber (earlier ++ n ∷ []) row.new) }
-    ensures judged { (earlier : List ℕ) → Gave MeansNumber earlier row.old → JudgesHere result (λ number. Twice earlier number) }
+/// Sets a row that holds flags.
+pub fn flags_row(row: &mut Option<u32>, n: u32) -> Result<(), Cause>
+    ensures ok { OnOk result (Sets MeansNumber n row.old row.new) }
+    ensures judged { (earlier : List ℕ) → Gave MeansNumber earlier row.old → JudgesCause result (λ number. Twice earlier number) }
 {
-    if row.is_some() {
-        return Err(Halt::Why(Cause::FieldTwice));
-    }
+    once(row)?;
     *row = Some(n);
     Ok(())
 }
 
-/// Sets a singular row that holds a count, by the low 32 bits of its number.
-pub fn count_row(row: &mut Option<u32>, n: u64) -> Result<(), Halt<Cause>>
-    ensures ok { OnOk result ((earlier : List ℕ) → Gave MeansCount earlier row.old → Gave MeansCount (earlier ++ n ∷ []) row.new) }
-    ensures judged { (earlier : List ℕ) → Gave MeansCount earlier row.old → JudgesHere result (λ number. Twice earlier number) }
+/// Sets a row that holds a count, by the low 32 bits of its number.
+pub fn count_row(row: &mut Option<u32>, n: u64) -> Result<(), Cause>
+    ensures ok { OnOk result (Sets MeansCount n row.old row.new) }
+    ensures judged { (earlier : List ℕ) → Gave MeansCount earlier row.old → JudgesCause result (λ number. Twice earlier number) }
 {
-    if row.is_some() {
-        return Err(Halt::Why(Cause::FieldTwice));
-    }
+    once(row)?;
     *row = Some((n % 4_294_967_296) as u32);
     Ok(())
 }
 
-/// The identifier of a trace that these bytes spell; no bytes, or zeros, are none.
-pub fn trace_id_of(held: &[u8]) -> Result<Option<TraceId>, Halt<Cause>>
+// The identifier of a trace that these bytes spell; no bytes, or zeros, are none.
+fn trace_id_of(held: &[u8]) -> Result<Option<TraceId>, Cause>
     ensures value { IfOk result (λ id. MeansTraceId held.now id) }
-    ensures judged { JudgesHere result (WrongLength 16 held.now) }
+    ensures judged { JudgesCause result (WrongLength 16 held.now) }
 {
     if held.is_empty() {
         return Ok(None);
     }
     if held.len() != 16 {
-        return Err(Halt::Why(Cause::BadId));
+        return Err(Cause::BadId);
     }
     Ok(TraceId::from_bytes(held).ok())
 }
 
-/// The identifier of a span that these bytes spell; no bytes, or zeros, are none.
-pub fn span_id_of(held: &[u8]) -> Result<Option<SpanId>, Halt<Cause>>
+// The identifier of a span that these bytes spell; no bytes, or zeros, are none.
+fn span_id_of(held: &[u8]) -> Result<Option<SpanId>, Cause>
     ensures value { IfOk result (λ id. MeansSpanId held.now id) }
-    ensures judged { JudgesHere result (WrongLength 8 held.now) }
+    ensures judged { JudgesCause result (WrongLength 8 held.now) }
 {
     if held.is_empty() {
         return Ok(None);
     }
     if held.len() != 8 {
-        return Err(Halt::Why(Cause::BadId));
+        return Err(Cause::BadId);
     }
     Ok(SpanId::from_bytes(held).ok())
 }
 
-/// Sets a singular row that holds the identifier of a trace.
-pub fn trace_id_row(row: &mut Option<Option<TraceId>>, held: &[u8]) -> Result<(), Halt<Cause>>
-    ensures ok { OnOk result ((earlier : List (List ℕ)) → Gave MeansTraceId earlier row.old → Gave MeansTraceId (earlier ++ held.now ∷ []) row.new) }
-    ensures judged { (earlier : List (List ℕ)) → Gave MeansTraceId earlier row.old → JudgesHere result (λ n. Twice earlier n ⊎ WrongLength 16 held.now n) }
+/// Sets a row that holds the identifier of a trace.
+pub fn trace_id_row(row: &mut Option<Option<TraceId>>, held: &[u8]) -> Result<(), Cause>
+    ensures ok { OnOk result (Sets MeansTraceId held.now row.old row.new) }
+    ensures judged { JudgesIdentifier MeansTraceId 16 row.old held.now result }
 {
-    if row.is_some() {
-        return Err(Halt::Why(Cause::FieldTwice));
-    }
+    once(row)?;
     *row = Some(trace_id_of(held)?);
     Ok(())
 }
 
-/// Sets a singular row that holds the identifier of a span.
-pub fn span_id_row(row: &mut Option<Option<SpanId>>, held: &[u8]) -> Result<(), Halt<Cause>>
-    ensures ok { OnOk result ((earlier : List (List ℕ)) → Gave MeansSpanId earlier row.old → Gave MeansSpanId (earlier ++ held.now ∷ []) row.new) }
-    ensures judged { (earlier : List (List ℕ)) → Gave MeansSpanId earlier row.old → JudgesHere result (λ n. Twice earlier n ⊎ WrongLength 8 held.now n) }
+/// Sets a row that holds the identifier of a span.
+pub fn span_id_row(row: &mut Option<Option<SpanId>>, held: &[u8]) -> Result<(), Cause>
+    ensures ok { OnOk result (Sets MeansSpanId held.now row.old row.new) }
+    ensures judged { JudgesIdentifier MeansSpanId 8 row.old held.now result }
 {
-    if row.is_some() {
-        return Err(Halt::Why(Cause::FieldTwice));
-    }
+    once(row)?;
     *row = Some(span_id_of(held)?);
     Ok(())
 }

@@ -1,73 +1,169 @@
 //! `Span` (OTLP trace.proto).
-ghost use Rattle.std.specs.Prelude.{◌≡◌, List, IfOk};
+ghost use Rattle.std.specs.Prelude.{◌≡◌, ℕ, List, [], IfOk, OnOk};
 ghost use Rattle.span_io.specs.Offences.{Offence, Judges, JudgesHere};
+ghost use Rattle.span_io.specs.Tables.{givens};
 ghost use Rattle.proto_wire.specs.Messages.{messages};
 ghost use Rattle.proto_wire.specs.Records.{Record};
-ghost use Rattle.otlp_proto.specs.Span.{IsSpan, IsSpanText, no_status, span_ends, span_rules};
-ghost use Rattle.otlp_proto.specs.SpanRows.{GatheredSpan};
+ghost use Rattle.otlp_proto.specs.ReadParts.{IsReadSpan};
+ghost use Rattle.otlp_proto.specs.RowsSoFar.{Sets, JudgesCause, JudgesEnum, JudgesMessage};
+ghost use Rattle.otlp_proto.specs.Span.{MeansKind, span_ends, span_rules, span_table};
+ghost use Rattle.otlp_proto.specs.SpanSoFar.{GatheredSpan, GaveSpan, MakesSpan, MeansStatus, TakesSpanId, TakesTraceId};
+ghost use Rattle.otlp_proto.specs.Status.{no_status, status_rules};
 
-mod course;
-mod fields;
-mod happenings;
-mod identity;
-mod outcome;
+mod events;
+mod links;
 mod remarks;
 
-use crate::attributes::attributes_of;
+use crate::attributes::AttributeRows;
 use crate::message::{Rows, read_rows};
-use crate::noted::NotedSpan;
-use course::CourseRows;
-use fields::{SpanField, field_of};
-use happenings::{HappeningsRows, events_of};
-use identity::IdentityRows;
-use outcome::{OutcomeRows, links_of};
-use proto_wire::WireRecord;
+use crate::noted::ReadSpan;
+use crate::rows::{count_row, flags_row, once, span_id_row, text_row, time_row, trace_id_row};
+use crate::status::read_status;
+use events::EventList;
+use links::LinkList;
+use proto_wire::{Payload, WireRecord};
 use remarks::remarks_of;
-use span_ids::Nanos;
+use span_ids::{Nanos, SpanId, TraceId};
 use span_io::{Cause, Halt, Text};
 use std::alloc::Global;
 use trace_model::{Code, Kind, Span, Status};
 
-/// What was gathered of a span so far, in four parts.
+/// What was gathered so far of the span of a number.
 #[derive(Debug, Drop)]
 struct SpanRows {
-    identity: IdentityRows,
-    course: CourseRows,
-    happenings: HappeningsRows,
-    outcome: OutcomeRows,
+    number: u32,
+    trace: Option<Option<TraceId>>,
+    id: Option<Option<SpanId>>,
+    state: Option<Text>,
+    parent: Option<Option<SpanId>>,
+    name: Option<Text>,
+    kind: Option<Kind>,
+    start: Option<u64>,
+    end: Option<u64>,
+    attributes: AttributeRows,
+    dropped_attributes: Option<u32>,
+    events: EventList,
+    dropped_events: Option<u32>,
+    links: LinkList,
+    dropped_links: Option<u32>,
+    status: Option<Status>,
+    flags: Option<u32>,
 }
 
-impl Rows for SpanRows {
-    ghost use Rattle.otlp_proto.specs.Span.{span_here, span_inside, span_ends};
-    ghost use Rattle.otlp_proto.specs.SpanLaws.{span_laws};
-    ghost use Rattle.otlp_proto.specs.SpanRows.{GatheredSpan};
+// Sets the row of the kind.
+fn kind_row(row: &mut Option<Kind>, n: u64) -> Result<(), Cause>
+    ensures ok { OnOk result (Sets MeansKind n row.old row.new) }
+    ensures judged { JudgesEnum MeansKind 5 row.old n result }
+{
+    once(row)?;
+    *row = Some(match n {
+        0 => Kind::Unspecified,
+        1 => Kind::Internal,
+        2 => Kind::Server,
+        3 => Kind::Client,
+        4 => Kind::Producer,
+        5 => Kind::Consumer,
+        _ => return Err(Cause::BadEnum),
+    });
+    Ok(())
+}
 
-    ghost here = { span_here };
+// Sets the row of the status.
+fn status_row(alloc: Global, row: &mut Option<Status>, held: &[u8]) -> Result<(), Halt<Cause>>
+    ensures ok { OnOk result (Sets MeansStatus held.now row.old row.new) }
+    ensures judged { JudgesMessage MeansStatus status_rules row.old held.now result }
+{
+    once(row)?;
+    *row = Some(read_status(alloc, held)?);
+    Ok(())
+}
 
-    ghost inside = { span_inside };
-
-    ghost ends = { span_ends };
-
-    ghost gathered = { GatheredSpan };
-
-    ghost laws = { span_laws };
-
-    fn none() -> SpanRows {
+impl SpanRows {
+    // Nothing was read of the span of this number.
+    fn none(alloc: Global, number: u32) -> SpanRows
+        ensures { GatheredSpan number result (givens span_table []) }
+    {
         SpanRows {
-            identity: IdentityRows::none(),
-            course: CourseRows::none(),
-            happenings: HappeningsRows::none(),
-            outcome: OutcomeRows::none(),
+            number,
+            trace: None,
+            id: None,
+            state: None,
+            parent: None,
+            name: None,
+            kind: None,
+            start: None,
+            end: None,
+            attributes: AttributeRows::none(alloc),
+            dropped_attributes: None,
+            events: EventList::none(alloc),
+            dropped_events: None,
+            links: LinkList::none(alloc),
+            dropped_links: None,
+            status: None,
+            flags: None,
         }
     }
 
+    // The identifiers of the trace and the span.
+    fn identifiers(&self) -> Result<(TraceId, SpanId), Cause>
+        ensures trace { TakesTraceId self.now.trace result }
+        ensures id { TakesSpanId self.now.id result }
+        ensures judged { (span : ℕ) (seen : List Record) → GaveSpan span self.now seen → JudgesCause result (span_ends seen) }
+    {
+        let Some(trace) = self.trace.flatten() else {
+            return Err(Cause::BadId);
+        };
+        let Some(id) = self.id.flatten() else {
+            return Err(Cause::BadId);
+        };
+        Ok((trace, id))
+    }
+}
+
+impl Rows for SpanRows {
+    ghost use Rattle.span_io.specs.Tables.{givens};
+    ghost use Rattle.otlp_proto.specs.Shapes.{span_laws};
+    ghost use Rattle.otlp_proto.specs.Span.{span_ends, span_table};
+    ghost use Rattle.otlp_proto.specs.SpanSoFar.{GatheredSpan};
+
+    ghost table = { span_table };
+
+    ghost ends = { span_ends };
+
+    ghost gathered = { λ first rows seen. GatheredSpan first.number rows (givens span_table seen) };
+
+    ghost laws = { span_laws };
+
     fn gather(&mut self, alloc: Global, found: &WireRecord<'_>) -> Result<(), Halt<Cause>> {
-        match field_of(found) {
-            SpanField::Identity(field) => self.identity.gather(alloc, field),
-            SpanField::Course(field) => self.course.gather(alloc, field),
-            SpanField::Happenings(field) => self.happenings.gather(alloc, field),
-            SpanField::Outcome(field) => self.outcome.gather(alloc, field),
-            SpanField::Free => Ok(()),
+        match found.payload {
+            Payload::Bytes(held) => match found.number {
+                1 => Ok(trace_id_row(&mut self.trace, held)?),
+                2 => Ok(span_id_row(&mut self.id, held)?),
+                3 => text_row(alloc, &mut self.state, held),
+                4 => Ok(span_id_row(&mut self.parent, held)?),
+                5 => text_row(alloc, &mut self.name, held),
+                9 => self.attributes.add(alloc, held),
+                11 => self.events.add(alloc, self.number, held),
+                13 => self.links.add(alloc, self.number, held),
+                15 => status_row(alloc, &mut self.status, held),
+                _ => Ok(()),
+            },
+            Payload::Varint(n) => match found.number {
+                6 => Ok(kind_row(&mut self.kind, n)?),
+                10 => Ok(count_row(&mut self.dropped_attributes, n)?),
+                12 => Ok(count_row(&mut self.dropped_events, n)?),
+                14 => Ok(count_row(&mut self.dropped_links, n)?),
+                _ => Ok(()),
+            },
+            Payload::Fixed64(n) => match found.number {
+                7 => Ok(time_row(&mut self.start, n)?),
+                8 => Ok(time_row(&mut self.end, n)?),
+                _ => Ok(()),
+            },
+            Payload::Fixed32(n) => match found.number {
+                16 => Ok(flags_row(&mut self.flags, n)?),
+                _ => Ok(()),
+            },
         }
     }
 }
@@ -83,47 +179,47 @@ fn status_unset(alloc: Global) -> Status
 }
 
 // The span of the rows.
-fn span_of(alloc: Global, rows: SpanRows) -> Result<NotedSpan, Halt<Cause>>
-    ensures value { (records : List Record) → GatheredSpan rows records → IfOk result (λ read. IsSpan read records) }
-    ensures ended { (records : List Record) → GatheredSpan rows records → JudgesHere result (span_ends records) }
+fn span_of(alloc: Global, rows: SpanRows) -> Result<ReadSpan, Halt<Cause>>
+    ensures value { MakesSpan rows result }
+    ensures ended { (span : ℕ) (records : List Record) → GaveSpan span rows records → JudgesHere result (span_ends records) }
 {
-    let SpanRows {
-        identity,
-        course,
-        happenings,
-        outcome,
-    } = rows;
-    let (trace, id) = identity.identifiers()?;
-    let (attributes, keys) = attributes_of(alloc, happenings.attributes)?;
-    let events = events_of(alloc, happenings.events);
-    let links = links_of(alloc, outcome.links);
-    let remarks = remarks_of(alloc, keys, links.dropped, events.remarks, links.remarks)?;
+    let (trace, id) = rows.identifiers()?;
+    let (attributes, keys) = rows.attributes.finish(alloc)?;
+    let (events, links) = (rows.events, rows.links);
+    let remarks = remarks_of(
+        alloc,
+        rows.number,
+        keys,
+        links.dropped,
+        events.remarks,
+        links.remarks,
+    )?;
     let span = Span {
         trace,
         id,
-        state: identity.state.unwrap_or(Text::new(alloc)),
-        parent: identity.parent.unwrap_or(None),
-        name: course.name.unwrap_or(Text::new(alloc)),
-        kind: course.kind.unwrap_or(Kind::Unspecified),
-        start: Nanos(course.start.unwrap_or(0)),
-        end: Nanos(course.end.unwrap_or(0)),
+        state: rows.state.unwrap_or(Text::new(alloc)),
+        parent: rows.parent.unwrap_or(None),
+        name: rows.name.unwrap_or(Text::new(alloc)),
+        kind: rows.kind.unwrap_or(Kind::Unspecified),
+        start: Nanos(rows.start.unwrap_or(0)),
+        end: Nanos(rows.end.unwrap_or(0)),
         attributes,
-        dropped_attributes: happenings.dropped_attributes.unwrap_or(0),
+        dropped_attributes: rows.dropped_attributes.unwrap_or(0),
         events: events.events,
-        dropped_events: happenings.dropped_events.unwrap_or(0),
+        dropped_events: rows.dropped_events.unwrap_or(0),
         links: links.links,
-        dropped_links: outcome.dropped_links.unwrap_or(0),
-        status: outcome.status.unwrap_or(status_unset(alloc)),
-        flags: outcome.flags.unwrap_or(0),
+        dropped_links: rows.dropped_links.unwrap_or(0),
+        status: rows.status.unwrap_or(status_unset(alloc)),
+        flags: rows.flags.unwrap_or(0),
     };
-    Ok(NotedSpan { span, remarks })
+    Ok(ReadSpan { span, remarks })
 }
 
-/// Reads a span from its message.
-pub fn read_span(alloc: Global, bytes: &[u8]) -> Result<NotedSpan, Halt<Cause>>
-    ensures value { IfOk result (λ read. IsSpanText read bytes.now) }
+/// Reads the span of this number in its group from its message.
+pub fn read_span(alloc: Global, number: u32, bytes: &[u8]) -> Result<ReadSpan, Halt<Cause>>
+    ensures value { IfOk result (λ read. IsReadSpan number read bytes.now) }
     ensures judged { Judges result (Offence messages span_rules bytes.now) }
 {
-    let rows = read_rows::<SpanRows>(alloc, bytes)?;
+    let rows = read_rows(alloc, SpanRows::none(alloc, number), bytes)?;
     span_of(alloc, rows)
 }

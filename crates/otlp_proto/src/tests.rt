@@ -1,6 +1,7 @@
 mod events;
 mod groups;
 mod links;
+mod much;
 mod spans;
 
 use crate::attributes::AttributeRows;
@@ -21,7 +22,7 @@ fn cause_in<T: Drop>(read: Result<T, Halt<Cause>>) -> u8 {
 
 // The attributes of these pairs, and the keys that are noted.
 fn read_pairs(alloc: Global, pairs: &[&[u8]]) -> Result<(Attrs, Items<Text>), Halt<Cause>> {
-    let mut rows = AttributeRows::new(alloc);
+    let mut rows = AttributeRows::none(alloc);
     for held in pairs {
         rows.add(alloc, held)?;
     }

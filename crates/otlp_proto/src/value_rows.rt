@@ -1,14 +1,16 @@
 //! What was gathered of the messages that values are made of, and what it gives.
-ghost use Rattle.std.specs.Prelude.{◌≡◌, ◌++◌, ◌∷◌, [], ℕ, List, OnOk, IfOk};
-ghost use Rattle.proto_wire.specs.Records.{Record};
-ghost use Rattle.proto_wire.specs.Wire.{Wire};
-ghost use Rattle.trace_model.specs.declared.value.Value.TheVariants as values;
-ghost use Rattle.otlp_proto.specs.Rows.{Gave, Singular, MeansText};
-ghost use Rattle.otlp_proto.specs.Values.{leaf, entry, value_at, pair_at, IsListText, IsMapText, value_in, pair_in};
-ghost use Rattle.otlp_proto.specs.ValueRows.{GatheredValue, GatheredList, GatheredMap, GatheredPair};
+ghost use Rattle.std.specs.Prelude.{◌≡◌, ◌++◌, ◌∷◌, [], ℕ, List, IfOk, OnOk};
+ghost use Rattle.span_io.specs.Tables.{Twice};
+ghost use Rattle.otlp_proto.specs.ReadParts.{value_read, key_value_read};
+ghost use Rattle.otlp_proto.specs.RowsSoFar.{Adds, JudgesCause};
+ghost use Rattle.otlp_proto.specs.Values.{Member, string_value, bytes_value, leaf, entry, IsListText, IsMapText};
+ghost use Rattle.otlp_proto.specs.Values.{value_in, key_value_in, value_at, key_value_at};
+ghost use Rattle.otlp_proto.specs.ValuesSoFar.{GatheredList, GatheredMap, GatheredMembers, GatheredValue, GatheredKeyValue};
+ghost use Rattle.otlp_proto.specs.ValuesSoFar.{JudgesMember, SetsLeaf, GivesRead, GivesField};
 
-use crate::noted::{NotedValue, Pair};
-use span_io::{Items, OutOfMemory, Text};
+use crate::noted::{ReadKeyValue, ReadValue};
+use crate::rows::{once, text_of};
+use span_io::{Blob, Cause, Halt, Items, OutOfMemory, Text};
 use std::alloc::Global;
 use trace_model::{Value, attrs_of};
 
@@ -26,17 +28,17 @@ pub struct MapRows {
     noted: Items<Text>,
 }
 
-/// What was gathered of a pair so far.
+/// What was gathered of a `KeyValue` so far.
 #[derive(Debug, Drop)]
-pub struct PairRows {
+pub struct KeyValueRows {
     pub key: Option<Text>,
-    pub value: Option<NotedValue>,
+    pub value: Option<ReadValue>,
 }
 
 impl ListRows {
     /// Nothing was gathered.
-    pub fn new(alloc: Global) -> ListRows
-        ensures { (left : ℕ) → GatheredList left result [] }
+    pub fn none(alloc: Global) -> ListRows
+        ensures { (left : ℕ) → GatheredList left [] result }
     {
         ListRows {
             values: Items::new(alloc),
@@ -45,29 +47,29 @@ impl ListRows {
     }
 
     /// Adds a value.
-    pub fn push(&mut self, reading: NotedValue) -> Result<(), OutOfMemory>
-        ensures values { OnOk result (self.new.values ≡ self.old.values ++ reading.value ∷ []) }
-        ensures noted { OnOk result (self.new.noted ≡ self.old.noted ++ reading.noted) }
+    pub fn push(&mut self, read: ReadValue) -> Result<(), OutOfMemory>
+        ensures values { OnOk result (self.new.values ≡ self.old.values ++ read.value ∷ []) }
+        ensures noted { OnOk result (self.new.noted ≡ self.old.noted ++ read.keys) }
     {
-        self.values.push(reading.value)?;
-        note_all(&mut self.noted, reading.noted)
+        self.values.push(read.value)?;
+        note_all(&mut self.noted, read.keys)
     }
 
     /// The list.
-    pub fn finish(self) -> NotedValue
-        ensures { (left : ℕ) (records : List Record) (text : List ℕ) → Wire records text → GatheredList left self records → IsListText (value_in left) result text }
+    pub fn finish(self) -> ReadValue
+        ensures { GivesRead GatheredList (λ left. IsListText (value_in left)) self (value_read result) }
     {
-        NotedValue {
+        ReadValue {
             value: Value::List(self.values),
-            noted: self.noted,
+            keys: self.noted,
         }
     }
 }
 
 impl MapRows {
     /// Nothing was gathered.
-    pub fn new(alloc: Global) -> MapRows
-        ensures { (left : ℕ) → GatheredMap left result [] }
+    pub fn none(alloc: Global) -> MapRows
+        ensures { (left : ℕ) → GatheredMap left [] result }
     {
         MapRows {
             pairs: Items::new(alloc),
@@ -75,66 +77,96 @@ impl MapRows {
         }
     }
 
-    /// Adds a pair.
-    pub fn push(&mut self, pair: Pair) -> Result<(), OutOfMemory>
-        ensures pairs { OnOk result (self.new.pairs ≡ self.old.pairs ++ entry pair ∷ []) }
-        ensures noted { OnOk result (self.new.noted ≡ self.old.noted ++ pair.reading.noted) }
+    /// Adds a `KeyValue`.
+    pub fn push(&mut self, read: ReadKeyValue) -> Result<(), OutOfMemory>
+        ensures pairs { OnOk result (self.new.pairs ≡ self.old.pairs ++ entry (key_value_read read) ∷ []) }
+        ensures noted { OnOk result (self.new.noted ≡ self.old.noted ++ read.read.keys) }
     {
-        push_pair(&mut self.pairs, &mut self.noted, pair)
+        push_key_value(&mut self.pairs, &mut self.noted, read)
     }
 
     /// The map.
-    pub fn finish(self, alloc: Global) -> Result<NotedValue, OutOfMemory>
-        ensures { (left : ℕ) (records : List Record) (text : List ℕ) → Wire records text → GatheredMap left self records → IfOk result (λ r. IsMapText (pair_in left) r text) }
+    pub fn finish(self, alloc: Global) -> Result<ReadValue, OutOfMemory>
+        ensures { IfOk result (λ r. GivesRead GatheredMap (λ left. IsMapText (key_value_in left)) self (value_read r)) }
     {
         let (attributes, repeated) = attrs_of(alloc, self.pairs)?;
-        let mut noted = self.noted;
-        note_all(&mut noted, repeated)?;
-        Ok(NotedValue {
+        let mut keys = self.noted;
+        note_all(&mut keys, repeated)?;
+        Ok(ReadValue {
             value: Value::Map(attributes),
-            noted,
+            keys,
         })
     }
 }
 
 /// A value in which no key is noted.
-pub fn leaf_of(alloc: Global, value: Value) -> NotedValue
-    ensures { result ≡ leaf value }
+pub fn leaf_of(alloc: Global, value: Value) -> ReadValue
+    ensures { value_read result ≡ leaf value }
 {
-    NotedValue {
+    ReadValue {
         value,
-        noted: Items::new(alloc),
+        keys: Items::new(alloc),
     }
 }
 
+/// Sets the row of a value by a member that needs no more memory.
+pub fn leaf_member(alloc: Global, row: &mut Option<ReadValue>, value: Value) -> Result<(), Cause>
+    ensures ok { OnOk result (SetsLeaf value row.old row.new) }
+    ensures judged { (left : ℕ) (ms : List Member) → GatheredMembers left ms row.old → JudgesCause result (Twice ms) }
+{
+    once(row)?;
+    *row = Some(leaf_of(alloc, value));
+    Ok(())
+}
+
+/// Sets the row of a value by a text.
+pub fn text_member(
+    alloc: Global,
+    row: &mut Option<ReadValue>,
+    held: &[u8],
+) -> Result<(), Halt<Cause>>
+    ensures ok { OnOk result ((left : ℕ) → Adds (GatheredMembers left) (string_value held.now) row.old row.new) }
+    ensures judged { (left : ℕ) → JudgesMember left row.old (string_value held.now) result }
+{
+    once(row)?;
+    *row = Some(leaf_of(alloc, Value::Text(text_of(alloc, held)?)));
+    Ok(())
+}
+
+/// Sets the row of a value by bytes.
+pub fn bytes_member(
+    alloc: Global,
+    row: &mut Option<ReadValue>,
+    held: &[u8],
+) -> Result<(), Halt<Cause>>
+    ensures ok { OnOk result ((left : ℕ) → Adds (GatheredMembers left) (bytes_value held.now) row.old row.new) }
+    ensures judged { (left : ℕ) → JudgesMember left row.old (bytes_value held.now) result }
+{
+    once(row)?;
+    let mut bytes = Blob::new(alloc);
+    bytes.append(held)?;
+    *row = Some(leaf_of(alloc, Value::Bytes(bytes)));
+    Ok(())
+}
+
 /// The value of its row.
-pub fn value_of(alloc: Global, row: Option<NotedValue>) -> NotedValue
-    ensures message { (left : ℕ) (records : List Record) (text : List ℕ) → Wire records text → GatheredValue left row records → value_at left result text }
-    ensures field { (left : ℕ) (held : List (List ℕ)) → Gave (λ h r. value_at left r h) held row → Singular (λ h r. value_at left r h) (λ r. r ≡ leaf values.Nothing) held result }
+pub fn value_of(alloc: Global, row: Option<ReadValue>) -> ReadValue
+    ensures message { GivesRead GatheredValue value_at row (value_read result) }
+    ensures field { GivesField row (value_read result) }
 {
     match row {
-        Some(reading) => reading,
+        Some(read) => read,
         None => leaf_of(alloc, Value::Nothing),
     }
 }
 
-// The key of its row.
-fn key_of(alloc: Global, row: Option<Text>) -> Text
-    ensures { (held : List (List ℕ)) → Gave MeansText held row → Singular MeansText (λ key. key ≡ []) held result }
+/// The `KeyValue` of its rows.
+pub fn key_value_of(alloc: Global, rows: KeyValueRows) -> ReadKeyValue
+    ensures { GivesRead GatheredKeyValue key_value_at rows (key_value_read result) }
 {
-    match row {
-        Some(key) => key,
-        None => Text::new(alloc),
-    }
-}
-
-/// The pair of its rows.
-pub fn pair_of(alloc: Global, rows: PairRows) -> Pair
-    ensures { (left : ℕ) (records : List Record) (text : List ℕ) → Wire records text → GatheredPair left rows records → pair_at left result text }
-{
-    Pair {
-        key: key_of(alloc, rows.key),
-        reading: value_of(alloc, rows.value),
+    ReadKeyValue {
+        key: rows.key.unwrap_or(Text::new(alloc)),
+        read: value_of(alloc, rows.value),
     }
 }
 
@@ -149,15 +181,15 @@ pub fn note_all(noted: &mut Items<Text>, more: Items<Text>) -> Result<(), OutOfM
 }
 
 /// Adds a pair to what was gathered of others.
-pub fn push_pair(
+pub fn push_key_value(
     pairs: &mut Items<(Text, Value)>,
     noted: &mut Items<Text>,
-    pair: Pair,
+    pair: ReadKeyValue,
 ) -> Result<(), OutOfMemory>
-    ensures pairs { OnOk result (pairs.new ≡ pairs.old ++ entry pair ∷ []) }
-    ensures noted { OnOk result (noted.new ≡ noted.old ++ pair.reading.noted) }
+    ensures pairs { OnOk result (pairs.new ≡ pairs.old ++ entry (key_value_read pair) ∷ []) }
+    ensures noted { OnOk result (noted.new ≡ noted.old ++ (key_value_read pair).value.notes) }
 {
-    let reading = pair.reading;
-    pairs.push((pair.key, reading.value))?;
-    note_all(noted, reading.noted)
+    let read = pair.read;
+    pairs.push((pair.key, read.value))?;
+    note_all(noted, read.keys)
 }

@@ -2,13 +2,12 @@
 mod elements;
 mod fields;
 mod groups;
-mod laws;
 mod parts;
+mod sizes;
 mod spans;
 mod values;
 
 pub use groups::write_group;
-pub use laws::values_by_members;
 
 #[cfg(test)]
 mod tests;

@@ -30,7 +30,7 @@ fn reads_an_event(rt: HostRuntime) {
             assert_eq!(rt; key.as_str(), "k");
             assert!(rt; matches!(value, Value::Number(1)));
         }
-        assert_eq!(rt; read.noted.len(), 0);
+        assert_eq!(rt; read.keys.len(), 0);
     }
 }
 
@@ -43,18 +43,6 @@ fn an_empty_event_has_defaults(rt: HostRuntime) {
     assert_eq!(rt; read.event.name.len(), 0);
     assert_eq!(rt; read.event.attributes.len(), 0);
     assert_eq!(rt; read.event.dropped, 0);
-}
-
-#[test]
-fn notes_equal_keys_of_an_event(rt: HostRuntime) {
-    let Ok(read) = read_event(
-        rt.alloc(),
-        &[0x1a, 3, 0x0a, 1, b'k', 0x1a, 3, 0x0a, 1, b'k'],
-    ) else {
-        panic!(rt; "refused");
-    };
-    assert_eq!(rt; read.event.attributes.len(), 1);
-    assert_eq!(rt; read.noted.len(), 1);
 }
 
 #[test]

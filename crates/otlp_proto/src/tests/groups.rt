@@ -47,18 +47,6 @@ fn stand_at(remarks: &Items<Remark>, places: &[Place]) -> bool {
 }
 
 #[test]
-fn an_empty_group_has_defaults(rt: HostRuntime) {
-    let Ok((group, remarks)) = read_group(rt.alloc(), &[]) else {
-        panic!(rt; "refused");
-    };
-    assert_eq!(rt; group.resource.len(), 0);
-    assert_eq!(rt; group.dropped, 0);
-    assert_eq!(rt; group.schema_url.len(), 0);
-    assert_eq!(rt; group.scopes.len(), 0);
-    assert_eq!(rt; remarks.len(), 0);
-}
-
-#[test]
 fn an_empty_scope_has_defaults(rt: HostRuntime) {
     let Ok((group, remarks)) = read_group(rt.alloc(), &[0x12, 0]) else {
         panic!(rt; "refused");
@@ -77,7 +65,7 @@ fn an_empty_scope_has_defaults(rt: HostRuntime) {
 
 #[test]
 fn reads_each_field_of_a_group(rt: HostRuntime) {
-    // a scope with its `schema_url` "u", and an origin "n", "v" with 3 dropped attributes; the
+    // a scope with its `schema_url` "u", and an instrumentation scope "n", "v" with 3 dropped attributes; the
     // group's `schema_url` "g"; a resource with an attribute and 2 dropped ones; a free field 9
     let unit = [
         0x12, 13, 0x1a, 1, b'u', 0x0a, 8, 0x12, 1, b'v', 0x20, 3, 0x0a, 1, b'n', 0x1a, 1, b'g',
@@ -106,9 +94,9 @@ fn the_first_offence_of_a_group_counts(rt: HostRuntime) {
         (&[0x0a, 0, 0x0a, 0, 0x80], 7),
         // a second resource is not looked into
         (&[0x0a, 0, 0x0a, 1, 0x80], 7),
-        // the origin twice, behind a scope
+        // the instrumentation scope twice, behind a scope
         (&[0x12, 0, 0x12, 4, 0x0a, 0, 0x0a, 0], 7),
-        // the name of an origin is no text
+        // the name of an instrumentation scope is no text
         (&[0x12, 5, 0x0a, 3, 0x0a, 1, 0xff], 9),
         // its version twice
         (&[0x12, 6, 0x0a, 4, 0x12, 0, 0x12, 0], 7),
@@ -125,18 +113,6 @@ fn the_first_offence_of_a_group_counts(rt: HostRuntime) {
 }
 
 #[test]
-fn notes_equal_keys_of_a_resource(rt: HostRuntime) -> Result<(), Fail> {
-    let resource = fields(rt.alloc(), 1, &[&PAIR, &PAIR])?;
-    let unit = field(rt.alloc(), 1, resource.as_slice())?;
-    let Ok((group, remarks)) = read_group(rt.alloc(), unit.as_slice()) else {
-        panic!(rt; "refused");
-    };
-    assert_eq!(rt; group.resource.len(), 1);
-    assert!(rt; stand_at(&remarks, &[Place::Resource]));
-    Ok(())
-}
-
-#[test]
 fn remarks_stand_behind_other_scopes(rt: HostRuntime) -> Result<(), Fail> {
     // a scope with two spans, the second with a remark; one with remarks on its own attributes
     // and on its one span; and behind them the resource with a remark
@@ -144,8 +120,8 @@ fn remarks_stand_behind_other_scopes(rt: HostRuntime) -> Result<(), Fail> {
     let mut first = span_field(alloc, &[&PAIR])?;
     first.extend_from_slice(span_field(alloc, &[&PAIR, &PAIR])?.as_slice())?;
     let mut second = span_field(alloc, &[&PAIR, &PAIR])?;
-    let origin = fields(alloc, 3, &[&PAIR, &PAIR])?;
-    second.extend_from_slice(field(alloc, 1, origin.as_slice())?.as_slice())?;
+    let instrumentation = fields(alloc, 3, &[&PAIR, &PAIR])?;
+    second.extend_from_slice(field(alloc, 1, instrumentation.as_slice())?.as_slice())?;
     let mut unit = fields(alloc, 2, &[first.as_slice(), second.as_slice()])?;
     let resource = fields(alloc, 1, &[&PAIR, &PAIR])?;
     unit.extend_from_slice(field(alloc, 1, resource.as_slice())?.as_slice())?;

@@ -36,7 +36,7 @@ fn reads_a_link(rt: HostRuntime) {
             assert_eq!(rt; key.as_str(), "l");
             assert!(rt; matches!(value, Value::Number(2)));
         }
-        assert_eq!(rt; read.noted.len(), 0);
+        assert_eq!(rt; read.keys.len(), 0);
     }
 }
 

@@ -16,7 +16,7 @@ const ID: [u8; 8] = [3, 3, 3, 3, 3, 3, 3, 4];
 
 #[test]
 fn reads_the_smallest_span(rt: HostRuntime) {
-    let Ok(read) = read_span(rt.alloc(), &SMALLEST) else {
+    let Ok(read) = read_span(rt.alloc(), 1, &SMALLEST) else {
         panic!(rt; "refused");
     };
     let span = read.span;
@@ -58,7 +58,7 @@ fn reads_each_field(rt: HostRuntime) -> Result<(), Fail> {
     text.extend_from_slice(&[0x6a, 28])?;
     text.extend_from_slice(SMALLEST.get(..28).unwrap_or(&[]))?;
     text.extend_from_slice(&[0x7a, 2, 0x18, 2, 0x85, 1, 1, 3, 0, 0])?;
-    let Ok(read) = read_span(rt.alloc(), text.as_slice()) else {
+    let Ok(read) = read_span(rt.alloc(), 1, text.as_slice()) else {
         panic!(rt; "refused");
     };
     let span = read.span;
@@ -112,7 +112,7 @@ fn judges_what_is_added(rt: HostRuntime) -> Result<(), Fail> {
         let mut text = Vec::new(rt.alloc());
         text.extend_from_slice(&SMALLEST)?;
         text.extend_from_slice(more)?;
-        assert_eq!(rt; cause_in(read_span(rt.alloc(), text.as_slice())), number);
+        assert_eq!(rt; cause_in(read_span(rt.alloc(), 1, text.as_slice())), number);
     }
     Ok(())
 }
@@ -120,16 +120,16 @@ fn judges_what_is_added(rt: HostRuntime) -> Result<(), Fail> {
 #[test]
 fn a_span_has_both_identifiers(rt: HostRuntime) {
     let trace_alone = SMALLEST.get(..18).unwrap_or(&[]);
-    assert_eq!(rt; cause_in(read_span(rt.alloc(), trace_alone)), 12);
+    assert_eq!(rt; cause_in(read_span(rt.alloc(), 1, trace_alone)), 12);
     let span_alone = SMALLEST.get(18..).unwrap_or(&[]);
-    assert_eq!(rt; cause_in(read_span(rt.alloc(), span_alone)), 12);
+    assert_eq!(rt; cause_in(read_span(rt.alloc(), 1, span_alone)), 12);
     // an identifier of zeros is none
     let zeros = [
         0x0a, 16, 1, 1, 1, 1, 1, 1, 1, 1, 1, 1, 1, 1, 1, 1, 1, 2, 0x12, 8, 0, 0, 0, 0, 0, 0, 0, 0,
     ];
-    assert_eq!(rt; cause_in(read_span(rt.alloc(), &zeros)), 12);
+    assert_eq!(rt; cause_in(read_span(rt.alloc(), 1, &zeros)), 12);
     // at one place the least number counts: here the span's last record ends inside
-    assert_eq!(rt; cause_in(read_span(rt.alloc(), &[0x0a])), 1);
+    assert_eq!(rt; cause_in(read_span(rt.alloc(), 1, &[0x0a])), 1);
 }
 
 #[test]
@@ -145,7 +145,7 @@ fn remarks_on_a_span(rt: HostRuntime) -> Result<(), Fail> {
     text.extend_from_slice(&[0x1a, 3, 0x0a, 1, b'e', 0x1a, 3, 0x0a, 1, b'e'])?;
     // the key "k" twice
     text.extend_from_slice(&[0x4a, 3, 0x0a, 1, b'k', 0x4a, 3, 0x0a, 1, b'k'])?;
-    let Ok(read) = read_span(rt.alloc(), text.as_slice()) else {
+    let Ok(read) = read_span(rt.alloc(), 1, text.as_slice()) else {
         panic!(rt; "refused");
     };
     let wanted = [

@@ -1,11 +1,10 @@
 //! Fields that are left out where they are their default.
-ghost use Rattle.std.specs.Prelude.{◌≡◌, ◌+◌, ◌++◌, ℕ, List, length, IfOk, OnOk, OnErr};
+ghost use Rattle.std.specs.Prelude.{◌≡◌, ◌++◌, length, OnOk, OnErr};
 ghost use Rattle.span_io.specs.Outside.{GrowsFront};
 ghost use Rattle.proto_wire.specs.Records.{IsFieldNumber};
-ghost use Rattle.otlp_proto.specs.Texts.{bytes_field, filled_field, count_field, time_field, flags_field, trace_field, span_field, parent_field};
+ghost use Rattle.otlp_proto.specs.Texts.{filled_field, count_field, time_field, flags_field, trace_field, span_field, parent_field};
 
-use proto_wire::laws::shortest_record;
-use proto_wire::{Payload, opening_size, record_size, write_record};
+use proto_wire::{Payload, record_size, write_record};
 use span_ids::{Nanos, SpanId, TraceId};
 use span_io::{Blob, OutOfMemory, Text};
 
@@ -149,31 +148,4 @@ pub fn parent_size(number: u32, parent: Option<SpanId>) -> u64
         Some(id) => span_id_size(number, id),
         None => 0,
     }
-}
-
-/// The number of bytes of a field that holds a message of `size` bytes.
-pub fn enclosed_size(number: u32, size: u64) -> Result<u64, OutOfMemory>
-    requires { IsFieldNumber number }
-    ensures { (held : List ℕ) → size ≡ length held → IfOk result (λ total. total ≡ length (bytes_field number held)) }
-{
-    shortest_record();
-    sum(opening_size(number, size), size)
-}
-
-/// The same, unless the message is empty.
-pub fn filled_size(number: u32, size: u64) -> Result<u64, OutOfMemory>
-    requires { IsFieldNumber number }
-    ensures { (held : List ℕ) → size ≡ length held → IfOk result (λ total. total ≡ length (filled_field number held)) }
-{
-    match size {
-        0 => Ok(0),
-        _ => enclosed_size(number, size),
-    }
-}
-
-/// The sum of two sizes. Where it passes 64 bits no memory could hold so many bytes.
-pub fn sum(a: u64, b: u64) -> Result<u64, OutOfMemory>
-    ensures { IfOk result (λ total. total ≡ a + b) }
-{
-    a.checked_add(b).ok_or(OutOfMemory)
 }

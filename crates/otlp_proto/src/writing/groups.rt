@@ -1,33 +1,32 @@
 //! Scopes and groups.
-ghost use Rattle.std.specs.Prelude.{◌≡◌, ◌++◌, length, IfOk, OnOk, OnErr};
+ghost use Rattle.std.specs.Prelude.{◌≡◌, ◌++◌, OnOk, OnErr};
 ghost use Rattle.span_io.specs.Outside.{GrowsFront};
-ghost use Rattle.otlp_proto.specs.Texts.{filled_field, origin_text, resource_text, group_record};
+ghost use Rattle.otlp_proto.specs.Texts.{filled_field, instrumentation_scope_text, resource_text, group_record, size_of};
 
 use crate::writing::elements::{Message, elements_size, write_element, write_elements};
-use crate::writing::fields::{count_size, filled_size, sum, text_size, write_count, write_text};
+use crate::writing::fields::{count_size, text_size, write_count, write_text};
+use crate::writing::sizes::{filled_size, open_field, sum};
 use crate::writing::values::{attributes_size, write_attributes};
-use proto_wire::write_opening;
 use span_io::{Blob, OutOfMemory};
 use trace_model::{Group, Scope};
 
 // The number of bytes of the instrumentation scope.
-#[tactic(auto, using(crate::proofs::Growth::in_pieces), unfolding(crate::specs::Texts::origin_text))]
-fn origin_size(scope: &Scope) -> Result<u64, OutOfMemory>
-    ensures { IfOk result (λ size. size ≡ length (origin_text scope.now)) }
+fn instrumentation_scope_size(scope: &Scope) -> u64
+    ensures { result ≡ size_of (instrumentation_scope_text scope.now) }
 {
-    let counted = sum(
-        attributes_size(3, scope.attributes.as_slice())?,
+    sum(&[
+        text_size(1, &scope.name),
+        text_size(2, &scope.version),
+        attributes_size(3, scope.attributes.as_slice()),
         count_size(4, scope.dropped),
-    )?;
-    let behind = sum(text_size(2, &scope.version), counted)?;
-    sum(text_size(1, &scope.name), behind)
+    ])
 }
 
 // Appends the instrumentation scope.
-#[tactic(auto, using(crate::proofs::Growth::in_pieces), unfolding(crate::specs::Texts::origin_text))]
-fn write_origin(out: &mut Blob, scope: &Scope) -> Result<(), OutOfMemory>
-    ensures ok { OnOk result (out.new ≡ out.old ++ origin_text scope.now) }
-    ensures err { OnErr result (GrowsFront out.old out.new (origin_text scope.now)) }
+#[tactic(auto, using(crate::proofs::Growth::in_pieces), unfolding(crate::specs::Texts::instrumentation_scope_text))]
+fn write_instrumentation_scope(out: &mut Blob, scope: &Scope) -> Result<(), OutOfMemory>
+    ensures ok { OnOk result (out.new ≡ out.old ++ instrumentation_scope_text scope.now) }
+    ensures err { OnErr result (GrowsFront out.old out.new (instrumentation_scope_text scope.now)) }
 {
     write_text(out, 1, &scope.name)?;
     write_text(out, 2, &scope.version)?;
@@ -37,25 +36,27 @@ fn write_origin(out: &mut Blob, scope: &Scope) -> Result<(), OutOfMemory>
 
 // Appends the instrumentation scope as a field, unless all of it is left out.
 #[tactic(auto, using(crate::proofs::Growth::in_field))]
-fn write_origin_field(out: &mut Blob, scope: &Scope) -> Result<(), OutOfMemory>
-    ensures ok { OnOk result (out.new ≡ out.old ++ filled_field 1 (origin_text scope.now)) }
-    ensures err { OnErr result (GrowsFront out.old out.new (filled_field 1 (origin_text scope.now))) }
+fn write_scope_field(out: &mut Blob, scope: &Scope) -> Result<(), OutOfMemory>
+    ensures ok { OnOk result (out.new ≡ out.old ++ filled_field 1 (instrumentation_scope_text scope.now)) }
+    ensures err { OnErr result (GrowsFront out.old out.new (filled_field 1 (instrumentation_scope_text scope.now))) }
 {
-    let size = origin_size(scope)?;
+    let size = instrumentation_scope_size(scope);
     if size == 0 {
         return Ok(());
     }
-    write_opening(out, 1, size)?;
-    write_origin(out, scope)
+    open_field(out, 1, size)?;
+    write_instrumentation_scope(out, scope)
 }
 
 // The number of bytes of the resource.
-#[tactic(auto, using(crate::proofs::Growth::in_pieces), unfolding(crate::specs::Texts::resource_text))]
-fn resource_size(group: &Group) -> Result<u64, OutOfMemory>
-    ensures { IfOk result (λ size. size ≡ length (resource_text group.now)) }
+#[tactic(auto, using(crate::proofs::Sizes::in_row), unfolding(crate::specs::Texts::resource_text))]
+fn resource_size(group: &Group) -> u64
+    ensures { result ≡ size_of (resource_text group.now) }
 {
-    let attributes = attributes_size(1, group.resource.as_slice())?;
-    sum(attributes, count_size(2, group.dropped))
+    sum(&[
+        attributes_size(1, group.resource.as_slice()),
+        count_size(2, group.dropped),
+    ])
 }
 
 // Appends the resource.
@@ -74,11 +75,11 @@ fn write_resource_field(out: &mut Blob, group: &Group) -> Result<(), OutOfMemory
     ensures ok { OnOk result (out.new ≡ out.old ++ filled_field 1 (resource_text group.now)) }
     ensures err { OnErr result (GrowsFront out.old out.new (filled_field 1 (resource_text group.now))) }
 {
-    let size = resource_size(group)?;
+    let size = resource_size(group);
     if size == 0 {
         return Ok(());
     }
-    write_opening(out, 1, size)?;
+    open_field(out, 1, size)?;
     write_resource(out, group)
 }
 
@@ -87,16 +88,17 @@ impl Message for Scope {
 
     ghost text = { scope_text };
 
-    #[tactic(auto, using(crate::proofs::Growth::in_pieces), unfolding(crate::specs::Texts::scope_text))]
-    fn size(&self) -> Result<u64, OutOfMemory> {
-        let origin = filled_size(1, origin_size(self)?)?;
-        let spans = elements_size(2, self.spans.as_slice())?;
-        sum(origin, sum(spans, text_size(3, &self.schema_url))?)
+    fn size(&self) -> u64 {
+        sum(&[
+            filled_size(1, instrumentation_scope_size(self)),
+            elements_size(2, self.spans.as_slice()),
+            text_size(3, &self.schema_url),
+        ])
     }
 
     #[tactic(auto, using(crate::proofs::Growth::in_pieces), unfolding(crate::specs::Texts::scope_text))]
     fn write(&self, out: &mut Blob) -> Result<(), OutOfMemory> {
-        write_origin_field(out, self)?;
+        write_scope_field(out, self)?;
         write_elements(out, 2, self.spans.as_slice())?;
         write_text(out, 3, &self.schema_url)
     }
@@ -107,11 +109,12 @@ impl Message for Group {
 
     ghost text = { group_text };
 
-    #[tactic(auto, using(crate::proofs::Growth::in_pieces), unfolding(crate::specs::Texts::group_text))]
-    fn size(&self) -> Result<u64, OutOfMemory> {
-        let resource = filled_size(1, resource_size(self)?)?;
-        let scopes = elements_size(2, self.scopes.as_slice())?;
-        sum(resource, sum(scopes, text_size(3, &self.schema_url))?)
+    fn size(&self) -> u64 {
+        sum(&[
+            filled_size(1, resource_size(self)),
+            elements_size(2, self.scopes.as_slice()),
+            text_size(3, &self.schema_url),
+        ])
     }
 
     #[tactic(auto, using(crate::proofs::Growth::in_pieces), unfolding(crate::specs::Texts::group_text))]

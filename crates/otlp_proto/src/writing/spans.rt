@@ -1,15 +1,16 @@
-//! Spans, in four parts.
-ghost use Rattle.std.specs.Prelude.{◌≡◌, ◌++◌, length, IfOk, OnOk, OnErr};
+//! Spans.
+ghost use Rattle.std.specs.Prelude.{◌≡◌, ◌++◌, OnOk, OnErr};
 ghost use Rattle.span_io.specs.Outside.{GrowsFront};
-ghost use Rattle.otlp_proto.specs.Texts.{kind_number, identity_text, course_text, happenings_text, outcome_text};
+ghost use Rattle.otlp_proto.specs.Texts.{kind_number, filled_field, count_field, time_field, flags_field, trace_field, span_field, parent_field, list_text, attributes_text, status_text, event_text, link_text};
 
 use crate::writing::elements::{
     Message, elements_size, message_size, write_elements, write_filled,
 };
 use crate::writing::fields::{
-    count_size, flags_size, parent_size, span_id_size, sum, text_size, time_size, trace_size,
+    count_size, flags_size, parent_size, span_id_size, text_size, time_size, trace_size,
     write_count, write_flags, write_parent, write_span_id, write_text, write_time, write_trace,
 };
+use crate::writing::sizes::sum;
 use crate::writing::values::{attributes_size, write_attributes};
 use span_io::{Blob, OutOfMemory};
 use trace_model::{Kind, Span};
@@ -27,21 +28,18 @@ fn number_of(kind: Kind) -> u32
     }
 }
 
-// The number of bytes of the identifiers of a span.
-#[tactic(auto, using(crate::proofs::Growth::in_pieces), unfolding(crate::specs::Texts::identity_text))]
-fn identity_size(span: &Span) -> Result<u64, OutOfMemory>
-    ensures { IfOk result (λ size. size ≡ length (identity_text span.now)) }
-{
-    let stated = sum(text_size(3, &span.state), parent_size(4, span.parent))?;
-    let own = sum(span_id_size(2, span.id), stated)?;
-    sum(trace_size(1, span.trace), own)
-}
+// The sixteen fields of a span, in their order: four functions with four each, since the prover doesn't
+// take sixteen `?` at once.
 
-// Appends the identifiers of a span.
-#[tactic(auto, using(crate::proofs::Growth::in_pieces), unfolding(crate::specs::Texts::identity_text))]
-fn write_identity(out: &mut Blob, span: &Span) -> Result<(), OutOfMemory>
-    ensures ok { OnOk result (out.new ≡ out.old ++ identity_text span.now) }
-    ensures err { OnErr result (GrowsFront out.old out.new (identity_text span.now)) }
+// Appends the fields 1 to 4 of a span.
+#[tactic(auto, using(crate::proofs::Growth::in_pieces))]
+fn write_fields_1_to_4(out: &mut Blob, span: &Span) -> Result<(), OutOfMemory>
+    ensures ok { OnOk result (out.new ≡ out.old
+        ++ (trace_field 1 span.now.trace ++ (span_field 2 span.now.id
+        ++ (filled_field 3 span.now.state ++ parent_field 4 span.now.parent)))) }
+    ensures err { OnErr result (GrowsFront out.old out.new
+        (trace_field 1 span.now.trace ++ (span_field 2 span.now.id
+        ++ (filled_field 3 span.now.state ++ parent_field 4 span.now.parent)))) }
 {
     write_trace(out, 1, span.trace)?;
     write_span_id(out, 2, span.id)?;
@@ -49,21 +47,15 @@ fn write_identity(out: &mut Blob, span: &Span) -> Result<(), OutOfMemory>
     write_parent(out, 4, span.parent)
 }
 
-// The number of bytes of the name, the kind and the times of a span.
-#[tactic(auto, using(crate::proofs::Growth::in_pieces), unfolding(crate::specs::Texts::course_text))]
-fn course_size(span: &Span) -> Result<u64, OutOfMemory>
-    ensures { IfOk result (λ size. size ≡ length (course_text span.now)) }
-{
-    let times = sum(time_size(7, span.start), time_size(8, span.end))?;
-    let kind = sum(count_size(6, number_of(span.kind)), times)?;
-    sum(text_size(5, &span.name), kind)
-}
-
-// Appends the name, the kind and the times of a span.
-#[tactic(auto, using(crate::proofs::Growth::in_pieces), unfolding(crate::specs::Texts::course_text))]
-fn write_course(out: &mut Blob, span: &Span) -> Result<(), OutOfMemory>
-    ensures ok { OnOk result (out.new ≡ out.old ++ course_text span.now) }
-    ensures err { OnErr result (GrowsFront out.old out.new (course_text span.now)) }
+// Appends the fields 5 to 8 of a span.
+#[tactic(auto, using(crate::proofs::Growth::in_pieces))]
+fn write_fields_5_to_8(out: &mut Blob, span: &Span) -> Result<(), OutOfMemory>
+    ensures ok { OnOk result (out.new ≡ out.old
+        ++ (filled_field 5 span.now.name ++ (count_field 6 (kind_number span.now.kind)
+        ++ (time_field 7 span.now.start ++ time_field 8 span.now.end)))) }
+    ensures err { OnErr result (GrowsFront out.old out.new
+        (filled_field 5 span.now.name ++ (count_field 6 (kind_number span.now.kind)
+        ++ (time_field 7 span.now.start ++ time_field 8 span.now.end)))) }
 {
     write_text(out, 5, &span.name)?;
     write_count(out, 6, number_of(span.kind))?;
@@ -71,22 +63,15 @@ fn write_course(out: &mut Blob, span: &Span) -> Result<(), OutOfMemory>
     write_time(out, 8, span.end)
 }
 
-// The number of bytes of the attributes and the events of a span.
-#[tactic(auto, using(crate::proofs::Growth::in_pieces), unfolding(crate::specs::Texts::happenings_text))]
-fn happenings_size(span: &Span) -> Result<u64, OutOfMemory>
-    ensures { IfOk result (λ size. size ≡ length (happenings_text span.now)) }
-{
-    let events = elements_size(11, span.events.as_slice())?;
-    let counted = sum(events, count_size(12, span.dropped_events))?;
-    let behind = sum(count_size(10, span.dropped_attributes), counted)?;
-    sum(attributes_size(9, span.attributes.as_slice())?, behind)
-}
-
-// Appends the attributes and the events of a span.
-#[tactic(auto, using(crate::proofs::Growth::in_pieces), unfolding(crate::specs::Texts::happenings_text))]
-fn write_happenings(out: &mut Blob, span: &Span) -> Result<(), OutOfMemory>
-    ensures ok { OnOk result (out.new ≡ out.old ++ happenings_text span.now) }
-    ensures err { OnErr result (GrowsFront out.old out.new (happenings_text span.now)) }
+// Appends the fields 9 to 12 of a span.
+#[tactic(auto, using(crate::proofs::Growth::in_pieces))]
+fn write_fields_9_to_12(out: &mut Blob, span: &Span) -> Result<(), OutOfMemory>
+    ensures ok { OnOk result (out.new ≡ out.old
+        ++ (attributes_text 9 span.now.attributes ++ (count_field 10 span.now.dropped_attributes
+        ++ (list_text 11 event_text span.now.events ++ count_field 12 span.now.dropped_events)))) }
+    ensures err { OnErr result (GrowsFront out.old out.new
+        (attributes_text 9 span.now.attributes ++ (count_field 10 span.now.dropped_attributes
+        ++ (list_text 11 event_text span.now.events ++ count_field 12 span.now.dropped_events)))) }
 {
     write_attributes(out, 9, span.attributes.as_slice())?;
     write_count(out, 10, span.dropped_attributes)?;
@@ -94,22 +79,15 @@ fn write_happenings(out: &mut Blob, span: &Span) -> Result<(), OutOfMemory>
     write_count(out, 12, span.dropped_events)
 }
 
-// The number of bytes of the links, the status and the flags of a span.
-#[tactic(auto, using(crate::proofs::Growth::in_pieces), unfolding(crate::specs::Texts::outcome_text))]
-fn outcome_size(span: &Span) -> Result<u64, OutOfMemory>
-    ensures { IfOk result (λ size. size ≡ length (outcome_text span.now)) }
-{
-    let status = message_size(15, &span.status)?;
-    let flagged = sum(status, flags_size(16, span.flags))?;
-    let behind = sum(count_size(14, span.dropped_links), flagged)?;
-    sum(elements_size(13, span.links.as_slice())?, behind)
-}
-
-// Appends the links, the status and the flags of a span.
-#[tactic(auto, using(crate::proofs::Growth::in_pieces), unfolding(crate::specs::Texts::outcome_text))]
-fn write_outcome(out: &mut Blob, span: &Span) -> Result<(), OutOfMemory>
-    ensures ok { OnOk result (out.new ≡ out.old ++ outcome_text span.now) }
-    ensures err { OnErr result (GrowsFront out.old out.new (outcome_text span.now)) }
+// Appends the fields 13 to 16 of a span.
+#[tactic(auto, using(crate::proofs::Growth::in_pieces))]
+fn write_fields_13_to_16(out: &mut Blob, span: &Span) -> Result<(), OutOfMemory>
+    ensures ok { OnOk result (out.new ≡ out.old
+        ++ (list_text 13 link_text span.now.links ++ (count_field 14 span.now.dropped_links
+        ++ (filled_field 15 (status_text span.now.status) ++ flags_field 16 span.now.flags)))) }
+    ensures err { OnErr result (GrowsFront out.old out.new
+        (list_text 13 link_text span.now.links ++ (count_field 14 span.now.dropped_links
+        ++ (filled_field 15 (status_text span.now.status) ++ flags_field 16 span.now.flags)))) }
 {
     write_elements(out, 13, span.links.as_slice())?;
     write_count(out, 14, span.dropped_links)?;
@@ -122,17 +100,32 @@ impl Message for Span {
 
     ghost text = { span_text };
 
-    #[tactic(auto, using(crate::proofs::Growth::in_pieces), unfolding(crate::specs::Texts::span_text))]
-    fn size(&self) -> Result<u64, OutOfMemory> {
-        let behind = sum(happenings_size(self)?, outcome_size(self)?)?;
-        sum(identity_size(self)?, sum(course_size(self)?, behind)?)
+    fn size(&self) -> u64 {
+        sum(&[
+            trace_size(1, self.trace),
+            span_id_size(2, self.id),
+            text_size(3, &self.state),
+            parent_size(4, self.parent),
+            text_size(5, &self.name),
+            count_size(6, number_of(self.kind)),
+            time_size(7, self.start),
+            time_size(8, self.end),
+            attributes_size(9, self.attributes.as_slice()),
+            count_size(10, self.dropped_attributes),
+            elements_size(11, self.events.as_slice()),
+            count_size(12, self.dropped_events),
+            elements_size(13, self.links.as_slice()),
+            count_size(14, self.dropped_links),
+            message_size(15, &self.status),
+            flags_size(16, self.flags),
+        ])
     }
 
-    #[tactic(auto, using(crate::proofs::Growth::in_pieces), unfolding(crate::specs::Texts::span_text))]
+    #[tactic(auto, using(crate::proofs::SpanFields::by_fours))]
     fn write(&self, out: &mut Blob) -> Result<(), OutOfMemory> {
-        write_identity(out, self)?;
-        write_course(out, self)?;
-        write_happenings(out, self)?;
-        write_outcome(out, self)
+        write_fields_1_to_4(out, self)?;
+        write_fields_5_to_8(out, self)?;
+        write_fields_9_to_12(out, self)?;
+        write_fields_13_to_16(out, self)
     }
 }

@@ -1,5 +1,5 @@
-use crate::canonical::written_again;
-use crate::{values_by_members, write_group};
+use crate::laws::values_by_members;
+use crate::write_group;
 use span_ids::{Nanos, SpanId, TraceId};
 use span_io::{Blob, Items, OutOfMemory, Text};
 use std::alloc::Global;
@@ -246,6 +246,5 @@ fn writes_values(rt: HostRuntime) -> Result<(), Fail> {
     write_group(&mut out, &group)?;
     assert_eq!(rt; out.as_slice(), VALUES);
     values_by_members();
-    written_again();
     Ok(())
 }

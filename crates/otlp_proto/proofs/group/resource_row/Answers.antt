@@ -2,20 +2,22 @@ use Rattle.std.proofs.Common.{rules}
 use Rattle.std.proofs.lemmas.Result.{err_from_is_err_and}
 use Rattle.span_io.specs.Offences.{Offence}
 use Rattle.span_io.specs.OffenceLaws.{judged_inside, none_in_item}
+use Rattle.span_io.specs.Tables.{Twice}
 use Rattle.proto_wire.specs.Messages.{messages}
-use Rattle.otlp_proto.specs.declared.noted.NotedResource.{NotedResource}
-use Rattle.otlp_proto.specs.Rows.{Twice}
+use Rattle.otlp_proto.specs.declared.noted.ReadResource.{ReadResource}
 use Rattle.otlp_proto.specs.Group.{resource_rules}
-use Rattle.otlp_proto.specs.GroupRows.{MeansResource}
+use Rattle.otlp_proto.specs.GroupSoFar.{MeansResource}
 use Rattle.otlp_proto.proofs.RowLemmas.{first_record}
 use Rattle.otlp_proto.proofs.group.resource_row.Goals as goal
 
 pub returns-in_err-read_resource-clause-judged : goal.returns-in_err-read_resource-clause-judged
 returns-in_err-read_resource-clause-judged c = λ earlier gave.
-    let p = err_from_is_err_and c.from_residual.result c.from_residual.ensures.1 in
-    rw (p.1, p.2) (judged_inside (λ n. Twice earlier n) (Offence messages resource_rules c.args.held.now) NotedResource Unit c.in_err-read_resource.field-0.0
+    let answered = c.from_residual-in_err-read_resource in
+    let p = err_from_is_err_and answered.result answered.ensures.1 in
+    rw (p.1, p.2) (judged_inside (Twice earlier) (Offence messages resource_rules c.args.held.now) ReadResource Unit c.in_err-read_resource.field-0.0
     (first_record MeansResource earlier c.args.row.now (search rules) gave) c.in_err-read_resource.ensures.judged)
 
 pub returns-clause-judged : goal.returns-clause-judged
 returns-clause-judged c = λ earlier gave.
-    none_in_item (λ n. Twice earlier n) (Offence messages resource_rules c.args.held.now) (first_record MeansResource earlier c.args.row.now (search rules) gave) c.in_ok-read_resource.ensures.judged
+    none_in_item (Twice earlier) (Offence messages resource_rules c.args.held.now) (first_record MeansResource earlier c.args.row.now (search rules) gave)
+    c.in_ok-read_resource.ensures.judged

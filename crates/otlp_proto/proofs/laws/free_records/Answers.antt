@@ -1,39 +1,32 @@
-use Rattle.otlp_proto.specs.Event.{IsEvent}
-use Rattle.otlp_proto.specs.FreeRecords.{event_table, link_table, status_table, span_table, origin_table, scope_table, resource_table, group_table}
-use Rattle.otlp_proto.specs.Group.{IsResource, IsGroup}
-use Rattle.otlp_proto.specs.Link.{IsLink}
-use Rattle.otlp_proto.specs.Scope.{IsOrigin, IsScope}
-use Rattle.otlp_proto.specs.Span.{IsSpan}
-use Rattle.otlp_proto.specs.Status.{IsStatus}
-use Rattle.otlp_proto.proofs.FreeLaws.{free_reading, free_in_value, free_in_pair, event_moves, link_moves, status_moves, span_moves, origin_moves, scope_moves, resource_moves, group_moves}
+use Rattle.std.proofs.Common.{List}
+use Rattle.span_io.specs.Tables.{no_ends}
+use Rattle.proto_wire.specs.Records.{Record}
+use Rattle.otlp_proto.specs.Event.{IsEvent, event_table}
+use Rattle.otlp_proto.specs.Group.{IsResource, resource_table, IsGroup, group_table}
+use Rattle.otlp_proto.specs.Link.{IsLink, link_table}
+use Rattle.otlp_proto.specs.Scope.{IsInstrumentationScope, instrumentation_scope_table, IsScope, scope_table}
+use Rattle.otlp_proto.specs.Span.{IsSpan, span_table, span_ends}
+use Rattle.otlp_proto.specs.Status.{IsStatus, status_table}
+use Rattle.otlp_proto.proofs.Bridges.{without_free}
+use Rattle.otlp_proto.proofs.FreeValues.{value_passes, list_passes, map_passes, key_value_passes}
+use Rattle.otlp_proto.proofs.Readings.{Marked, status_bridge, event_bridge, link_bridge, span_bridge, instrumentation_scope_bridge, scope_bridge, resource_bridge, group_bridge}
+use Rattle.otlp_proto.proofs.ValueReadings.{WireFacts}
 use Rattle.otlp_proto.proofs.laws.free_records.Goals as goal
 
-pub returns-clause-value : goal.returns-clause-value
-returns-clause-value c = λ left value before behind free text other. free_in_value c.one_reading.ensures.message left value before behind free text other
-
-pub returns-clause-pair : goal.returns-clause-pair
-returns-clause-pair c = λ left pair before behind free text other. free_in_pair c.one_reading.ensures.message left pair before behind free text other
-
-pub returns-clause-event : goal.returns-clause-event
-returns-clause-event c = λ x. free_reading event_table (IsEvent x) (event_moves x)
-
-pub returns-clause-link : goal.returns-clause-link
-returns-clause-link c = λ x. free_reading link_table (IsLink x) (link_moves x)
-
-pub returns-clause-status : goal.returns-clause-status
-returns-clause-status c = λ x. free_reading status_table (IsStatus x) (status_moves x)
-
-pub returns-clause-span : goal.returns-clause-span
-returns-clause-span c = λ x. free_reading span_table (IsSpan x) (span_moves x)
-
-pub returns-clause-origin : goal.returns-clause-origin
-returns-clause-origin c = λ x. free_reading origin_table (IsOrigin x) (origin_moves x)
-
-pub returns-clause-scope : goal.returns-clause-scope
-returns-clause-scope c = λ x. free_reading scope_table (IsScope x) (scope_moves x)
-
-pub returns-clause-resource : goal.returns-clause-resource
-returns-clause-resource c = λ x. free_reading resource_table (IsResource x) (resource_moves x)
-
-pub returns-clause-group : goal.returns-clause-group
-returns-clause-group c = λ g remarks. free_reading group_table (IsGroup g remarks) (group_moves g remarks)
+pub returns : goal.returns
+returns c =
+    let facts : WireFacts = record { format = c.message_cuts.ensures.laws; one_reading = c.one_reading.ensures.message } in
+    record {
+      value = value_passes facts;
+      list = list_passes facts;
+      map = map_passes facts;
+      key_value = key_value_passes facts;
+      status = without_free status_table no_ends IsStatus status_bridge;
+      event = without_free event_table no_ends IsEvent event_bridge;
+      link = without_free link_table no_ends IsLink link_bridge;
+      span = without_free span_table span_ends IsSpan (span_bridge c.identifiers_read_back.ensures);
+      instrumentation_scope = without_free instrumentation_scope_table no_ends IsInstrumentationScope instrumentation_scope_bridge;
+      scope = without_free scope_table no_ends IsScope scope_bridge;
+      resource = without_free resource_table no_ends IsResource resource_bridge;
+      group = λ remarks g. without_free group_table no_ends (λ (m : Marked) (records : List Record). IsGroup m.means m.notes records) group_bridge (record { means = g; notes = remarks });
+    }

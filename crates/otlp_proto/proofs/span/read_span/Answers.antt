@@ -1,12 +1,23 @@
-use Rattle.std.proofs.Common.{List}
+use Rattle.std.proofs.Common.{ℕ, List, subst}
+use Rattle.std.proofs.lemmas.Result.{IfOk-weaker}
+use Rattle.span_io.specs.Tables.{givens}
 use Rattle.proto_wire.specs.Records.{Record}
-use Rattle.otlp_proto.specs.declared.noted.NotedSpan.{NotedSpan}
-use Rattle.otlp_proto.specs.Span.{span_rules}
-use Rattle.otlp_proto.specs.SpanRows.{GatheredSpan}
-use Rattle.otlp_proto.proofs.SpanLemmas.{judged_end}
+use Rattle.otlp_proto.specs.declared.noted.ReadSpan.{ReadSpan}
+use Rattle.otlp_proto.specs.ReadParts.{IsReadSpan}
+use Rattle.otlp_proto.specs.Span.{span_rules, span_table}
+use Rattle.otlp_proto.specs.SpanSoFar.{GatheredSpan, ReadsSpan}
+use Rattle.otlp_proto.proofs.SpanLemmas.{judged_end, span_read}
 use Rattle.otlp_proto.proofs.span.read_span.Goals as goal
+
+pub returns-clause-value : goal.returns-clause-value
+returns-clause-value c =
+    let all = c.in_ok-rows.ensures.all in
+    IfOk-weaker c.span_of.result (λ read. ReadsSpan c.none.result.number read all.records) (λ read. IsReadSpan c.args.number read c.args.bytes.now)
+    (λ read reads. subst (λ (n : ℕ). IsReadSpan n read c.args.bytes.now) c.none.ensures.number (span_read c.none.result.number read all.records c.args.bytes.now all.wire reads))
+    (c.span_of.ensures.value c.none.result.number all.records all.gathered)
 
 pub returns-clause-judged : goal.returns-clause-judged
 returns-clause-judged c =
     let all = c.in_ok-rows.ensures.all in
-    judged_end span_rules (λ (l : List Record). GatheredSpan c.in_ok-rows.rows l) c.args.bytes.now all NotedSpan c.span_of.result (c.span_of.ensures.ended all.records all.gathered)
+    judged_end span_rules (λ (l : List Record). GatheredSpan c.none.result.number c.in_ok-rows.rows (givens span_table l)) c.args.bytes.now all ReadSpan c.span_of.result
+    (c.span_of.ensures.ended c.none.result.number all.records all.gathered)

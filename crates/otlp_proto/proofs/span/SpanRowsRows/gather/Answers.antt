@@ -1,42 +1,61 @@
-use Rattle.std.proofs.Common.{sym, subst}
-use Rattle.std.proofs.lemmas.Result.{on_ok_weaker}
-use Rattle.span_io.specs.Offences.{ItemOffends, Judges}
-use Rattle.proto_wire.specs.Records.{Record, plain_record}
-use Rattle.otlp_proto.specs.Span.{span_rules}
-use Rattle.otlp_proto.proofs.SpanLemmas.{identity_added, course_added, happenings_added, outcome_added, free_added}
+use Rattle.std.proofs.Common.{◌≡◌, rules, sym, subst}
+use Rattle.span_io.specs.Offences.{HereOrInside, Judges}
+use Rattle.span_io.specs.Tables.{table_here, table_inside}
+use Rattle.proto_wire.specs.Records.{varint, bytes, Record, plain_record}
+use Rattle.otlp_proto.specs.Span.{span_table}
+use Rattle.otlp_proto.proofs.Reading.{judged_at, refused_at, judged_inside_at}
 use Rattle.otlp_proto.proofs.span.SpanRowsRows.gather.Goals as goal
 
-pub returns-in-Identity-clause-ok : goal.returns-in-Identity-clause-ok
-returns-in-Identity-clause-ok c =
-    on_ok_weaker c.gather.result (λ adds seen gathered. identity_added c.args.self.now seen (plain_record c.args.found.now) gathered c.gather.new.self c.in-Identity.field c.in-Identity.ensures (adds seen gathered.identity)) c.gather.ensures.ok
+pub returns-in_err-trace_id_row-in-1-clause-judged : goal.returns-in_err-trace_id_row-in-1-clause-judged
+returns-in_err-trace_id_row-in-1-clause-judged c = λ first seen gathered.
+    let e : plain_record c.args.found.now ≡ record { number = 1; held = bytes c.in-Bytes.held.now } = search rules in
+    refused_at span_table seen (plain_record c.args.found.now) (record { number = 1; held = bytes c.in-Bytes.held.now }) e (λ p m h. h) c.in_err-trace_id_row-in-1.field-0.0
+    (c.in_err-trace_id_row-in-1.ensures.judged _ gathered.trace) c.from_residual.result c.from_residual.ensures.1
 
-pub returns-in-Identity-clause-judged : goal.returns-in-Identity-clause-judged
-returns-in-Identity-clause-judged c = λ seen gathered.
-    subst (λ (r : Record). Judges c.gather.result (ItemOffends Record span_rules seen r)) (sym c.in-Identity.ensures) (c.gather.ensures.judged seen gathered.identity)
+pub returns-in_err-span_id_row-in-2-clause-judged : goal.returns-in_err-span_id_row-in-2-clause-judged
+returns-in_err-span_id_row-in-2-clause-judged c = λ first seen gathered.
+    let e : plain_record c.args.found.now ≡ record { number = 2; held = bytes c.in-Bytes.held.now } = search rules in
+    refused_at span_table seen (plain_record c.args.found.now) (record { number = 2; held = bytes c.in-Bytes.held.now }) e (λ p m h. h) c.in_err-span_id_row-in-2.field-0.0
+    (c.in_err-span_id_row-in-2.ensures.judged _ gathered.id) c.from_residual-in_err-span_id_row-in-2.result c.from_residual-in_err-span_id_row-in-2.ensures.1
 
-pub returns-in-Course-clause-ok : goal.returns-in-Course-clause-ok
-returns-in-Course-clause-ok c =
-    on_ok_weaker c.gather-in-Course.result (λ adds seen gathered. course_added c.args.self.now seen (plain_record c.args.found.now) gathered c.gather-in-Course.new.self c.in-Course.field c.in-Course.ensures (adds seen gathered.course)) c.gather-in-Course.ensures.ok
+pub returns-in_err-span_id_row-in-4-clause-judged : goal.returns-in_err-span_id_row-in-4-clause-judged
+returns-in_err-span_id_row-in-4-clause-judged c = λ first seen gathered.
+    let e : plain_record c.args.found.now ≡ record { number = 4; held = bytes c.in-Bytes.held.now } = search rules in
+    refused_at span_table seen (plain_record c.args.found.now) (record { number = 4; held = bytes c.in-Bytes.held.now }) e (λ p m h. h) c.in_err-span_id_row-in-4.field-0.0
+    (c.in_err-span_id_row-in-4.ensures.judged _ gathered.parent) c.from_residual-in_err-span_id_row-in-4.result c.from_residual-in_err-span_id_row-in-4.ensures.1
 
-pub returns-in-Course-clause-judged : goal.returns-in-Course-clause-judged
-returns-in-Course-clause-judged c = λ seen gathered.
-    subst (λ (r : Record). Judges c.gather-in-Course.result (ItemOffends Record span_rules seen r)) (sym c.in-Course.ensures) (c.gather-in-Course.ensures.judged seen gathered.course)
+pub returns-in_err-kind_row-in-6-clause-judged : goal.returns-in_err-kind_row-in-6-clause-judged
+returns-in_err-kind_row-in-6-clause-judged c = λ first seen gathered.
+    let e : plain_record c.args.found.now ≡ record { number = 6; held = varint c.in-Varint.n } = search rules in
+    refused_at span_table seen (plain_record c.args.found.now) (record { number = 6; held = varint c.in-Varint.n }) e (λ p m h. h) c.in_err-kind_row-in-6.field-0.0
+    (c.in_err-kind_row-in-6.ensures.judged _ gathered.kind) c.from_residual-in_err-kind_row-in-6.result c.from_residual-in_err-kind_row-in-6.ensures.1
 
-pub returns-in-Happenings-clause-ok : goal.returns-in-Happenings-clause-ok
-returns-in-Happenings-clause-ok c =
-    on_ok_weaker c.gather-in-Happenings.result (λ adds seen gathered. happenings_added c.args.self.now seen (plain_record c.args.found.now) gathered c.gather-in-Happenings.new.self c.in-Happenings.field c.in-Happenings.ensures (adds seen gathered.happenings)) c.gather-in-Happenings.ensures.ok
+pub returns-in-3-clause-judged : goal.returns-in-3-clause-judged
+returns-in-3-clause-judged c = λ first seen gathered.
+    let e : plain_record c.args.found.now ≡ record { number = 3; held = bytes c.in-Bytes.held.now } = search rules in
+    judged_at span_table seen (plain_record c.args.found.now) (record { number = 3; held = bytes c.in-Bytes.held.now }) e (λ p m h. h) c.text_row.result (c.text_row.ensures.judged _ gathered.state)
 
-pub returns-in-Happenings-clause-judged : goal.returns-in-Happenings-clause-judged
-returns-in-Happenings-clause-judged c = λ seen gathered.
-    subst (λ (r : Record). Judges c.gather-in-Happenings.result (ItemOffends Record span_rules seen r)) (sym c.in-Happenings.ensures) (c.gather-in-Happenings.ensures.judged seen gathered.happenings)
+pub returns-in-5-clause-judged : goal.returns-in-5-clause-judged
+returns-in-5-clause-judged c = λ first seen gathered.
+    let e : plain_record c.args.found.now ≡ record { number = 5; held = bytes c.in-Bytes.held.now } = search rules in
+    judged_at span_table seen (plain_record c.args.found.now) (record { number = 5; held = bytes c.in-Bytes.held.now }) e (λ p m h. h) c.text_row-in-5.result (c.text_row-in-5.ensures.judged _ gathered.name)
 
-pub returns-in-Outcome-clause-ok : goal.returns-in-Outcome-clause-ok
-returns-in-Outcome-clause-ok c =
-    on_ok_weaker c.gather-in-Outcome.result (λ adds seen gathered. outcome_added c.args.self.now seen (plain_record c.args.found.now) gathered c.gather-in-Outcome.new.self c.in-Outcome.field c.in-Outcome.ensures (adds seen gathered.outcome)) c.gather-in-Outcome.ensures.ok
+pub returns-in-9-clause-judged : goal.returns-in-9-clause-judged
+returns-in-9-clause-judged c = λ first seen gathered.
+    let e : plain_record c.args.found.now ≡ record { number = 9; held = bytes c.in-Bytes.held.now } = search rules in
+    judged_inside_at span_table seen (plain_record c.args.found.now) (record { number = 9; held = bytes c.in-Bytes.held.now }) e (λ m h. h) c.add.result c.add.ensures.judged
 
-pub returns-in-Outcome-clause-judged : goal.returns-in-Outcome-clause-judged
-returns-in-Outcome-clause-judged c = λ seen gathered.
-    subst (λ (r : Record). Judges c.gather-in-Outcome.result (ItemOffends Record span_rules seen r)) (sym c.in-Outcome.ensures) (c.gather-in-Outcome.ensures.judged seen gathered.outcome)
+pub returns-in-11-clause-judged : goal.returns-in-11-clause-judged
+returns-in-11-clause-judged c = λ first seen gathered.
+    let e : plain_record c.args.found.now ≡ record { number = 11; held = bytes c.in-Bytes.held.now } = search rules in
+    judged_inside_at span_table seen (plain_record c.args.found.now) (record { number = 11; held = bytes c.in-Bytes.held.now }) e (λ m h. h) c.add-in-11.result c.add-in-11.ensures.judged
 
-pub returns-in-Free-clause-ok : goal.returns-in-Free-clause-ok
-returns-in-Free-clause-ok c = λ seen gathered. free_added c.args.self.now seen (plain_record c.args.found.now) c.in-Free.ensures gathered
+pub returns-in-13-clause-judged : goal.returns-in-13-clause-judged
+returns-in-13-clause-judged c = λ first seen gathered.
+    let e : plain_record c.args.found.now ≡ record { number = 13; held = bytes c.in-Bytes.held.now } = search rules in
+    judged_inside_at span_table seen (plain_record c.args.found.now) (record { number = 13; held = bytes c.in-Bytes.held.now }) e (λ m h. h) c.add-in-13.result c.add-in-13.ensures.judged
+
+pub returns-in-15-clause-judged : goal.returns-in-15-clause-judged
+returns-in-15-clause-judged c = λ first seen gathered.
+    let e : plain_record c.args.found.now ≡ record { number = 15; held = bytes c.in-Bytes.held.now } = search rules in
+    subst (λ (r : Record). Judges c.status_row.result (HereOrInside (table_here span_table seen r) (table_inside span_table r))) (sym e) (c.status_row.ensures.judged _ gathered.status)

@@ -1,15 +1,15 @@
-use Rattle.proto_wire.specs.Records.{varint, bytes, plain_record}
-use Rattle.otlp_proto.specs.Rows.{bytes_of, varints_of}
-use Rattle.otlp_proto.specs.Status.{status_rules}
-use Rattle.otlp_proto.proofs.Reading.{judged_record}
+use Rattle.std.proofs.Common.{◌≡◌, rules}
+use Rattle.proto_wire.specs.Records.{bytes, varint, plain_record}
+use Rattle.otlp_proto.specs.Status.{status_table}
+use Rattle.otlp_proto.proofs.Reading.{judged_at, refused_at}
 use Rattle.otlp_proto.proofs.status.StatusRowsRows.gather.Goals as goal
 
-pub returns-in-Message-clause-judged : goal.returns-in-Message-clause-judged
-returns-in-Message-clause-judged c = λ seen gathered.
-    judged_record status_rules Unit seen (plain_record c.args.found.now) (record { number = 2; held = bytes c.in-Message.held.now }) (rw c.in-Message.is at c.field_of.ensures) (λ p m h. h) c.text_row.result
-    (c.text_row.ensures.judged (bytes_of 2 seen) gathered.message)
+pub returns-in_err-code_row-in-3-clause-judged : goal.returns-in_err-code_row-in-3-clause-judged
+returns-in_err-code_row-in-3-clause-judged c = λ first seen gathered.
+    let e : plain_record c.args.found.now ≡ record { number = 3; held = varint c.in-Varint.n } = search rules in
+    refused_at status_table seen (plain_record c.args.found.now) (record { number = 3; held = varint c.in-Varint.n }) e (λ p m h. h) c.in_err-code_row-in-3.field-0.0 (c.in_err-code_row-in-3.ensures.judged _ gathered.code) c.from_residual.result c.from_residual.ensures.1
 
-pub returns-in-Code-clause-judged : goal.returns-in-Code-clause-judged
-returns-in-Code-clause-judged c = λ seen gathered.
-    judged_record status_rules Unit seen (plain_record c.args.found.now) (record { number = 3; held = varint c.in-Code.n }) (rw c.in-Code.is at c.field_of.ensures) (λ p m h. h) c.code_row.result
-    (c.code_row.ensures.judged (varints_of 3 seen) gathered.code)
+pub returns-in-2-clause-judged : goal.returns-in-2-clause-judged
+returns-in-2-clause-judged c = λ first seen gathered.
+    let e : plain_record c.args.found.now ≡ record { number = 2; held = bytes c.in-Bytes.held.now } = search rules in
+    judged_at status_table seen (plain_record c.args.found.now) (record { number = 2; held = bytes c.in-Bytes.held.now }) e (λ p m h. h) c.text_row.result (c.text_row.ensures.judged _ gathered.message)

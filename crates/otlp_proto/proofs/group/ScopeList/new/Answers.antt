@@ -1,6 +1,0 @@
-use Rattle.std.proofs.Common.{refl}
-use Rattle.otlp_proto.proofs.ScopeLemmas.{no_scopes}
-use Rattle.otlp_proto.proofs.group.ScopeList.new.Goals as goal
-
-pub returns : goal.returns
-returns c = no_scopes (record { scopes = c.new.result; remarks = c.new-2.result; spans = 0 }) c.new.ensures c.new-2.ensures refl

@@ -1,5 +1,0 @@
-use Rattle.otlp_proto.proofs.SpanLemmas.{no_events}
-use Rattle.otlp_proto.proofs.span.happenings.ReadEvents.new.Goals as goal
-
-pub returns : goal.returns
-returns c = no_events (record { events = c.new.result; remarks = c.new-2.result }) c.new.ensures c.new-2.ensures

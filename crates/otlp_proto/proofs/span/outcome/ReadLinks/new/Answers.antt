@@ -1,6 +1,0 @@
-use Rattle.std.proofs.Common.{false, refl}
-use Rattle.otlp_proto.proofs.SpanLemmas.{no_links}
-use Rattle.otlp_proto.proofs.span.outcome.ReadLinks.new.Goals as goal
-
-pub returns : goal.returns
-returns c = no_links (record { links = c.new.result; dropped = false; remarks = c.new-2.result }) c.new.ensures refl c.new-2.ensures

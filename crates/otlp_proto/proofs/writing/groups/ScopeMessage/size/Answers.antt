@@ -1,0 +1,11 @@
+use Rattle.std.proofs.Common.{rules, ◌∙◌, append_assoc}
+use Rattle.otlp_proto.specs.Texts.{filled_field, instrumentation_scope_text, list_text, scope_text, span_text}
+use Rattle.otlp_proto.proofs.Sizes.{sum_exact_more, sum_more, sum_one}
+use Rattle.otlp_proto.proofs.writing.groups.ScopeMessage.size.Goals as goal
+
+-- the fields from the last to the first
+pub returns : goal.returns
+unfolding scope_text
+returns c = simp (← append_assoc) (c.sum.ensures ∙ sum_exact_more _ (filled_field 3 c.args.self.now.schema_url) _ c.text_size.result (search rules)
+    (sum_more _ (list_text 2 span_text c.args.self.now.spans) _ c.elements_size.result (search rules)
+    (sum_one (filled_field 1 (instrumentation_scope_text c.args.self.now)) c.filled_size.result (search rules))))

@@ -1,0 +1,25 @@
+-- What the reader of a link has gathered.
+use Rattle.std.specs.Prelude.{List, Option, Result, IfOk}
+use Rattle.span_io.specs.Tables.{Givens, givens}
+use Rattle.proto_wire.specs.Records.{Record}
+use Rattle.otlp_proto.specs.declared.noted.ReadLink.{ReadLink}
+use Rattle.otlp_proto.specs.declared.link.LinkRows.{LinkRows}
+use Rattle.otlp_proto.specs.AttributesSoFar.{GatheredAttributes}
+use Rattle.otlp_proto.specs.Identifiers.{MeansTraceId, MeansSpanId}
+use Rattle.otlp_proto.specs.Link.{IsLink, link_table}
+use Rattle.otlp_proto.specs.ReadParts.{link_read}
+use Rattle.otlp_proto.specs.Rows.{MeansText, MeansNumber, MeansCount}
+use Rattle.otlp_proto.specs.RowsSoFar.{Gave}
+
+pub record GatheredLink (rows : LinkRows) (given : Givens link_table) : Type 0 where
+  pub trace : Gave MeansTraceId given.0 rows.trace
+  pub span : Gave MeansSpanId given.1.0 rows.span
+  pub state : Gave MeansText given.1.1.0 rows.state
+  pub attributes : GatheredAttributes given.1.1.1.0 rows.attributes
+  pub dropped : Gave MeansCount given.1.1.1.1.0 rows.dropped
+  pub flags : Gave MeansNumber given.1.1.1.1.1.0 rows.flags
+
+-- the rows make it: whatever records gave them mean it
+abbrev pub MakesLink : {E : Type 0} → LinkRows → Result (Option ReadLink) E → Type 0
+MakesLink rows result =
+    (records : List Record) → GatheredLink rows (givens link_table records) → IfOk result (λ read. IsLink (link_read read) records)

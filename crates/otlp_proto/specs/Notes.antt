@@ -1,0 +1,23 @@
+-- What bytes mean, with what is noted beside it: keys that stand more than once, and links that were dropped. The numbers of a remark's
+-- place are found in the whole group (Remarks.antt).
+use Rattle.std.specs.Prelude.{ℕ, Bool, List}
+
+-- keys that stand more than once
+abbrev pub Keys : Type 0
+Keys = List (List ℕ)
+
+pub record Noted (A N : Type 0) : Type 0 where
+  pub means : A
+  pub notes : N
+
+-- of a span: its own keys, whether a link was dropped, and the keys of each event and of each link that was kept
+pub record SpanNotes : Type 0 where
+  pub keys : Keys
+  pub dropped : Bool
+  pub events : List Keys
+  pub links : List Keys
+
+-- of a scope: its own keys, and what is noted of each span
+pub record ScopeNotes : Type 0 where
+  pub keys : Keys
+  pub spans : List SpanNotes

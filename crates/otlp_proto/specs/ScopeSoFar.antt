@@ -1,0 +1,52 @@
+-- What the readers of an `InstrumentationScope` and of a `ScopeSpans` have gathered.
+use Rattle.std.specs.Prelude.{◌≡◌, ℕ, List, map}
+use Rattle.span_io.specs.Tables.{Givens, givens, Each}
+use Rattle.proto_wire.specs.Records.{Record}
+use Rattle.proto_wire.specs.Wire.{Wire}
+use Rattle.trace_model.specs.declared.span.Span.{Span}
+use Rattle.otlp_proto.specs.declared.instrumentation_scope.InstrumentationScopeRows.{InstrumentationScopeRows}
+use Rattle.otlp_proto.specs.declared.noted.ReadInstrumentationScope.{ReadInstrumentationScope}
+use Rattle.otlp_proto.specs.declared.noted.ReadScope.{ReadScope}
+use Rattle.otlp_proto.specs.declared.scope.ScopeRows.{ScopeRows}
+use Rattle.otlp_proto.specs.declared.scope.SpanList.{SpanList}
+use Rattle.otlp_proto.specs.AttributesSoFar.{GatheredAttributes}
+use Rattle.otlp_proto.specs.Notes.{Noted, SpanNotes}
+use Rattle.otlp_proto.specs.ReadParts.{IsReadScope, instrumentation_scope_read}
+use Rattle.otlp_proto.specs.Remarks.{numbered, span_remarks}
+use Rattle.otlp_proto.specs.Rows.{MeansText, MeansCount}
+use Rattle.otlp_proto.specs.RowsSoFar.{Gave}
+use Rattle.otlp_proto.specs.Scope.{IsInstrumentationScope, IsInstrumentationScopeText, instrumentation_scope_table, scope_table}
+use Rattle.otlp_proto.specs.Span.{IsSpanText}
+
+pub record GatheredInstrumentationScope (rows : InstrumentationScopeRows) (given : Givens instrumentation_scope_table) : Type 0 where
+  pub name : Gave MeansText given.0 rows.name
+  pub version : Gave MeansText given.1.0 rows.version
+  pub attributes : GatheredAttributes given.1.1.0 rows.attributes
+  pub dropped : Gave MeansCount given.1.1.1.0 rows.dropped
+
+-- the rows make it: whatever records gave them mean it
+abbrev pub MakesInstrumentationScope : InstrumentationScopeRows → ReadInstrumentationScope → Type 0
+MakesInstrumentationScope rows read =
+    (records : List Record) → GatheredInstrumentationScope rows (givens instrumentation_scope_table records) → IsInstrumentationScope (instrumentation_scope_read read) records
+
+abbrev pub MeansInstrumentationScope : List ℕ → ReadInstrumentationScope → Type 0
+MeansInstrumentationScope held read = IsInstrumentationScopeText (instrumentation_scope_read read) held
+
+-- spans, of which the first has this number, and the remarks on them
+pub record GatheredSpans (first : ℕ) (texts : List (List ℕ)) (list : SpanList) : Type 0 where
+  pub begins : list.first ≡ first
+  pub read : List (Noted Span SpanNotes)
+  pub each : Each IsSpanText texts read
+  pub spans : list.spans ≡ map (λ s. s.means) read
+  pub remarks : list.remarks ≡ numbered span_remarks first (map (λ s. s.notes) read)
+
+-- of a scope whose first span has this number
+pub record GatheredScope (first : ℕ) (rows : ScopeRows) (given : Givens scope_table) : Type 0 where
+  pub instrumentation : Gave MeansInstrumentationScope given.0 rows.instrumentation
+  pub spans : GatheredSpans first given.1.0 rows.spans
+  pub schema_url : Gave MeansText given.1.1.0 rows.schema_url
+
+-- the rows make this scope, which has that number: whatever text gave them is one of it
+abbrev pub MakesScope : ℕ → ScopeRows → ReadScope → Type 0
+MakesScope number rows read =
+    (first : ℕ) (records : List Record) (text : List ℕ) → Wire records text → GatheredScope first rows (givens scope_table records) → IsReadScope number first read text

@@ -1,0 +1,89 @@
+-- What the reader of a span has gathered, of which the number in its group is known.
+use Rattle.std.specs.Prelude.{◌≡◌, ℕ, List, map, Option, Some, None, is_none, Result, IfOk}
+use Rattle.std.specs.List.{list_any}
+use Rattle.span_io.specs.declared.cause.Cause.{Cause}
+use Rattle.span_io.specs.declared.halt.Halt.{Halt}
+use Rattle.span_io.specs.Tables.{Givens, givens, Each, Singular}
+use Rattle.proto_wire.specs.Records.{Record}
+use Rattle.trace_model.specs.declared.span.Event.{Event}
+use Rattle.trace_model.specs.declared.span.Link.{Link}
+use Rattle.trace_model.specs.declared.span.Status.{Status}
+use Rattle.otlp_proto.specs.declared.noted.ReadSpan.{ReadSpan}
+use Rattle.otlp_proto.specs.declared.span.SpanRows.{SpanRows}
+use Rattle.otlp_proto.specs.declared.span.events.EventList.{EventList}
+use Rattle.otlp_proto.specs.declared.span.links.LinkList.{LinkList}
+use Rattle.otlp_proto.specs.AttributesSoFar.{GatheredAttributes}
+use Rattle.otlp_proto.specs.Event.{IsEventText}
+use Rattle.otlp_proto.specs.Identifiers.{MeansTraceId, MeansSpanId}
+use Rattle.otlp_proto.specs.Link.{IsLinkText}
+use Rattle.otlp_proto.specs.Notes.{Keys, Noted, SpanNotes}
+use Rattle.otlp_proto.specs.Remarks.{event_remarks, link_remarks, span_remarks}
+use Rattle.otlp_proto.specs.Rows.{MeansText, MeansNumber, MeansCount}
+use Rattle.otlp_proto.specs.RowsSoFar.{Gave}
+use Rattle.otlp_proto.specs.Span.{IsSpan, MeansKind, kept_links, span_table}
+use Rattle.otlp_proto.specs.Status.{IsStatusText}
+
+-- of these bytes of events of the span
+pub record GatheredEvents (span : ℕ) (texts : List (List ℕ)) (list : EventList) : Type 0 where
+  pub members : List (Noted Event Keys)
+  pub each : Each IsEventText texts members
+  pub events : list.events ≡ map (λ e. e.means) members
+  pub remarks : list.remarks ≡ event_remarks span (map (λ e. e.notes) members)
+
+-- of these bytes of links of the span
+pub record GatheredLinks (span : ℕ) (texts : List (List ℕ)) (list : LinkList) : Type 0 where
+  pub members : List (Option (Noted Link Keys))
+  pub each : Each IsLinkText texts members
+  pub links : list.links ≡ map (λ l. l.means) (kept_links members)
+  pub dropped : list.dropped ≡ list_any (λ l. is_none l) members
+  pub remarks : list.remarks ≡ link_remarks span (map (λ l. l.notes) (kept_links members))
+
+abbrev pub MeansStatus : List ℕ → Status → Type 0
+MeansStatus held status = IsStatusText status held
+
+pub record GatheredSpan (span : ℕ) (rows : SpanRows) (given : Givens span_table) : Type 0 where
+  pub number : rows.number ≡ span
+  pub trace : Gave MeansTraceId given.0 rows.trace
+  pub id : Gave MeansSpanId given.1.0 rows.id
+  pub state : Gave MeansText given.1.1.0 rows.state
+  pub parent : Gave MeansSpanId given.1.1.1.0 rows.parent
+  pub name : Gave MeansText given.1.1.1.1.0 rows.name
+  pub kind : Gave MeansKind given.1.1.1.1.1.0 rows.kind
+  pub start : Gave MeansNumber given.1.1.1.1.1.1.0 rows.start
+  pub end : Gave MeansNumber given.1.1.1.1.1.1.1.0 rows.end
+  pub attributes : GatheredAttributes given.1.1.1.1.1.1.1.1.0 rows.attributes
+  pub dropped_attributes : Gave MeansCount given.1.1.1.1.1.1.1.1.1.0 rows.dropped_attributes
+  pub events : GatheredEvents span given.1.1.1.1.1.1.1.1.1.1.0 rows.events
+  pub dropped_events : Gave MeansCount given.1.1.1.1.1.1.1.1.1.1.1.0 rows.dropped_events
+  pub links : GatheredLinks span given.1.1.1.1.1.1.1.1.1.1.1.1.0 rows.links
+  pub dropped_links : Gave MeansCount given.1.1.1.1.1.1.1.1.1.1.1.1.1.0 rows.dropped_links
+  pub status : Gave MeansStatus given.1.1.1.1.1.1.1.1.1.1.1.1.1.1.0 rows.status
+  pub flags : Gave MeansNumber given.1.1.1.1.1.1.1.1.1.1.1.1.1.1.1.0 rows.flags
+
+-- these records gave the rows of the span of this number
+abbrev pub GaveSpan : ℕ → SpanRows → List Record → Type 0
+GaveSpan span rows records = GatheredSpan span rows (givens span_table records)
+
+-- what was given as its identifiers is these
+abbrev pub GaveTraceId : List (List ℕ) → ℕ → Type 0
+GaveTraceId texts id = Singular MeansTraceId (λ x. x ≡ None) texts (Some id)
+
+abbrev pub GaveSpanId : List (List ℕ) → ℕ → Type 0
+GaveSpanId texts id = Singular MeansSpanId (λ x. x ≡ None) texts (Some id)
+
+abbrev pub TakesTraceId : Option (Option ℕ) → Result (ℕ × ℕ) Cause → Type 0
+TakesTraceId row result = (seen : List (List ℕ)) → Gave MeansTraceId seen row → IfOk result (λ ids. GaveTraceId seen ids.0)
+
+abbrev pub TakesSpanId : Option (Option ℕ) → Result (ℕ × ℕ) Cause → Type 0
+TakesSpanId row result = (seen : List (List ℕ)) → Gave MeansSpanId seen row → IfOk result (λ ids. GaveSpanId seen ids.1)
+
+-- the records are those of the span that was read, which has this number, and these are the remarks on it
+pub record ReadsSpan (number : ℕ) (read : ReadSpan) (records : List Record) : Type 0 where
+  pub notes : SpanNotes
+  pub is_span : IsSpan (record { means = read.span; notes = notes }) records
+  pub remarks : read.remarks ≡ span_remarks number notes
+
+-- the rows make the span: whatever records gave them are its records
+abbrev pub MakesSpan : SpanRows → Result ReadSpan (Halt Cause) → Type 0
+MakesSpan rows result =
+    (span : ℕ) (records : List Record) → GaveSpan span rows records → IfOk result (λ read. ReadsSpan span read records)

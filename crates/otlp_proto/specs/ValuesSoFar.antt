@@ -1,0 +1,78 @@
+-- What the readers of the messages of values have gathered, and what they answer of one record more.
+use Rattle.std.specs.Prelude.{◌≡◌, ℕ, ◌⊎◌, List, map, Option, Result}
+use Rattle.std.specs.List.{flat_map}
+use Rattle.span_io.specs.declared.cause.Cause.{Cause}
+use Rattle.span_io.specs.declared.halt.Halt.{Halt}
+use Rattle.span_io.specs.Offences.{Rules, Offence, HereOrInside, ItemOffends, Judges}
+use Rattle.span_io.specs.Tables.{Singular, Each, Twice}
+use Rattle.proto_wire.specs.Messages.{messages}
+use Rattle.proto_wire.specs.Records.{Record}
+use Rattle.proto_wire.specs.Wire.{Wire}
+use Rattle.trace_model.specs.declared.value.Value.{Value}
+use Rattle.trace_model.specs.declared.value.Value.TheVariants as values
+use Rattle.otlp_proto.specs.declared.noted.ReadValue.{ReadValue}
+use Rattle.otlp_proto.specs.declared.value_rows.ListRows.{ListRows}
+use Rattle.otlp_proto.specs.declared.value_rows.MapRows.{MapRows}
+use Rattle.otlp_proto.specs.declared.value_rows.KeyValueRows.{KeyValueRows}
+use Rattle.otlp_proto.specs.ReadParts.{value_read}
+use Rattle.otlp_proto.specs.Rows.{bytes_of, MeansText}
+use Rattle.otlp_proto.specs.RowsSoFar.{Gave, Adds}
+use Rattle.otlp_proto.specs.Values.{Member, members_of, NotedValue, KeyValue, leaf, entry, keys_inside, MeansMember, BadMember, InMember, value_in, key_value_in, value_at, list_rules, map_rules}
+
+-- ---- of these records
+
+pub record GatheredList (left : ℕ) (records : List Record) (rows : ListRows) : Type 0 where
+  pub members : List NotedValue
+  pub each : Each (value_in left) (bytes_of 1 records) members
+  pub values : rows.values ≡ map (λ m. m.means) members
+  pub noted : rows.noted ≡ flat_map (λ m. m.notes) members
+
+pub record GatheredMap (left : ℕ) (records : List Record) (rows : MapRows) : Type 0 where
+  pub members : List KeyValue
+  pub each : Each (key_value_in left) (bytes_of 1 records) members
+  pub pairs : rows.pairs ≡ map entry members
+  pub noted : rows.noted ≡ keys_inside members
+
+-- of these members
+abbrev pub GatheredMembers : ℕ → List Member → Option ReadValue → Type 0
+GatheredMembers left members row = Gave (λ member read. MeansMember (value_in left) (key_value_in left) member (value_read read)) members row
+
+abbrev pub GatheredValue : ℕ → List Record → Option ReadValue → Type 0
+GatheredValue left records row = GatheredMembers left (members_of records) row
+
+-- of a row of bytes that hold a value
+abbrev pub GatheredField : ℕ → List (List ℕ) → Option ReadValue → Type 0
+GatheredField left texts row = Gave (λ held read. value_at left (value_read read) held) texts row
+
+pub record GatheredKeyValue (left : ℕ) (records : List Record) (rows : KeyValueRows) : Type 0 where
+  pub key : Gave MeansText (bytes_of 1 records) rows.key
+  pub value : GatheredField left (bytes_of 2 records) rows.value
+
+-- ---- what is answered of one more
+
+-- of one record more
+abbrev pub JudgesNext : {B : Type 0} → Rules Record → (List Record → B → Type 0) → B → Record → Result Unit (Halt Cause) → Type 0
+JudgesNext K Gathered rows r answer = (seen : List Record) → Gathered seen rows → Judges answer (ItemOffends Record K seen r)
+
+-- how a member offends behind earlier ones
+abbrev pub MemberOffends : ℕ → List Member → Member → ℕ → ℕ → Type 0
+MemberOffends left earlier member place number = HereOrInside (λ n. Twice earlier n ⊎ BadMember member n)
+    (λ p n. InMember (λ held q m. Offence messages (list_rules left) held q m) (λ held q m. Offence messages (map_rules left) held q m) member p n) place number
+
+-- of one member more
+abbrev pub JudgesMember : ℕ → Option ReadValue → Member → Result Unit (Halt Cause) → Type 0
+JudgesMember left row member answer = (earlier : List Member) → GatheredMembers left earlier row → Judges answer (MemberOffends left earlier member)
+
+-- a row is set by a member that means this value
+abbrev pub SetsLeaf : Value → Option ReadValue → Option ReadValue → Type 0
+SetsLeaf value old new = (left : ℕ) (member : Member) → MeansMember (value_in left) (key_value_in left) member (leaf value) → Adds (GatheredMembers left) member old new
+
+-- ---- what the rows give
+
+-- where all records of a text were gathered, at any level
+abbrev pub GivesRead : {B C : Type 0} → (ℕ → List Record → B → Type 0) → (ℕ → C → List ℕ → Type 0) → B → C → Type 0
+GivesRead Gathered Is rows read = (left : ℕ) (records : List Record) (text : List ℕ) → Wire records text → Gathered left records rows → Is left read text
+
+-- the value of a row of bytes, which is empty if there are none
+abbrev pub GivesField : Option ReadValue → NotedValue → Type 0
+GivesField row read = (left : ℕ) (texts : List (List ℕ)) → GatheredField left texts row → Singular (λ held r. value_at left r held) (λ r. r ≡ leaf values.Nothing) texts read

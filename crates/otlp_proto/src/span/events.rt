@@ -1,0 +1,44 @@
+//! The events of a span.
+ghost use Rattle.std.specs.Prelude.{[], ℕ, OnOk};
+ghost use Rattle.span_io.specs.Offences.{Offence, Judges};
+ghost use Rattle.proto_wire.specs.Messages.{messages};
+ghost use Rattle.otlp_proto.specs.Event.{event_rules};
+ghost use Rattle.otlp_proto.specs.RowsSoFar.{Adds};
+ghost use Rattle.otlp_proto.specs.SpanSoFar.{GatheredEvents};
+
+use crate::event::read_event;
+use crate::remarks::{number_behind, remark_keys};
+use span_io::{Cause, Halt, Items};
+use std::alloc::Global;
+use trace_model::{Event, Place, Remark};
+
+/// The events that were read, and the remarks on them.
+#[derive(Debug, Drop)]
+pub struct EventList {
+    pub events: Items<Event>,
+    pub remarks: Items<Remark>,
+}
+
+impl EventList {
+    /// Nothing was read.
+    pub fn none(alloc: Global) -> EventList
+        ensures { (span : ℕ) → GatheredEvents span [] result }
+    {
+        EventList {
+            events: Items::new(alloc),
+            remarks: Items::new(alloc),
+        }
+    }
+
+    /// Reads one more event of the span of this number.
+    pub fn add(&mut self, alloc: Global, span: u32, held: &[u8]) -> Result<(), Halt<Cause>>
+        ensures ok { OnOk result (Adds (GatheredEvents span) held.now self.old self.new) }
+        ensures judged { Judges result (Offence messages event_rules held.now) }
+    {
+        let read = read_event(alloc, held)?;
+        let number = number_behind(1, self.events.len())?;
+        self.events.push(read.event)?;
+        remark_keys(&mut self.remarks, Place::Event(span, number), read.keys)?;
+        Ok(())
+    }
+}

@@ -1,0 +1,49 @@
+//! The links of a span.
+ghost use Rattle.std.specs.Prelude.{[], ℕ, OnOk};
+ghost use Rattle.span_io.specs.Offences.{Offence, Judges};
+ghost use Rattle.proto_wire.specs.Messages.{messages};
+ghost use Rattle.otlp_proto.specs.Link.{link_rules};
+ghost use Rattle.otlp_proto.specs.RowsSoFar.{Adds};
+ghost use Rattle.otlp_proto.specs.SpanSoFar.{GatheredLinks};
+
+use crate::link::read_link;
+use crate::remarks::{number_behind, remark_keys};
+use span_io::{Cause, Halt, Items};
+use std::alloc::Global;
+use trace_model::{Link, Place, Remark};
+
+/// The links that were read, whether one was dropped, and the remarks on the others.
+#[derive(Debug, Drop)]
+pub struct LinkList {
+    pub links: Items<Link>,
+    pub dropped: bool,
+    pub remarks: Items<Remark>,
+}
+
+impl LinkList {
+    /// Nothing was read.
+    pub fn none(alloc: Global) -> LinkList
+        ensures { (span : ℕ) → GatheredLinks span [] result }
+    {
+        LinkList {
+            links: Items::new(alloc),
+            dropped: false,
+            remarks: Items::new(alloc),
+        }
+    }
+
+    /// Reads one more link of the span of this number.
+    pub fn add(&mut self, alloc: Global, span: u32, held: &[u8]) -> Result<(), Halt<Cause>>
+        ensures ok { OnOk result (Adds (GatheredLinks span) held.now self.old self.new) }
+        ensures judged { Judges result (Offence messages link_rules held.now) }
+    {
+        let Some(read) = read_link(alloc, held)? else {
+            self.dropped = true;
+            return Ok(());
+        };
+        let number = number_behind(1, self.links.len())?;
+        self.links.push(read.link)?;
+        remark_keys(&mut self.remarks, Place::Link(span, number), read.keys)?;
+        Ok(())
+    }
+}
