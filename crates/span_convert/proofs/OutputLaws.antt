@@ -4,6 +4,8 @@ use Rattle.std.specs.Prelude.{◌==◌, if◌then◌else◌}
 use Rattle.std.specs.List.{AllByRecursion}
 use Rattle.std.proofs.lemmas.List.Elements.{All-nil, All-cons, All-head, All-tail, All-take}
 use Rattle.span_io.specs.Frames.{ItemsThen}
+use Rattle.span_io.specs.declared.form.Form.{Form}
+use Rattle.span_io.specs.declared.form.Form.TheVariants as forms
 use Rattle.span_io.specs.declared.limits.Limits.{Limits}
 use Rattle.proto_wire.specs.Records.{Held, varint, fixed64, bytes, fixed32, Record}
 use Rattle.proto_wire.specs.Wire.{SpellsHeld, SpellsRecord, records}
@@ -13,22 +15,24 @@ use Rattle.trace_model.specs.declared.remark.Remark.{Remark}
 use Rattle.trace_model.specs.declared.trace.Group.{Group}
 use Rattle.otlp_proto.specs.Group.{IsGroupText}
 use Rattle.otlp_proto.specs.Rows.{bytes_in}
+use Rattle.span_io.specs.Tables.{Each}
 use Rattle.span_convert.specs.Canonical.{IsProperTrace}
-use Rattle.span_convert.specs.Units.{UnitsOf, HoldsUnits, AreGroups}
+use Rattle.span_convert.specs.Requests.{AreRequestUnits}
+use Rattle.span_convert.specs.Units.{HoldsUnits, IsUnitOf, AreGroups}
 
-abbrev AreBytes : List ℕ → Type 0
+abbrev pub AreBytes : List ℕ → Type 0
 AreBytes text = All (λ b. b < 256) text
 
-abbrev AllBytes : List (List ℕ) → Type 0
+abbrev pub AllBytes : List (List ℕ) → Type 0
 AllBytes texts = AllByRecursion AreBytes texts
 
 -- ---- the bytes of units are bytes of the input
 
-first_bytes : (front behind : List ℕ) → AreBytes (front ++ behind) → AreBytes front
+pub first_bytes : (front behind : List ℕ) → AreBytes (front ++ behind) → AreBytes front
 first_bytes [] behind all = All-nil (λ b. b < 256)
 first_bytes (x ∷ front) behind all = All-cons (λ b. b < 256) x front (All-head (λ b. b < 256) x (front ++ behind) all) (first_bytes front behind (All-tail (λ b. b < 256) x (front ++ behind) all))
 
-last_bytes : (front behind : List ℕ) → AreBytes (front ++ behind) → AreBytes behind
+pub last_bytes : (front behind : List ℕ) → AreBytes (front ++ behind) → AreBytes behind
 last_bytes [] behind all = all
 last_bytes (x ∷ front) behind all = last_bytes front behind (All-tail (λ b. b < 256) x (front ++ behind) all)
 
@@ -49,37 +53,45 @@ held_bytes own (bytes inner) payload all h = of (own == 1) (last_bytes h.0 inner
     of true so = (so, tt)
     of false so = tt
 
-record_bytes : (frame : List ℕ) (r : Record) → AreBytes frame → SpellsRecord frame r → AllBytes (bytes_in 1 r)
+pub record_bytes : (frame : List ℕ) (r : Record) → AreBytes frame → SpellsRecord frame r → AllBytes (bytes_in 1 r)
 record_bytes frame r all h = held_bytes r.number r.held h.payload (last_bytes h.key h.payload (subst AreBytes h.parts all)) h.payload_spelled
 
 both_bytes : (a b : List (List ℕ)) → AllBytes a → AllBytes b → AllBytes (a ++ b)
 both_bytes [] b h g = g
 both_bytes (x ∷ a) b h g = (h.0, both_bytes a b h.1 g)
 
-units_bytes : (frames units : List (List ℕ)) → AllBytes frames → UnitsOf frames units → AllBytes units
-unfolding UnitsOf
+units_bytes : (frames units : List (List ℕ)) → AllBytes frames → AreRequestUnits frames units → AllBytes units
+unfolding AreRequestUnits
 units_bytes [] units all h = subst AllBytes (sym h) tt
 units_bytes (f ∷ frames) units all h = subst AllBytes (sym h.3) (both_bytes (bytes_in 1 h.0) h.2 (record_bytes f h.0 all.0 h.1) (units_bytes frames h.2 all.1 h.4))
 
-pub held_units : (limits : Limits) (text : List ℕ) (units : List (List ℕ)) (rest : List ℕ) → AreBytes text → HoldsUnits limits text units rest → AllBytes units
-held_units limits text units rest all h = units_bytes h.frames units (frames_bytes limits.unit h.frames rest (take limits.binary text) (All-take (λ b. b < 256) limits.binary text all) h.framed) h.units_of
+pub held_units : (from : Form) (limits : Limits) (text : List ℕ) (units : List (List ℕ)) (rest : List ℕ) → AreBytes text → HoldsUnits from limits text units rest → AllBytes units
+held_units forms.OtlpProto limits text units rest all h = units_bytes h.frames units (frames_bytes limits.unit h.frames rest (take limits.binary text) (All-take (λ b. b < 256) limits.binary text all) h.framed) h.are_units
 
 -- ---- their groups
 
-pub same_length : (units : List (List ℕ)) (groups : List Group) → AreGroups units groups → length units ≡ length groups
-same_length [] [] h = refl
-same_length [] (g ∷ groups) h = absurd h
-same_length (unit ∷ units) [] h = absurd h
-same_length (unit ∷ units) (g ∷ groups) h = ap (λ n. suc n) (same_length units groups h.1)
+pub same_length : {A B : Type 0} (Is : B → A → Type 0) (units : List A) (groups : List B) → Each Is units groups → length units ≡ length groups
+same_length Is [] [] h = refl
+same_length Is [] (g ∷ groups) h = absurd h
+same_length Is (unit ∷ units) [] h = absurd h
+same_length Is (unit ∷ units) (g ∷ groups) h = ap (λ n. suc n) (same_length Is units groups h.1)
 
-pub sound_groups : ((text : List ℕ) (g : Group) (r : List Remark) → IsGroupText g r text → IsSoundGroup g) → (units : List (List ℕ)) (groups : List Group) → AreGroups units groups → IsSoundTrace groups
-sound_groups sound [] [] h = All-nil IsSoundGroup
-sound_groups sound [] (g ∷ groups) h = absurd h
-sound_groups sound (unit ∷ units) [] h = absurd h
-sound_groups sound (unit ∷ units) (g ∷ groups) h = All-cons IsSoundGroup g groups (sound unit g h.0.remarks h.0.text) (sound_groups sound units groups h.1)
+module _ (sound : (text : List ℕ) (g : Group) (r : List Remark) → IsGroupText g r text → IsSoundGroup g) where
+  sound_unit : (from : Form) (g : Group) (unit : List ℕ) → IsUnitOf from g unit → IsSoundGroup g
+  sound_unit forms.OtlpProto g unit h = sound unit g h.remarks h.text
 
-pub proper_groups : ((text : List ℕ) (g : Group) (r : List Remark) → AreBytes text → IsGroupText g r text → IsProperGroup g) → (units : List (List ℕ)) (groups : List Group) → AllBytes units → AreGroups units groups → IsProperTrace groups
-proper_groups proper [] [] all h = All-nil IsProperGroup
-proper_groups proper [] (g ∷ groups) all h = absurd h
-proper_groups proper (unit ∷ units) [] all h = absurd h
-proper_groups proper (unit ∷ units) (g ∷ groups) all h = All-cons IsProperGroup g groups (proper unit g h.0.remarks all.0 h.0.text) (proper_groups proper units groups all.1 h.1)
+  pub sound_groups : (from : Form) (units : List (List ℕ)) (groups : List Group) → AreGroups from units groups → IsSoundTrace groups
+  sound_groups from [] [] h = All-nil IsSoundGroup
+  sound_groups from [] (g ∷ groups) h = absurd h
+  sound_groups from (unit ∷ units) [] h = absurd h
+  sound_groups from (unit ∷ units) (g ∷ groups) h = All-cons IsSoundGroup g groups (sound_unit from g unit h.0) (sound_groups from units groups h.1)
+
+module _ (proper : (text : List ℕ) (g : Group) (r : List Remark) → AreBytes text → IsGroupText g r text → IsProperGroup g) where
+  proper_unit : (from : Form) (g : Group) (unit : List ℕ) → AreBytes unit → IsUnitOf from g unit → IsProperGroup g
+  proper_unit forms.OtlpProto g unit all h = proper unit g h.remarks all h.text
+
+  pub proper_groups : (from : Form) (units : List (List ℕ)) (groups : List Group) → AllBytes units → AreGroups from units groups → IsProperTrace groups
+  proper_groups from [] [] all h = All-nil IsProperGroup
+  proper_groups from [] (g ∷ groups) all h = absurd h
+  proper_groups from (unit ∷ units) [] all h = absurd h
+  proper_groups from (unit ∷ units) (g ∷ groups) all h = All-cons IsProperGroup g groups (proper_unit from g unit all.0 h.0) (proper_groups from units groups all.1 h.1)

@@ -4,6 +4,8 @@ use Rattle.std.proofs.lemmas.List.{append-nil, length-append, length-map, take_a
 use Rattle.std.proofs.lemmas.List.Elements.{All-nil, All-cons, All-head, All-tail}
 use Rattle.span_io.specs.Frames.{ItemsThen, GoesOn, BeginsFrame}
 use Rattle.span_io.specs.Limits.{AreLimits}
+use Rattle.span_io.specs.declared.form.Form.{Form}
+use Rattle.span_io.specs.declared.form.Form.TheVariants as forms
 use Rattle.span_io.specs.declared.limits.Limits.{Limits}
 use Rattle.proto_wire.specs.Records.{Record, IsProper, bytes}
 use Rattle.proto_wire.specs.Wire.{SpellsRecord, records, record_text, opening_text}
@@ -12,9 +14,10 @@ use Rattle.trace_model.specs.Soundness.{IsSoundGroup, IsSoundTrace}
 use Rattle.trace_model.specs.declared.trace.Group.{Group}
 use Rattle.otlp_proto.specs.Group.{IsGroupText}
 use Rattle.otlp_proto.specs.Texts.{group_text, group_record}
-use Rattle.otlp_proto.specs.Values.{Each}
-use Rattle.span_convert.specs.Canonical.{Reads, ReadsPlainly, IsPlainUnit, IsProperTrace, IsSized, IsWithin}
-use Rattle.span_convert.specs.Units.{UnitsOf, IsUnitOf, AreGroups, trace_text, span_count}
+use Rattle.span_io.specs.Tables.{Each}
+use Rattle.span_convert.specs.Canonical.{normal_form, Reads, ReadsPlainly, IsProperTrace, IsSized, IsWithin}
+use Rattle.span_convert.specs.Requests.{AreRequestUnits, IsRequestUnit, request_text, IsRequestWithin, ReadsRequest, ReadsRequestPlainly, IsPlainRequestUnit}
+use Rattle.span_convert.specs.Units.{trace_text, span_count}
 use Rattle.span_convert.specs.Verdicts.{IsGood, tally_of}
 use Rattle.span_convert.proofs.VerdictLaws as verdicts
 
@@ -30,19 +33,19 @@ unit_record g = record { number = 1; held = bytes (group_text g) }
 
 -- ---- how long texts are
 
-first_within : (limit : ℕ) (g : Group) (groups : List Group) → length (trace_text (g ∷ groups)) ≤ limit → length (group_record g) ≤ limit
-first_within limit g groups h = omega (arith, length-append (group_record g) (trace_text groups))
+first_within : (limit : ℕ) (g : Group) (groups : List Group) → length (request_text (g ∷ groups)) ≤ limit → length (group_record g) ≤ limit
+first_within limit g groups h = omega (arith, length-append (group_record g) (request_text groups))
 
-rest_within : (limit : ℕ) (g : Group) (groups : List Group) → length (trace_text (g ∷ groups)) ≤ limit → length (trace_text groups) ≤ limit
-rest_within limit g groups h = omega (arith, length-append (group_record g) (trace_text groups))
+rest_within : (limit : ℕ) (g : Group) (groups : List Group) → length (request_text (g ∷ groups)) ≤ limit → length (request_text groups) ≤ limit
+rest_within limit g groups h = omega (arith, length-append (group_record g) (request_text groups))
 
 -- no record is longer than the whole text
-pub each_within : (limit : ℕ) (groups : List Group) → length (trace_text groups) ≤ limit → All (λ g. length (group_record g) ≤ limit) groups
+pub each_within : (limit : ℕ) (groups : List Group) → length (request_text groups) ≤ limit → All (λ g. length (group_record g) ≤ limit) groups
 each_within limit [] h = All-nil (λ g. length (group_record g) ≤ limit)
 each_within limit (g ∷ groups) h = All-cons (λ g. length (group_record g) ≤ limit) g groups (first_within limit g groups h) (each_within limit groups (rest_within limit g groups h))
 
 -- units without remarks are units
-remarked : (units : List (List ℕ)) (groups : List Group) → Each IsPlainUnit units groups → AreGroups units groups
+remarked : (units : List (List ℕ)) (groups : List Group) → Each IsPlainRequestUnit units groups → Each IsRequestUnit units groups
 remarked [] [] h = tt
 remarked [] (g ∷ groups) h = absurd h
 remarked (unit ∷ units) [] h = absurd h
@@ -62,21 +65,21 @@ module _ (L : TextLaws) where
   unfolding unit_record
   record_spelled g h = L.spelled (unit_record g) (record_fits g h)
 
-  pub frames_then : (limit : ℕ) (groups : List Group) → limit < 2 ^ 63 → All (λ g. length (group_record g) ≤ limit) groups → ItemsThen records limit (map group_record groups) [] (trace_text groups)
+  pub frames_then : (limit : ℕ) (groups : List Group) → limit < 2 ^ 63 → All (λ g. length (group_record g) ≤ limit) groups → ItemsThen records limit (map group_record groups) [] (request_text groups)
   unfolding ItemsThen
   frames_then limit [] short all = refl
   frames_then limit (g ∷ groups) short all =
       let first : length (group_record g) ≤ limit = All-head (λ g. length (group_record g) ≤ limit) g groups all in
-      ((unit_record g, record_spelled g (omega (arith, first, short))), first, trace_text groups, refl, frames_then limit groups short (All-tail (λ g. length (group_record g) ≤ limit) g groups all))
+      ((unit_record g, record_spelled g (omega (arith, first, short))), first, request_text groups, refl, frames_then limit groups short (All-tail (λ g. length (group_record g) ≤ limit) g groups all))
 
-  pub units_held : (limit : ℕ) (groups : List Group) → limit < 2 ^ 63 → All (λ g. length (group_record g) ≤ limit) groups → UnitsOf (map group_record groups) (map group_text groups)
-  unfolding UnitsOf unit_record
+  pub units_held : (limit : ℕ) (groups : List Group) → limit < 2 ^ 63 → All (λ g. length (group_record g) ≤ limit) groups → AreRequestUnits (map group_record groups) (map group_text groups)
+  unfolding AreRequestUnits unit_record
   units_held limit [] short all = refl
   units_held limit (g ∷ groups) short all =
       let first : length (group_record g) ≤ limit = All-head (λ g. length (group_record g) ≤ limit) g groups all in
       (unit_record g, record_spelled g (omega (arith, first, short)), map group_text groups, refl, units_held limit groups short (All-tail (λ g. length (group_record g) ≤ limit) g groups all))
 
-  pub plain_units : (limit : ℕ) (groups : List Group) → limit < 2 ^ 63 → All (λ g. length (group_record g) ≤ limit) groups → IsSoundTrace groups → IsProperTrace groups → Each IsPlainUnit (map group_text groups) groups
+  pub plain_units : (limit : ℕ) (groups : List Group) → limit < 2 ^ 63 → All (λ g. length (group_record g) ≤ limit) groups → IsSoundTrace groups → IsProperTrace groups → Each IsPlainRequestUnit (map group_text groups) groups
   plain_units limit [] short all sound proper = tt
   plain_units limit (g ∷ groups) short all sound proper =
       let first : length (group_record g) ≤ limit = All-head (λ g. length (group_record g) ≤ limit) g groups all in (
@@ -84,29 +87,32 @@ module _ (L : TextLaws) where
         plain_units limit groups short (All-tail (λ g. length (group_record g) ≤ limit) g groups all) (All-tail IsSoundGroup g groups sound) (All-tail IsProperGroup g groups proper),
       )
 
-  pub read_back : (groups : List Group) → IsSoundTrace groups → IsProperTrace groups → IsSized groups → ReadsPlainly (trace_text groups) groups
-  read_back groups sound proper sized =
-      let all : All (λ g. length (group_record g) ≤ length (trace_text groups)) groups = each_within (length (trace_text groups)) groups (omega arith) in
+  request_read_back : (groups : List Group) → IsSoundTrace groups → IsProperTrace groups → IsSized forms.OtlpProto groups → ReadsRequestPlainly (request_text groups) groups
+  request_read_back groups sound proper sized =
+      let all : All (λ g. length (group_record g) ≤ length (request_text groups)) groups = each_within (length (request_text groups)) groups (omega arith) in
       record {
         frames = map group_record groups;
-        framed = frames_then (length (trace_text groups)) groups sized all;
+        framed = frames_then (length (request_text groups)) groups sized all;
         units = map group_text groups;
-        units_of = units_held (length (trace_text groups)) groups sized all;
-        are_groups = plain_units (length (trace_text groups)) groups sized all sound proper;
+        are_units = units_held (length (request_text groups)) groups sized all;
+        are_groups = plain_units (length (request_text groups)) groups sized all sound proper;
       }
+
+  pub read_back : (to : Form) (groups : List Group) → IsSoundTrace groups → IsProperTrace groups → IsSized to groups → ReadsPlainly to (trace_text to (normal_form to groups)) (normal_form to groups)
+  read_back forms.OtlpProto groups sound proper sized = request_read_back groups sound proper sized
 
   -- ---- canonical text converts to itself
 
-  pub to_itself : (limits : Limits) (groups : List Group) → AreLimits limits → IsSoundTrace groups → IsProperTrace groups → IsWithin limits groups
-      → IsGood limits (trace_text groups) (trace_text groups) (tally_of (length groups) (span_count groups))
-  to_itself limits groups valid sound proper within =
+  request_to_itself : (limits : Limits) (groups : List Group) → AreLimits limits → IsSoundTrace groups → IsProperTrace groups → IsRequestWithin limits groups
+      → IsGood forms.OtlpProto forms.OtlpProto limits (request_text groups) (request_text groups) (tally_of (length groups) (span_count groups))
+  request_to_itself limits groups valid sound proper within =
       let short : limits.unit < 2 ^ 63 = omega (arith, valid.unit.1) in
       record {
         units = map group_text groups;
         held = record {
           frames = map group_record groups;
-          framed = subst (λ (l : List ℕ). ItemsThen records limits.unit (map group_record groups) [] l) (sym (take_all limits.binary (trace_text groups) within.text)) (frames_then limits.unit groups short within.units);
-          units_of = units_held limits.unit groups short within.units;
+          framed = subst (λ (l : List ℕ). ItemsThen records limits.unit (map group_record groups) [] l) (sym (take_all limits.binary (request_text groups) within.text)) (frames_then limits.unit groups short within.units);
+          are_units = units_held limits.unit groups short within.units;
         };
         within = within.text;
         groups = groups;
@@ -115,11 +121,30 @@ module _ (L : TextLaws) where
         counts = ap (λ n. tally_of n (span_count groups)) (sym (length-map groups group_text));
       }
 
+  pub to_itself : (to : Form) (limits : Limits) (groups : List Group) → AreLimits limits → IsSoundTrace groups → IsProperTrace groups → IsWithin to limits groups
+      → IsGood to to limits (trace_text to groups) (trace_text to groups) (tally_of (length groups) (span_count groups))
+  to_itself forms.OtlpProto limits groups valid sound proper within = request_to_itself limits groups valid sound proper within
+
+-- ---- normal forms
+
+pub normal_again : (to : Form) (groups : List Group) → normal_form to (normal_form to groups) ≡ normal_form to groups
+normal_again forms.OtlpProto groups = refl
+
+-- the canonical text of a trace is that of its normal form
+pub normal_text : (to : Form) (groups : List Group) → trace_text to (normal_form to groups) ≡ trace_text to groups
+normal_text forms.OtlpProto groups = refl
+
+pub normal_read : (from : Form) (text : List ℕ) (groups : List Group) → Reads from text groups → normal_form from groups ≡ groups
+normal_read forms.OtlpProto text groups h = refl
+
 -- ---- bytes are read as one trace at most
 
 -- a text that is read without remarks is read
-pub reads_plainly : (text : List ℕ) (groups : List Group) → ReadsPlainly text groups → Reads text groups
-reads_plainly text groups h = record { frames = h.frames; framed = h.framed; units = h.units; units_of = h.units_of; are_groups = remarked h.units groups h.are_groups }
+request_reads_plainly : (text : List ℕ) (groups : List Group) → ReadsRequestPlainly text groups → ReadsRequest text groups
+request_reads_plainly text groups h = record { frames = h.frames; framed = h.framed; units = h.units; are_units = h.are_units; are_groups = remarked h.units groups h.are_groups }
+
+pub reads_plainly : (to : Form) (text : List ℕ) (groups : List Group) → ReadsPlainly to text groups → Reads to text groups
+reads_plainly forms.OtlpProto text groups h = request_reads_plainly text groups h
 
 module _ (L : verdicts.Laws) where
   none_left : (limit n : ℕ) → BeginsFrame records limit n [] → ⊥
@@ -134,8 +159,11 @@ module _ (L : verdicts.Laws) where
       ends : (a b : List (List ℕ)) → GoesOn records limit a b [] [] → b ≡ a
       ends a b w = w.parts ∙ ap (λ (l : List (List ℕ)). a ++ l) (verdicts.no_frames L limit w.more [] [] (none_left limit) w.items_then).0 ∙ append-nil a
 
-  pub one_trace : (text : List ℕ) (a b : List Group) → Reads text a → Reads text b → a ≡ b
-  one_trace text a b h g =
+  one_request : (text : List ℕ) (a b : List Group) → ReadsRequest text a → ReadsRequest text b → a ≡ b
+  one_request text a b h g =
       let frames : h.frames ≡ g.frames = same_frames (length text) text h.frames g.frames h.framed g.framed in
-      let units : h.units ≡ g.units = verdicts.units_once L g.frames h.units g.units (subst (λ (l : List (List ℕ)). UnitsOf l h.units) frames h.units_of) g.units_of in
-      verdicts.each_once IsUnitOf (verdicts.one_group L) g.units a b (subst (λ (l : List (List ℕ)). AreGroups l a) units h.are_groups) g.are_groups
+      let units : h.units ≡ g.units = verdicts.units_once L g.frames h.units g.units (subst (λ (l : List (List ℕ)). AreRequestUnits l h.units) frames h.are_units) g.are_units in
+      verdicts.each_once IsRequestUnit (verdicts.one_group L) g.units a b (subst (λ (l : List (List ℕ)). Each IsRequestUnit l a) units h.are_groups) g.are_groups
+
+  pub one_trace : (from : Form) (text : List ℕ) (a b : List Group) → Reads from text a → Reads from text b → a ≡ b
+  one_trace forms.OtlpProto text a b h g = one_request text a b h g

@@ -1,31 +1,33 @@
 -- How a walk over the units of an input goes on, and how it ends.
 use Rattle.std.proofs.Common.{◌≡◌, ℕ, ◌+◌, min, ◌<◌, ◌≤◌, ◌⊎◌, inl, inr, Bool, true, false, List, [], ◌∷◌, ◌++◌, length, take, drop, get_or, Option, Some, None, Result, Ok, Err, IfOk, OnErr, refl, sym, ap, subst, ◌∙◌, append_assoc, arith, length-append}
-use Rattle.std.proofs.lemmas.List.{append-nil, take_more}
+use Rattle.std.proofs.lemmas.List.{append-nil, take_more, take-append-drop, length-take-le, length-drop}
 use Rattle.std.proofs.lemmas.List.Concat.{flat_map-append, flat_map-cons}
 use Rattle.std.proofs.lemmas.Bool.{false≢true}
-use Rattle.std.proofs.Math.Seq.{take-append_seam, drop-append_seam}
 use Rattle.std.proofs.KnownBytes.{Appends-nil}
 use Rattle.std.specs.List.{flat_map}
 use Rattle.span_io.specs.Causes.{cause_number}
-use Rattle.span_io.specs.Frames.{ItemsThen, BeginsFrame}
+use Rattle.span_io.specs.Frames.{ItemsThen}
 use Rattle.span_io.specs.Offences.{Offence, Least}
 use Rattle.span_io.specs.Outside.{Outlet, Gains, GainsFront, OutputFails, Rises, last_count}
-use Rattle.span_io.specs.Walks.{Walk}
 use Rattle.span_io.specs.declared.cause.Cause.{Cause}
+use Rattle.span_io.specs.declared.form.Form.TheVariants as forms
 use Rattle.span_io.specs.declared.limits.Limits.{Limits}
 use Rattle.span_io.specs.declared.refusal.Refusal.{Refusal}
 use Rattle.proto_wire.specs.Messages.{messages}
-use Rattle.proto_wire.specs.Records.{Record}
-use Rattle.proto_wire.specs.Wire.{SpellsRecord, Begins, records}
+use Rattle.proto_wire.specs.FirstFrames.{IsFirst}
+use Rattle.proto_wire.specs.Records.{Record, plain_record}
+use Rattle.proto_wire.specs.Wire.{SpellsRecord, records}
+use Rattle.proto_wire.specs.declared.record.Frame.{Frame}
 use Rattle.trace_model.specs.declared.trace.Group.{Group}
 use Rattle.trace_model.specs.declared.trace.Scope.{Scope}
 use Rattle.otlp_proto.specs.Group.{group_rules}
 use Rattle.otlp_proto.specs.Rows.{bytes_in}
 use Rattle.otlp_proto.specs.Texts.{group_record}
-use Rattle.otlp_proto.specs.Values.{Each}
-use Rattle.span_convert.specs.Units.{UnitsOf, HoldsUnits, IsUnitOf, span_count, RestCause}
-use Rattle.span_convert.specs.Verdicts.{tally_of, IsBadUnit, IsBadRest}
-use Rattle.span_convert.specs.Walks.{Exceeds, IsLookedAt, IsFrame, CutsFrame, StopsFrames, Walked, AddsUnit, IsTextSoFar, WritesFront, WritesRefused, StopsWalk, EndsWalk, WritesOut}
+use Rattle.span_io.specs.Tables.{Each}
+use Rattle.span_convert.specs.Requests.{AreRequestUnits, HoldsRequestUnits, IsRequestUnit, RequestRestCause}
+use Rattle.span_convert.specs.Units.{span_count}
+use Rattle.span_convert.specs.Verdicts.{tally_of, IsBadUnit, IsBadRest, IsTextSoFar, WritesFront}
+use Rattle.span_convert.specs.Walks.{Exceeds, IsLookedAt, CutsFrame, StopsFrames, WalkedUnits, AddsUnit, WritesRefused, StopsRequest, EndsRequest, WritesOut}
 use Rattle.span_convert.specs.declared.progress.Progress.{Progress}
 use Rattle.span_convert.specs.declared.progress.WalkStop.{WalkStop}
 use Rattle.span_convert.specs.declared.progress.WalkStop.TheVariants as walk_stops
@@ -33,23 +35,16 @@ use Rattle.span_convert.specs.declared.tally.Tally.{Tally}
 
 -- ---- a frame at the front
 
-pub cut_at : (limit n : ℕ) (rest frame behind : List ℕ) → BeginsFrame records limit n rest → 1 ≤ n → frame ≡ take n rest → behind ≡ drop n rest → CutsFrame limit rest frame behind
-cut_at limit n rest frame behind begins some first others =
-    let front : frame ≡ begins.text = first ∙ ap (λ l. take n l) begins.parts ∙ ap (λ k. take k (begins.text ++ begins.rest)) (sym begins.size) ∙ take-append_seam begins.text begins.rest in
-    let back : behind ≡ begins.rest = others ∙ ap (λ l. drop n l) begins.parts ∙ ap (λ k. drop k (begins.text ++ begins.rest)) (sym begins.size) ∙ drop-append_seam begins.text begins.rest in
-    let size : length rest ≡ length begins.text + length begins.rest = ap length begins.parts ∙ length-append begins.text begins.rest in
-    record {
-      is_frame = record {
-        this = begins.whole.0;
-        spelled = subst (λ l. SpellsRecord l begins.whole.0) (sym front) begins.whole.1;
-        within = omega (arith, ap length front, begins.size, begins.within);
-      };
-      parts = begins.parts ∙ ap (λ l. l ++ begins.rest) (sym front) ∙ ap (λ l. frame ++ l) (sym back);
-      nearer = omega (arith, ap length back, size, begins.size);
-    }
-
-pub begins_alone : (walk : Walk) (frame : List ℕ) (r : Record) → walk ≡ record { place = 0; rest = frame } → SpellsRecord frame r → Begins r walk.rest []
-begins_alone walk frame r is spelled = record { text = frame; spelled = spelled; parts = ap (λ (w : Walk). w.rest) is ∙ sym (append-nil frame) }
+pub cut_at : (limit : ℕ) (rest behind : List ℕ) (found : Frame) (units : List (List ℕ)) → IsFirst limit found rest → behind ≡ drop found.size rest → bytes_in 1 (plain_record found.record) ≡ units → CutsFrame limit rest units behind
+cut_at limit rest behind found units first others holds = record {
+  frame = take found.size rest;
+  this = plain_record found.record;
+  spelled = first.spelled;
+  within = omega (arith, first.within, length-take-le found.size rest first.there);
+  holds = holds;
+  parts = sym (take-append-drop found.size rest) ∙ ap (λ l. take found.size rest ++ l) (sym others);
+  nearer = omega (arith, first.some, first.there, ap length others, length-drop found.size rest);
+}
 
 -- ---- lists that grow by one
 
@@ -62,20 +57,20 @@ each_push Is [] (y ∷ xs) a x all here = absurd all
 each_push Is (b ∷ held) [] a x all here = absurd all
 each_push Is (b ∷ held) (y ∷ xs) a x all here = (all.0, each_push Is held xs a x all.1 here)
 
-items_push : (limit : ℕ) (items : List (List ℕ)) (frame behind bytes : List ℕ) → ItemsThen records limit items (frame ++ behind) bytes → IsFrame limit frame → ItemsThen records limit (items ++ frame ∷ []) behind bytes
+items_push : (limit : ℕ) (items : List (List ℕ)) (frame behind rest bytes : List ℕ) (r : Record) → SpellsRecord frame r → length frame ≤ limit → rest ≡ frame ++ behind → ItemsThen records limit items rest bytes → ItemsThen records limit (items ++ frame ∷ []) behind bytes
 unfolding ItemsThen
-items_push limit [] frame behind bytes so_far is_frame = ((is_frame.this, is_frame.spelled), is_frame.within, behind, so_far, refl)
-items_push limit (item ∷ more) frame behind bytes so_far is_frame = (so_far.0, so_far.1, so_far.2, so_far.3, items_push limit more frame behind so_far.2 so_far.4 is_frame)
+items_push limit [] frame behind rest bytes r spelled within parts so_far = ((r, spelled), within, behind, so_far ∙ parts, refl)
+items_push limit (item ∷ more) frame behind rest bytes r spelled within parts so_far = (so_far.0, so_far.1, so_far.2, so_far.3, items_push limit more frame behind rest so_far.2 r spelled within parts so_far.4)
 
-units_push : (frames units : List (List ℕ)) (frame : List ℕ) (r : Record) → UnitsOf frames units → SpellsRecord frame r → UnitsOf (frames ++ frame ∷ []) (units ++ bytes_in 1 r)
-unfolding UnitsOf
+units_push : (frames units : List (List ℕ)) (frame : List ℕ) (r : Record) → AreRequestUnits frames units → SpellsRecord frame r → AreRequestUnits (frames ++ frame ∷ []) (units ++ bytes_in 1 r)
+unfolding AreRequestUnits
 units_push [] units frame r so_far spelled = (r, spelled, [], ap (λ l. l ++ bytes_in 1 r) so_far ∙ sym (append-nil (bytes_in 1 r)), refl)
 units_push (item ∷ more) units frame r so_far spelled =
     (so_far.0, so_far.1, so_far.2 ++ bytes_in 1 r, ap (λ l. l ++ bytes_in 1 r) so_far.3 ∙ append_assoc (bytes_in 1 so_far.0) so_far.2 (bytes_in 1 r), units_push more so_far.2 frame r so_far.4 spelled)
 
 -- ---- spans
 
-one_group : (group : Group) → span_count (group ∷ []) ≡ length (flat_map (λ (s : Scope). s.spans) group.scopes)
+pub one_group : (group : Group) → span_count (group ∷ []) ≡ length (flat_map (λ (s : Scope). s.spans) group.scopes)
 one_group group = ap (λ l. length (flat_map (λ (s : Scope). s.spans) l)) (flat_map-cons (λ (g : Group). g.scopes) group [] ∙ append-nil group.scopes)
 
 spans_push : (groups : List Group) (group : Group) → span_count (groups ++ group ∷ []) ≡ span_count groups + span_count (group ∷ [])
@@ -96,7 +91,7 @@ scopes_push count next scopes i scope lt is so_far e =
 
 -- ---- the walk
 
-rest_cause : (limits : Limits) (whole rest : List ℕ) (cause : Cause) (too_long : Bool) → Exceeds too_long limits whole → StopsFrames limits.unit too_long rest cause → RestCause limits (length whole) rest cause
+rest_cause : (limits : Limits) (whole rest : List ℕ) (cause : Cause) (too_long : Bool) → Exceeds too_long limits whole → StopsFrames limits.unit too_long rest cause → RequestRestCause limits (length whole) rest cause
 rest_cause limits whole rest cause too_long exceeds (inl refused) = inl refused
 rest_cause limits whole rest cause true exceeds (inr (needs, inl long)) = inr (needs, inl (long.0, exceeds))
 rest_cause limits whole rest cause false exceeds (inr (needs, inl long)) = absurd (false≢true long.1)
@@ -110,11 +105,11 @@ gains_none a = record { held = Appends-nil a.held; taken = rises_none a.taken; f
     rises_none None = tt
     rises_none (Some n) = omega arith
 
-pub walked_none : (limits : Limits) (whole looked : List ℕ) (too_long : Bool) (before : Outlet) → IsLookedAt limits whole looked too_long → Walked limits whole looked before before (record { unwritten = []; tally = record { units = 0; spans = 0 } })
-unfolding ItemsThen UnitsOf
+pub walked_none : (limits : Limits) (whole looked : List ℕ) (too_long : Bool) (before : Outlet) → IsLookedAt limits whole looked too_long → WalkedUnits limits whole looked before before (record { unwritten = []; tally = record { units = 0; spans = 0 } })
+unfolding ItemsThen AreRequestUnits
 walked_none limits whole looked too_long before seen = record {
   units = [];
-  held = record { frames = []; framed = seen.front; units_of = refl };
+  held = record { frames = []; framed = seen.front; are_units = refl };
   groups = [];
   are_groups = tt;
   written = [];
@@ -137,23 +132,18 @@ rose_since : (a b c : Outlet) → a.faults ≤ b.faults → OutputFails b c → 
 rose_since a b c h rose = omega arith
 
 module _ (limits : Limits) (whole : List ℕ) where
-  held_then : (frame behind : List ℕ) (units : List (List ℕ)) (r : Record) → IsFrame limits.unit frame → SpellsRecord frame r → HoldsUnits limits whole units (frame ++ behind) → HoldsUnits limits whole (units ++ bytes_in 1 r) behind
-  held_then frame behind units r is_frame spelled held = record {
-    frames = held.frames ++ frame ∷ [];
-    framed = items_push limits.unit held.frames frame behind (take limits.binary whole) held.framed is_frame;
-    units_of = units_push held.frames units frame r held.units_of spelled;
+  held_then : (rest behind : List ℕ) (units more : List (List ℕ)) → CutsFrame limits.unit rest more behind → HoldsRequestUnits limits whole units rest → HoldsRequestUnits limits whole (units ++ more) behind
+  held_then rest behind units more cut held = record {
+    frames = held.frames ++ cut.frame ∷ [];
+    framed = items_push limits.unit held.frames cut.frame behind rest (take limits.binary whole) cut.this cut.spelled cut.within cut.parts held.framed;
+    are_units = subst (λ (l : List (List ℕ)). AreRequestUnits (held.frames ++ cut.frame ∷ []) (units ++ l)) cut.holds (units_push held.frames units cut.frame cut.this held.are_units cut.spelled);
   }
 
-  held_unit : (frame behind unit : List ℕ) (units : List (List ℕ)) → IsFrame limits.unit frame → ((r : Record) → SpellsRecord frame r → bytes_in 1 r ≡ unit ∷ []) → HoldsUnits limits whole units (frame ++ behind) → HoldsUnits limits whole (units ++ unit ∷ []) behind
-  held_unit frame behind unit units is_frame its held =
-      subst (λ (l : List (List ℕ)). HoldsUnits limits whole l behind) (ap (λ l. units ++ l) (its is_frame.this is_frame.spelled)) (held_then frame behind units is_frame.this is_frame is_frame.spelled held)
-
   module _ (before now : Outlet) (progress : Progress) where
-    pub walked_free : (frame behind : List ℕ) → IsFrame limits.unit frame → ((r : Record) → SpellsRecord frame r → bytes_in 1 r ≡ []) → Walked limits whole (frame ++ behind) before now progress → Walked limits whole behind before now progress
-    walked_free frame behind is_frame free w = record {
+    pub walked_free : (rest behind : List ℕ) → CutsFrame limits.unit rest [] behind → WalkedUnits limits whole rest before now progress → WalkedUnits limits whole behind before now progress
+    walked_free rest behind cut w = record {
       units = w.units;
-      held = subst (λ (l : List (List ℕ)). HoldsUnits limits whole l behind) (ap (λ l. w.units ++ l) (free is_frame.this is_frame.spelled) ∙ append-nil w.units)
-          (held_then frame behind w.units is_frame.this is_frame is_frame.spelled w.held);
+      held = subst (λ (l : List (List ℕ)). HoldsRequestUnits limits whole l behind) (append-nil w.units) (held_then rest behind w.units [] cut w.held);
       groups = w.groups;
       are_groups = w.are_groups;
       written = w.written;
@@ -162,13 +152,12 @@ module _ (limits : Limits) (whole : List ℕ) where
       counts = w.counts;
     }
 
-    pub walked_unit : (next : Progress) (frame behind unit : List ℕ) → IsFrame limits.unit frame → ((r : Record) → SpellsRecord frame r → bytes_in 1 r ≡ unit ∷ []) → AddsUnit unit progress next → Walked limits whole (frame ++ behind) before now progress
-        → Walked limits whole behind before now next
-    walked_unit next frame behind unit is_frame its adds w = record {
+    pub walked_unit : (next : Progress) (rest behind unit : List ℕ) → CutsFrame limits.unit rest (unit ∷ []) behind → AddsUnit unit progress next → WalkedUnits limits whole rest before now progress → WalkedUnits limits whole behind before now next
+    walked_unit next rest behind unit cut adds w = record {
       units = w.units ++ unit ∷ [];
-      held = held_unit frame behind unit w.units is_frame its w.held;
+      held = held_then rest behind w.units (unit ∷ []) cut w.held;
       groups = w.groups ++ adds.group ∷ [];
-      are_groups = each_push IsUnitOf w.units w.groups unit adds.group w.are_groups adds.is_unit;
+      are_groups = each_push IsRequestUnit w.units w.groups unit adds.group w.are_groups adds.is_unit;
       written = w.written;
       gains = w.gains;
       parts = flat_push group_record w.groups adds.group ∙ ap (λ l. l ++ group_record adds.group) w.parts ∙ append_assoc w.written progress.unwritten (group_record adds.group) ∙ ap (λ l. w.written ++ l) (sym adds.text);
@@ -177,11 +166,11 @@ module _ (limits : Limits) (whole : List ℕ) where
           (spans_more progress.tally.spans next.tally.spans (span_count w.groups) (span_count (adds.group ∷ [])) (ap (λ (t : Tally). t.spans) w.counts) adds.spans ∙ ap (λ n. min n last_count) (sym (spans_push w.groups adds.group)));
     }
 
-    so_far : (rest : List ℕ) (w : Walked limits whole rest before now progress) → IsTextSoFar limits whole (w.written ++ progress.unwritten)
+    so_far : (rest : List ℕ) (w : WalkedUnits limits whole rest before now progress) → IsTextSoFar forms.OtlpProto forms.OtlpProto limits whole (w.written ++ progress.unwritten)
     so_far rest w = record { units = w.units; rest = rest; held = w.held; groups = w.groups; are_groups = w.are_groups; is_text = sym w.parts }
 
     -- nothing more is written
-    pub stays_front : (rest : List ℕ) → Walked limits whole rest before now progress → WritesFront limits whole before now
+    pub stays_front : (rest : List ℕ) → WalkedUnits limits whole rest before now progress → WritesFront forms.OtlpProto forms.OtlpProto limits whole before now
     stays_front rest w = record {
       text = w.written ++ progress.unwritten;
       so_far = so_far rest w;
@@ -189,7 +178,7 @@ module _ (limits : Limits) (whole : List ℕ) where
     }
 
     module _ (both : (a b c : Outlet) (first second : List ℕ) → Gains a b first → Gains b c second → Gains a c (first ++ second)) (later : Outlet) where
-      pub walked_written : (next : Progress) (rest : List ℕ) → next.tally ≡ progress.tally → next.unwritten ≡ [] → Gains now later progress.unwritten → Walked limits whole rest before now progress → Walked limits whole rest before later next
+      pub walked_written : (next : Progress) (rest : List ℕ) → next.tally ≡ progress.tally → next.unwritten ≡ [] → Gains now later progress.unwritten → WalkedUnits limits whole rest before now progress → WalkedUnits limits whole rest before later next
       walked_written next rest same empty gains w = record {
         units = w.units;
         held = w.held;
@@ -202,7 +191,7 @@ module _ (limits : Limits) (whole : List ℕ) where
       }
 
       module _ (front : (a b c : Outlet) (first second : List ℕ) → Gains a b first → GainsFront b c second → GainsFront a c (first ++ second)) where
-        pub writes_front : (rest : List ℕ) → GainsFront now later progress.unwritten → Walked limits whole rest before now progress → WritesFront limits whole before later
+        pub writes_front : (rest : List ℕ) → GainsFront now later progress.unwritten → WalkedUnits limits whole rest before now progress → WritesFront forms.OtlpProto forms.OtlpProto limits whole before later
         writes_front rest gains w = record {
           text = w.written ++ progress.unwritten;
           so_far = so_far rest w;
@@ -210,28 +199,28 @@ module _ (limits : Limits) (whole : List ℕ) where
         }
 
         -- the sink failed
-        pub stops_write : (rest : List ℕ) → OutputFails now later → GainsFront now later progress.unwritten → Walked limits whole rest before now progress → StopsWalk limits whole walk_stops.Write before later
+        pub stops_write : (rest : List ℕ) → OutputFails now later → GainsFront now later progress.unwritten → WalkedUnits limits whole rest before now progress → StopsRequest limits whole walk_stops.Write before later
         stops_write rest fails gains w = (rose_since before now later w.gains.faults fails, writes_front rest gains w)
 
-        stops_out : (stop : WalkStop) (rest : List ℕ) (refusal : Refusal) (w : Walked limits whole rest before now progress)
-            → IsBadUnit limits whole (w.written ++ progress.unwritten) refusal ⊎ IsBadRest limits whole (w.written ++ progress.unwritten) refusal
-            → WritesOut stop refusal progress.unwritten now later → StopsWalk limits whole stop before later
+        stops_out : (stop : WalkStop) (rest : List ℕ) (refusal : Refusal) (w : WalkedUnits limits whole rest before now progress)
+            → IsBadUnit forms.OtlpProto forms.OtlpProto limits whole (w.written ++ progress.unwritten) refusal ⊎ IsBadRest forms.OtlpProto forms.OtlpProto limits whole (w.written ++ progress.unwritten) refusal
+            → WritesOut stop refusal progress.unwritten now later → StopsRequest limits whole stop before later
         stops_out (walk_stops.Refused why) rest refusal w bad out =
-            subst (λ (x : Refusal). WritesRefused limits whole x before later) (sym out.0)
-            (record { text = w.written ++ progress.unwritten; is_bad = bad; gains = both before now later w.written progress.unwritten w.gains out.1 })
+            subst (λ (x : Refusal). WritesRefused forms.OtlpProto forms.OtlpProto limits whole x before later) (sym out.0)
+            (record { text = w.written ++ progress.unwritten; is_bad = bad; so_far = so_far rest w; gains = both before now later w.written progress.unwritten w.gains out.1 })
         stops_out walk_stops.Write rest refusal w bad out = stops_write rest out.0 out.1 w
         stops_out walk_stops.OutOfMemory rest refusal w bad out = absurd out
 
         -- the unit in the frame offends
-        pub stops_unit : (stop : WalkStop) (cause : Cause) (frame behind unit : List ℕ) → IsFrame limits.unit frame → ((r : Record) → SpellsRecord frame r → bytes_in 1 r ≡ unit ∷ []) → Least (Offence messages group_rules unit) (cause_number cause)
-            → WritesOut stop (record { unit = progress.tally.units + 1; cause = cause }) progress.unwritten now later → Walked limits whole (frame ++ behind) before now progress → StopsWalk limits whole stop before later
-        stops_unit stop cause frame behind unit is_frame its least out w =
-            stops_out stop (frame ++ behind) (record { unit = progress.tally.units + 1; cause = cause }) w
+        pub stops_unit : (stop : WalkStop) (cause : Cause) (rest behind unit : List ℕ) → CutsFrame limits.unit rest (unit ∷ []) behind → Least (Offence messages group_rules unit) (cause_number cause)
+            → WritesOut stop (record { unit = progress.tally.units + 1; cause = cause }) progress.unwritten now later → WalkedUnits limits whole rest before now progress → StopsRequest limits whole stop before later
+        stops_unit stop cause rest behind unit cut least out w =
+            stops_out stop rest (record { unit = progress.tally.units + 1; cause = cause }) w
             (inl (record {
               before = w.units;
               unit = unit;
               rest = behind;
-              held = held_unit frame behind unit w.units is_frame its w.held;
+              held = held_then rest behind w.units (unit ∷ []) cut w.held;
               groups = w.groups;
               are_groups = w.are_groups;
               cause = least;
@@ -242,7 +231,7 @@ module _ (limits : Limits) (whole : List ℕ) where
 
         -- no frame begins here
         pub stops_rest : (stop : WalkStop) (cause : Cause) (rest looked : List ℕ) (too_long : Bool) → StopsFrames limits.unit too_long rest cause → IsLookedAt limits whole looked too_long
-            → WritesOut stop (record { unit = progress.tally.units + 1; cause = cause }) progress.unwritten now later → Walked limits whole rest before now progress → StopsWalk limits whole stop before later
+            → WritesOut stop (record { unit = progress.tally.units + 1; cause = cause }) progress.unwritten now later → WalkedUnits limits whole rest before now progress → StopsRequest limits whole stop before later
         stops_rest stop cause rest looked too_long why seen out w =
             stops_out stop rest (record { unit = progress.tally.units + 1; cause = cause }) w
             (inr (record {
@@ -259,7 +248,7 @@ module _ (limits : Limits) (whole : List ℕ) where
 
         -- the end
         pub ends : (result : Result Tally WalkStop) (looked : List ℕ) (too_long : Bool) → too_long ≡ false → IsLookedAt limits whole looked too_long → IfOk result (λ tally. (tally ≡ progress.tally) × Gains now later progress.unwritten)
-            → OnErr result ((result ≡ Err walk_stops.Write) × OutputFails now later) → OnErr result (GainsFront now later progress.unwritten) → Walked limits whole [] before now progress → EndsWalk limits whole result before later
+            → OnErr result ((result ≡ Err walk_stops.Write) × OutputFails now later) → OnErr result (GainsFront now later progress.unwritten) → WalkedUnits limits whole [] before now progress → EndsRequest limits whole result before later
         ends (Ok tally) looked true short seen ok failed gains w = absurd (false≢true (sym short))
         ends (Ok tally) looked false short seen ok failed gains w = record {
           text = w.written ++ progress.unwritten;
@@ -276,4 +265,4 @@ module _ (limits : Limits) (whole : List ℕ) where
         }
         ends (Err stop) looked too_long short seen ok failed gains w =
             let same : stop ≡ walk_stops.Write = cc (failed.0) in
-            subst (λ (s : WalkStop). StopsWalk limits whole s before later) (sym same) (stops_write [] failed.1 gains w)
+            subst (λ (s : WalkStop). StopsRequest limits whole s before later) (sym same) (stops_write [] failed.1 gains w)

@@ -1,8 +1,10 @@
 -- What a converter holds, and what it was fed.
 use Rattle.std.specs.Prelude.{◌≡◌, ℕ, ◌≤◌, Bool, true, false, List, length, Option, Some, None, Result, Ok, Err}
 use Rattle.span_io.specs.Limits.{AreLimits}
+use Rattle.span_io.specs.Outside.{Outlet}
+use Rattle.span_io.specs.declared.form.Form.{Form}
 use Rattle.span_io.specs.declared.refusal.Refusal.{Refusal}
-use Rattle.span_convert.specs.Verdicts.{Verdict, good, refused}
+use Rattle.span_convert.specs.Verdicts.{Verdict, good, refused, IsVerdict, IsJudged, WritesFront}
 use Rattle.span_convert.specs.declared.converter.Converter.{Converter}
 use Rattle.span_convert.specs.declared.converter.State.{State}
 use Rattle.span_convert.specs.declared.converter.State.TheVariants as states
@@ -32,6 +34,21 @@ is_ended states.Ended = true
 is_ended (states.Refused refusal) = false
 is_ended states.Write = false
 is_ended states.OutOfMemory = false
+
+-- it converts from the one form to the other
+abbrev pub HasForms : Converter → Form → Form → Type 0
+HasForms c from to = (c.from ≡ from) × (c.to ≡ to)
+
+-- the verdict on these bytes, by the forms and limits of the converter
+abbrev pub IsVerdictBy : Converter → List ℕ → Verdict → Type 0
+IsVerdictBy c bytes verdict = IsVerdict c.from c.to c.limits bytes verdict
+
+abbrev pub IsJudgedBy : {T : Type 0} → Converter → List ℕ → Result T Stop → Type 0
+IsJudgedBy c bytes result = IsJudged c.from c.to c.limits bytes result
+
+-- a front of the canonical text of the first units of these bytes was written
+abbrev pub WritesFrontBy : Converter → List ℕ → Outlet → Outlet → Type 0
+WritesFrontBy c bytes before now = WritesFront c.from c.to c.limits bytes before now
 
 -- it answered no stop, isn't ended, and was fed these bytes
 pub record Fed (c : Converter) (bytes : List ℕ) : Type 0 where

@@ -1,15 +1,14 @@
--- What is to be said of an input. Of its units the first that has a cause counts, or the rest behind them all; what was written is
--- then the text of the groups before.
+-- What is to be said of an input in one form that is converted to another. Of its units the first that has a cause counts, or the
+-- rest behind them all; what was written is then the text of the groups before.
 use Rattle.std.specs.Prelude.{◌≡◌, ℕ, ◌+◌, ◌≤◌, ◌⊎◌, min, List, [], ◌∷◌, ◌++◌, length, Result, Ok, Err}
 use Rattle.span_io.specs.Causes.{cause_number}
-use Rattle.span_io.specs.Offences.{Offence, Least}
+use Rattle.span_io.specs.Offences.{Least}
 use Rattle.span_io.specs.Outside.{Outlet, Gains, GainsFront, OutputFails, last_count}
+use Rattle.span_io.specs.declared.form.Form.{Form}
 use Rattle.span_io.specs.declared.limits.Limits.{Limits}
 use Rattle.span_io.specs.declared.refusal.Refusal.{Refusal}
-use Rattle.proto_wire.specs.Messages.{messages}
 use Rattle.trace_model.specs.declared.trace.Group.{Group}
-use Rattle.otlp_proto.specs.Group.{group_rules}
-use Rattle.span_convert.specs.Units.{HoldsUnits, AreGroups, trace_text, span_count, RestCause}
+use Rattle.span_convert.specs.Units.{HoldsUnits, AreGroups, UnitOffence, trace_text, span_count, RestCause}
 use Rattle.span_convert.specs.declared.bad.Bad.{Bad}
 use Rattle.span_convert.specs.declared.bad.Bad.TheVariants as bads
 use Rattle.span_convert.specs.declared.stop.Stop.{Stop}
@@ -27,42 +26,42 @@ abbrev pub tally_of : ℕ → ℕ → Tally
 tally_of units spans = record { units = units; spans = min spans last_count }
 
 -- all of the input is units that are texts of groups, and other frames
-pub record IsGood (limits : Limits) (bytes text : List ℕ) (tally : Tally) : Type 0 where
+pub record IsGood (from to : Form) (limits : Limits) (bytes text : List ℕ) (tally : Tally) : Type 0 where
   pub units : List (List ℕ)
-  pub held : HoldsUnits limits bytes units []
+  pub held : HoldsUnits from limits bytes units []
   pub within : length bytes ≤ limits.binary
   pub groups : List Group
-  pub are_groups : AreGroups units groups
-  pub whole : text ≡ trace_text groups
+  pub are_groups : AreGroups from units groups
+  pub whole : text ≡ trace_text to groups
   pub counts : tally ≡ tally_of (length units) (span_count groups)
 
 -- the units before this one are texts of groups, and it offends
-pub record IsBadUnit (limits : Limits) (bytes text : List ℕ) (refusal : Refusal) : Type 0 where
+pub record IsBadUnit (from to : Form) (limits : Limits) (bytes text : List ℕ) (refusal : Refusal) : Type 0 where
   pub before : List (List ℕ)
   pub unit : List ℕ
   pub rest : List ℕ
-  pub held : HoldsUnits limits bytes (before ++ unit ∷ []) rest
+  pub held : HoldsUnits from limits bytes (before ++ unit ∷ []) rest
   pub groups : List Group
-  pub are_groups : AreGroups before groups
-  pub cause : Least (Offence messages group_rules unit) (cause_number refusal.cause)
+  pub are_groups : AreGroups from before groups
+  pub cause : Least (UnitOffence from unit) (cause_number refusal.cause)
   pub number : refusal.unit ≡ length before + 1
-  pub partial : text ≡ trace_text groups
+  pub partial : text ≡ trace_text to groups
 
 -- the units are texts of groups, and behind them no frame begins
-pub record IsBadRest (limits : Limits) (bytes text : List ℕ) (refusal : Refusal) : Type 0 where
+pub record IsBadRest (from to : Form) (limits : Limits) (bytes text : List ℕ) (refusal : Refusal) : Type 0 where
   pub units : List (List ℕ)
   pub rest : List ℕ
-  pub held : HoldsUnits limits bytes units rest
+  pub held : HoldsUnits from limits bytes units rest
   pub groups : List Group
-  pub are_groups : AreGroups units groups
-  pub cause : RestCause limits (length bytes) rest refusal.cause
+  pub are_groups : AreGroups from units groups
+  pub cause : RestCause from limits (length bytes) rest refusal.cause
   pub number : refusal.unit ≡ length units + 1
-  pub partial : text ≡ trace_text groups
+  pub partial : text ≡ trace_text to groups
 
--- the verdict on these bytes
-abbrev pub IsVerdict : Limits → List ℕ → Verdict → Type 0
-IsVerdict limits bytes (good text tally) = IsGood limits bytes text tally
-IsVerdict limits bytes (refused refusal text) = IsBadUnit limits bytes text refusal ⊎ IsBadRest limits bytes text refusal
+-- the verdict on these bytes, where they are converted from the one form to the other
+abbrev pub IsVerdict : Form → Form → Limits → List ℕ → Verdict → Type 0
+IsVerdict from to limits bytes (good text tally) = IsGood from to limits bytes text tally
+IsVerdict from to limits bytes (refused refusal text) = IsBadUnit from to limits bytes text refusal ⊎ IsBadRest from to limits bytes text refusal
 
 -- what is written: the whole text, or that of the groups before
 abbrev pub text_in : Verdict → List ℕ
@@ -72,11 +71,26 @@ text_in (refused refusal text) = text
 -- ---- what calls answer and write
 
 -- there is a verdict, where one was carried out
-abbrev pub IsJudged : {T : Type 0} → Limits → List ℕ → Result T Stop → Type 0
-IsJudged limits bytes (Ok x) = (verdict : Verdict) × IsVerdict limits bytes verdict
-IsJudged limits bytes (Err stops.Refused) = (verdict : Verdict) × IsVerdict limits bytes verdict
-IsJudged limits bytes (Err stops.Write) = Unit {0}
-IsJudged limits bytes (Err stops.OutOfMemory) = Unit {0}
+abbrev pub IsJudged : {T : Type 0} → Form → Form → Limits → List ℕ → Result T Stop → Type 0
+IsJudged from to limits bytes (Ok x) = (verdict : Verdict) × IsVerdict from to limits bytes verdict
+IsJudged from to limits bytes (Err stops.Refused) = (verdict : Verdict) × IsVerdict from to limits bytes verdict
+IsJudged from to limits bytes (Err stops.Write) = Unit {0}
+IsJudged from to limits bytes (Err stops.OutOfMemory) = Unit {0}
+
+-- the text is that of the first units of the input
+pub record IsTextSoFar (from to : Form) (limits : Limits) (bytes text : List ℕ) : Type 0 where
+  pub units : List (List ℕ)
+  pub rest : List ℕ
+  pub held : HoldsUnits from limits bytes units rest
+  pub groups : List Group
+  pub are_groups : AreGroups from units groups
+  pub is_text : text ≡ trace_text to groups
+
+-- a front of such a text was written
+pub record WritesFront (from to : Form) (limits : Limits) (bytes : List ℕ) (before now : Outlet) : Type 0 where
+  pub text : List ℕ
+  pub so_far : IsTextSoFar from to limits bytes text
+  pub gains : GainsFront before now text
 
 -- how the verdict was carried out where a call stopped: whole, or the sink failed or memory was wanted, and a front was written
 abbrev pub Stops : Verdict → Stop → Outlet → Outlet → Type 0
@@ -102,7 +116,7 @@ Answers (refused why text) (Ok out) = ⊥
 Answers (refused why text) (Err (bads.Refused refusal)) = refusal ≡ why
 Answers verdict (Err bads.OutOfMemory) = Unit {0}
 
-abbrev pub IsAnswered : Limits → List ℕ → Result (List ℕ) Bad → Type 0
-IsAnswered limits bytes (Ok out) = (verdict : Verdict) × IsVerdict limits bytes verdict
-IsAnswered limits bytes (Err (bads.Refused refusal)) = (verdict : Verdict) × IsVerdict limits bytes verdict
-IsAnswered limits bytes (Err bads.OutOfMemory) = Unit {0}
+abbrev pub IsAnswered : Form → Form → Limits → List ℕ → Result (List ℕ) Bad → Type 0
+IsAnswered from to limits bytes (Ok out) = (verdict : Verdict) × IsVerdict from to limits bytes verdict
+IsAnswered from to limits bytes (Err (bads.Refused refusal)) = (verdict : Verdict) × IsVerdict from to limits bytes verdict
+IsAnswered from to limits bytes (Err bads.OutOfMemory) = Unit {0}

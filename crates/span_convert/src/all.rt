@@ -20,9 +20,9 @@ struct GrowingSink {
 }
 
 impl Sink for GrowingSink {
-    ghost use Rattle.std.specs.Prelude.{Some, length};
+    ghost use Rattle.std.specs.Prelude.{Some, length, false};
 
-    ghost outlet = { λ s. record { held = Some s.text; taken = Some (length s.text); faults = s.faults } };
+    ghost outlet = { λ s. record { held = Some s.text; taken = Some (length s.text); faults = s.faults; steady = false } };
 
     fn write(&mut self, piece: &[u8]) -> Result<usize, Failed> {
         match self.text.append(piece) {
@@ -62,11 +62,11 @@ pub fn convert_all(
     limits: &Limits,
 ) -> Result<Blob, Bad>
     requires limits { AreLimits limits.now }
-    ensures judged { IsAnswered limits.now bytes.now result }
-    ensures verdict { (verdict : Verdict) → IsVerdict limits.now bytes.now verdict → Answers verdict result }
+    ensures judged { IsAnswered from to limits.now bytes.now result }
+    ensures verdict { (verdict : Verdict) → IsVerdict from to limits.now bytes.now verdict → Answers verdict result }
 
     // What is answered is read back as the input's trace.
-    ensures back { IfOk result (λ out. ReadsBack limits.now bytes.now out) }
+    ensures back { IfOk result (λ out. ReadsBack from to limits.now bytes.now out) }
 {
     one_verdict();
     output_read_back();
@@ -75,7 +75,7 @@ pub fn convert_all(
         text: Blob::new(alloc),
         faults: 0,
     };
-    match write_units(alloc, looked, too_long, limits, &mut out) {
+    match write_units(alloc, from, to, looked, too_long, limits, &mut out) {
         Ok(_) => {
             bytes_known(bytes);
             bytes_known(out.text.as_slice());

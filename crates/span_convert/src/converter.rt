@@ -1,9 +1,11 @@
 //! Conversion of an input that comes in pieces.
-ghost use Rattle.std.specs.Prelude.{◌≡◌, ◌≢◌, ◌++◌, [], ℕ, List, length, ◌≤◌, ◌<◌, true, Err, None, OnOk, OnErr, IsErr};
+ghost use Rattle.std.specs.Prelude.{◌≡◌, ◌≢◌, ◌++◌, [], ℕ, List, length, ◌≤◌, ◌<◌, true, Err, None, OnOk, OnErr, IsErr, IsTrue};
 ghost use Rattle.span_io.specs.Limits.{AreLimits};
 ghost use Rattle.span_io.specs.Outside.{OutputFails};
-ghost use Rattle.span_convert.specs.Converters.{Fed, KeepsRefusal, SameStop, KeepsStop, OnlyWants, Stopped, IsWhy, stop_in, refusal_in, is_ended};
-ghost use Rattle.span_convert.specs.Verdicts.{Verdict, IsVerdict, IsJudged, Carries, Stops};
+ghost use Rattle.span_convert.specs.Converters.{HasForms, IsVerdictBy, IsJudgedBy, WritesFrontBy};
+ghost use Rattle.span_convert.specs.Converters.{Fed, KeepsRefusal, SameStop, KeepsStop, OnlyWants, Stopped, IsWhy};
+ghost use Rattle.span_convert.specs.Converters.{stop_in, refusal_in, is_ended};
+ghost use Rattle.span_convert.specs.Verdicts.{Verdict, Carries, Stops};
 ghost use Rattle.span_convert.specs.Walks.{IsLookedAt};
 ghost use Rattle.span_convert.specs.declared.converter.State.TheVariants as states;
 ghost use Rattle.span_convert.specs.declared.stop.Stop.TheVariants as stops;
@@ -59,6 +61,7 @@ impl Converter {
     pub fn new(alloc: Global, from: Form, to: Form, limits: &Limits) -> Converter
         requires limits { AreLimits limits.now }
         ensures fed { Fed result [] }
+        ensures forms { HasForms result from to }
         ensures limits { result.limits ≡ limits.now }
     {
         Converter {
@@ -73,6 +76,7 @@ impl Converter {
 
     // Adds bytes to those that are held.
     fn hold(&mut self, piece: &[u8]) -> Result<(), Stop>
+        ensures forms { HasForms self.new self.old.from self.old.to }
         ensures limits { self.new.limits ≡ self.old.limits }
         ensures ok { OnOk result ((self.new.held ≡ self.old.held ++ piece.now) × (self.new.state ≡ self.old.state)) }
         ensures err { OnErr result ((result ≡ Err stops.OutOfMemory) × (self.new.state ≡ states.OutOfMemory)) }
@@ -90,16 +94,26 @@ impl Converter {
     fn carry_out<K: Sink>(&mut self, too_long: bool, out: &mut K) -> Result<Tally, Stop>
         ensures stays { KeepsStop result self.new.state }
         ensures ended { OnOk result (self.new.state ≡ states.Ended) }
+        ensures forms { HasForms self.new self.old.from self.old.to }
         ensures limits { self.new.limits ≡ self.old.limits }
-        ensures judged { (whole : List ℕ) → AreLimits self.old.limits → IsLookedAt self.old.limits whole self.old.held too_long → IsJudged self.old.limits whole result }
-        ensures verdict { (whole : List ℕ) → AreLimits self.old.limits → IsLookedAt self.old.limits whole self.old.held too_long → (verdict : Verdict) → IsVerdict self.old.limits whole verdict
+        ensures judged { (whole : List ℕ) → AreLimits self.old.limits → IsLookedAt self.old.limits whole self.old.held too_long
+            → IsJudgedBy self.old whole result }
+        ensures verdict { (whole : List ℕ) → AreLimits self.old.limits → IsLookedAt self.old.limits whole self.old.held too_long
+            → (verdict : Verdict) → IsVerdictBy self.old whole verdict
             → Carries verdict result (K.outlet out.old) (K.outlet out.new) × KeepsRefusal verdict self.new.state }
+        ensures front { (whole : List ℕ) → IsLookedAt self.old.limits whole self.old.held too_long
+            → WritesFrontBy self.old whole (K.outlet out.old) (K.outlet out.new) }
         ensures fails { result ≡ Err stops.Write → OutputFails (K.outlet out.old) (K.outlet out.new) }
+        ensures quiet { result ≢ Err stops.Write → (K.outlet out.new).faults ≡ (K.outlet out.old).faults }
+        ensures answers { IsTrue (K.outlet out.old).steady → result ≢ Err stops.Write }
+        ensures steady { (K.outlet out.new).steady ≡ (K.outlet out.old).steady }
         ensures longer { too_long ≡ true → IsErr result }
     {
         one_verdict();
         match write_units(
             self.alloc,
+            self.from,
+            self.to,
             self.held.as_slice(),
             too_long,
             &self.limits,
@@ -128,12 +142,23 @@ impl Converter {
     // to.
     fn refuse_longer<K: Sink>(&mut self, piece: &[u8], out: &mut K) -> Result<(), Stop>
         ensures stays { KeepsStop result self.new.state }
+        ensures forms { HasForms self.new self.old.from self.old.to }
         ensures limits { self.new.limits ≡ self.old.limits }
         ensures ended { IsErr result }
-        ensures judged { (whole : List ℕ) → AreLimits self.old.limits → IsLookedAt self.old.limits whole (self.old.held ++ piece.now) true → Stopped result (λ stop. IsJudged {T = Unit} self.old.limits whole (Err stop)) }
-        ensures verdict { (whole : List ℕ) → AreLimits self.old.limits → IsLookedAt self.old.limits whole (self.old.held ++ piece.now) true → (verdict : Verdict) → IsVerdict self.old.limits whole verdict
-            → Stopped result (λ stop. Stops verdict stop (K.outlet out.old) (K.outlet out.new)) × KeepsRefusal verdict self.new.state }
+        ensures judged { (whole : List ℕ) → AreLimits self.old.limits
+            → IsLookedAt self.old.limits whole (self.old.held ++ piece.now) true
+            → Stopped result (λ stop. IsJudgedBy {T = Unit} self.old whole (Err stop)) }
+        ensures verdict { (whole : List ℕ) → AreLimits self.old.limits
+            → IsLookedAt self.old.limits whole (self.old.held ++ piece.now) true
+            → (verdict : Verdict) → IsVerdictBy self.old whole verdict
+            → Stopped result (λ stop. Stops verdict stop (K.outlet out.old) (K.outlet out.new))
+            × KeepsRefusal verdict self.new.state }
+        ensures front { (whole : List ℕ) → IsLookedAt self.old.limits whole (self.old.held ++ piece.now) true
+            → WritesFrontBy self.old whole (K.outlet out.old) (K.outlet out.new) }
         ensures fails { result ≡ Err stops.Write → OutputFails (K.outlet out.old) (K.outlet out.new) }
+        ensures quiet { result ≢ Err stops.Write → (K.outlet out.new).faults ≡ (K.outlet out.old).faults }
+        ensures answers { IsTrue (K.outlet out.old).steady → result ≢ Err stops.Write }
+        ensures steady { (K.outlet out.new).steady ≡ (K.outlet out.old).steady }
     {
         self.hold(piece)?;
         match self.carry_out(true, out) {
@@ -149,21 +174,34 @@ impl Converter {
         // Behind a stop each call answers the same, and calls no sink.
         ensures stopped { SameStop (stop_in self.old.state) result ((self.new ≡ self.old) × (out.new ≡ out.old)) }
         ensures stays { KeepsStop result self.new.state }
+        ensures forms { HasForms self.new self.old.from self.old.to }
         ensures limits { self.new.limits ≡ self.old.limits }
 
         // Within the limit the bytes are kept, and nothing is written.
-        ensures kept { (bytes : List ℕ) → Fed self.old bytes → length (bytes ++ piece.now) ≤ self.old.limits.binary → OnlyWants result × (out.new ≡ out.old) }
+        ensures kept { (bytes : List ℕ) → Fed self.old bytes → length (bytes ++ piece.now) ≤ self.old.limits.binary
+            → OnlyWants result × (out.new ≡ out.old) }
         ensures fed { (bytes : List ℕ) → Fed self.old bytes → OnOk result (Fed self.new (bytes ++ piece.now)) }
 
         // Beyond it the verdict on all bytes so far is carried out, which is a refusal.
         ensures beyond { (bytes : List ℕ) → Fed self.old bytes → self.old.limits.binary < length (bytes ++ piece.now)
-            → Stopped result (λ stop. IsJudged {T = Unit} self.old.limits (bytes ++ piece.now) (Err stop)) }
+            → Stopped result (λ stop. IsJudgedBy {T = Unit} self.old (bytes ++ piece.now) (Err stop)) }
         ensures verdict { (bytes : List ℕ) → Fed self.old bytes → self.old.limits.binary < length (bytes ++ piece.now)
-            → (verdict : Verdict) → IsVerdict self.old.limits (bytes ++ piece.now) verdict
-            → Stopped result (λ stop. Stops verdict stop (K.outlet out.old) (K.outlet out.new)) × KeepsRefusal verdict self.new.state }
+            → (verdict : Verdict) → IsVerdictBy self.old (bytes ++ piece.now) verdict
+            → Stopped result (λ stop. Stops verdict stop (K.outlet out.old) (K.outlet out.new))
+            × KeepsRefusal verdict self.new.state }
 
-        // The sink failed only where its count rose.
-        ensures fails { stop_in self.old.state ≡ None → result ≡ Err stops.Write → OutputFails (K.outlet out.old) (K.outlet out.new) }
+        // Whatever is answered, a front of the text of the first units was written.
+        ensures front { (bytes : List ℕ) → Fed self.old bytes
+            → WritesFrontBy self.old (bytes ++ piece.now) (K.outlet out.old) (K.outlet out.new) }
+
+        // The sink failed where its count rose, and only there.
+        ensures fails { stop_in self.old.state ≡ None → result ≡ Err stops.Write
+            → OutputFails (K.outlet out.old) (K.outlet out.new) }
+        ensures quiet { result ≢ Err stops.Write → (K.outlet out.new).faults ≡ (K.outlet out.old).faults }
+
+        // A steady sink never fails, and stays so.
+        ensures answers { stop_in self.old.state ≡ None → IsTrue (K.outlet out.old).steady → result ≢ Err stops.Write }
+        ensures steady { (K.outlet out.new).steady ≡ (K.outlet out.old).steady }
     {
         if let Some(stop) = self.state.stop() {
             return Err(stop);
@@ -180,13 +218,22 @@ impl Converter {
         requires going { is_ended self.old.state ≢ true }
         ensures stopped { SameStop (stop_in self.old.state) result ((self.new ≡ self.old) × (out.new ≡ out.old)) }
         ensures stays { KeepsStop result self.new.state }
+        ensures forms { HasForms self.new self.old.from self.old.to }
         ensures ended { OnOk result (self.new.state ≡ states.Ended) }
 
         // The verdict on all bytes is carried out.
-        ensures judged { (bytes : List ℕ) → Fed self.old bytes → IsJudged self.old.limits bytes result }
-        ensures verdict { (bytes : List ℕ) → Fed self.old bytes → (verdict : Verdict) → IsVerdict self.old.limits bytes verdict
+        ensures judged { (bytes : List ℕ) → Fed self.old bytes → IsJudgedBy self.old bytes result }
+        ensures verdict { (bytes : List ℕ) → Fed self.old bytes → (verdict : Verdict) → IsVerdictBy self.old bytes verdict
             → Carries verdict result (K.outlet out.old) (K.outlet out.new) × KeepsRefusal verdict self.new.state }
-        ensures fails { stop_in self.old.state ≡ None → result ≡ Err stops.Write → OutputFails (K.outlet out.old) (K.outlet out.new) }
+        ensures front { (bytes : List ℕ) → Fed self.old bytes
+            → WritesFrontBy self.old bytes (K.outlet out.old) (K.outlet out.new) }
+        ensures fails { stop_in self.old.state ≡ None → result ≡ Err stops.Write
+            → OutputFails (K.outlet out.old) (K.outlet out.new) }
+        ensures quiet { result ≢ Err stops.Write → (K.outlet out.new).faults ≡ (K.outlet out.old).faults }
+
+        // A steady sink never fails, and stays so.
+        ensures answers { stop_in self.old.state ≡ None → IsTrue (K.outlet out.old).steady → result ≢ Err stops.Write }
+        ensures steady { (K.outlet out.new).steady ≡ (K.outlet out.old).steady }
     {
         if let Some(earlier) = self.state.stop() {
             return Err(earlier);

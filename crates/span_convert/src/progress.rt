@@ -1,11 +1,11 @@
 //! What a walk over the units of an input has converted so far.
-ghost use Rattle.std.specs.Prelude.{◌≡◌, ◌+◌, ◌<◌, min, [], ℕ, List, ◌++◌, length, IfOk, OnOk, OnErr, Err};
-ghost use Rattle.std.specs.List.{flat_map};
+ghost use Rattle.std.specs.Prelude.{◌≡◌, ◌≢◌, ◌+◌, ◌<◌, min, [], ◌∷◌, ℕ, List, ◌++◌, length, IfOk, IsOk, OnOk, OnErr, IsTrue, Err};
 ghost use Rattle.span_io.specs.Causes.{cause_number};
 ghost use Rattle.span_io.specs.Offences.{Offence, Least};
 ghost use Rattle.span_io.specs.Outside.{Gains, GainsFront, OutputFails, last_count};
 ghost use Rattle.proto_wire.specs.Messages.{messages};
 ghost use Rattle.otlp_proto.specs.Group.{group_rules};
+ghost use Rattle.span_convert.specs.Units.{span_count};
 ghost use Rattle.span_convert.specs.Walks.{AddsUnit, IfWhy, WritesOut};
 
 use crate::tally::Tally;
@@ -32,7 +32,7 @@ pub(crate) struct Progress {
 
 // How many spans a group has, at the most where the count stands still.
 fn spans_in(group: &Group) -> u64
-    ensures { result ≡ min (length (flat_map (λ s. s.spans) group.now.scopes)) last_count }
+    ensures { result ≡ min (span_count (group.now ∷ [])) last_count }
 {
     let mut count: u64 = 0;
     for scope in group.scopes.as_slice() {
@@ -62,7 +62,8 @@ impl Progress {
     pub(crate) fn add_unit(&mut self, alloc: Global, unit: &[u8]) -> Result<(), Halt<Cause>>
         requires { self.old.tally.units < last_count }
         ensures ok { OnOk result (AddsUnit unit.now self.old self.new) }
-        ensures why { IfWhy result (λ cause. Least (Offence messages group_rules unit.now) (cause_number cause) × (self.new ≡ self.old)) }
+        ensures why { IfWhy result (λ cause.
+            Least (Offence messages group_rules unit.now) (cause_number cause) × (self.new ≡ self.old)) }
     {
         let (group, _remarks) = read_group(alloc, unit)?;
         write_group(&mut self.unwritten, &group)?;
@@ -77,6 +78,9 @@ impl Progress {
         ensures ok { OnOk result ((self.new.unwritten ≡ []) × Gains (K.outlet out.old) (K.outlet out.new) self.old.unwritten) }
         ensures failed { OnErr result (OutputFails (K.outlet out.old) (K.outlet out.new)) }
         ensures front { OnErr result (GainsFront (K.outlet out.old) (K.outlet out.new) self.old.unwritten) }
+        ensures quiet { OnOk result ((K.outlet out.new).faults ≡ (K.outlet out.old).faults) }
+        ensures answers { IsTrue (K.outlet out.old).steady → IsOk result }
+        ensures steady { (K.outlet out.new).steady ≡ (K.outlet out.old).steady }
     {
         write_all(out, self.unwritten.as_slice())?;
         self.unwritten.clear();
@@ -85,9 +89,13 @@ impl Progress {
 
     /// Writes the last text, and answers how much was converted.
     pub(crate) fn finish<K: Sink>(&mut self, out: &mut K) -> Result<Tally, WalkStop>
-        ensures ok { IfOk result (λ tally. (tally ≡ self.old.tally) × Gains (K.outlet out.old) (K.outlet out.new) self.old.unwritten) }
+        ensures ok { IfOk result (λ tally.
+            (tally ≡ self.old.tally) × Gains (K.outlet out.old) (K.outlet out.new) self.old.unwritten) }
         ensures failed { OnErr result ((result ≡ Err WalkStop.Write) × OutputFails (K.outlet out.old) (K.outlet out.new)) }
         ensures front { OnErr result (GainsFront (K.outlet out.old) (K.outlet out.new) self.old.unwritten) }
+        ensures quiet { OnOk result ((K.outlet out.new).faults ≡ (K.outlet out.old).faults) }
+        ensures answers { IsTrue (K.outlet out.old).steady → IsOk result }
+        ensures steady { (K.outlet out.new).steady ≡ (K.outlet out.old).steady }
     {
         match self.flush(out) {
             Ok(()) => Ok(self.tally),
@@ -98,7 +106,11 @@ impl Progress {
     /// Writes the last text, behind which the input is refused.
     pub(crate) fn refuse<K: Sink>(&mut self, cause: Cause, out: &mut K) -> WalkStop
         requires { self.old.tally.units < last_count }
-        ensures { WritesOut result (record { unit = self.old.tally.units + 1; cause = cause }) self.old.unwritten (K.outlet out.old) (K.outlet out.new) }
+        ensures written { WritesOut result (record { unit = self.old.tally.units + 1; cause = cause })
+            self.old.unwritten (K.outlet out.old) (K.outlet out.new) }
+        ensures quiet { result ≢ WalkStop.Write → (K.outlet out.new).faults ≡ (K.outlet out.old).faults }
+        ensures answers { IsTrue (K.outlet out.old).steady → result ≢ WalkStop.Write }
+        ensures steady { (K.outlet out.new).steady ≡ (K.outlet out.old).steady }
     {
         match self.flush(out) {
             Ok(()) => WalkStop::Refused(Refusal {

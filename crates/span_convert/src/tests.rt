@@ -257,6 +257,51 @@ fn keeps_the_last_of_equal_keys(rt: HostRuntime) -> Result<(), Fail> {
     Ok(())
 }
 
+// So many groups of 9,006 bytes each.
+fn many_keys(alloc: Global, groups: u32) -> Result<Blob, Fail> {
+    let group = thousand_keys(alloc, false)?;
+    let mut input = Blob::new(alloc);
+    for _ in 0..groups {
+        input.append(group.as_slice())?;
+    }
+    Ok(input)
+}
+
+// Each eighth group fills the text that is written at once. The output fails at no call, the first or
+// the second; then it has what was written before.
+#[test]
+fn writes_long_texts(rt: HostRuntime) -> Result<(), Fail> {
+    let input = many_keys(rt.alloc(), 16)?;
+    let whole = Tally {
+        units: 16,
+        spans: 0,
+    };
+    for (call, answer, taken) in [
+        (9, Ok(whole), 144_096),
+        (1, Err(None), 0),
+        (2, Err(None), 72_048),
+    ] {
+        let mut calls = Items::new(rt.alloc());
+        calls.push(call)?;
+        let mut out = MemSink::new(rt.alloc(), 150_000, calls)?;
+        let converter = proto_converter(rt.alloc());
+        assert_eq!(rt;
+            convert_pieces(converter, input.as_slice(), 70_000, &mut out),
+            answer
+        );
+        assert_eq!(rt; Some(out.bytes()), input.as_slice().get(..taken));
+    }
+    // An output that grows to more than 2 ^ 20 bytes.
+    let long = many_keys(rt.alloc(), 120)?;
+    let form = Form::OtlpProto;
+    let limits = Limits::shipped();
+    let Ok(text) = convert_all(rt.alloc(), form, form, long.as_slice(), &limits) else {
+        panic!(rt; "refused");
+    };
+    assert_eq!(rt; text.as_slice(), long.as_slice());
+    Ok(())
+}
+
 // Behind a refusal each call answers the same, and writes nothing.
 #[test]
 fn stays_stopped(rt: HostRuntime) -> Result<(), Fail> {

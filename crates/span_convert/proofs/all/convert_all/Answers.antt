@@ -12,7 +12,7 @@ returns-in-Ok-clause-judged c =
 pub returns-in-Ok-clause-verdict : goal.returns-in-Ok-clause-verdict
 returns-in-Ok-clause-verdict c = λ verdict is_verdict.
     let w = c.in-Ok.ensures.walk c.args.bytes.now c.looked_at-too_long.ensures in
-    answers_whole _ c.args.bytes.now c.requires.limits verdict is_verdict c.one_verdict.ensures.once _ _ c.in-Ok.field-0 w _ (w.gains.held ∙ ap (λ l. l ++ w.text) c.new.ensures)
+    answers_whole _ _ _ c.args.bytes.now c.requires.limits verdict is_verdict c.one_verdict.ensures.once _ _ c.in-Ok.field-0 w _ (w.gains.held ∙ ap (λ l. l ++ w.text) c.new.ensures)
 
 pub returns-in-Err-Refused-clause-judged : goal.returns-in-Err-Refused-clause-judged
 returns-in-Err-Refused-clause-judged c =
@@ -21,12 +21,12 @@ returns-in-Err-Refused-clause-judged c =
 
 pub returns-in-Err-Refused-clause-verdict : goal.returns-in-Err-Refused-clause-verdict
 returns-in-Err-Refused-clause-verdict c = λ verdict is_verdict.
-    answers_refused _ c.args.bytes.now c.requires.limits verdict is_verdict c.one_verdict.ensures.once _ _ c.in-Err-Refused.refusal
+    answers_refused _ _ _ c.args.bytes.now c.requires.limits verdict is_verdict c.one_verdict.ensures.once _ _ c.in-Err-Refused.refusal
     ((rw c.in-Err-Refused.field-0-is at c.in-Err-Refused.ensures).walk c.args.bytes.now c.looked_at-too_long.ensures)
 
 pub returns-in-Ok-clause-back : goal.returns-in-Ok-clause-back
 returns-in-Ok-clause-back c =
     let w = c.in-Ok.ensures.walk c.args.bytes.now c.looked_at-too_long.ensures in
     let text : c.write_units.new.out.text ≡ w.text = w.gains.held ∙ ap (λ l. l ++ w.text) c.new.ensures in
-    subst (λ (l : List ℕ). ReadsBack c.args.limits.now c.args.bytes.now l) (sym text) (c.output_read_back.ensures.back c.args.limits.now c.args.bytes.now w.text c.in-Ok.field-0 c.requires.limits
+    subst (λ (l : List ℕ). ReadsBack c.args.from c.args.to c.args.limits.now c.args.bytes.now l) (sym text) (c.output_read_back.ensures.back c.args.from c.args.to c.args.limits.now c.args.bytes.now w.text c.in-Ok.field-0 c.requires.limits
     c.bytes_known.ensures.each (subst (λ (l : List ℕ). length l < 2 ^ 63) (c.as_slice.ensures ∙ text) c.bytes_known-in-Ok.ensures.size) w.is_good)

@@ -1,4 +1,4 @@
-use Rattle.span_convert.proofs.TextLaws.{one_trace}
+use Rattle.span_convert.proofs.TextLaws.{normal_again, normal_read, one_trace}
 use Rattle.span_convert.proofs.VerdictLaws.{Laws}
 use Rattle.span_convert.proofs.laws.normal_forms.Goals as goal
 
@@ -16,4 +16,10 @@ laws c = record {
 }
 
 pub returns-clause-once : goal.returns-clause-once
-returns-clause-once c = λ bytes a b h g. one_trace (laws c) bytes a b h g
+returns-clause-once c = λ from bytes a b h g. one_trace (laws c) from bytes a b h g
+
+pub returns-clause-again : goal.returns-clause-again
+returns-clause-again c = normal_again
+
+pub returns-clause-read : goal.returns-clause-read
+returns-clause-read c = normal_read

@@ -15,7 +15,7 @@ laws c = record {
 }
 
 pub returns-clause-once : goal.returns-clause-once
-returns-clause-once c limits bytes v w valid h g = once (laws c) limits valid bytes v w h g
+returns-clause-once c from to limits bytes v w valid h g = once (laws c) from to limits valid bytes v w h g
 
 pub returns-clause-so_far : goal.returns-clause-so_far
-returns-clause-so_far c limits bytes rest units groups v valid held are h = so_far (laws c) limits valid bytes rest units groups v held are h
+returns-clause-so_far c from to limits bytes rest units groups v valid held are h = so_far (laws c) from to limits valid bytes rest units groups v held are h

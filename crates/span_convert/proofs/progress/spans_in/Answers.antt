@@ -1,9 +1,9 @@
-use Rattle.std.proofs.Common.{refl, ap, subst, ◌≡◌, ◌∙◌, ◌+◌, List, length, get_or, min, arith}
+use Rattle.std.proofs.Common.{refl, sym, ap, subst, ◌≡◌, ◌∙◌, ◌+◌, List, length, get_or, min, arith}
 use Rattle.std.proofs.lemmas.List.{take_all}
 use Rattle.std.specs.List.{flat_map}
 use Rattle.span_io.specs.Outside.{last_count}
 use Rattle.trace_model.specs.declared.trace.Scope.{Scope}
-use Rattle.span_convert.proofs.WalkLemmas.{scopes_push}
+use Rattle.span_convert.proofs.WalkLemmas.{scopes_push, one_group}
 use Rattle.span_convert.proofs.progress.spans_in.Goals as goal
 
 pub loop-scope-init : goal.loop-scope-init
@@ -19,3 +19,4 @@ loop-scope-preserved c =
 pub returns : goal.returns
 returns c =
     c.loop-scope.invariant ∙ ap (λ l. min (length (flat_map (λ (s : Scope). s.spans) l)) last_count) (take_all c.loop-scope.scope-index c.args.group.now.scopes (omega (arith, ap length c.as_slice-scope-items.ensures)))
+    ∙ ap (λ n. min n last_count) (sym (one_group c.args.group.now))

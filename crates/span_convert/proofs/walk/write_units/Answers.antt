@@ -1,27 +1,5 @@
-use Rattle.std.proofs.Common.{ap, sym, subst, arith}
-use Rattle.span_convert.specs.Walks.{Walked}
-use Rattle.span_convert.specs.declared.progress.Progress.{Progress}
-use Rattle.span_convert.proofs.WalkLemmas.{walked_none, ends, stops_rest}
+use Rattle.span_convert.proofs.CarryLemmas.{walk_between}
 use Rattle.span_convert.proofs.walk.write_units.Goals as goal
 
-pub frames-init : goal.frames-init
-frames-init g c =
-    let none = c.none-progress.ensures in
-    record {
-      walked = λ whole seen.
-          subst (λ (p : Progress). Walked c.args.limits.now whole c.args.bytes.now (g.K.Sink.outlet c.args.out.now) (g.K.Sink.outlet c.args.out.now) p) (sym none)
-          (walked_none c.args.limits.now whole c.args.bytes.now c.args.too_long _ seen);
-      room = omega (arith, ap (λ (p : Progress). p.tally.units) none);
-      counted = omega arith;
-    }
-
-pub returns-in-Ok-None-clause-walk : goal.returns-in-Ok-None-clause-walk
-returns-in-Ok-None-clause-walk g c = λ whole seen.
-    let here = (rw c.in-Ok-None.field-0-is at c.in-Ok-None.ensures).cut in
-    ends c.args.limits.now whole _ _ c.frames.progress c.gains_then.ensures.both _ c.gains_then.ensures.front c.finish.result c.args.bytes.now c.args.too_long here.1 seen c.finish.ensures.ok c.finish.ensures.failed c.finish.ensures.front
-    (rw here.0 at (c.frames.invariant.walked whole seen))
-
-pub returns-in-Err-clause-walk : goal.returns-in-Err-clause-walk
-returns-in-Err-clause-walk g c = λ whole seen.
-    stops_rest c.args.limits.now whole _ _ c.frames.progress c.gains_then.ensures.both _ c.gains_then.ensures.front c.refuse.result c.in-Err.cause c.frames.rest.now c.args.bytes.now c.args.too_long c.in-Err.ensures.why seen c.refuse.ensures
-    (c.frames.invariant.walked whole seen)
+pub returns-clause-walk : goal.returns-clause-walk
+returns-clause-walk g c = λ whole seen. walk_between c.args.from c.args.to _ whole c.write_request.result _ _ (c.write_request.ensures.walk whole seen)

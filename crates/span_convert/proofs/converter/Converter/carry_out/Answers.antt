@@ -1,8 +1,9 @@
-use Rattle.std.proofs.Common.{Bool, List, ℕ, ◌≡◌, sym, subst}
+use Rattle.std.proofs.Common.{Bool, List, ℕ, ◌≡◌, Ok, Err, sym, subst}
 use Rattle.span_io.specs.declared.limits.Limits.{Limits}
 use Rattle.span_convert.specs.Verdicts.{good, refused}
 use Rattle.span_convert.specs.Walks.{IsLookedAt}
-use Rattle.span_convert.proofs.CarryLemmas.{carries_whole, carries_refused, carries_write, carries_memory}
+use Rattle.span_convert.specs.declared.progress.WalkStop.TheVariants as walk_stops
+use Rattle.span_convert.proofs.CarryLemmas.{carries_whole, carries_refused, carries_write, carries_memory, ends_front}
 use Rattle.span_convert.proofs.converter.Converter.carry_out.Goals as goal
 
 seen_there : (limits : Limits) (whole held lent : List ℕ) (too_long : Bool) → lent ≡ held → IsLookedAt limits whole held too_long → IsLookedAt limits whole lent too_long
@@ -15,7 +16,7 @@ returns-in-Ok-clause-judged g c = λ whole valid seen.
 
 pub returns-in-Ok-clause-verdict : goal.returns-in-Ok-clause-verdict
 returns-in-Ok-clause-verdict g c = λ whole valid seen verdict is_verdict.
-    carries_whole _ whole valid verdict is_verdict c.one_verdict.ensures.once _ _ c.in-Ok.tally (c.in-Ok.ensures.walk whole (seen_there _ whole _ _ _ c.as_slice.ensures seen))
+    carries_whole _ _ _ whole valid verdict is_verdict c.one_verdict.ensures.once _ _ c.in-Ok.tally (c.in-Ok.ensures.walk whole (seen_there _ whole _ _ _ c.as_slice.ensures seen))
 
 pub returns-in-Err-Refused-clause-judged : goal.returns-in-Err-Refused-clause-judged
 returns-in-Err-Refused-clause-judged g c = λ whole valid seen.
@@ -24,15 +25,31 @@ returns-in-Err-Refused-clause-judged g c = λ whole valid seen.
 
 pub returns-in-Err-Refused-clause-verdict : goal.returns-in-Err-Refused-clause-verdict
 returns-in-Err-Refused-clause-verdict g c = λ whole valid seen verdict is_verdict.
-    carries_refused _ whole valid verdict is_verdict c.one_verdict.ensures.once _ _ c.in-Err-Refused.refusal
+    carries_refused _ _ _ whole valid verdict is_verdict c.one_verdict.ensures.once _ _ c.in-Err-Refused.refusal
     ((rw c.in-Err-Refused.field-0-is at c.in-Err-Refused.ensures).walk whole (seen_there _ whole _ _ _ c.as_slice.ensures seen))
 
 pub returns-in-Err-Write-clause-verdict : goal.returns-in-Err-Write-clause-verdict
 returns-in-Err-Write-clause-verdict g c = λ whole valid seen verdict is_verdict.
     let w = (rw c.in-Err-Write.field-0-is at c.in-Err-Write.ensures).walk whole (seen_there _ whole _ _ _ c.as_slice.ensures seen) in
-    carries_write _ whole valid verdict is_verdict c.one_verdict.ensures.so_far _ _ w.0 w.1
+    carries_write _ _ _ whole valid verdict is_verdict c.one_verdict.ensures.so_far _ _ w.0 w.1
 
 pub returns-in-Err-OutOfMemory-clause-verdict : goal.returns-in-Err-OutOfMemory-clause-verdict
 returns-in-Err-OutOfMemory-clause-verdict g c = λ whole valid seen verdict is_verdict.
-    carries_memory _ whole valid verdict is_verdict c.one_verdict.ensures.so_far _ _
+    carries_memory _ _ _ whole valid verdict is_verdict c.one_verdict.ensures.so_far _ _
     ((rw c.in-Err-OutOfMemory.field-0-is at c.in-Err-OutOfMemory.ensures).walk whole (seen_there _ whole _ _ _ c.as_slice.ensures seen))
+
+pub returns-in-Ok-clause-front : goal.returns-in-Ok-clause-front
+returns-in-Ok-clause-front g c = λ whole seen.
+    ends_front _ _ _ whole (Ok c.in-Ok.tally) _ _ (c.in-Ok.ensures.walk whole (seen_there _ whole _ _ _ c.as_slice.ensures seen))
+
+pub returns-in-Err-Refused-clause-front : goal.returns-in-Err-Refused-clause-front
+returns-in-Err-Refused-clause-front g c = λ whole seen.
+    ends_front _ _ _ whole (Err (walk_stops.Refused c.in-Err-Refused.refusal)) _ _ ((rw c.in-Err-Refused.field-0-is at c.in-Err-Refused.ensures).walk whole (seen_there _ whole _ _ _ c.as_slice.ensures seen))
+
+pub returns-in-Err-Write-clause-front : goal.returns-in-Err-Write-clause-front
+returns-in-Err-Write-clause-front g c = λ whole seen.
+    ends_front _ _ _ whole (Err walk_stops.Write) _ _ ((rw c.in-Err-Write.field-0-is at c.in-Err-Write.ensures).walk whole (seen_there _ whole _ _ _ c.as_slice.ensures seen))
+
+pub returns-in-Err-OutOfMemory-clause-front : goal.returns-in-Err-OutOfMemory-clause-front
+returns-in-Err-OutOfMemory-clause-front g c = λ whole seen.
+    ends_front _ _ _ whole (Err walk_stops.OutOfMemory) _ _ ((rw c.in-Err-OutOfMemory.field-0-is at c.in-Err-OutOfMemory.ensures).walk whole (seen_there _ whole _ _ _ c.as_slice.ensures seen))

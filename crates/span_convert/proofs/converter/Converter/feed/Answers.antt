@@ -1,5 +1,5 @@
-use Rattle.std.proofs.Common.{◌++◌}
-use Rattle.span_convert.proofs.CarryLemmas.{looked_front}
+use Rattle.std.proofs.Common.{◌<◌, ◌++◌, length, ap, arith, length-append}
+use Rattle.span_convert.proofs.CarryLemmas.{looked_front, writes_none}
 use Rattle.span_convert.proofs.converter.Converter.feed.Goals as goal
 
 pub returns-clause-beyond : goal.returns-clause-beyond
@@ -11,3 +11,15 @@ pub returns-clause-verdict : goal.returns-clause-verdict
 returns-clause-verdict g c = λ bytes fed beyond verdict is_verdict.
     c.refuse_longer.ensures.verdict (bytes ++ c.args.piece.now) fed.limits
     (looked_front _ _ bytes _ _ _ fed.held c.len.ensures c.saturating_sub-room.ensures fed.within beyond) verdict is_verdict
+
+pub returns-in-Some-clause-front : goal.returns-in-Some-clause-front
+returns-in-Some-clause-front g c = λ bytes fed. writes_none _ _ _ (bytes ++ c.args.piece.now) _
+
+pub returns-then-piece-room-clause-front : goal.returns-then-piece-room-clause-front
+returns-then-piece-room-clause-front g c = λ bytes fed. writes_none _ _ _ (bytes ++ c.args.piece.now) _
+
+pub returns-clause-front : goal.returns-clause-front
+returns-clause-front g c = λ bytes fed.
+    let beyond : c.args.self.now.limits.binary < length (bytes ++ c.args.piece.now) = omega (arith, length-append bytes c.args.piece.now, ap length fed.held) in
+    c.refuse_longer.ensures.front (bytes ++ c.args.piece.now)
+    (looked_front _ _ bytes _ _ _ fed.held c.len.ensures c.saturating_sub-room.ensures fed.within beyond)

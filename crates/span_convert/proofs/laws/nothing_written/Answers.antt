@@ -1,0 +1,5 @@
+use Rattle.span_convert.proofs.CarryLemmas.{writes_none}
+use Rattle.span_convert.proofs.laws.nothing_written.Goals as goal
+
+pub returns : goal.returns
+returns c = writes_none
