@@ -1,36 +1,41 @@
 -- Each way for a run to end.
-use Rattle.std.proofs.Common.{◌≡◌, ◌≤◌, ◌<◌, ◌⊎◌, ℕ, List, [], length, Option, Some, None, Ok, Err, refl, sym, ap, subst, inl, inr, arith, append-nil}
-use Rattle.std.specs.Prelude.{IfSome, codes}
+use Rattle.std.proofs.Common.{◌≡◌, ◌≢◌, ◌≤◌, ◌<◌, ◌⊎◌, ℕ, List, [], length, Option, Some, None, Ok, Err, refl, sym, ap, subst, inl, inr, arith, append-nil}
+use Rattle.std.specs.Prelude.{IfSome, IsTrue, codes}
 use Rattle.std.proofs.lemmas.Bool.{cases_lt}
 use Rattle.std.specs.Io.KnownBytes.{Appends}
 use Rattle.span_io.specs.Limits.{shipped_limits}
-use Rattle.span_io.specs.Outside.{Inlet, Outlet, Gains, GainsFront, Rises, OutputFails}
+use Rattle.span_io.specs.Outside.{Inlet, Outlet, Gains, GainsFront, Rises, InputFails, OutputFails}
+use Rattle.span_io.specs.declared.form.Form.{Form}
 use Rattle.span_io.specs.declared.limits.Limits.{Limits}
 use Rattle.span_io.specs.declared.refusal.Refusal.{Refusal}
 use Rattle.span_convert.specs.Converters.{KeepsRefusal, OnlyWants}
-use Rattle.span_convert.specs.Verdicts.{Verdict, good, refused, IsVerdict, IsJudged, Stops, text_in}
+use Rattle.span_convert.specs.Verdicts.{Verdict, good, refused, IsVerdict, IsJudged, Stops, WritesFront, text_in}
 use Rattle.span_convert.specs.declared.converter.State.{State}
 use Rattle.span_convert.specs.declared.converter.State.TheVariants as states
 use Rattle.span_convert.specs.declared.stop.Stop.{Stop}
 use Rattle.span_convert.specs.declared.stop.Stop.TheVariants as stops
-use Rattle.span_cli.specs.Inputs.{Gave}
-use Rattle.span_cli.specs.Runs.{IsEndingAt, Ends}
-use Rattle.span_cli.specs.Verdicts.{OnVerdict, IsStatus, AgreesWith, said, output_failed, no_memory, status_of, line_of, refusal_line}
-use Rattle.span_cli.specs.Verdicts.{IsJudged as IsJudgedAt}
+use Rattle.span_cli.specs.Inputs.{GaveInput, ReadsInput, IsAllRead}
+use Rattle.span_cli.specs.Runs.{IsEndingAt, EndsInput, EndsOutput, WritesRead, EndsRun}
+use Rattle.span_cli.specs.Verdicts.{OnVerdict, IsRunStatus, AgreesWith, Writes, said, input_failed, output_failed, no_memory, status_of, line_of, refusal_line}
+use Rattle.span_cli.specs.Verdicts.{IsJudgedAt}
 use Rattle.span_cli.specs.declared.ending.Ending.{Ending}
 use Rattle.span_cli.specs.declared.ending.Ending.TheVariants as endings
 use Rattle.span_cli.proofs.FrontVerdicts.{judged_told, verdict_told}
 
 -- ---- statuses
 
-pub never_usage : (ending : Ending) → status_of ending ≡ 2 → ⊥
-never_usage endings.Whole e = absurd (let h : ◌≡◌ {A = ℕ} 0 2 = e in omega arith)
-never_usage (endings.Refused refusal) e = absurd (let h : ◌≡◌ {A = ℕ} 3 2 = e in omega arith)
-never_usage endings.InputFailed e = absurd (let h : ◌≡◌ {A = ℕ} 5 2 = e in omega arith)
-never_usage endings.OutputFailed e = absurd (let h : ◌≡◌ {A = ℕ} 6 2 = e in omega arith)
-never_usage endings.NoMemory e = absurd (let h : ◌≡◌ {A = ℕ} 7 2 = e in omega arith)
+unlike : (m n : ℕ) → (m < n) ⊎ (n < m) → m ≢ n
+unlike m n (inl less) e = absurd (omega arith)
+unlike m n (inr more) e = absurd (omega arith)
 
-pub is_status : (ending : Ending) → IsStatus (status_of ending)
+pub never_usage : (ending : Ending) → status_of ending ≢ 2
+never_usage endings.Whole = unlike 0 2 (inl (omega arith))
+never_usage (endings.Refused refusal) = unlike 3 2 (inr (omega arith))
+never_usage endings.InputFailed = unlike 5 2 (inr (omega arith))
+never_usage endings.OutputFailed = unlike 6 2 (inr (omega arith))
+never_usage endings.NoMemory = unlike 7 2 (inr (omega arith))
+
+pub is_status : (ending : Ending) → IsRunStatus (status_of ending)
 is_status endings.Whole = refl
 is_status (endings.Refused refusal) = refl
 is_status endings.InputFailed = refl
@@ -43,9 +48,9 @@ always : {A : Type 0} (told : Option A) (P : A → Type 0) → ((x : A) → P x)
 always None P holds = tt
 always (Some x) P holds = holds x
 
-on_verdict : (left : Option (List ℕ)) (P Q : Verdict → Type 0) → ((verdict : Verdict) → P verdict → Q verdict) → OnVerdict left P → OnVerdict left Q
-on_verdict None P Q holds p = tt
-on_verdict (Some bytes) P Q holds p = λ verdict is. holds verdict (p verdict is)
+on_verdict : (from to : Form) (left : Option (List ℕ)) (P Q : Verdict → Type 0) → ((verdict : Verdict) → P verdict → Q verdict) → OnVerdict from to left P → OnVerdict from to left Q
+on_verdict from to None P Q holds p = tt
+on_verdict from to (Some bytes) P Q holds p = λ verdict is. holds verdict (p verdict is)
 
 -- ---- a sink that took nothing
 
@@ -85,93 +90,179 @@ line_refused : (refusal : Refusal) (verdict : Verdict) (before now : Outlet) →
 line_refused refusal (good text tally) before now s kept = absurd s
 line_refused refusal (refused why text) before now s kept = ap refusal_line kept
 
-module _ {K : Type 0} (outlet : K → Outlet) (before now : Inlet) (old new : K) where
-  wants : OnVerdict before.left (λ v. GainsFront (outlet old) (outlet new) (text_in v)) → Ends outlet endings.NoMemory before now old new
-  wants gains = record {
-    input_fails = λ e. absurd (let h : ◌≡◌ {A = ℕ} 7 5 = e in omega arith);
-    unwritten = λ e. absurd (let h : ◌≡◌ {A = ℕ} 7 5 = e in omega arith);
-    output_fails = λ e. absurd (let h : ◌≡◌ {A = ℕ} 7 6 = e in omega arith);
-    all_read = λ e. absurd (let h : ◌≡◌ {A = ℕ} 7 0 = e in omega arith);
-    judged = always before.left (λ bytes. IsJudgedAt no_memory bytes) (λ bytes. tt);
-    verdict = always before.left (λ bytes. (v : Verdict) → IsVerdict shipped_limits bytes v → AgreesWith no_memory 7 v) (λ bytes v is. tt);
-    output = gains;
-    line = always before.left (λ bytes. (v : Verdict) → IsVerdict shipped_limits bytes v → codes "out of memory\n" ≡ line_of no_memory v) (λ bytes v is. refl);
+-- ---- devices
+
+-- what a feed of a converter that was fed these bytes says where it stopped
+pub record StopsFeed {K : Type 0} (outlet : K → Outlet) (from to : Form) (limits : Limits) (fed : List ℕ) (stop : Stop) (state : State) (old new : K) : Type 0 where
+  pub kept : length fed ≤ limits.binary → OnlyWants {T = Unit} (Err stop) × (new ≡ old)
+  pub beyond : limits.binary < length fed → IsJudged {T = Unit} from to limits fed (Err stop)
+  pub carried : limits.binary < length fed → (v : Verdict) → IsVerdict from to limits fed v → Stops v stop (outlet old) (outlet new) × KeepsRefusal v state
+  pub front : WritesFront from to limits fed (outlet old) (outlet new)
+  pub fails : stop ≡ stops.Write → OutputFails (outlet old) (outlet new)
+  pub quiet : stop ≢ stops.Write → (outlet new).faults ≡ (outlet old).faults
+  pub answers : IsTrue (outlet old).steady → stop ≢ stops.Write
+
+-- the same by equal forms and limits
+pub same_feed : {K : Type 0} (outlet : K → Outlet) (from from' to to' : Form) (limits limits' : Limits) (fed : List ℕ) (stop : Stop) (state : State) (old new : K) → from ≡ from' → to ≡ to' → limits ≡ limits'
+    → StopsFeed outlet from to limits fed stop state old new → StopsFeed outlet from' to' limits' fed stop state old new
+same_feed outlet from from' to to' limits limits' fed stop state old new e f l feed =
+    subst (λ (x : Limits). StopsFeed outlet from' to' x fed stop state old new) l (
+    subst (λ (x : Form). StopsFeed outlet from' x limits fed stop state old new) f (subst (λ (x : Form). StopsFeed outlet x to limits fed stop state old new) e feed))
+
+module _ {K : Type 0} (outlet : K → Outlet) (from to : Form) (before now : Inlet) (old new : K) where
+  -- whatever stopped the run
+  pub record Course : Type 0 where
+    pub reads : ReadsInput before now
+    pub front : WritesRead from to before now (outlet old) (outlet new)
+
+  -- the input had no fault
+  input_quiet : (status : ℕ) → status ≢ 5 → (status ≡ 0 → IsAllRead before now) → now.faults ≡ before.faults → Course → EndsInput status before now
+  input_quiet status other all quiet course = record {
+    fails = λ e. absurd (other e);
+    quiet = λ e. quiet;
+    answers = λ steady. other;
+    reads = course.reads;
+    all_read = all;
   }
 
-  ends_no_memory : new ≡ old → Ends outlet endings.NoMemory before now old new
-  ends_no_memory same = wants (always before.left (λ bytes. (v : Verdict) → IsVerdict shipped_limits bytes v → GainsFront (outlet old) (outlet new) (text_in v))
-      (λ bytes v is. subst (λ (k : K). GainsFront (outlet old) (outlet k) (text_in v)) (sym same) (front_nothing (outlet old) (text_in v))))
+  -- and it wasn't read to its end
+  input_left : (status : ℕ) → status ≢ 5 → status ≢ 0 → now.faults ≡ before.faults → Course → EndsInput status before now
+  input_left status other some quiet course = input_quiet status other (λ e. absurd (some e)) quiet course
 
-  ends_output_failed : OutputFails (outlet old) (outlet new) → OnVerdict before.left (λ v. GainsFront (outlet old) (outlet new) (text_in v)) → Ends outlet endings.OutputFailed before now old new
-  ends_output_failed fails gains = record {
-    input_fails = λ e. absurd (let h : ◌≡◌ {A = ℕ} 6 5 = e in omega arith);
-    unwritten = λ e. absurd (let h : ◌≡◌ {A = ℕ} 6 5 = e in omega arith);
-    output_fails = λ e. fails;
-    all_read = λ e. absurd (let h : ◌≡◌ {A = ℕ} 6 0 = e in omega arith);
-    judged = always before.left (λ bytes. IsJudgedAt output_failed bytes) (λ bytes. tt);
-    verdict = always before.left (λ bytes. (v : Verdict) → IsVerdict shipped_limits bytes v → AgreesWith output_failed 6 v) (λ bytes v is. tt);
-    output = gains;
-    line = always before.left (λ bytes. (v : Verdict) → IsVerdict shipped_limits bytes v → codes "output failed\n" ≡ line_of output_failed v) (λ bytes v is. refl);
+  output_quiet : (status : ℕ) → status ≢ 6 → (status ≡ 5 → new ≡ old) → (outlet new).faults ≡ (outlet old).faults → EndsOutput outlet status old new
+  output_quiet status other same quiet = record { fails = λ e. absurd (other e); quiet = λ e. quiet; answers = λ steady. other; unwritten = same }
+
+  -- nothing was written
+  output_same : (status : ℕ) → status ≢ 6 → new ≡ old → EndsOutput outlet status old new
+  output_same status other same = output_quiet status other (λ e. same) (ap (λ (k : K). (outlet k).faults) same)
+
+  same_front : new ≡ old → OnVerdict from to before.left (λ v. GainsFront (outlet old) (outlet new) (text_in v))
+  same_front same = always before.left (λ bytes. (v : Verdict) → IsVerdict from to shipped_limits bytes v → GainsFront (outlet old) (outlet new) (text_in v))
+      (λ bytes v is. subst (λ (k : K). GainsFront (outlet old) (outlet k) (text_in v)) (sym same) (front_nothing (outlet old) (text_in v)))
+
+  -- ---- each ending
+
+  pub ends_input_failed : Course → InputFails before now → (IsTrue before.steady → ⊥) → new ≡ old → EndsRun outlet from to endings.InputFailed before now old new
+  ends_input_failed course fails unsteady same = record {
+    input = record {
+      fails = λ e. fails;
+      quiet = λ other. absurd (other refl);
+      answers = λ steady. absurd (unsteady steady);
+      reads = course.reads;
+      all_read = λ e. absurd (unlike 5 0 (inr (omega arith)) e);
+    };
+    output = output_same 5 (unlike 5 6 (inl (omega arith))) same;
+    front = course.front;
+    judged = always before.left (λ bytes. IsJudgedAt from to input_failed bytes) (λ bytes. tt);
+    verdict = always before.left (λ bytes. (v : Verdict) → IsVerdict from to shipped_limits bytes v → AgreesWith input_failed 5 v) (λ bytes v is. tt);
+    written = always before.left (λ bytes. (v : Verdict) → IsVerdict from to shipped_limits bytes v → Writes input_failed (text_in v) (outlet old) (outlet new))
+        (λ bytes v is. subst (λ (k : K). Gains (outlet old) (outlet k) []) (sym same) (gains_nothing (outlet old)));
+    line = always before.left (λ bytes. (v : Verdict) → IsVerdict from to shipped_limits bytes v → codes "input failed\n" ≡ line_of input_failed v) (λ bytes v is. refl);
   }
 
-  ends_refused : (refusal : Refusal) → IfSome before.left (λ bytes. IsJudgedAt said bytes)
-      → OnVerdict before.left (λ v. Stops v stops.Refused (outlet old) (outlet new) × KeepsRefusal v (states.Refused refusal)) → Ends outlet (endings.Refused refusal) before now old new
-  ends_refused refusal judged on = record {
-    input_fails = λ e. absurd (let h : ◌≡◌ {A = ℕ} 3 5 = e in omega arith);
-    unwritten = λ e. absurd (let h : ◌≡◌ {A = ℕ} 3 5 = e in omega arith);
-    output_fails = λ e. absurd (let h : ◌≡◌ {A = ℕ} 3 6 = e in omega arith);
-    all_read = λ e. absurd (let h : ◌≡◌ {A = ℕ} 3 0 = e in omega arith);
+  wants : Course → now.faults ≡ before.faults → (outlet new).faults ≡ (outlet old).faults → OnVerdict from to before.left (λ v. GainsFront (outlet old) (outlet new) (text_in v)) → EndsRun outlet from to endings.NoMemory before now old new
+  wants course still quiet gains = record {
+    input = input_left 7 (unlike 7 5 (inr (omega arith))) (unlike 7 0 (inr (omega arith))) still course;
+    output = output_quiet 7 (unlike 7 6 (inr (omega arith))) (λ e. absurd (unlike 7 5 (inr (omega arith)) e)) quiet;
+    front = course.front;
+    judged = always before.left (λ bytes. IsJudgedAt from to no_memory bytes) (λ bytes. tt);
+    verdict = always before.left (λ bytes. (v : Verdict) → IsVerdict from to shipped_limits bytes v → AgreesWith no_memory 7 v) (λ bytes v is. tt);
+    written = gains;
+    line = always before.left (λ bytes. (v : Verdict) → IsVerdict from to shipped_limits bytes v → codes "out of memory\n" ≡ line_of no_memory v) (λ bytes v is. refl);
+  }
+
+  pub ends_no_memory : Course → now.faults ≡ before.faults → new ≡ old → EndsRun outlet from to endings.NoMemory before now old new
+  ends_no_memory course still same = wants course still (ap (λ (k : K). (outlet k).faults) same) (same_front same)
+
+  ends_output_failed : Course → now.faults ≡ before.faults → OutputFails (outlet old) (outlet new) → (IsTrue (outlet old).steady → ⊥) → OnVerdict from to before.left (λ v. GainsFront (outlet old) (outlet new) (text_in v)) → EndsRun outlet from to endings.OutputFailed before now old new
+  ends_output_failed course still fails unsteady gains = record {
+    input = input_left 6 (unlike 6 5 (inr (omega arith))) (unlike 6 0 (inr (omega arith))) still course;
+    output = record {
+      fails = λ e. fails;
+      quiet = λ other. absurd (other refl);
+      answers = λ steady. absurd (unsteady steady);
+      unwritten = λ e. absurd (unlike 6 5 (inr (omega arith)) e);
+    };
+    front = course.front;
+    judged = always before.left (λ bytes. IsJudgedAt from to output_failed bytes) (λ bytes. tt);
+    verdict = always before.left (λ bytes. (v : Verdict) → IsVerdict from to shipped_limits bytes v → AgreesWith output_failed 6 v) (λ bytes v is. tt);
+    written = gains;
+    line = always before.left (λ bytes. (v : Verdict) → IsVerdict from to shipped_limits bytes v → codes "output failed\n" ≡ line_of output_failed v) (λ bytes v is. refl);
+  }
+
+  ends_refused : (refusal : Refusal) → Course → now.faults ≡ before.faults → (outlet new).faults ≡ (outlet old).faults → IfSome before.left (λ bytes. IsJudgedAt from to said bytes)
+      → OnVerdict from to before.left (λ v. Stops v stops.Refused (outlet old) (outlet new) × KeepsRefusal v (states.Refused refusal)) → EndsRun outlet from to (endings.Refused refusal) before now old new
+  ends_refused refusal course still quiet judged on = record {
+    input = input_left 3 (unlike 3 5 (inl (omega arith))) (unlike 3 0 (inr (omega arith))) still course;
+    output = output_quiet 3 (unlike 3 6 (inl (omega arith))) (λ e. absurd (unlike 3 5 (inl (omega arith)) e)) quiet;
+    front = course.front;
     judged = judged;
-    verdict = on_verdict before.left _ (λ v. AgreesWith said 3 v) (λ v carried. agrees_refused v (outlet old) (outlet new) carried.0) on;
-    output = on_verdict before.left _ (λ v. Gains (outlet old) (outlet new) (text_in v)) (λ v carried. gains_refused v (outlet old) (outlet new) carried.0) on;
-    line = on_verdict before.left _ (λ v. refusal_line refusal ≡ line_of said v) (λ v carried. line_refused refusal v (outlet old) (outlet new) carried.0 carried.1) on;
+    verdict = on_verdict from to before.left _ (λ v. AgreesWith said 3 v) (λ v carried. agrees_refused v (outlet old) (outlet new) carried.0) on;
+    written = on_verdict from to before.left _ (λ v. Gains (outlet old) (outlet new) (text_in v)) (λ v carried. gains_refused v (outlet old) (outlet new) carried.0) on;
+    line = on_verdict from to before.left _ (λ v. refusal_line refusal ≡ line_of said v) (λ v carried. line_refused refusal v (outlet old) (outlet new) carried.0 carried.1) on;
   }
 
-  -- a stop that carried out the verdict
-  abbrev pub StoppedBy : Stop → State → Type 0
-  StoppedBy stop state = IfSome before.left (λ bytes. IsJudged {T = Unit} shipped_limits bytes (Err stop))
-      × OnVerdict before.left (λ v. Stops v stop (outlet old) (outlet new) × KeepsRefusal v state)
-      × (stop ≡ stops.Write → OutputFails (outlet old) (outlet new))
+  -- ---- a stop of the converter
 
-  ends_at_stop : (ending : Ending) (stop : Stop) (state : State) → IsEndingAt ending stop state → StoppedBy stop state → Ends outlet ending before now old new
+  -- what the call did to the devices
+  pub record StopsDevices (stop : Stop) : Type 0 where
+    pub course : Course
+    pub still : now.faults ≡ before.faults
+    pub fails : stop ≡ stops.Write → OutputFails (outlet old) (outlet new)
+    pub quiet : stop ≢ stops.Write → (outlet new).faults ≡ (outlet old).faults
+    pub answers : IsTrue (outlet old).steady → stop ≢ stops.Write
+
+  -- it carried out the verdict
+  pub record StoppedBy (stop : Stop) (state : State) : Type 0 where
+    pub devices : StopsDevices stop
+    pub judged : IfSome before.left (λ bytes. IsJudged {T = Unit} from to shipped_limits bytes (Err stop))
+    pub carried : OnVerdict from to before.left (λ v. Stops v stop (outlet old) (outlet new) × KeepsRefusal v state)
+
+  pub ends_at_stop : (ending : Ending) (stop : Stop) (state : State) → IsEndingAt ending stop state → StoppedBy stop state → EndsRun outlet from to ending before now old new
   ends_at_stop endings.Whole stop state at by = absurd at
   ends_at_stop (endings.Refused refusal) stop state (stopped, kept) by =
       let there = subst (λ (s : Stop). StoppedBy s (states.Refused refusal)) stopped (subst (λ (s : State). StoppedBy stop s) kept by) in
-      ends_refused refusal there.0 there.1
+      ends_refused refusal there.devices.course there.devices.still (there.devices.quiet (λ e. absurd (cc))) there.judged there.carried
   ends_at_stop endings.InputFailed stop state at by = absurd at
   ends_at_stop endings.OutputFailed stop state at by =
       let there = subst (λ (s : Stop). StoppedBy s state) at by in
-      ends_output_failed (there.2 refl) (on_verdict before.left _ (λ v. GainsFront (outlet old) (outlet new) (text_in v)) (λ v carried. stops_write v (outlet old) (outlet new) carried.0) there.1)
+      ends_output_failed there.devices.course there.devices.still (there.devices.fails refl) (λ steady. there.devices.answers steady refl)
+      (on_verdict from to before.left _ (λ v. GainsFront (outlet old) (outlet new) (text_in v)) (λ v carried. stops_write v (outlet old) (outlet new) carried.0) there.carried)
   ends_at_stop endings.NoMemory stop state at by =
       let there = subst (λ (s : Stop). StoppedBy s state) at by in
-      wants (on_verdict before.left _ (λ v. GainsFront (outlet old) (outlet new) (text_in v)) (λ v carried. stops_wanting v (outlet old) (outlet new) carried.0) there.1)
+      wants there.devices.course there.devices.still (there.devices.quiet (λ e. absurd (cc)))
+      (on_verdict from to before.left _ (λ v. GainsFront (outlet old) (outlet new) (text_in v)) (λ v carried. stops_wanting v (outlet old) (outlet new) carried.0) there.carried)
 
-  wanting : (ending : Ending) (stop : Stop) (state : State) → IsEndingAt ending stop state → OnlyWants {T = Unit} (Err stop) → new ≡ old → Ends outlet ending before now old new
-  wanting ending stops.Refused state at only same = absurd only
-  wanting ending stops.Write state at only same = absurd only
-  wanting endings.Whole stops.OutOfMemory state at only same = absurd at
-  wanting (endings.Refused refusal) stops.OutOfMemory state (stopped, kept) only same = absurd (cc)
-  wanting endings.InputFailed stops.OutOfMemory state at only same = absurd at
-  wanting endings.OutputFailed stops.OutOfMemory state at only same = absurd (cc)
-  wanting endings.NoMemory stops.OutOfMemory state at only same = ends_no_memory same
+  wanting : (ending : Ending) (stop : Stop) (state : State) → IsEndingAt ending stop state → StopsDevices stop → OnlyWants {T = Unit} (Err stop) → new ≡ old → EndsRun outlet from to ending before now old new
+  wanting ending stops.Refused state at devices only same = absurd only
+  wanting ending stops.Write state at devices only same = absurd only
+  wanting endings.Whole stops.OutOfMemory state at devices only same = absurd at
+  wanting (endings.Refused refusal) stops.OutOfMemory state (stopped, kept) devices only same = absurd (cc)
+  wanting endings.InputFailed stops.OutOfMemory state at devices only same = absurd at
+  wanting endings.OutputFailed stops.OutOfMemory state at devices only same = absurd (cc)
+  wanting endings.NoMemory stops.OutOfMemory state at devices only same = ends_no_memory devices.course devices.still same
 
   -- A feed that stopped: within the limit for want of memory alone, and beyond it by the verdict.
-  pub ends_at_feed : (limits : Limits) (fed : List ℕ) (ending : Ending) (stop : Stop) (state : State) → limits ≡ shipped_limits → Gave before now fed → IsEndingAt ending stop state
-      → (length fed ≤ limits.binary → OnlyWants {T = Unit} (Err stop) × (new ≡ old))
-      → (limits.binary < length fed → IsJudged {T = Unit} limits fed (Err stop))
-      → (limits.binary < length fed → (v : Verdict) → IsVerdict limits fed v → Stops v stop (outlet old) (outlet new) × KeepsRefusal v state)
-      → (stop ≡ stops.Write → OutputFails (outlet old) (outlet new))
-      → Ends outlet ending before now old new
-  ends_at_feed limits fed ending stop state shipped gave at kept beyond carried fails = by_length (cases_lt limits.binary (length fed))
+  pub ends_at_feed : (fed : List ℕ) (ending : Ending) (stop : Stop) (state : State) → GaveInput before now fed → IsEndingAt ending stop state → ReadsInput before now → now.faults ≡ before.faults
+      → StopsFeed outlet from to shipped_limits fed stop state old new → EndsRun outlet from to ending before now old new
+  ends_at_feed fed ending stop state gave at reads still feed = by_length (cases_lt shipped_limits.binary (length fed))
     where
-      by_length : (limits.binary < length fed) ⊎ (length fed ≤ limits.binary) → Ends outlet ending before now old new
-      by_length (inr within) = wanting ending stop state at (kept within).0 (kept within).1
-      by_length (inl long) = ends_at_stop ending stop state at (
-        subst (λ (l : Limits). IfSome before.left (λ bytes. IsJudged {T = Unit} l bytes (Err stop))) shipped (judged_told limits fed long before.left now.left stop gave (beyond long)),
-        subst (λ (l : Limits). IfSome before.left (λ bytes. (v : Verdict) → IsVerdict l bytes v → Stops v stop (outlet old) (outlet new) × KeepsRefusal v state)) shipped
-            (verdict_told limits fed long before.left now.left (λ v. Stops v stop (outlet old) (outlet new) × KeepsRefusal v state) gave (carried long)),
-        fails,
-      )
+      devices : StopsDevices stop
+      devices = record {
+        course = record { reads = reads; front = record { given = fed; gave = gave; front = feed.front } };
+        still = still;
+        fails = feed.fails;
+        quiet = feed.quiet;
+        answers = feed.answers;
+      }
+
+      by_length : (shipped_limits.binary < length fed) ⊎ (length fed ≤ shipped_limits.binary) → EndsRun outlet from to ending before now old new
+      by_length (inr within) = wanting ending stop state at devices (feed.kept within).0 (feed.kept within).1
+      by_length (inl long) = ends_at_stop ending stop state at (record {
+        devices = devices;
+        judged = judged_told from to shipped_limits fed long before.left now.left stop gave (feed.beyond long);
+        carried = verdict_told from to shipped_limits fed long before.left now.left (λ v. Stops v stop (outlet old) (outlet new) × KeepsRefusal v state) gave (feed.carried long);
+      })
 
 -- a feed that came to the end wrote nothing
 pub fed_within : {K : Type 0} (limit size : ℕ) (old new : K) → (size ≤ limit → OnlyWants {T = Unit} (Ok tt) × (new ≡ old)) → (limit < size → ⊥) → new ≡ old

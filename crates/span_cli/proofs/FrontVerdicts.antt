@@ -5,6 +5,8 @@ use Rattle.std.proofs.lemmas.List.{take-append-le}
 use Rattle.std.specs.Io.KnownBytes.{Consumes}
 use Rattle.span_io.specs.Frames.{ItemsThen}
 use Rattle.span_io.specs.declared.cause.Cause.{Cause}
+use Rattle.span_io.specs.declared.form.Form.{Form}
+use Rattle.span_io.specs.declared.form.Form.TheVariants as forms
 use Rattle.span_io.specs.declared.limits.Limits.{Limits}
 use Rattle.proto_wire.specs.Wire.{records}
 use Rattle.span_convert.specs.Units.{HoldsUnits, RestCause}
@@ -12,44 +14,44 @@ use Rattle.span_convert.specs.Verdicts.{Verdict, good, refused, IsVerdict, IsJud
 use Rattle.span_convert.specs.declared.stop.Stop.{Stop}
 use Rattle.span_convert.specs.declared.stop.Stop.TheVariants as stops
 
-same_cause : (limits : Limits) (size other : ℕ) (rest : List ℕ) (cause : Cause) → limits.binary < size → limits.binary < other → RestCause limits size rest cause → RestCause limits other rest cause
-same_cause limits size other rest cause long longer (inl refused_as) = inl refused_as
-same_cause limits size other rest cause long longer (inr (needs, inl (is, beyond))) = inr (needs, inl (is, longer))
-same_cause limits size other rest cause long longer (inr (needs, inr (is, within, some))) = absurd (let h : size ≤ limits.binary = within in omega arith)
+same_cause : (from : Form) (limits : Limits) (size other : ℕ) (rest : List ℕ) (cause : Cause) → limits.binary < size → limits.binary < other → RestCause from limits size rest cause → RestCause from limits other rest cause
+same_cause forms.OtlpProto limits size other rest cause long longer (inl refused_as) = inl refused_as
+same_cause forms.OtlpProto limits size other rest cause long longer (inr (needs, inl (is, beyond))) = inr (needs, inl (is, longer))
+same_cause forms.OtlpProto limits size other rest cause long longer (inr (needs, inr (is, within, some))) = absurd (let h : size ≤ limits.binary = within in omega arith)
 
 module _ (limits : Limits) (bytes others : List ℕ) (long : limits.binary < length bytes) (longer : limits.binary < length others) (same : take limits.binary bytes ≡ take limits.binary others) where
-  same_units : (units : List (List ℕ)) (rest : List ℕ) → HoldsUnits limits bytes units rest → HoldsUnits limits others units rest
-  same_units units rest held = record {
+  same_units : (from : Form) (units : List (List ℕ)) (rest : List ℕ) → HoldsUnits from limits bytes units rest → HoldsUnits from limits others units rest
+  same_units forms.OtlpProto units rest held = record {
     frames = held.frames;
     framed = subst (λ (l : List ℕ). ItemsThen records limits.unit held.frames rest l) same held.framed;
-    units_of = held.units_of;
+    are_units = held.are_units;
   }
 
-  pub same_verdict : (verdict : Verdict) → IsVerdict limits bytes verdict → IsVerdict limits others verdict
-  same_verdict (good text tally) is = absurd (let h : length bytes ≤ limits.binary = is.within in omega arith)
-  same_verdict (refused refusal text) (inl bad) = inl (record {
+  pub same_verdict : (from to : Form) (verdict : Verdict) → IsVerdict from to limits bytes verdict → IsVerdict from to limits others verdict
+  same_verdict from to (good text tally) is = absurd (let h : length bytes ≤ limits.binary = is.within in omega arith)
+  same_verdict from to (refused refusal text) (inl bad) = inl (record {
     before = bad.before;
     unit = bad.unit;
     rest = bad.rest;
-    held = same_units _ bad.rest bad.held;
+    held = same_units from _ bad.rest bad.held;
     groups = bad.groups;
     are_groups = bad.are_groups;
     cause = bad.cause;
     number = bad.number;
     partial = bad.partial;
   })
-  same_verdict (refused refusal text) (inr bad) = inr (record {
+  same_verdict from to (refused refusal text) (inr bad) = inr (record {
     units = bad.units;
     rest = bad.rest;
-    held = same_units bad.units bad.rest bad.held;
+    held = same_units from bad.units bad.rest bad.held;
     groups = bad.groups;
     are_groups = bad.are_groups;
-    cause = same_cause limits (length bytes) (length others) bad.rest refusal.cause long longer bad.cause;
+    cause = same_cause from limits (length bytes) (length others) bad.rest refusal.cause long longer bad.cause;
     number = bad.number;
     partial = bad.partial;
   })
 
-module _ (limits : Limits) (fed rest : List ℕ) (long : limits.binary < length fed) where
+module _ (from to : Form) (limits : Limits) (fed rest : List ℕ) (long : limits.binary < length fed) where
   longer_whole : limits.binary < length (fed ++ rest)
   longer_whole = omega (arith, length-append fed rest)
 
@@ -57,25 +59,25 @@ module _ (limits : Limits) (fed rest : List ℕ) (long : limits.binary < length 
   same_front = take-append-le limits.binary fed rest (omega arith)
 
   -- a verdict on a front that is too long is one on the whole, and the other way round
-  pub front_whole : (verdict : Verdict) → IsVerdict limits fed verdict → IsVerdict limits (fed ++ rest) verdict
-  front_whole = same_verdict limits fed (fed ++ rest) long longer_whole (sym same_front)
+  pub front_whole : (verdict : Verdict) → IsVerdict from to limits fed verdict → IsVerdict from to limits (fed ++ rest) verdict
+  front_whole = same_verdict limits fed (fed ++ rest) long longer_whole (sym same_front) from to
 
-  pub whole_front : (verdict : Verdict) → IsVerdict limits (fed ++ rest) verdict → IsVerdict limits fed verdict
-  whole_front = same_verdict limits (fed ++ rest) fed longer_whole long same_front
+  pub whole_front : (verdict : Verdict) → IsVerdict from to limits (fed ++ rest) verdict → IsVerdict from to limits fed verdict
+  whole_front = same_verdict limits (fed ++ rest) fed longer_whole long same_front from to
 
-  pub judged_whole : (stop : Stop) → IsJudged {T = Unit} limits fed (Err stop) → IsJudged {T = Unit} limits (fed ++ rest) (Err stop)
+  pub judged_whole : (stop : Stop) → IsJudged {T = Unit} from to limits fed (Err stop) → IsJudged {T = Unit} from to limits (fed ++ rest) (Err stop)
   judged_whole stops.Refused (verdict, is) = (verdict, front_whole verdict is)
   judged_whole stops.Write judged = tt
   judged_whole stops.OutOfMemory judged = tt
 
-module _ (limits : Limits) (fed : List ℕ) (long : limits.binary < length fed) where
+module _ (from to : Form) (limits : Limits) (fed : List ℕ) (long : limits.binary < length fed) where
   -- the same of the bytes that a source tells
-  pub judged_told : (left now : Option (List ℕ)) (stop : Stop) → Consumes left now fed → IsJudged {T = Unit} limits fed (Err stop) → IfSome left (λ bytes. IsJudged {T = Unit} limits bytes (Err stop))
+  pub judged_told : (left now : Option (List ℕ)) (stop : Stop) → Consumes left now fed → IsJudged {T = Unit} from to limits fed (Err stop) → IfSome left (λ bytes. IsJudged {T = Unit} from to limits bytes (Err stop))
   judged_told None now stop gave judged = tt
   judged_told (Some bytes) None stop gave judged = absurd gave
-  judged_told (Some bytes) (Some rest) stop gave judged = subst (λ (l : List ℕ). IsJudged {T = Unit} limits l (Err stop)) (sym gave) (judged_whole limits fed rest long stop judged)
+  judged_told (Some bytes) (Some rest) stop gave judged = subst (λ (l : List ℕ). IsJudged {T = Unit} from to limits l (Err stop)) (sym gave) (judged_whole from to limits fed rest long stop judged)
 
-  pub verdict_told : (left now : Option (List ℕ)) (P : Verdict → Type 0) → Consumes left now fed → ((verdict : Verdict) → IsVerdict limits fed verdict → P verdict) → IfSome left (λ bytes. (verdict : Verdict) → IsVerdict limits bytes verdict → P verdict)
+  pub verdict_told : (left now : Option (List ℕ)) (P : Verdict → Type 0) → Consumes left now fed → ((verdict : Verdict) → IsVerdict from to limits fed verdict → P verdict) → IfSome left (λ bytes. (verdict : Verdict) → IsVerdict from to limits bytes verdict → P verdict)
   verdict_told None now P gave on = tt
   verdict_told (Some bytes) None P gave on = absurd gave
-  verdict_told (Some bytes) (Some rest) P gave on = λ verdict is. on verdict (whole_front limits fed rest long verdict (subst (λ (l : List ℕ). IsVerdict limits l verdict) gave is))
+  verdict_told (Some bytes) (Some rest) P gave on = λ verdict is. on verdict (whole_front from to limits fed rest long verdict (subst (λ (l : List ℕ). IsVerdict from to limits l verdict) gave is))

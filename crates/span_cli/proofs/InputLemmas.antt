@@ -1,11 +1,13 @@
 -- Bytes that a source gave, piece by piece.
-use Rattle.std.proofs.Common.{◌≡◌, ◌≤◌, ℕ, List, [], ◌++◌, Option, Some, None, refl, sym, ap, subst, ◌∙◌, append_assoc, append-nil, arith}
+use Rattle.std.proofs.Common.{◌≡◌, ◌≤◌, ℕ, List, [], ◌++◌, length, Option, Some, None, refl, sym, ap, subst, ◌∙◌, append_assoc, append-nil, arith, length-append}
 use Rattle.std.specs.Io.KnownBytes.{Consumes, IsAtEnd}
+use Rattle.std.specs.Prelude.{IfSome}
 use Rattle.span_io.specs.Limits.{shipped_limits}
 use Rattle.span_io.specs.Outside.{Inlet}
-use Rattle.span_convert.specs.Converters.{Fed}
+use Rattle.span_io.specs.declared.form.Form.{Form}
+use Rattle.span_convert.specs.Converters.{Fed, HasForms}
 use Rattle.span_convert.specs.declared.converter.Converter.{Converter}
-use Rattle.span_cli.specs.Inputs.{Gave, IsFed}
+use Rattle.span_cli.specs.Inputs.{GaveInput, ReadsInput, IsFed, piece}
 
 Consumes-nothing : (left : Option (List ℕ)) → Consumes left left []
 Consumes-nothing None = tt
@@ -17,32 +19,60 @@ Consumes-then (Some xs) None c x y p q = absurd p
 Consumes-then (Some xs) (Some ys) None x y p q = absurd q
 Consumes-then (Some xs) (Some ys) (Some zs) x y p q = p ∙ ap (λ (l : List ℕ). x ++ l) q ∙ sym (append_assoc x y zs)
 
--- the source gave some bytes so far, and the converter was fed them
-pub record Feeding (before now : Inlet) (c : Converter) : Type 0 where
+-- nothing was read
+pub reads_nothing : (now : Inlet) → ReadsInput now now
+reads_nothing now = record { given = []; gave = Consumes-nothing now.left; within = omega arith }
+
+-- the source gave some bytes so far without a fault, and the converter was fed them
+pub record Feeding (from to : Form) (before now : Inlet) (c : Converter) : Type 0 where
   pub given : List ℕ
-  pub gave : Gave before now given
-  pub counted : before.faults ≤ now.faults
+  pub gave : GaveInput before now given
+  pub quiet : now.faults ≡ before.faults
+  pub steady : now.steady ≡ before.steady
   pub fed : Fed c given
+  pub forms : HasForms c from to
   pub limits : c.limits ≡ shipped_limits
 
-pub Feeding-start : (now : Inlet) (c : Converter) → Fed c [] → c.limits ≡ shipped_limits → Feeding now now c
-Feeding-start now c fresh limits = record { given = []; gave = Consumes-nothing now.left; counted = omega arith; fed = fresh; limits = limits }
+module _ (from to : Form) where
+  pub Feeding-start : (now : Inlet) (c : Converter) → Fed c [] → HasForms c from to → c.limits ≡ shipped_limits → Feeding from to now now c
+  Feeding-start now c fresh forms limits = record { given = []; gave = Consumes-nothing now.left; quiet = refl; steady = refl; fed = fresh; forms = forms; limits = limits }
 
-pub Feeding-step : (before now after : Inlet) (old new : Converter) (piece : List ℕ) (feeding : Feeding before now old) → Consumes now.left after.left piece → now.faults ≤ after.faults
-    → Fed new (feeding.given ++ piece) → new.limits ≡ old.limits → Feeding before after new
-Feeding-step before now after old new piece feeding here counted fed limits = record {
-  given = feeding.given ++ piece;
-  gave = Consumes-then before.left now.left after.left feeding.given piece feeding.gave here;
-  counted = omega (arith, feeding.counted);
-  fed = fed;
-  limits = limits ∙ feeding.limits;
-}
+  pub Feeding-step : (before now after : Inlet) (old new : Converter) (more : List ℕ) (feeding : Feeding from to before now old) → Consumes now.left after.left more → after.faults ≡ now.faults → after.steady ≡ now.steady
+      → Fed new (feeding.given ++ more) → HasForms new old.from old.to → new.limits ≡ old.limits → Feeding from to before after new
+  Feeding-step before now after old new more feeding here quiet steady fed forms limits = record {
+    given = feeding.given ++ more;
+    gave = Consumes-then before.left now.left after.left feeding.given more feeding.gave here;
+    quiet = quiet ∙ feeding.quiet;
+    steady = steady ∙ feeding.steady;
+    fed = fed;
+    forms = (forms.0 ∙ feeding.forms.0, forms.1 ∙ feeding.forms.1);
+    limits = limits ∙ feeding.limits;
+  }
 
-pub Feeding-end : (before now after : Inlet) (c : Converter) → Feeding before now c → Consumes now.left after.left [] → IsAtEnd after.left → IsFed before after c
-Feeding-end before now after c feeding here ended = record {
-  given = feeding.given;
-  gave = subst (λ (l : List ℕ). Gave before after l) (append-nil feeding.given) (Consumes-then before.left now.left after.left feeding.given [] feeding.gave here);
-  ended = ended;
-  fed = feeding.fed;
-  limits = feeding.limits;
-}
+  -- what was read so far, and another piece that the converter took or not
+  pub Feeding-reads : (before now after : Inlet) (c : Converter) (more : List ℕ) (feeding : Feeding from to before now c) → Consumes now.left after.left more → length more ≤ piece → ReadsInput before after
+  Feeding-reads before now after c more feeding here small =
+      let bound : length feeding.given ≤ shipped_limits.binary = subst (λ l. length feeding.given ≤ l.binary) feeding.limits feeding.fed.within in
+      record {
+        given = feeding.given ++ more;
+        gave = Consumes-then before.left now.left after.left feeding.given more feeding.gave here;
+        within = omega (arith, length-append feeding.given more);
+      }
+
+  Feeding-told : (before now : Option (List ℕ)) (given : List ℕ) → Consumes before now given → IsAtEnd now → IfSome before (λ bytes. now ≡ Some [])
+  Feeding-told None now given gave ended = tt
+  Feeding-told (Some xs) None given gave ended = absurd gave
+  Feeding-told (Some xs) (Some ys) given gave ended = ap (λ (l : List ℕ). Some l) ended
+
+  pub Feeding-end : (before now after : Inlet) (c : Converter) → Feeding from to before now c → Consumes now.left after.left [] → after.faults ≡ now.faults → IsAtEnd after.left → IsFed from to before after c
+  Feeding-end before now after c feeding here quiet ended =
+      let all = Consumes-then before.left now.left after.left feeding.given [] feeding.gave here in
+      record {
+        given = feeding.given;
+        gave = subst (λ (l : List ℕ). GaveInput before after l) (append-nil feeding.given) all;
+        all_read = record { ended = ended; told = Feeding-told before.left after.left (feeding.given ++ []) all ended };
+        quiet = quiet ∙ feeding.quiet;
+        fed = feeding.fed;
+        forms = feeding.forms;
+        limits = feeding.limits;
+      }

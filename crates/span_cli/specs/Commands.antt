@@ -3,6 +3,7 @@ use Rattle.std.specs.Prelude.{◌≡◌, ◌⊎◌, ℕ, List, [], ◌∷◌, ma
 use Rattle.std.specs.Prelude.{String, string_bytes}
 use Rattle.std.specs.declared.alloc.Global.{Global}
 use Rattle.span_io.specs.Forms.{form_word}
+use Rattle.span_io.specs.declared.form.Form.{Form}
 use Rattle.span_cli.specs.declared.command.Command.{Command}
 use Rattle.span_cli.specs.declared.command.Command.TheVariants.{Convert}
 use Rattle.span_cli.specs.declared.command.Side.{Side}
@@ -30,3 +31,7 @@ abbrev pub Spells : Command → List (List ℕ) → Type 0
 Spells (Convert from to) words =
     (words ≡ codes "convert" ∷ side_word From ∷ form_word from ∷ side_word To ∷ form_word to ∷ [])
     ⊎ (words ≡ codes "convert" ∷ side_word To ∷ form_word to ∷ side_word From ∷ form_word from ∷ [])
+
+-- the fact holds of the forms of a conversion that the words spell
+abbrev pub OnConversion : List (List ℕ) → (Form → Form → Type 0) → Type 0
+OnConversion words P = (from to : Form) → Spells (Convert from to) words → P from to

@@ -1,13 +1,15 @@
 -- How a conversion ends, and what it does to its input and output.
-use Rattle.std.specs.Prelude.{◌≡◌, IfSome, Result, Ok, Err}
-use Rattle.std.specs.Io.KnownBytes.{IsAtEnd}
+use Rattle.std.specs.Prelude.{◌≡◌, ◌≢◌, ℕ, List, IfSome, IsTrue, Result, Ok, Err}
+use Rattle.span_io.specs.Limits.{shipped_limits}
 use Rattle.span_io.specs.Outside.{Inlet, Outlet, InputFails, OutputFails}
-use Rattle.span_convert.specs.Verdicts.{text_in}
+use Rattle.span_io.specs.declared.form.Form.{Form}
+use Rattle.span_convert.specs.Verdicts.{WritesFront, text_in}
 use Rattle.span_convert.specs.declared.converter.State.{State}
 use Rattle.span_convert.specs.declared.converter.State.TheVariants as states
 use Rattle.span_convert.specs.declared.stop.Stop.{Stop}
 use Rattle.span_convert.specs.declared.stop.Stop.TheVariants as stops
-use Rattle.span_cli.specs.Verdicts.{OnVerdict, IsJudged, AgreesWith, Writes, stage_of, status_of, line_of, ending_line}
+use Rattle.span_cli.specs.Inputs.{GaveInput, ReadsInput, IsAllRead}
+use Rattle.span_cli.specs.Verdicts.{OnVerdict, IsJudgedAt, AgreesWith, Writes, stage_of, status_of, line_of, ending_line}
 use Rattle.span_cli.specs.declared.ending.Ending.{Ending}
 use Rattle.span_cli.specs.declared.ending.Ending.TheVariants as endings
 
@@ -19,19 +21,42 @@ IsEndingAt endings.InputFailed stop state = ⊥
 IsEndingAt endings.OutputFailed stop state = stop ≡ stops.Write
 IsEndingAt endings.NoMemory stop state = stop ≡ stops.OutOfMemory
 
+-- What a run that ends with this status did to its input. The input failed where its count rose, and only there.
+pub record EndsInput (status : ℕ) (before now : Inlet) : Type 0 where
+  pub fails : status ≡ 5 → InputFails before now
+  pub quiet : status ≢ 5 → now.faults ≡ before.faults
+  pub answers : IsTrue before.steady → status ≢ 5
+  pub reads : ReadsInput before now
+  pub all_read : status ≡ 0 → IsAllRead before now
+
+-- The same of its output, which a failure of the input leaves as it was.
+pub record EndsOutput {K : Type 0} (outlet : K → Outlet) (status : ℕ) (before now : K) : Type 0 where
+  pub fails : status ≡ 6 → OutputFails (outlet before) (outlet now)
+  pub quiet : status ≢ 6 → (outlet now).faults ≡ (outlet before).faults
+  pub answers : IsTrue (outlet before).steady → status ≢ 6
+  pub unwritten : status ≡ 5 → now ≡ before
+
+-- what was written is a front of the canonical text of the first units of what was read
+pub record WritesRead (from to : Form) (input_before input_now : Inlet) (output_before output_now : Outlet) : Type 0 where
+  pub given : List ℕ
+  pub gave : GaveInput input_before input_now given
+  pub front : WritesFront from to shipped_limits given output_before output_now
+
 -- The ending is true of an input and an output as they were before and are now. Where the input told its bytes, the verdict on
 -- them was carried out as the ending says.
-pub record Ends {K : Type 0} (outlet : K → Outlet) (ending : Ending) (input_before input_now : Inlet) (output_before output_now : K) : Type 0 where
-  pub input_fails : status_of ending ≡ 5 → InputFails input_before input_now
-  pub unwritten : status_of ending ≡ 5 → output_now ≡ output_before
-  pub output_fails : status_of ending ≡ 6 → OutputFails (outlet output_before) (outlet output_now)
-  pub all_read : status_of ending ≡ 0 → IsAtEnd input_now.left
-  pub judged : IfSome input_before.left (IsJudged (stage_of (status_of ending)))
-  pub verdict : OnVerdict input_before.left (AgreesWith (stage_of (status_of ending)) (status_of ending))
-  pub output : OnVerdict input_before.left (λ verdict. Writes (stage_of (status_of ending)) (text_in verdict) (outlet output_before) (outlet output_now))
-  pub line : OnVerdict input_before.left (λ verdict. ending_line ending ≡ line_of (stage_of (status_of ending)) verdict)
+pub record EndsRun {K : Type 0} (outlet : K → Outlet) (from to : Form) (ending : Ending)
+    (input_before input_now : Inlet) (output_before output_now : K) : Type 0 where
+  pub input : EndsInput (status_of ending) input_before input_now
+  pub output : EndsOutput outlet (status_of ending) output_before output_now
+  pub front : WritesRead from to input_before input_now (outlet output_before) (outlet output_now)
+  pub judged : IfSome input_before.left (IsJudgedAt from to (stage_of (status_of ending)))
+  pub verdict : OnVerdict from to input_before.left (AgreesWith (stage_of (status_of ending)) (status_of ending))
+  pub written : OnVerdict from to input_before.left
+      (λ verdict. Writes (stage_of (status_of ending)) (text_in verdict) (outlet output_before) (outlet output_now))
+  pub line : OnVerdict from to input_before.left (λ verdict. ending_line ending ≡ line_of (stage_of (status_of ending)) verdict)
 
 -- a call that didn't come to the end says how the run ended
-abbrev pub EndsEarly : {K T : Type 0} → (K → Outlet) → Result T Ending → Inlet → Inlet → K → K → Type 0
-EndsEarly outlet (Ok x) input_before input_now output_before output_now = Unit {0}
-EndsEarly outlet (Err ending) input_before input_now output_before output_now = Ends outlet ending input_before input_now output_before output_now
+abbrev pub EndsEarly : {K T : Type 0} → (K → Outlet) → Form → Form → Result T Ending → Inlet → Inlet → K → K → Type 0
+EndsEarly outlet from to (Ok x) input_before input_now output_before output_now = Unit {0}
+EndsEarly outlet from to (Err ending) input_before input_now output_before output_now =
+    EndsRun outlet from to ending input_before input_now output_before output_now

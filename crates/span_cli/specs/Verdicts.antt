@@ -4,14 +4,15 @@ use Rattle.std.specs.List.{list_any}
 use Rattle.span_io.specs.Causes.{cause_number, cause_name}
 use Rattle.span_io.specs.Limits.{shipped_limits}
 use Rattle.span_io.specs.Outside.{Outlet, Gains, GainsFront, Rose}
+use Rattle.span_io.specs.declared.form.Form.{Form}
 use Rattle.span_io.specs.declared.refusal.Refusal.{Refusal}
 use Rattle.span_convert.specs.Verdicts.{Verdict, good, refused, IsVerdict}
 use Rattle.span_cli.specs.declared.ending.Ending.{Ending}
 use Rattle.span_cli.specs.declared.ending.Ending.TheVariants as endings
 
--- Where the bytes of the input are told, the fact holds of each verdict on them.
-abbrev pub OnVerdict : Option (List ℕ) → (Verdict → Type 0) → Type 0
-OnVerdict left P = IfSome left (λ bytes. (verdict : Verdict) → IsVerdict shipped_limits bytes verdict → P verdict)
+-- Where the bytes of the input are told, the fact holds of each verdict on them by the forms of the conversion.
+abbrev pub OnVerdict : Form → Form → Option (List ℕ) → (Verdict → Type 0) → Type 0
+OnVerdict from to left P = IfSome left (λ bytes. (verdict : Verdict) → IsVerdict from to shipped_limits bytes verdict → P verdict)
 
 -- ---- how a run ends
 
@@ -34,19 +35,23 @@ pub data Stage : Type 0 where
   no_memory : Stage
 
 abbrev pub stage_of : ℕ → Stage
-stage_of status = if status == 2 then usage else (if status == 5 then input_failed else (if status == 6 then output_failed else (if status == 7 then no_memory else said)))
+stage_of status =
+    if status == 2 then usage else (
+    if status == 5 then input_failed else (
+    if status == 6 then output_failed else (
+    if status == 7 then no_memory else said)))
 
 -- the statuses that there are
-abbrev pub IsStatus : ℕ → Type 0
-IsStatus status = IsTrue (list_any (λ known. known == status) (0 ∷ 2 ∷ 3 ∷ 5 ∷ 6 ∷ 7 ∷ []))
+abbrev pub IsRunStatus : ℕ → Type 0
+IsRunStatus status = IsTrue (list_any (λ known. known == status) (0 ∷ 2 ∷ 3 ∷ 5 ∷ 6 ∷ 7 ∷ []))
 
 -- where the verdict was carried out there is one
-abbrev pub IsJudged : Stage → List ℕ → Type 0
-IsJudged usage bytes = Unit {0}
-IsJudged said bytes = (verdict : Verdict) × IsVerdict shipped_limits bytes verdict
-IsJudged input_failed bytes = Unit {0}
-IsJudged output_failed bytes = Unit {0}
-IsJudged no_memory bytes = Unit {0}
+abbrev pub IsJudgedAt : Form → Form → Stage → List ℕ → Type 0
+IsJudgedAt from to usage bytes = Unit {0}
+IsJudgedAt from to said bytes = (verdict : Verdict) × IsVerdict from to shipped_limits bytes verdict
+IsJudgedAt from to input_failed bytes = Unit {0}
+IsJudgedAt from to output_failed bytes = Unit {0}
+IsJudgedAt from to no_memory bytes = Unit {0}
 
 -- a verdict that was carried out is told by the status: 0 for a good one, 3 for a refusal
 abbrev pub AgreesWith : Stage → ℕ → Verdict → Type 0
@@ -72,7 +77,9 @@ abbrev pub usage_line : List ℕ
 usage_line = codes "usage: spanx convert|losses|show|check|headers|gauge|serve OPTIONS\n"
 
 abbrev pub refusal_line : Refusal → List ℕ
-refusal_line refusal = codes "unit " ++ decimal refusal.unit ++ codes ": cause " ++ decimal (cause_number refusal.cause) ++ codes " " ++ cause_name refusal.cause ++ codes "\n"
+refusal_line refusal =
+    codes "unit " ++ decimal refusal.unit ++ codes ": cause " ++ decimal (cause_number refusal.cause)
+    ++ codes " " ++ cause_name refusal.cause ++ codes "\n"
 
 -- the line of a stage, none where a verdict was carried out
 abbrev pub stage_line : Stage → List ℕ
@@ -98,6 +105,8 @@ ending_line endings.InputFailed = codes "input failed\n"
 ending_line endings.OutputFailed = codes "output failed\n"
 ending_line endings.NoMemory = codes "out of memory\n"
 
--- the notes gained the line, or their count rose: then the line may be cut
+-- the notes gained the line without a fault, or their count rose, and they gained a front of it
 abbrev pub Notes : Outlet → Outlet → List ℕ → Type 0
-Notes before now line = Gains before now line ⊎ Rose before.faults now.faults
+Notes before now line =
+    Gains before now line × (now.faults ≡ before.faults)
+    ⊎ GainsFront before now line × Rose before.faults now.faults

@@ -45,7 +45,8 @@ fn command_of(
     second: &[u8],
     second_word: &[u8],
 ) -> Option<Command>
-    ensures { (command : Command) → (result ≡ Some command) ↔ Spells command (mode.now ∷ first.now ∷ first_word.now ∷ second.now ∷ second_word.now ∷ []) }
+    ensures { (command : Command) → (result ≡ Some command)
+        ↔ Spells command (mode.now ∷ first.now ∷ first_word.now ∷ second.now ∷ second_word.now ∷ []) }
 {
     if mode != b"convert".as_slice() {
         return None;

@@ -1,12 +1,13 @@
 //! Feeding an input to a converter.
-ghost use Rattle.std.specs.Prelude.{◌≡◌, ◌<◌, [], length, vec_len, IfOk, OnOk, OnErr};
+ghost use Rattle.std.specs.Prelude.{◌≡◌, [], length, vec_len, IfOk, OnOk, OnErr};
 ghost use Rattle.span_io.specs.Limits.{shipped_limits};
 ghost use Rattle.span_convert.specs.Converters.{Fed};
-ghost use Rattle.span_cli.specs.Inputs.{IsFed};
+ghost use Rattle.span_cli.specs.Inputs.{IsFed, piece};
 ghost use Rattle.span_cli.specs.Runs.{EndsEarly};
 
 use crate::ending::Ending;
 use span_convert::Converter;
+use span_convert::laws::nothing_written;
 use span_io::{OutOfMemory, Sink, Source};
 use std::alloc::Global;
 
@@ -23,10 +24,12 @@ pub fn feed_input<S: Source, K: Sink>(
 ) -> Result<(), Ending>
     requires fresh { Fed converter.old [] }
     requires limits { converter.old.limits ≡ shipped_limits }
-    ensures fed { OnOk result (IsFed (S.inlet input.old) (S.inlet input.new) converter.new) }
+    ensures fed { OnOk result (IsFed converter.old.from converter.old.to (S.inlet input.old) (S.inlet input.new) converter.new) }
     ensures unwritten { OnOk result (output.new ≡ output.old) }
-    ensures ended { EndsEarly K.outlet result (S.inlet input.old) (S.inlet input.new) output.old output.new }
+    ensures ended { EndsEarly K.outlet converter.old.from converter.old.to result
+        (S.inlet input.old) (S.inlet input.new) output.old output.new }
 {
+    nothing_written();
     let Ok(mut buffer) = room(alloc, PIECE) else {
         return Err(Ending::NoMemory);
     };
@@ -47,13 +50,15 @@ fn feed_pieces<S: Source, K: Sink>(
     output: &mut K,
     buffer: &mut [u8],
 ) -> Result<(), Ending>
-    requires room { 0 < length buffer.old }
+    requires room { length buffer.old ≡ piece }
     requires fresh { Fed converter.old [] }
     requires limits { converter.old.limits ≡ shipped_limits }
-    ensures fed { OnOk result (IsFed (S.inlet input.old) (S.inlet input.new) converter.new) }
+    ensures fed { OnOk result (IsFed converter.old.from converter.old.to (S.inlet input.old) (S.inlet input.new) converter.new) }
     ensures unwritten { OnOk result (output.new ≡ output.old) }
-    ensures ended { EndsEarly K.outlet result (S.inlet input.old) (S.inlet input.new) output.old output.new }
+    ensures ended { EndsEarly K.outlet converter.old.from converter.old.to result
+        (S.inlet input.old) (S.inlet input.new) output.old output.new }
 {
+    nothing_written();
     'pieces: loop {
         let Ok(given) = input.read(buffer) else {
             return Err(Ending::InputFailed);

@@ -1,6 +1,6 @@
 //! The line that tells on the notes how a run ended.
-ghost use Rattle.std.specs.Prelude.{OnOk, OnErr};
-ghost use Rattle.span_io.specs.Outside.{Gains, OutputFails};
+ghost use Rattle.std.specs.Prelude.{◌≡◌, [], OnOk, OnErr};
+ghost use Rattle.span_io.specs.Outside.{Gains, GainsFront, OutputFails};
 ghost use Rattle.span_cli.specs.Verdicts.{Notes, ending_line, refusal_line, usage_line};
 
 use crate::ending::Ending;
@@ -20,7 +20,8 @@ pub fn note_usage<N: Sink>(notes: &mut N)
 
 /// Notes how a run ended, nothing where it wrote the whole text.
 pub fn note_ending<N: Sink>(notes: &mut N, ending: Ending)
-    ensures { Notes (N.outlet notes.old) (N.outlet notes.new) (ending_line ending) }
+    ensures line { Notes (N.outlet notes.old) (N.outlet notes.new) (ending_line ending) }
+    ensures silent { ending ≡ Ending.Whole → notes.new ≡ notes.old }
 {
     match ending {
         Ending::Whole => note_line(notes, b""),
@@ -34,7 +35,8 @@ pub fn note_ending<N: Sink>(notes: &mut N, ending: Ending)
 }
 
 fn note_line<N: Sink>(notes: &mut N, line: &[u8])
-    ensures { Notes (N.outlet notes.old) (N.outlet notes.new) line.now }
+    ensures line { Notes (N.outlet notes.old) (N.outlet notes.new) line.now }
+    ensures silent { line.now ≡ [] → notes.new ≡ notes.old }
 {
     let _ = write_all(notes, line);
 }
@@ -42,7 +44,9 @@ fn note_line<N: Sink>(notes: &mut N, line: &[u8])
 // Writes the unit and the cause of a refusal.
 fn write_refusal<N: Sink>(notes: &mut N, refusal: Refusal) -> Result<(), Failed>
     ensures ok { OnOk result (Gains (N.outlet notes.old) (N.outlet notes.new) (refusal_line refusal)) }
+    ensures quiet { OnOk result ((N.outlet notes.new).faults ≡ (N.outlet notes.old).faults) }
     ensures failed { OnErr result (OutputFails (N.outlet notes.old) (N.outlet notes.new)) }
+    ensures front { OnErr result (GainsFront (N.outlet notes.old) (N.outlet notes.new) (refusal_line refusal)) }
 {
     gains_then();
     let mut digits = Buffer::new();

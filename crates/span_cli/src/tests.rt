@@ -75,23 +75,35 @@ fn calls(alloc: Global, listed: &[u64]) -> Result<Items<u64>, Fail> {
     Ok(items)
 }
 
-// Runs the words on a source that gives at most `cut` bytes a call; the listed calls of source and
-// output fail.
+// The calls that fail, of the input, the output and the notes.
+#[derive(Clone, Copy, Debug)]
+struct Fails<'a> {
+    input: &'a [u64],
+    output: &'a [u64],
+    notes: &'a [u64],
+}
+
+const NO_FAILS: Fails<'static> = Fails {
+    input: &[],
+    output: &[],
+    notes: &[],
+};
+
+// Runs the words on a source that gives at most `cut` bytes a call, with these failures.
 fn run_cut(
     alloc: Global,
     words: &[&str],
     input: Blob,
     cut: usize,
-    input_fails: &[u64],
-    output_fails: &[u64],
+    fails: Fails,
 ) -> Result<Answer, Fail> {
     let mut spoken = Vec::new(alloc);
     for word in words {
         spoken.push(String::from_str(alloc, word)?)?;
     }
-    let mut source = MemSource::new(input, cut, calls(alloc, input_fails)?);
-    let mut output = MemSink::new(alloc, 4096, calls(alloc, output_fails)?)?;
-    let mut notes = MemSink::new(alloc, 4096, Items::new(alloc))?;
+    let mut source = MemSource::new(input, cut, calls(alloc, fails.input)?);
+    let mut output = MemSink::new(alloc, 200_000, calls(alloc, fails.output)?)?;
+    let mut notes = MemSink::new(alloc, 4096, calls(alloc, fails.notes)?)?;
     let status = run(
         alloc,
         spoken.as_slice(),
@@ -147,7 +159,7 @@ fn converts(rt: HostRuntime) -> Result<(), Fail> {
     for (input, output) in rows {
         for cut in [1, 7, 65_536] {
             let input_bytes = bytes_of(rt.alloc(), input)?;
-            let answer = run_cut(rt.alloc(), &CONVERT, input_bytes, cut, &[], &[])?;
+            let answer = run_cut(rt.alloc(), &CONVERT, input_bytes, cut, NO_FAILS)?;
             expect_answer(&rt, rt.alloc(), &answer, 0, output, "", input)?;
         }
     }
@@ -195,7 +207,7 @@ fn refuses(rt: HostRuntime) -> Result<(), Fail> {
     for (input, note) in rows {
         for cut in [1, 65_536] {
             let bytes = bytes_of(rt.alloc(), input)?;
-            let answer = run_cut(rt.alloc(), &CONVERT, bytes, cut, &[], &[])?;
+            let answer = run_cut(rt.alloc(), &CONVERT, bytes, cut, NO_FAILS)?;
             expect_answer(&rt, rt.alloc(), &answer, 3, "", note, input)?;
         }
     }
@@ -208,7 +220,7 @@ fn refuses_behind_a_group(rt: HostRuntime) -> Result<(), Fail> {
     let mut bytes = bytes_of(rt.alloc(), ONE_SPAN)?;
     let cut_off = bytes_of(rt.alloc(), &ONE_SPAN[..72])?;
     bytes.append(cut_off.as_slice())?;
-    let answer = run_cut(rt.alloc(), &CONVERT, bytes, 65_536, &[], &[])?;
+    let answer = run_cut(rt.alloc(), &CONVERT, bytes, 65_536, NO_FAILS)?;
     expect_answer(
         &rt,
         rt.alloc(),
@@ -229,7 +241,7 @@ fn reads_on(rt: HostRuntime) -> Result<(), Fail> {
     }
     let group = bytes_of(rt.alloc(), ONE_SPAN)?;
     bytes.append(group.as_slice())?;
-    let answer = run_cut(rt.alloc(), &CONVERT, bytes, 100_000, &[], &[])?;
+    let answer = run_cut(rt.alloc(), &CONVERT, bytes, 100_000, NO_FAILS)?;
     expect_answer(
         &rt,
         rt.alloc(),
@@ -243,37 +255,90 @@ fn reads_on(rt: HostRuntime) -> Result<(), Fail> {
 
 #[test]
 fn fails_with_the_outside(rt: HostRuntime) -> Result<(), Fail> {
-    for call in [1, 2] {
+    let rows: [(&[u64], &[u64], u8, &str); 3] = [
+        (&[1], &[], 5, "input failed\n"),
+        (&[2], &[], 5, "input failed\n"),
+        (&[], &[1], 6, "output failed\n"),
+    ];
+    for (input, output, status, note) in rows {
         let bytes = bytes_of(rt.alloc(), ONE_SPAN)?;
-        let answer = run_cut(rt.alloc(), &CONVERT, bytes, 65_536, &[call], &[])?;
-        expect_answer(
-            &rt,
-            rt.alloc(),
-            &answer,
-            5,
-            "",
-            "input failed\n",
-            "the input fails",
-        )?;
+        let fails = Fails {
+            input,
+            output,
+            notes: &[],
+        };
+        let answer = run_cut(rt.alloc(), &CONVERT, bytes, 65_536, fails)?;
+        expect_answer(&rt, rt.alloc(), &answer, status, "", note, note)?;
     }
-    let bytes = bytes_of(rt.alloc(), ONE_SPAN)?;
-    let answer = run_cut(rt.alloc(), &CONVERT, bytes, 65_536, &[], &[1])?;
-    expect_answer(
-        &rt,
-        rt.alloc(),
-        &answer,
-        6,
-        "",
-        "output failed\n",
-        "the output fails",
-    )
+    Ok(())
+}
+
+// The text is written once it has 65,536 bytes, and then the rest: here the second write fails.
+#[test]
+fn fails_at_the_second_write(rt: HostRuntime) -> Result<(), Fail> {
+    let group = bytes_of(rt.alloc(), ONE_SPAN)?;
+    let mut bytes = Blob::new(rt.alloc());
+    for _ in 0..1_800 {
+        bytes.append(group.as_slice())?;
+    }
+    let fails = Fails {
+        output: &[2],
+        ..NO_FAILS
+    };
+    let answer = run_cut(rt.alloc(), &CONVERT, bytes, 65_536, fails)?;
+    assert_eq!(rt; answer.status, 6);
+    assert_eq!(rt; answer.output.len(), 1_772 * 37);
+    assert!(rt; answer.output.as_slice().starts_with(group.as_slice()));
+    assert_eq!(rt; answer.note.as_slice(), b"output failed\n".as_slice());
+    Ok(())
+}
+
+// Notes that fail at a call keep what they gained, and change no status.
+#[test]
+fn notes_that_fail(rt: HostRuntime) -> Result<(), Fail> {
+    let rows = [
+        (1, ""),
+        (2, "unit "),
+        (3, "unit 1"),
+        (4, "unit 1: cause "),
+        (5, "unit 1: cause 1"),
+        (6, "unit 1: cause 1 "),
+        (7, "unit 1: cause 1 Truncated"),
+    ];
+    for (call, note) in rows {
+        let fails = Fails {
+            notes: &[call],
+            ..NO_FAILS
+        };
+        let bytes = bytes_of(rt.alloc(), "0a")?;
+        let answer = run_cut(rt.alloc(), &CONVERT, bytes, 65_536, fails)?;
+        expect_answer(&rt, rt.alloc(), &answer, 3, "", note, note)?;
+    }
+    let rows: [(&[&str], &[u64], &[u64], u8); 4] = [
+        (&CONVERT, &[], &[], 0),
+        (&["--help"], &[], &[], 2),
+        (&CONVERT, &[1], &[], 5),
+        (&CONVERT, &[], &[1], 6),
+    ];
+    for (words, input, output, status) in rows {
+        let bytes = bytes_of(rt.alloc(), "0a00")?;
+        let fails = Fails {
+            input,
+            output,
+            notes: &[1],
+        };
+        let answer = run_cut(rt.alloc(), words, bytes, 65_536, fails)?;
+        assert_eq!(rt; answer.status, status);
+        assert_eq!(rt; answer.note.as_slice(), b"".as_slice());
+    }
+    Ok(())
 }
 
 #[test]
 fn knows_its_words(rt: HostRuntime) -> Result<(), Fail> {
     let turned = ["convert", "--to", "otlp-proto", "--from", "otlp-proto"];
     let bytes = bytes_of(rt.alloc(), ONE_SPAN)?;
-    let answer = run_cut(rt.alloc(), &turned, bytes, 65_536, &[], &[])?;
+    let answer = run_cut(rt.alloc(), &turned, bytes, 65_536, NO_FAILS)?;
     expect_answer(
         &rt,
         rt.alloc(),
@@ -300,9 +365,14 @@ fn knows_its_words(rt: HostRuntime) -> Result<(), Fail> {
         &["Convert", "--from", "otlp-proto", "--to", "otlp-proto"],
         &["--help"],
     ];
+    let fails = Fails {
+        input: &[1],
+        output: &[1],
+        notes: &[],
+    };
     for words in rows {
         let bytes = bytes_of(rt.alloc(), ONE_SPAN)?;
-        let answer = run_cut(rt.alloc(), words, bytes, 65_536, &[1], &[])?;
+        let answer = run_cut(rt.alloc(), words, bytes, 65_536, fails)?;
         expect_answer(&rt, rt.alloc(), &answer, 2, "", USAGE, "no command")?;
     }
     Ok(())

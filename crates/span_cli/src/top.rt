@@ -1,11 +1,11 @@
 //! The top call.
-ghost use Rattle.std.specs.Prelude.{◌≡◌, ◌≢◌, ◌↔◌, IfSome};
-ghost use Rattle.std.specs.Io.KnownBytes.{IsAtEnd};
+ghost use Rattle.std.specs.Prelude.{◌≡◌, ◌≢◌, ◌↔◌, IfSome, IsTrue};
 ghost use Rattle.span_io.specs.Outside.{InputFails, OutputFails};
-ghost use Rattle.span_cli.specs.Commands.{texts, Spells};
+ghost use Rattle.span_cli.specs.Commands.{texts, Spells, OnConversion};
 ghost use Rattle.span_convert.specs.Verdicts.{text_in};
-ghost use Rattle.span_cli.specs.Runs.{Ends};
-ghost use Rattle.span_cli.specs.Verdicts.{OnVerdict, IsStatus, IsJudged, AgreesWith, Writes, Notes, stage_of, stage_line, line_of};
+ghost use Rattle.span_cli.specs.Inputs.{ReadsInput, IsAllRead};
+ghost use Rattle.span_cli.specs.Runs.{EndsRun, WritesRead};
+ghost use Rattle.span_cli.specs.Verdicts.{OnVerdict, IsRunStatus, IsJudgedAt, AgreesWith, Writes, Notes, stage_of, stage_line, line_of};
 ghost use Rattle.span_cli.specs.declared.command.Command.{Command};
 
 use crate::command::{Command, read_words};
@@ -31,26 +31,38 @@ pub fn run<S: Source, K: Sink, N: Sink>(
     // Words that are no command are answered at once: nothing is read, and nothing written but a note.
     ensures usage { (result ≡ 2) ↔ ((command : Command) → ¬ Spells command (texts words.now)) }
     ensures untouched { result ≡ 2 → (input.new ≡ input.old) × (output.new ≡ output.old) }
-    ensures statuses { IsStatus result }
+    ensures statuses { IsRunStatus result }
 
-    // A device is at fault only where its count rose.
+    // A device is at fault where its count rose, and only there; one that is steady never is.
     ensures input_fails { result ≡ 5 → InputFails (S.inlet input.old) (S.inlet input.new) }
+    ensures input_quiet { result ≢ 5 → (S.inlet input.new).faults ≡ (S.inlet input.old).faults }
+    ensures input_answers { IsTrue (S.inlet input.old).steady → result ≢ 5 }
     ensures unwritten { result ≡ 5 → output.new ≡ output.old }
     ensures output_fails { result ≡ 6 → OutputFails (K.outlet output.old) (K.outlet output.new) }
+    ensures output_quiet { result ≢ 6 → (K.outlet output.new).faults ≡ (K.outlet output.old).faults }
+    ensures output_answers { IsTrue (K.outlet output.old).steady → result ≢ 6 }
 
-    // After the whole text nothing of the input is left.
-    ensures all_read { result ≡ 0 → IsAtEnd (S.inlet input.new).left }
+    // Reading stops at the first stop. After the whole text nothing of the input is left.
+    ensures reads { ReadsInput (S.inlet input.old) (S.inlet input.new) }
+    ensures all_read { result ≡ 0 → IsAllRead (S.inlet input.old) (S.inlet input.new) }
+
+    // Whatever the status, only text of the first units of what was read was written.
+    ensures front { OnConversion (texts words.now)
+        (λ from to. WritesRead from to (S.inlet input.old) (S.inlet input.new) (K.outlet output.old) (K.outlet output.new)) }
 
     // Where the input tells its bytes, the verdict on them says the status, the output and the note.
-    ensures judged { IfSome (S.inlet input.old).left (IsJudged (stage_of result)) }
-    ensures verdict { OnVerdict (S.inlet input.old).left (AgreesWith (stage_of result) result) }
-    ensures output { OnVerdict (S.inlet input.old).left
-        (λ verdict. Writes (stage_of result) (text_in verdict) (K.outlet output.old) (K.outlet output.new)) }
-    ensures notes { OnVerdict (S.inlet input.old).left
-        (λ verdict. Notes (N.outlet notes.old) (N.outlet notes.new) (line_of (stage_of result) verdict)) }
+    ensures judged { OnConversion (texts words.now)
+        (λ from to. IfSome (S.inlet input.old).left (IsJudgedAt from to (stage_of result))) }
+    ensures verdict { OnConversion (texts words.now)
+        (λ from to. OnVerdict from to (S.inlet input.old).left (AgreesWith (stage_of result) result)) }
+    ensures output { OnConversion (texts words.now) (λ from to. OnVerdict from to (S.inlet input.old).left
+        (λ verdict. Writes (stage_of result) (text_in verdict) (K.outlet output.old) (K.outlet output.new))) }
+    ensures notes { OnConversion (texts words.now) (λ from to. OnVerdict from to (S.inlet input.old).left
+        (λ verdict. Notes (N.outlet notes.old) (N.outlet notes.new) (line_of (stage_of result) verdict))) }
 
-    // The line of each status but 3 doesn't hang on the input.
+    // The line of each status but 3 doesn't hang on the input. After the whole text nothing is noted.
     ensures line { result ≢ 3 → Notes (N.outlet notes.old) (N.outlet notes.new) (stage_line (stage_of result)) }
+    ensures silent { result ≡ 0 → notes.new ≡ notes.old }
 {
     let Some(command) = read_words(words) else {
         note_usage(notes);
@@ -71,7 +83,7 @@ fn convert<S: Source, K: Sink>(
     input: &mut S,
     output: &mut K,
 ) -> Ending
-    ensures { Ends K.outlet result (S.inlet input.old) (S.inlet input.new) output.old output.new }
+    ensures { EndsRun K.outlet from to result (S.inlet input.old) (S.inlet input.new) output.old output.new }
 {
     let mut converter = Converter::new(alloc, from, to, &Limits::shipped());
     if let Err(ending) = feed_input(alloc, &mut converter, input, output) {

@@ -1,12 +1,13 @@
-use Rattle.std.proofs.Common.{◌≡◌, ◌<◌, ◌-◌, suc, length}
+use Rattle.std.proofs.Common.{◌≡◌, ◌-◌, suc, length}
 use Rattle.span_io.specs.Limits.{shipped_limits}
+use Rattle.span_cli.specs.Inputs.{piece}
 use Rattle.span_cli.proofs.InputLemmas.{Feeding}
 use Rattle.span_cli.proofs.input.feed_pieces.Given as goal
 
 abbrev pub invariant-pieces : goal.invariant-pieces
 invariant-pieces g l = record {
-  room : 0 < length l.buffer;
-  feeding : Feeding (g.S.Source.inlet l.initial.input) (g.S.Source.inlet l.input) l.converter;
+  room : length l.buffer ≡ piece;
+  feeding : Feeding l.initial.converter.from l.initial.converter.to (g.S.Source.inlet l.initial.input) (g.S.Source.inlet l.input) l.converter;
   unwritten : l.output ≡ l.initial.output;
 }
 

@@ -1,5 +1,7 @@
-use Rattle.std.proofs.Common.{ℕ, refl, sym, subst, ◌∙◌}
-use Rattle.span_cli.specs.Verdicts.{IsStatus}
+use Rattle.std.proofs.Common.{◌≡◌, ℕ, Option, Some, None, refl, sym, subst, ◌∙◌}
+use Rattle.span_cli.specs.declared.command.Command.{Command}
+use Rattle.span_cli.specs.declared.command.Command.TheVariants.{Convert}
+use Rattle.span_cli.specs.Verdicts.{IsRunStatus}
 use Rattle.span_cli.proofs.EndingLaws.{never_usage, is_status}
 use Rattle.span_cli.proofs.top.run.Goals as goal
 
@@ -10,4 +12,7 @@ returns-clause-usage g c = (
 )
 
 pub returns-clause-statuses : goal.returns-clause-statuses
-returns-clause-statuses g c = subst (λ (status : ℕ). IsStatus status) (sym c.status.ensures) (is_status c.convert-ending.result)
+returns-clause-statuses g c = subst (λ (status : ℕ). IsRunStatus status) (sym c.status.ensures) (is_status c.convert-ending.result)
+
+pub returns-in_default-clause-front : goal.returns-in_default-clause-front
+returns-in_default-clause-front g c = λ from to spelled. absurd (let h : ◌≡◌ {A = Option Command} None (Some (Convert from to)) = sym c.in_default.is ∙ (c.read_words.ensures (Convert from to)).1 spelled in cc)
