@@ -6,6 +6,8 @@ pub mod Forms
 pub mod Frames
 pub mod FramingLaws
 pub mod Framings
+pub mod FreeItemLaws
+pub mod FreeItems
 pub mod Limits
 pub mod Memory
 pub mod OffenceLaws

@@ -8,7 +8,7 @@ use Rattle.span_io.specs.declared.cause.Cause.{Cause}
 use Rattle.span_io.specs.Offences.{Format, Offence, Cut, Least, HereOrInside}
 use Rattle.span_io.specs.OffenceLaws.{FormatLaws, RulesLaws, Walked, walked_start, walked_step, least_here, least_inside, none_in_item, least_unread, least_end, least_item}
 use Rattle.span_io.specs.Tables.{Row, OfFirst, table_here, table_inside, rules_by, IsFree, givens, Values, Mean}
-use Rattle.span_io.specs.TableLaws.{IsFew, TableShape, Whole, free_here, free_inside}
+use Rattle.span_io.specs.TableLaws.{IsFew, TableShape, Whole, cut_whole, free_here, free_inside}
 
 -- nothing offends, or one counts
 abbrev pub Decided : (ℕ → ℕ → Type 0) → Type 0
@@ -129,11 +129,6 @@ module _ (F : Format) (L : FormatLaws F) (next : (rest : F.Rest) → Next F rest
     pub mean : Mean table (givens table items) values
     pub clean_end : (n : ℕ) → ends items n → ⊥
 
-  cut_whole : (text rest : F.Rest) (seen : List F.Item) → Cut F text seen rest → F.IsEnd rest → Whole F seen text
-  unfolding Cut Whole
-  cut_whole text rest [] cut is_end = subst (λ (x : F.Rest). F.IsEnd x) (sym cut) is_end
-  cut_whole text rest (this ∷ seen) cut is_end = (cut.0, cut.1, cut_whole cut.0 rest seen cut.2 is_end)
-
   -- where a cut stands before one of the items
   cut_before : (text rest : F.Rest) (seen more : List F.Item) (this : F.Item) → Cut F text (seen ++ this ∷ more) rest → (there : F.Rest) × (after : F.Rest) × Cut F text seen there × F.Begins this there after × (F.size rest < F.size there)
   unfolding Cut
@@ -156,7 +151,7 @@ module _ (F : Format) (L : FormatLaws F) (next : (rest : F.Rest) → Next F rest
   at_end : (text rest : F.Rest) (items : List F.Item) → Walked F (rules_by table ends) text items rest → F.IsEnd rest → DecidedHere (λ n. ends items n) → Means text ⊎ ((cause : Cause) × Least (Offence F (rules_by table ends) text) (cause_number cause))
   at_end text rest items walked is_end (inl none) =
       let found = values_exist F.held top table shape decides apart items (all_clean text rest items walked) in
-      inl (record { items = items; whole = cut_whole text rest items walked.cut is_end; values = found.0; mean = found.1; clean_end = none })
+      inl (record { items = items; whole = cut_whole F text rest items walked.cut is_end; values = found.0; mean = found.1; clean_end = none })
   at_end text rest items walked is_end (inr (cause, offends, first)) = inr (cause, least_end F L (rules_by table ends) text items rest (cause_number cause) walked is_end offends first)
 
   walk : (fuel : ℕ) (text rest : F.Rest) (seen : List F.Item) → F.size rest < fuel → Walked F (rules_by table ends) text seen rest → Means text ⊎ ((cause : Cause) × Least (Offence F (rules_by table ends) text) (cause_number cause))

@@ -174,6 +174,12 @@ unfoldable pub Whole : (F : Format) → List F.Item → F.Rest → Type 0
 Whole F [] text = F.IsEnd text
 Whole F (this ∷ more) text = (after : F.Rest) × F.Begins this text after × Whole F more after
 
+-- so where it was cut to its end
+pub cut_whole : (F : Format) (text rest : F.Rest) (seen : List F.Item) → Cut F text seen rest → F.IsEnd rest → Whole F seen text
+unfolding Cut Whole
+cut_whole F text rest [] cut is_end = subst (λ (x : F.Rest). F.IsEnd x) (sym cut) is_end
+cut_whole F text rest (this ∷ seen) cut is_end = (cut.0, cut.1, cut_whole F cut.0 rest seen cut.2 is_end)
+
 -- where a cut stands in a message of these items
 data AtCut (F : Format) (items seen : List F.Item) (rest : F.Rest) : Type 0 where
   at_last : F.IsEnd rest → items ≡ seen → AtCut F items seen rest
