@@ -1,6 +1,6 @@
 -- Bytes are decided as each message of OTLP: they mean one, or an offence in them counts. So there is a verdict on any bytes.
 use Rattle.std.specs.Prelude.{Any}
-use Rattle.std.proofs.Common.{◌≡◌, ◌≢◌, ◌≤◌, length, ℕ, ◌⊎◌, inl, inr, List, [], ◌∷◌, Option, Some, None, refl, sym, ap, subst, ◌∙◌, ⊎_elim, arith}
+use Rattle.std.proofs.Common.{◌≡◌, ◌≢◌, ◌≤◌, length, ℕ, ◌⊎◌, inl, inr, List, [], ◌∷◌, None, refl, ap, ⊎_elim, arith}
 use Rattle.std.proofs.lemmas.Bool.{cases_eq}
 use Rattle.span_io.specs.Causes.{cause_number}
 use Rattle.span_io.specs.declared.cause.Cause.{Cause}
@@ -9,7 +9,7 @@ use Rattle.span_io.specs.Offences.{Offence, Least}
 use Rattle.span_io.specs.OffenceLaws.{RulesLaws}
 use Rattle.span_io.specs.Tables.{Row, Singular, rules_by, no_ends}
 use Rattle.span_io.specs.TableLaws.{TableShape}
-use Rattle.span_io.specs.TableDecisions.{DecidedHere, TableDecides, Apart, Next, ended, stopped, begun, Means, decide_message}
+use Rattle.span_io.specs.TableDecisions.{DecidedHere, TableDecides, Apart, Next, ended, stopped, begun, decide_message}
 use Rattle.span_ids.specs.Laws.{IdentifiersReadBack}
 use Rattle.proto_wire.specs.Messages.{messages}
 use Rattle.proto_wire.specs.Records.{Record}
@@ -20,21 +20,15 @@ use Rattle.trace_model.specs.Laws.{AttributesOnce, AttributesExist}
 use Rattle.trace_model.specs.declared.remark.Remark.{Remark}
 use Rattle.trace_model.specs.declared.span.Code.TheVariants as codes
 use Rattle.trace_model.specs.declared.span.Code.{Code}
-use Rattle.trace_model.specs.declared.span.Event.{Event}
 use Rattle.trace_model.specs.declared.span.Kind.TheVariants as kinds
 use Rattle.trace_model.specs.declared.span.Kind.{Kind}
-use Rattle.trace_model.specs.declared.span.Link.{Link}
-use Rattle.trace_model.specs.declared.span.Span.{Span}
-use Rattle.trace_model.specs.declared.span.Status.{Status}
 use Rattle.trace_model.specs.declared.trace.Group.{Group}
-use Rattle.trace_model.specs.declared.trace.Scope.{Scope}
 use Rattle.otlp_proto.specs.Event.{IsEvent, IsEventText, event_table, event_rules}
-use Rattle.otlp_proto.specs.Group.{Resource, IsResource, IsResourceText, no_resource, resource_table, resource_rules, IsGroup, IsGroupText, group_table, group_rules}
+use Rattle.otlp_proto.specs.Group.{IsResource, IsResourceText, no_resource, resource_table, resource_rules, IsGroup, IsGroupText, group_table, group_rules}
 use Rattle.otlp_proto.specs.Identifiers.{IsNoId, MeansTraceId, MeansSpanId}
 use Rattle.otlp_proto.specs.Link.{IsLink, IsLinkText, link_table, link_rules}
-use Rattle.otlp_proto.specs.Notes.{Keys, Noted, SpanNotes, ScopeNotes}
 use Rattle.otlp_proto.specs.Rows.{bytes_in, varint_in, fixed64_in, fixed32_in, bytes_of}
-use Rattle.otlp_proto.specs.Scope.{InstrumentationScope, IsInstrumentationScope, IsInstrumentationScopeText, no_instrumentation_scope, instrumentation_scope_table, instrumentation_scope_rules, IsScope, IsScopeText, scope_table, scope_rules}
+use Rattle.otlp_proto.specs.Scope.{IsInstrumentationScope, IsInstrumentationScopeText, no_instrumentation_scope, instrumentation_scope_table, instrumentation_scope_rules, IsScope, IsScopeText, scope_table, scope_rules}
 use Rattle.otlp_proto.specs.Shapes.{status_shape, status_laws, event_shape, event_laws, link_shape, link_laws, span_shape, span_laws, instrumentation_scope_shape, instrumentation_scope_laws, scope_shape, scope_laws, resource_shape, resource_laws, group_shape, group_laws}
 use Rattle.otlp_proto.specs.Span.{IsSpan, IsSpanText, span_table, span_ends, span_rules}
 use Rattle.otlp_proto.specs.Status.{IsStatus, IsStatusText, status_table, status_rules, no_status}
@@ -193,7 +187,7 @@ group_apart = (
 
 -- ---- enums by their numbers
 
-code_named : (k : ℕ) → k ≤ 2 → (code : Code) × (k ≡ code_number code)
+pub code_named : (k : ℕ) → k ≤ 2 → (code : Code) × (k ≡ code_number code)
 code_named k low = of (cases_eq k 0) (cases_eq k 1)
   where
     of : (k ≡ 0) ⊎ (k ≡ 0 → ⊥) → (k ≡ 1) ⊎ (k ≡ 1 → ⊥) → (code : Code) × (k ≡ code_number code)
@@ -201,7 +195,7 @@ code_named k low = of (cases_eq k 0) (cases_eq k 1)
     of (inr a) (inl e) = (codes.Okay, e)
     of (inr a) (inr b) = (codes.Fail, omega arith)
 
-kind_named : (k : ℕ) → k ≤ 5 → (kind : Kind) × (k ≡ kind_number kind)
+pub kind_named : (k : ℕ) → k ≤ 5 → (kind : Kind) × (k ≡ kind_number kind)
 kind_named k low = of (cases_eq k 0) (cases_eq k 1) (cases_eq k 2) (cases_eq k 3) (cases_eq k 4)
   where
     of : (k ≡ 0) ⊎ (k ≡ 0 → ⊥) → (k ≡ 1) ⊎ (k ≡ 1 → ⊥) → (k ≡ 2) ⊎ (k ≡ 2 → ⊥) → (k ≡ 3) ⊎ (k ≡ 3 → ⊥) → (k ≡ 4) ⊎ (k ≡ 4 → ⊥) → (kind : Kind) × (k ≡ kind_number kind)
@@ -243,11 +237,11 @@ either (inl p) q = inl (inl p)
 either (inr a) (inl q) = inl (inr q)
 either (inr a) (inr b) = inr (λ h. ⊎_elim a b h)
 
-span_end_decided : (seen : List Record) → DecidedHere (λ n. span_ends seen n)
+pub span_end_decided : (seen : List Record) → DecidedHere (λ n. span_ends seen n)
 span_end_decided seen =
     one_number causes.BadId (Singular MeansTraceId (λ id. id ≡ None) (bytes_of 1 seen) None ⊎ Singular MeansSpanId (λ id. id ≡ None) (bytes_of 2 seen) None) (either (no_trace_or (bytes_of 1 seen)) (no_span_or (bytes_of 2 seen)))
 
-never_ends : (seen : List Record) → DecidedHere (λ n. no_ends seen n)
+pub never_ends : (seen : List Record) → DecidedHere (λ n. no_ends seen n)
 never_ends seen = inl (λ n h. h)
 
 -- ---- messages
@@ -266,22 +260,28 @@ module _ (facts : WireFacts) (once : AttributesOnce) (exist : AttributesExist) (
     found_of text = ⊎_elim (λ m. inl (record { x = bridge.of m.values; records = m.items; wire = whole_wire m.items text m.whole; is = bridge.build m.items m.values m.clean_end m.mean })) (λ least. inr least)
         (decide_message messages facts.format next table top shape decides apart ends laws ended text)
 
+  pub status_decides : TableDecides status_table
+  status_decides = (text_decides 2, (enum_decides 3 2 Code code_number codes.Unset code_named, tt))
+
   status_chosen : (text : List ℕ) → Chosen IsStatusText (λ held p n. Offence messages status_rules held p n) text
   status_chosen text = ⊎_elim (λ f. inl (f.x, record { records = f.records; wire = f.wire; status = f.is })) (λ least. inr least)
-      (found_of status_table 3 (status_shape facts.format) (text_decides 2, (enum_decides 3 2 Code code_number codes.Unset code_named, tt)) status_apart no_ends (status_laws facts.format) never_ends IsStatus status_bridge text)
+      (found_of status_table 3 (status_shape facts.format) status_decides status_apart no_ends (status_laws facts.format) never_ends IsStatus status_bridge text)
+
+  pub event_decides : TableDecides event_table
+  event_decides = (time_decides 1, (text_decides 2, (attributes_decides facts once exist next 3, (count_decides 4, tt))))
 
   event_chosen : (text : List ℕ) → Chosen IsEventText (λ held p n. Offence messages event_rules held p n) text
   event_chosen text = ⊎_elim (λ f. inl (f.x, record { records = f.records; wire = f.wire; event = f.is })) (λ least. inr least)
-      (found_of event_table 3 (event_shape facts.format) (time_decides 1, (text_decides 2, (attributes_decides facts once exist next 3, (count_decides 4, tt)))) event_apart no_ends (event_laws facts.format) never_ends IsEvent event_bridge text)
+      (found_of event_table 3 (event_shape facts.format) event_decides event_apart no_ends (event_laws facts.format) never_ends IsEvent event_bridge text)
 
-  link_decides : TableDecides link_table
+  pub link_decides : TableDecides link_table
   link_decides = (trace_id_decides 1, (span_id_decides 2, (text_decides 3, (attributes_decides facts once exist next 4, (count_decides 5, (flags_decides 6, tt))))))
 
   link_chosen : (text : List ℕ) → Chosen IsLinkText (λ held p n. Offence messages link_rules held p n) text
   link_chosen text = ⊎_elim (λ f. inl (f.x, record { records = f.records; wire = f.wire; link = f.is })) (λ least. inr least)
       (found_of link_table 3 (link_shape facts.format) link_decides link_apart no_ends (link_laws facts.format) never_ends IsLink link_bridge text)
 
-  span_decides : TableDecides span_table
+  pub span_decides : TableDecides span_table
   span_decides = (
     trace_id_decides 1,
     (
@@ -330,14 +330,14 @@ module _ (facts : WireFacts) (once : AttributesOnce) (exist : AttributesExist) (
   span_chosen text = ⊎_elim (λ f. inl (f.x, record { records = f.records; wire = f.wire; span = f.is })) (λ least. inr least)
       (found_of span_table 3 (span_shape facts.format) span_decides span_apart span_ends (span_laws facts.format) span_end_decided IsSpan (span_bridge ids) text)
 
-  instrumentation_scope_decides : TableDecides instrumentation_scope_table
+  pub instrumentation_scope_decides : TableDecides instrumentation_scope_table
   instrumentation_scope_decides = (text_decides 1, (text_decides 2, (attributes_decides facts once exist next 3, (count_decides 4, tt))))
 
   instrumentation_scope_chosen : (text : List ℕ) → Chosen IsInstrumentationScopeText (λ held p n. Offence messages instrumentation_scope_rules held p n) text
   instrumentation_scope_chosen text = ⊎_elim (λ f. inl (f.x, record { records = f.records; wire = f.wire; scope = f.is })) (λ least. inr least)
       (found_of instrumentation_scope_table 3 (instrumentation_scope_shape facts.format) instrumentation_scope_decides instrumentation_scope_apart no_ends (instrumentation_scope_laws facts.format) never_ends IsInstrumentationScope instrumentation_scope_bridge text)
 
-  scope_decides : TableDecides scope_table
+  pub scope_decides : TableDecides scope_table
   scope_decides = (
     message_decides IsInstrumentationScopeText (λ held p n. Offence messages instrumentation_scope_rules held p n) (instrumentation_scope_reads facts once ids) instrumentation_scope_chosen 1 no_instrumentation_scope,
     (messages_decides IsSpanText (λ held p n. Offence messages span_rules held p n) (span_reads facts once ids) span_chosen 2, (text_decides 3, tt)),
@@ -347,11 +347,14 @@ module _ (facts : WireFacts) (once : AttributesOnce) (exist : AttributesExist) (
   scope_chosen text = ⊎_elim (λ f. inl (f.x, record { records = f.records; wire = f.wire; scope = f.is })) (λ least. inr least)
       (found_of scope_table 12 (scope_shape facts.format) scope_decides scope_apart no_ends (scope_laws facts.format) never_ends IsScope scope_bridge text)
 
+  pub resource_decides : TableDecides resource_table
+  resource_decides = (attributes_decides facts once exist next 1, (count_decides 2, tt))
+
   resource_chosen : (text : List ℕ) → Chosen IsResourceText (λ held p n. Offence messages resource_rules held p n) text
   resource_chosen text = ⊎_elim (λ f. inl (f.x, record { records = f.records; wire = f.wire; resource = f.is })) (λ least. inr least)
-      (found_of resource_table 3 (resource_shape facts.format) (attributes_decides facts once exist next 1, (count_decides 2, tt)) resource_apart no_ends (resource_laws facts.format) never_ends IsResource resource_bridge text)
+      (found_of resource_table 3 (resource_shape facts.format) resource_decides resource_apart no_ends (resource_laws facts.format) never_ends IsResource resource_bridge text)
 
-  group_decides : TableDecides group_table
+  pub group_decides : TableDecides group_table
   group_decides = (
     message_decides IsResourceText (λ held p n. Offence messages resource_rules held p n) (resource_reads facts once ids) resource_chosen 1 no_resource,
     (messages_decides IsScopeText (λ held p n. Offence messages scope_rules held p n) (scope_reads facts once ids) scope_chosen 2, (text_decides 3, tt)),

@@ -1,7 +1,6 @@
 -- Free records change no reading of values, lists, maps and `KeyValue`s.
 use Rattle.std.proofs.Common.{◌≡◌, ℕ, List, [], ◌∷◌, ◌++◌, sym, ap, subst, ◌∙◌}
-use Rattle.std.specs.Prelude.{◌↔◌}
-use Rattle.span_io.specs.Tables.{Row, IsFree, Singular, Each, givens}
+use Rattle.span_io.specs.Tables.{Row, Singular, Each, givens}
 use Rattle.span_io.specs.TableLaws.{givens_without}
 use Rattle.proto_wire.specs.Records.{Record}
 use Rattle.proto_wire.specs.Wire.{Wire}

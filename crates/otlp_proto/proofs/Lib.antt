@@ -10,6 +10,8 @@ pub mod Growth
 pub mod LinkLemmas
 pub mod ListTexts
 pub mod MessagesAgain
+pub mod PaddedMessages
+pub mod PaddedValues
 pub mod ProperLemmas
 pub mod ProperMessages
 pub mod QuietRemarks
@@ -21,6 +23,7 @@ pub mod Repeated
 pub mod RowDecisions
 pub mod RowLemmas
 pub mod RowMeanings
+pub mod RowPaddings
 pub mod ScopeLemmas
 pub mod Sizes
 pub mod SoundLemmas

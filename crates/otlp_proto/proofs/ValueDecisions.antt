@@ -1,6 +1,6 @@
 -- Bytes are decided as values, lists, maps, `KeyValue`s and attributes: they mean one, or an offence in them counts.
-use Rattle.std.proofs.Common.{◌≡◌, ◌≢◌, ◌≤◌, ℕ, zero, suc, ◌⊎◌, inl, inr, List, [], ◌∷◌, ◌++◌, map, Bool, true, false, ◌==◌, if◌then◌else◌, refl, sym, ap, subst, ◌∙◌, ⊎_elim, arith}
-use Rattle.std.specs.Prelude.{◌↔◌, Contains, IsTrue, IsUtf8}
+use Rattle.std.proofs.Common.{◌≡◌, ◌≢◌, ◌≤◌, ℕ, zero, suc, ◌⊎◌, inl, inr, List, [], ◌∷◌, ◌++◌, map, Bool, true, false, ◌==◌, if◌then◌else◌, refl, ap, ⊎_elim, arith}
+use Rattle.std.specs.Prelude.{◌↔◌, Contains, IsTrue}
 use Rattle.std.specs.Int.{w64, cast_signed, to_be_bytes}
 use Rattle.std.specs.List.{flat_map}
 use Rattle.std.proofs.lemmas.Bool.{cases_eq, eqb-true}
@@ -10,13 +10,13 @@ use Rattle.span_io.specs.declared.cause.Cause.{Cause}
 use Rattle.span_io.specs.declared.cause.Cause.TheVariants as causes
 use Rattle.span_io.specs.Offences.{Offence, Least}
 use Rattle.span_io.specs.OffenceLaws.{RulesLaws}
-use Rattle.span_io.specs.Tables.{Row, Singular, Each, Twice, givens, rules_by, no_ends, IsFree}
+use Rattle.span_io.specs.Tables.{Row, Singular, Each, Twice, rules_by, no_ends}
 use Rattle.span_io.specs.TableLaws.{TableShape, Whole}
 use Rattle.span_io.specs.TableDecisions.{Decided, DecidedHere, Clean, RowDecides, TableDecides, Apart, Next, Means, decide_message}
 use Rattle.proto_wire.specs.Messages.{messages}
 use Rattle.proto_wire.specs.Records.{Held, varint, fixed64, bytes, fixed32, Record}
 use Rattle.proto_wire.specs.Wire.{Wire}
-use Rattle.trace_model.specs.Attributes.{AreAttributes, AreRepeated, StandsTwice}
+use Rattle.trace_model.specs.Attributes.{AreRepeated, StandsTwice}
 use Rattle.trace_model.specs.Laws.{AttributesOnce, AttributesExist}
 use Rattle.trace_model.specs.declared.value.Value.{Value}
 use Rattle.trace_model.specs.declared.value.Value.TheVariants as values
@@ -24,7 +24,7 @@ use Rattle.otlp_proto.specs.Attributes.{attribute_at, attribute_rules, Attribute
 use Rattle.otlp_proto.specs.Notes.{Keys, Noted}
 use Rattle.otlp_proto.specs.Rows.{bytes_in, varint_in, fixed64_in, bytes_of, bytes_row}
 use Rattle.otlp_proto.specs.Shapes.{shape_of_value, shape_of_key_value, many_shape, value_bounded, key_value_bounded, list_laws, map_laws, value_laws, key_value_laws}
-use Rattle.otlp_proto.specs.Values.{Member, string_value, bool_value, int_value, double_value, array_value, kvlist_value, bytes_value, member_in, NotedValue, KeyValue, leaf, entry, keys_inside, IsListText, IsMapText, MeansMember, IsValueText, IsKeyValueText, value_in, key_value_in, value_at, key_value_at, BadMember, InMember, many_table, value_offends, key_value_offends, table_of_value, value_rules, table_of_key_value, key_value_rules, list_rules, map_rules}
+use Rattle.otlp_proto.specs.Values.{Member, string_value, bool_value, int_value, double_value, array_value, kvlist_value, bytes_value, member_in, NotedValue, KeyValue, leaf, entry, keys_inside, IsListText, IsMapText, MeansMember, value_in, key_value_in, value_at, key_value_at, BadMember, InMember, many_table, value_offends, key_value_offends, table_of_value, value_rules, table_of_key_value, key_value_rules, list_rules, map_rules}
 use Rattle.otlp_proto.proofs.RowDecisions.{Chosen, chosen_decided, twice_or, one_number, not_text, utf8_or, singular_exists, text_decides, message_decides, each_of}
 use Rattle.otlp_proto.proofs.ValueReadings.{WireFacts, list_reads, map_reads, value_at_reads, key_value_at_reads, attribute_reads}
 
@@ -218,6 +218,22 @@ module _ (facts : WireFacts) (once : AttributesOnce) (exist : AttributesExist) (
   below_at : (left : ℕ) → Below left
   below_at zero = below_none
   below_at (suc left) = below_more left (below_at left)
+
+  -- ---- the tables, at each level
+
+  pub list_table_decides : (left : ℕ) → TableDecides (many_table left NotedValue (value_in left) (value_offends left))
+  list_table_decides left = many_decides left NotedValue (value_in left) (value_offends left) (below_at left).value_inside (below_at left).value_some
+      (many_shape facts.format left NotedValue (value_in left) (value_offends left) (value_bounded facts.format left)) (list_laws facts.format left)
+
+  pub map_table_decides : (left : ℕ) → TableDecides (many_table left KeyValue (key_value_in left) (key_value_offends left))
+  map_table_decides left = many_decides left KeyValue (key_value_in left) (key_value_offends left) (below_at left).pair_inside (below_at left).pair_some
+      (many_shape facts.format left KeyValue (key_value_in left) (key_value_offends left) (key_value_bounded facts.format left)) (map_laws facts.format left)
+
+  pub value_table_decides : (left : ℕ) → TableDecides (table_of_value left)
+  value_table_decides left = value_decides left (below_at left)
+
+  pub key_value_table_decides : (left : ℕ) → TableDecides (table_of_key_value left)
+  key_value_table_decides left = key_value_decides left (below_at left)
 
   -- ---- attributes
 

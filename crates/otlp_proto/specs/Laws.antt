@@ -13,6 +13,7 @@ use Rattle.trace_model.specs.declared.trace.Group.{Group}
 use Rattle.otlp_proto.specs.Event.{IsEvent, event_table}
 use Rattle.otlp_proto.specs.Group.{IsResource, resource_table, IsGroup, IsGroupText, group_table, group_rules}
 use Rattle.otlp_proto.specs.Link.{IsLink, link_table}
+use Rattle.otlp_proto.specs.Padded.{GroupPadded}
 use Rattle.otlp_proto.specs.Scope.{IsInstrumentationScope, instrumentation_scope_table, IsScope, scope_table}
 use Rattle.otlp_proto.specs.Span.{IsSpan, span_table}
 use Rattle.otlp_proto.specs.Status.{IsStatus, status_table}
@@ -51,3 +52,11 @@ pub record FreeRecords : Type 0 where
   pub scope : PassesFree scope_table IsScope
   pub resource : PassesFree resource_table IsResource
   pub group : (remarks : List Remark) → PassesFree group_table (λ g records. IsGroup g remarks records)
+
+-- A text, and the same text with free records added anywhere, at any depth: they mean the same group with the same remarks, or the
+-- offences that count in them have the same number.
+pub record FreeAnywhere : Type 0 where
+  -- nothing need be added
+  pub none : (text : List ℕ) → GroupPadded text text
+  pub means : (text other : List ℕ) → GroupPadded text other → (g : Group) (r : List Remark) → IsGroupText g r text ↔ IsGroupText g r other
+  pub offends : (text other : List ℕ) → GroupPadded text other → (number : ℕ) → Least (Offence messages group_rules text) number ↔ Least (Offence messages group_rules other) number

@@ -10,6 +10,8 @@ pub mod Laws
 pub mod Link
 pub mod LinkSoFar
 pub mod Notes
+pub mod Padded
+pub mod PaddedValues
 pub mod ReadParts
 pub mod Remarks
 pub mod Rows

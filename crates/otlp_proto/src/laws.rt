@@ -5,7 +5,7 @@ ghost use Rattle.trace_model.specs.Soundness.{IsSoundGroup};
 ghost use Rattle.trace_model.specs.declared.remark.Remark.{Remark};
 ghost use Rattle.trace_model.specs.declared.trace.Group.{Group};
 ghost use Rattle.otlp_proto.specs.Group.{IsGroupText};
-ghost use Rattle.otlp_proto.specs.Laws.{OneGroup, SomeGroup, FreeRecords};
+ghost use Rattle.otlp_proto.specs.Laws.{OneGroup, SomeGroup, FreeRecords, FreeAnywhere};
 ghost use Rattle.otlp_proto.specs.Texts.{bytes_field, list_text, value_text, attributes_text, group_text, group_record};
 
 use trace_model::Value;
@@ -68,4 +68,17 @@ pub fn free_records()
     proto_wire::laws::message_cuts();
     proto_wire::laws::one_reading();
     span_ids::laws::identifiers_read_back();
+}
+
+/// Free records added anywhere, at any depth, change neither what a text means nor the number of
+/// the offence that counts in it.
+pub fn free_anywhere()
+    ensures { FreeAnywhere }
+{
+    proto_wire::laws::message_cuts();
+    proto_wire::laws::one_reading();
+    proto_wire::laws::open_fronts();
+    span_ids::laws::identifiers_read_back();
+    trace_model::laws::attributes_once();
+    trace_model::laws::attributes_exist();
 }

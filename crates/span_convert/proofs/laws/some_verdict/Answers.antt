@@ -1,4 +1,4 @@
-use Rattle.std.proofs.Common.{ℕ, List, ◌⊎◌, inl, inr}
+use Rattle.std.proofs.Common.{List, ◌⊎◌, inl, inr}
 use Rattle.span_io.specs.Causes.{cause_number}
 use Rattle.span_io.specs.declared.cause.Cause.{Cause}
 use Rattle.span_io.specs.declared.form.Form.{Form}
@@ -9,7 +9,6 @@ use Rattle.trace_model.specs.declared.remark.Remark.{Remark}
 use Rattle.trace_model.specs.declared.trace.Group.{Group}
 use Rattle.otlp_proto.specs.Group.{IsGroupText, group_rules}
 use Rattle.otlp_proto.specs.Laws.{SomeGroup}
-use Rattle.span_convert.proofs.OutputLaws.{AreBytes}
 use Rattle.span_convert.proofs.SomeVerdict.{Decides, IsDecidedUnit, some_verdict}
 use Rattle.span_convert.proofs.laws.some_verdict.Goals as goal
 
