@@ -2,7 +2,7 @@
 """Times the built program on a trace request as exporters write it, beside `cat` of the same file.
 
 Run it at the top as bench/speed.py, after ./spanx has built the program. It makes inputs of about 1 MB and 25 MB, runs
-each command five times over them, and prints the best time of each and the program's peak of memory. These figures are
+each command five times over them, and prints the best time of each with its user time, and the program's peak of memory. These figures are
 no test: they hang on the machine and its load. With `--write FILE MEGABYTES` it only writes such an input.
 """
 import os
@@ -153,9 +153,10 @@ def measure(size):
         megabytes = len(text) / 1e6
         print(f"{megabytes:.2f} MB, {spans} spans")
         for name, command in [("cat", ["cat"]), ("spanx", CONVERT)]:
-            seconds = min(seconds_of(command, file.name)[0] for _ in range(RUNS))
+            seconds, user = min(seconds_of(command, file.name) for _ in range(RUNS))
             memory = Measured(command, file.name, 600).memory / 1e6
-            print(f"  {name}: {seconds * 1000:.1f} ms, {megabytes / seconds:.0f} MB/s, memory {memory:.1f} MB")
+            speed = megabytes / seconds
+            print(f"  {name}: {seconds * 1000:.1f} ms, {user * 1000:.1f} ms of it user time, {speed:.0f} MB/s, memory {memory:.1f} MB")
 
 
 def main():
