@@ -1,2 +1,3 @@
 pub mod Identifiers
 pub mod Laws
+pub mod Times

@@ -1,4 +1,4 @@
-ghost use Rattle.std.specs.Prelude.{◌≡◌, ℕ, ◌<◌, ◌^◌, ◌↔◌, IsOk, IfOk};
+ghost use Rattle.std.specs.Prelude.{◌≡◌, ℕ, ◌<◌, ◌^◌, ◌↔◌, IsOk, IfOk, IsErr};
 ghost use Rattle.std.specs.Int.{w64, to_be_bytes};
 ghost use Rattle.span_ids.specs.Identifiers.{IsSpanIdText, SpellsSpanId};
 
@@ -40,6 +40,24 @@ impl SpanId {
             return Err(BadId);
         }
         Ok(SpanId { number })
+    }
+
+    /// The identifier of a number (jaeger.thrift `spanId`). Zero is `BadId`.
+    pub fn from_number(n: u64) -> Result<SpanId, BadId>
+        ensures bad { IsErr result ↔ (n ≡ 0) }
+        ensures value { IfOk result (λ id. id ≡ n) }
+    {
+        if n == 0 {
+            return Err(BadId);
+        }
+        Ok(SpanId { number: n })
+    }
+
+    /// The number of the identifier, which `from_number` takes back.
+    pub fn number(&self) -> u64
+        ensures { result ≡ self.now }
+    {
+        self.number
     }
 
     /// The 8 bytes of the identifier.

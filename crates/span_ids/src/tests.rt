@@ -37,6 +37,60 @@ fn reads_and_writes_span_ids(rt: HostRuntime) {
     }
 }
 
+// jaeger.thrift has a trace identifier as two numbers and a span identifier as one.
+#[test]
+fn joins_halves(rt: HostRuntime) {
+    let table: [(u64, u64, Result<[u8; 16], BadId>); 4] = [
+        (0x0af7_6519_16cd_43dd, 0x8448_eb21_1c80_319c, Ok(TRACE)),
+        (0, 1, Ok([0, 0, 0, 0, 0, 0, 0, 0, 0, 0, 0, 0, 0, 0, 0, 1])),
+        (1, 0, Ok([0, 0, 0, 0, 0, 0, 0, 1, 0, 0, 0, 0, 0, 0, 0, 0])),
+        (0, 0, Err(BadId)),
+    ];
+    for (high, low, want) in table {
+        let got = TraceId::from_halves(high, low).map(|id| id.to_bytes());
+        assert_eq!(rt; got, want, "of {high} and {low}");
+        let halves = TraceId::from_halves(high, low).map(|id| id.halves());
+        assert_eq!(rt; halves.unwrap_or((0, 0)), (high, low));
+    }
+}
+
+#[test]
+fn takes_numbers(rt: HostRuntime) {
+    let table: [(u64, Result<[u8; 8], BadId>); 3] = [
+        (0xb7ad_6b71_6920_3331, Ok(SPAN)),
+        (1, Ok([0, 0, 0, 0, 0, 0, 0, 1])),
+        (0, Err(BadId)),
+    ];
+    for (number, want) in table {
+        let got = SpanId::from_number(number).map(|id| id.to_bytes());
+        assert_eq!(rt; got, want, "of {number}");
+        let back = SpanId::from_number(number).map(|id| id.number());
+        assert_eq!(rt; back.unwrap_or(0), number);
+    }
+}
+
+// The last time that fits is in the year 2554.
+#[test]
+fn counts_microseconds(rt: HostRuntime) {
+    let table: [(u64, u64, u64); 4] = [
+        (0, 0, 0),
+        (999, 0, 0),
+        (
+            1_472_470_996_199_000_123,
+            1_472_470_996_199_000,
+            1_472_470_996_199_000_000,
+        ),
+        (u64::MAX, 18_446_744_073_709_551, 18_446_744_073_709_551_000),
+    ];
+    for (nanos, micros, floor) in table {
+        assert_eq!(rt; Nanos(nanos).micros(), micros, "of {nanos}");
+        assert_eq!(rt; Nanos(nanos).floor(), Nanos(floor), "of {nanos}");
+        assert_eq!(rt; Nanos::of_micros(micros), Some(Nanos(floor)), "of {nanos}");
+    }
+    assert_eq!(rt; Nanos::of_micros(18_446_744_073_709_552), None);
+    assert_eq!(rt; Nanos::of_micros(u64::MAX), None);
+}
+
 // The first byte counts most.
 #[test]
 fn orders_numbers(rt: HostRuntime) -> Result<(), Fail> {

@@ -1,6 +1,6 @@
-ghost use Rattle.std.specs.Prelude.{◌≡◌, ℕ, ◌<◌, ◌^◌, ◌↔◌, IsOk, IfOk};
+ghost use Rattle.std.specs.Prelude.{◌≡◌, ℕ, ◌<◌, ◌^◌, ◌↔◌, IsOk, IfOk, IsErr, Ok};
 ghost use Rattle.std.specs.Int.{w128, to_be_bytes};
-ghost use Rattle.span_ids.specs.Identifiers.{IsTraceIdText, SpellsTraceId};
+ghost use Rattle.span_ids.specs.Identifiers.{IsTraceIdText, SpellsTraceId, HasHalves};
 
 use crate::bad_id::BadId;
 use std::marker::Model;
@@ -24,6 +24,9 @@ impl Model for TraceId {
     ghost inverse = { λ n. record { number = n } };
 }
 
+// What a high half counts.
+const HALF: u128 = 1 << 64;
+
 impl TraceId {
     /// Reads an identifier in binary. Another length, or all zero, is `BadId`.
     pub fn from_bytes(bytes: &[u8]) -> Result<TraceId, BadId>
@@ -40,6 +43,30 @@ impl TraceId {
             return Err(BadId);
         }
         Ok(TraceId { number })
+    }
+
+    /// Joins the halves of an identifier (jaeger.thrift `traceIdHigh` and `traceIdLow`). Where both
+    /// are zero it is `BadId`.
+    pub fn from_halves(high: u64, low: u64) -> Result<TraceId, BadId>
+        ensures bad { IsErr result ↔ ((high ≡ 0) × (low ≡ 0)) }
+        ensures value { IfOk result (λ id. HasHalves id high low) }
+        // Whatever identifier has these halves is the answer.
+        ensures only { (id : ℕ) → 0 < id → HasHalves id high low → result ≡ Ok id }
+    {
+        if high == 0 && low == 0 {
+            return Err(BadId);
+        }
+        let joined = u128::from(high) * HALF + u128::from(low);
+        Ok(TraceId { number: joined })
+    }
+
+    /// The high and the low half of the identifier.
+    pub fn halves(&self) -> (u64, u64)
+        ensures value { HasHalves self.now result.0 result.1 }
+        // There are no other halves, so those that were joined are given back.
+        ensures only { (high low : ℕ) → HasHalves self.now high low → (result.0 ≡ high) × (result.1 ≡ low) }
+    {
+        ((self.number / HALF) as u64, (self.number % HALF) as u64)
     }
 
     /// The 16 bytes of the identifier.
