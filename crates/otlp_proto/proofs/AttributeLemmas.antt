@@ -14,15 +14,16 @@ use Rattle.otlp_proto.specs.declared.attributes.AttributeRows.{AttributeRows}
 use Rattle.otlp_proto.specs.Values.{KeyValue, entry, keys_inside}
 use Rattle.otlp_proto.specs.Attributes.{attribute_at, NotedIn}
 use Rattle.otlp_proto.specs.AttributesSoFar.{GatheredAttributes}
-use Rattle.otlp_proto.proofs.Repeated.{each_push, flat_push}
+use Rattle.span_io.specs.RowLaws.{all_zip_push}
+use Rattle.span_io.specs.TableLaws.{flat_more}
 
-pub attribute_push : (earlier : List (List ℕ)) (held : List ℕ) (old new : AttributeRows) (p : KeyValue) → attribute_at p held → new.pairs ≡ old.pairs ++ entry p ∷ [] → new.noted ≡ old.noted ++ p.value.notes
+pub attribute_push : (earlier : List (List ℕ)) (held : List ℕ) (old new : AttributeRows) (p : KeyValue) → attribute_at held p → new.pairs ≡ old.pairs ++ entry p ∷ [] → new.noted ≡ old.noted ++ p.value.notes
     → GatheredAttributes earlier old → GatheredAttributes (earlier ++ held ∷ []) new
 attribute_push earlier held old new p pair pairs noted so_far = record {
   members = so_far.members ++ p ∷ [];
-  each = each_push attribute_at earlier so_far.members held p so_far.each pair;
+  each = all_zip_push attribute_at earlier so_far.members held p so_far.each pair;
   pairs = pairs ∙ ap (λ l. l ++ entry p ∷ []) so_far.pairs ∙ sym (map-append entry so_far.members (p ∷ []));
-  noted = noted ∙ ap (λ l. l ++ p.value.notes) so_far.noted ∙ sym (flat_push (λ (m : KeyValue). m.value.notes) so_far.members p);
+  noted = noted ∙ ap (λ l. l ++ p.value.notes) so_far.noted ∙ sym (flat_more (λ (m : KeyValue). m.value.notes) so_far.members p);
 }
 
 -- the keys that are noted: those inside the values, and those that stand more than once

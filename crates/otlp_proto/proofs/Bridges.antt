@@ -1,6 +1,6 @@
 -- A message is told by the values of its rows: so bytes mean one message at most, nothing offends in bytes that mean one, and records
 -- that give the same to each row mean the same.
-use Rattle.std.proofs.Common.{◌≡◌, ℕ, List, ◌∷◌, ◌++◌, sym, ap, subst, ◌∙◌}
+use Rattle.std.proofs.Common.{◌≡◌, ℕ, true, List, ◌∷◌, ◌++◌, sym, ap, subst, ◌∙◌}
 use Rattle.std.specs.Prelude.{◌↔◌}
 use Rattle.span_io.specs.Offences.{Offence}
 use Rattle.span_io.specs.Tables.{Row, givens, Givens, Values, Mean, rules_by, IsFree}
@@ -8,7 +8,10 @@ use Rattle.span_io.specs.TableLaws.{TableShape, TableMeaning, values_once, table
 use Rattle.proto_wire.specs.Messages.{messages}
 use Rattle.proto_wire.specs.Records.{Record}
 use Rattle.proto_wire.specs.Wire.{Wire}
+use Rattle.otlp_proto.specs.Rows.{MeansMessage}
+use Rattle.otlp_proto.proofs.FieldLemmas.{Fits}
 use Rattle.otlp_proto.proofs.ValueReadings.{WireFacts, wire_whole}
+use Rattle.otlp_proto.proofs.WrittenRows.{AllWritten, values_of, numbers_of, text_of, distinct, read_as}
 
 -- what the records of a message mean, row by row, and the message of these values
 pub record Bridge (X : Type 0) (table : List (Row Record)) (ends : List Record → ℕ → Type 0) (Is : X → List Record → Type 0) : Type 0 where
@@ -48,3 +51,10 @@ module _ {X : Type 0} (table : List (Row Record)) (ends : List Record → ℕ �
   without_free x before behind free is =
       let same = givens_without table before behind free is in
       (moves x (before ++ free ∷ behind) (before ++ behind) same, moves x (before ++ behind) (before ++ free ∷ behind) (sym same))
+
+-- what is written of the rows is read back
+pub read_back : {X : Type 0} (table : List (Row Record)) (ends : List Record → ℕ → Type 0) (Is : X → List Record → Type 0) (bridge : Bridge X table ends Is) (rows : AllWritten table) → distinct (numbers_of table rows) ≡ true
+    → ((records : List Record) → Mean table (givens table records) (values_of table rows) → (n : ℕ) → ends records n → ⊥) → Fits (text_of table rows) → MeansMessage Is (text_of table rows) (bridge.of (values_of table rows))
+read_back table ends Is bridge rows each fine fits =
+    let read = read_as table rows each fits in
+    record { items = read.records; are = read.wire; is = bridge.build read.records (values_of table rows) (fine read.records read.mean) read.mean }

@@ -4,7 +4,7 @@ use Rattle.std.specs.List.{sum_by}
 use Rattle.std.specs.Option.{unwrap_or}
 use Rattle.std.proofs.lemmas.List.{append-nil, map-append, length-map}
 use Rattle.std.proofs.lemmas.List.Sums.{sum_by-cons, sum_by_push}
-use Rattle.span_io.specs.Tables.{givens}
+use Rattle.span_io.specs.Tables.{givens, MeansText}
 use Rattle.proto_wire.specs.Records.{Record}
 use Rattle.trace_model.specs.declared.place.Place.TheVariants as places
 use Rattle.trace_model.specs.declared.remark.Remark.{Remark}
@@ -15,15 +15,15 @@ use Rattle.otlp_proto.specs.declared.group.GroupRows.{GroupRows}
 use Rattle.otlp_proto.specs.declared.group.ScopeList.{ScopeList}
 use Rattle.otlp_proto.specs.declared.noted.ReadResource.{ReadResource}
 use Rattle.otlp_proto.specs.declared.noted.ReadScope.{ReadScope}
-use Rattle.otlp_proto.specs.Group.{IsGroup, IsResourceText, no_resource, group_table}
+use Rattle.otlp_proto.specs.Group.{IsGroup, IsResource, no_resource, group_table}
 use Rattle.otlp_proto.specs.GroupSoFar.{GatheredScopes, GatheredGroup}
 use Rattle.otlp_proto.specs.Notes.{Noted, SpanNotes, ScopeNotes}
 use Rattle.otlp_proto.specs.ReadParts.{IsReadScope, resource_read}
 use Rattle.otlp_proto.specs.Remarks.{equal_keys, scope_remarks, scopes_remarks}
-use Rattle.otlp_proto.specs.Rows.{bytes_of, MeansText}
-use Rattle.otlp_proto.specs.Scope.{IsScopeText}
-use Rattle.otlp_proto.proofs.Repeated.{each_push}
-use Rattle.otlp_proto.proofs.RowLemmas.{singular_or, singular_read}
+use Rattle.otlp_proto.specs.Rows.{bytes_of, MeansMessage}
+use Rattle.otlp_proto.specs.Scope.{IsScope}
+use Rattle.span_io.specs.RowLaws.{all_zip_push}
+use Rattle.span_io.specs.RowLaws.{singular_or, singular_read}
 
 -- ---- scopes
 
@@ -47,11 +47,11 @@ scopes_push scope span (y ∷ xs) x =
     ∙ sym (append_assoc (scope_remarks scope span y) more (scope_remarks (scope + suc (length xs)) (span + sum_by span_count (y ∷ xs)) x))
 
 -- what is noted of each span
-same_spans : (s : Noted Scope ScopeNotes) (text : List ℕ) → IsScopeText s text → length s.means.spans ≡ length s.notes.spans
+same_spans : (s : Noted Scope ScopeNotes) (text : List ℕ) → MeansMessage IsScope text s → length s.means.spans ≡ length s.notes.spans
 same_spans s text is =
-    let spans = is.scope.spans in
-    ap (λ (m : Scope). length m.spans) is.scope.scope ∙ length-map spans (λ (x : Noted Span SpanNotes). x.means)
-    ∙ sym (ap (λ (n : ScopeNotes). length n.spans) is.scope.noted ∙ length-map spans (λ (x : Noted Span SpanNotes). x.notes))
+    let spans = is.is.spans in
+    ap (λ (m : Scope). length m.spans) is.is.scope ∙ length-map spans (λ (x : Noted Span SpanNotes). x.means)
+    ∙ sym (ap (λ (n : ScopeNotes). length n.spans) is.is.noted ∙ length-map spans (λ (x : Noted Span SpanNotes). x.notes))
 
 pub no_scopes : (list : ScopeList) → list.scopes ≡ [] → list.remarks ≡ [] → list.next_span ≡ 1 → GatheredScopes [] list
 unfolding scopes_remarks
@@ -61,7 +61,7 @@ pub scope_push : (earlier : List (List ℕ)) (held : List ℕ) (old new : ScopeL
     → new.next_span ≡ old.next_span + length read.scope.spans → number ≡ 1 + length old.scopes → IsReadScope number old.next_span read held → GatheredScopes earlier old → GatheredScopes (earlier ++ held ∷ []) new
 scope_push earlier held old new number read scopes remarks next its_number is so_far = record {
   read = so_far.read ++ this ∷ [];
-  each = each_push IsScopeText earlier so_far.read held this so_far.each is.is_scope;
+  each = all_zip_push (MeansMessage IsScope) earlier so_far.read held this so_far.each is.is_scope;
   scopes = scopes ∙ ap (λ l. l ++ read.scope ∷ []) so_far.scopes ∙ sym (map-append (λ (s : Noted Scope ScopeNotes). s.means) so_far.read (this ∷ []));
   remarks = remarks ∙ ap (λ l. l ++ read.remarks) so_far.remarks
       ∙ ap (λ l. scopes_remarks 1 1 notes ++ l) (is.remarks ∙ ap (λ (k : ℕ). scope_remarks k old.next_span is.notes) number_of ∙ ap (λ (k : ℕ). scope_remarks (1 + length notes) k is.notes) so_far.next_span)
@@ -93,10 +93,10 @@ module _ (rows : GroupRows) (records : List Record) (resource : ReadResource) (u
   with_scopes scopes = record { resource = resource.attributes; dropped = resource.dropped; schema_url = url; scopes = scopes }
 
   pub group_is : (empty : ReadResource) (remarks : List Remark) → GatheredGroup rows (givens group_table records) → resource_read empty ≡ no_resource → resource ≡ unwrap_or rows.resource empty
-      → url ≡ unwrap_or rows.schema_url [] → remarks ≡ equal_keys places.Resource resource.keys ++ rows.scopes.remarks → IsGroup (with_scopes rows.scopes.scopes) remarks records
+      → url ≡ unwrap_or rows.schema_url [] → remarks ≡ equal_keys places.Resource resource.keys ++ rows.scopes.remarks → IsGroup (record { means = with_scopes rows.scopes.scopes; notes = remarks }) records
   group_is empty remarks gathered is_empty its_resource its_url its_remarks = record {
     resource = resource_read resource;
-    its_resource = singular_read IsResourceText resource_read no_resource (bytes_of 1 records) rows.resource empty resource its_resource is_empty gathered.resource;
+    its_resource = singular_read (MeansMessage IsResource) resource_read no_resource (bytes_of 1 records) rows.resource empty resource its_resource is_empty gathered.resource;
     scopes = gathered.scopes.read;
     each_scope = gathered.scopes.each;
     url = url;

@@ -2,7 +2,7 @@
 use Rattle.std.proofs.Common.{◌≡◌, ℕ, List, [], Option, None, refl}
 use Rattle.std.specs.Option.{unwrap_or}
 use Rattle.proto_wire.specs.Records.{Record}
-use Rattle.span_io.specs.Tables.{givens}
+use Rattle.span_io.specs.Tables.{givens, MeansText}
 use Rattle.trace_model.specs.declared.span.Link.{Link}
 use Rattle.trace_model.specs.declared.value.Value.{Value}
 use Rattle.otlp_proto.specs.declared.link.LinkRows.{LinkRows}
@@ -11,8 +11,8 @@ use Rattle.otlp_proto.specs.Identifiers.{MeansTraceId, MeansSpanId}
 use Rattle.otlp_proto.specs.Link.{LinkParts, IsLink, link_of, link_table}
 use Rattle.otlp_proto.specs.LinkSoFar.{GatheredLink}
 use Rattle.otlp_proto.specs.Notes.{Keys, Noted}
-use Rattle.otlp_proto.specs.Rows.{bytes_of, varints_of, fixed32s_of, MeansText, MeansNumber, MeansCount}
-use Rattle.otlp_proto.proofs.RowLemmas.{gave_or}
+use Rattle.otlp_proto.specs.Rows.{bytes_of, varints_of, fixed32s_of, MeansNumber, MeansCount}
+use Rattle.span_io.specs.RowLaws.{gave_or}
 
 -- what stands in the link of these rows beside its identifiers
 abbrev pub parts_of : LinkRows → List (List ℕ × Value) → Keys → LinkParts

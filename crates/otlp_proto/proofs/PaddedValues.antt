@@ -1,21 +1,22 @@
 -- Free records added anywhere in values, lists, maps, `KeyValue`s and attributes change no meaning, and no number of the offence that counts.
 use Rattle.std.proofs.Common.{◌≡◌, ℕ, zero, suc, ◌⊎◌, inl, inr, List, refl, sym, subst}
 use Rattle.std.specs.Prelude.{◌↔◌}
+use Rattle.std.specs.List.{AllZip}
 use Rattle.span_io.specs.FreeItemLaws.{equal_padding, text_self}
 use Rattle.span_io.specs.FreeItems.{SameOffence, RowPadding, TablePadding}
 use Rattle.span_io.specs.Offences.{Offence}
 use Rattle.span_io.specs.TableDecisions.{Next}
-use Rattle.span_io.specs.Tables.{Each}
 use Rattle.proto_wire.specs.Messages.{messages}
 use Rattle.trace_model.specs.Laws.{AttributesOnce, AttributesExist}
 use Rattle.trace_model.specs.declared.value.Value.TheVariants as values
 use Rattle.otlp_proto.specs.Attributes.{attribute_at, attribute_rules, attributes, levels_below}
 use Rattle.otlp_proto.specs.PaddedValues.{MemberPadded, table_of_list, table_of_map, value_padded, key_value_padded, ListPadded, MapPadded, ValuePadded, KeyValuePadded, value_paddings, key_value_paddings, AttributePadded}
 use Rattle.otlp_proto.specs.Rows.{text}
-use Rattle.otlp_proto.specs.Shapes.{list_laws, map_laws, value_laws, key_value_laws}
+use Rattle.otlp_proto.proofs.Shapes.{list_laws, map_laws, value_laws, key_value_laws}
 use Rattle.otlp_proto.specs.Values.{Member, string_value, bool_value, int_value, double_value, array_value, kvlist_value, bytes_value, NotedValue, KeyValue, leaf, IsListText, IsMapText, MeansMember, value_in, key_value_in, value_at, key_value_at, BadMember, InMember, many_table, value_offends, key_value_offends, table_of_value, value_rules, table_of_key_value, key_value_rules, list_rules, map_rules}
 use Rattle.otlp_proto.proofs.RowDecisions.{text_decides}
-use Rattle.otlp_proto.proofs.RowPaddings.{same_twice, singular_moves, each_moves, Keeps, message_padding, moved, endless_same}
+use Rattle.otlp_proto.proofs.RowPaddings.{Keeps, message_padding, moved, endless_same}
+use Rattle.span_io.specs.RowLaws.{same_twice, singular_moves, all_zip_moves}
 use Rattle.otlp_proto.proofs.ValueDecisions.{list_table_decides, map_table_decides, value_table_decides, key_value_table_decides}
 use Rattle.otlp_proto.proofs.ValueReadings.{WireFacts}
 
@@ -40,8 +41,8 @@ module _ (InList InMap : List ℕ → List ℕ → Type 0) where
   same_bad (kvlist_value held) y padded n = subst (λ m. ⊥ ↔ BadMember m n) (sym padded.1) (λ h. h, λ h. h)
   same_bad (bytes_value held) y padded n = subst (λ m. ⊥ ↔ BadMember m n) (sym padded) (λ h. h, λ h. h)
 
-  module _ (IsValue : NotedValue → List ℕ → Type 0) (IsKeyValue : KeyValue → List ℕ → Type 0) (OffendsList OffendsMap : List ℕ → ℕ → ℕ → Type 0)
-      (lists : Keeps (λ r held. IsListText IsValue r held) OffendsList InList) (maps : Keeps (λ r held. IsMapText IsKeyValue r held) OffendsMap InMap) where
+  module _ (IsValue : List ℕ → NotedValue → Type 0) (IsKeyValue : List ℕ → KeyValue → Type 0) (OffendsList OffendsMap : List ℕ → ℕ → ℕ → Type 0)
+      (lists : Keeps (λ held r. IsListText IsValue held r) OffendsList InList) (maps : Keeps (λ held r. IsMapText IsKeyValue held r) OffendsMap InMap) where
     abbrev SameInside : Member → Member → Type 0
     SameInside x y = SameOffence (λ p n. InMember OffendsList OffendsMap x p n) (λ p n. InMember OffendsList OffendsMap y p n)
 
@@ -76,14 +77,14 @@ either {A} {B} {C} {D} first second = (to, from)
 
 -- ---- messages, by the levels that are left
 
-many_pads : (left : ℕ) (B : Type 0) (Is : B → List ℕ → Type 0) (Offends : List ℕ → ℕ → ℕ → Type 0) (Padded : List ℕ → List ℕ → Type 0) → Keeps Is Offends Padded
+many_pads : (left : ℕ) (B : Type 0) (Is : List ℕ → B → Type 0) (Offends : List ℕ → ℕ → ℕ → Type 0) (Padded : List ℕ → List ℕ → Type 0) → Keeps Is Offends Padded
     → TablePadding (many_table left B Is Offends) (Padded, tt)
 many_pads left B Is Offends Padded keeps = (
   record {
     none = keeps.none;
     here = λ earlier others each x y padded n. (λ h. h, λ h. h);
     inside = keeps.same;
-    means = each_moves Padded (λ held v. Is v held) keeps.means;
+    means = all_zip_moves Padded Is keeps.means;
   },
   tt,
 )
@@ -97,7 +98,7 @@ module _ (facts : WireFacts) (once : AttributesOnce) (exist : AttributesExist) (
     map_pads : TablePadding (table_of_map left) (key_value_padded left, tt)
     map_pads = many_pads left KeyValue (key_value_in left) (key_value_offends left) (key_value_padded left) pairs_below
 
-    list_over : Keeps (λ r held. IsListText (value_in left) r held) (λ held p n. Offence messages (list_rules left) held p n) (ListPadded left)
+    list_over : Keeps (λ held r. IsListText (value_in left) held r) (λ held p n. Offence messages (list_rules left) held p n) (ListPadded left)
     list_over = record {
       none = text_self messages facts.format next (table_of_list left) (value_padded left, tt) list_pads;
       means = λ held other t r is.
@@ -106,7 +107,7 @@ module _ (facts : WireFacts) (once : AttributesOnce) (exist : AttributesExist) (
       same = endless_same facts (table_of_list left) (value_padded left, tt) list_pads (list_table_decides facts once exist next left) (list_laws facts.format left);
     }
 
-    map_over : Keeps (λ r held. IsMapText (key_value_in left) r held) (λ held p n. Offence messages (map_rules left) held p n) (MapPadded left)
+    map_over : Keeps (λ held r. IsMapText (key_value_in left) held r) (λ held p n. Offence messages (map_rules left) held p n) (MapPadded left)
     map_over = record {
       none = text_self messages facts.format next (table_of_map left) (key_value_padded left, tt) map_pads;
       means = λ held other t r is.
@@ -159,7 +160,7 @@ module _ (facts : WireFacts) (once : AttributesOnce) (exist : AttributesExist) (
     key_value_pads : TablePadding (table_of_key_value left) (key_value_paddings left)
     key_value_pads = (
       equal_padding (text 1) (text_decides 1),
-      (message_padding (λ r held. value_at left r held) (λ held p n. Offence messages (value_rules left) held p n) (ValuePadded left) value_over 2 (leaf values.Nothing), tt),
+      (message_padding (λ held r. value_at left held r) (λ held p n. Offence messages (value_rules left) held p n) (ValuePadded left) value_over 2 (leaf values.Nothing), tt),
     )
 
     key_value_over : Keeps (key_value_at left) (λ held p n. Offence messages (key_value_rules left) held p n) (KeyValuePadded left)
@@ -186,10 +187,10 @@ module _ (facts : WireFacts) (once : AttributesOnce) (exist : AttributesExist) (
         let keeps = key_value_over left (value_in_keeps left) (key_value_in_keeps left) in
         record { none = λ held. keeps.none held; means = λ held other t r is. keeps.means held other t r is; same = λ held other t. keeps.same held other t }
 
-  pub list_keeps : (left : ℕ) → Keeps (λ r held. IsListText (value_in left) r held) (λ held p n. Offence messages (list_rules left) held p n) (ListPadded left)
+  pub list_keeps : (left : ℕ) → Keeps (λ held r. IsListText (value_in left) held r) (λ held p n. Offence messages (list_rules left) held p n) (ListPadded left)
   list_keeps left = list_over left (value_in_keeps left) (key_value_in_keeps left)
 
-  pub map_keeps : (left : ℕ) → Keeps (λ r held. IsMapText (key_value_in left) r held) (λ held p n. Offence messages (map_rules left) held p n) (MapPadded left)
+  pub map_keeps : (left : ℕ) → Keeps (λ held r. IsMapText (key_value_in left) held r) (λ held p n. Offence messages (map_rules left) held p n) (MapPadded left)
   map_keeps left = map_over left (value_in_keeps left) (key_value_in_keeps left)
 
   pub value_keeps : (left : ℕ) → Keeps (value_at left) (λ held p n. Offence messages (value_rules left) held p n) (ValuePadded left)
@@ -214,5 +215,5 @@ module _ (facts : WireFacts) (once : AttributesOnce) (exist : AttributesExist) (
     );
   }
     where
-      goes : (xs ys : List (List ℕ)) → Each (λ y x. AttributePadded x y) xs ys → (pairs : List KeyValue) → Each attribute_at xs pairs → Each attribute_at ys pairs
-      goes xs ys each pairs is = each_moves AttributePadded (λ held p. attribute_at p held) attribute_keeps.means xs ys each pairs is
+      goes : (xs ys : List (List ℕ)) → AllZip AttributePadded xs ys → (pairs : List KeyValue) → AllZip attribute_at xs pairs → AllZip attribute_at ys pairs
+      goes xs ys each pairs is = all_zip_moves AttributePadded (λ held p. attribute_at held p) attribute_keeps.means xs ys each pairs is

@@ -1,20 +1,22 @@
 -- What is read of values is proper: texts are UTF-8, integers have 64 bits, doubles eight bytes, and bytes are bytes.
-use Rattle.std.proofs.Common.{◌≡◌, ℕ, zero, suc, ◌<◌, ◌^◌, ◌%◌, ◌∷◌, List, [], map, All, refl, sym, subst, arith}
+use Rattle.std.proofs.Common.{◌≡◌, ℕ, zero, suc, ◌<◌, ◌^◌, ◌%◌, ◌∷◌, List, [], map, All, Option, Some, None, refl, sym, subst, arith}
 use Rattle.std.specs.Prelude.{◌↔◌, ◌==◌, ⊤, IsUtf8, FitsSigned, pos}
 use Rattle.std.specs.Int.{w64, cast_signed, to_be_bytes, int_wrap}
-use Rattle.std.specs.List.{AllByRecursion}
+use Rattle.std.specs.List.{AllZip, AllByRecursion}
 use Rattle.std.proofs.lemmas.Int.{SFits-int_wrap}
 use Rattle.std.proofs.lemmas.List.Elements.{All-nil, All-cons, All-from_recursion}
 use Rattle.std.proofs.lemmas.Str.{IsUtf8-nil}
-use Rattle.span_io.specs.Tables.{Singular, Each}
+use Rattle.span_io.specs.Tables.{Singular, MeansText}
 use Rattle.proto_wire.specs.Records.{Held, varint, fixed64, bytes, fixed32, Record}
 use Rattle.trace_model.specs.Proper.{IsProperValue, IsProperPair, AreProper}
 use Rattle.trace_model.specs.declared.value.Value.{Value}
 use Rattle.trace_model.specs.declared.value.Value.TheVariants as values
 use Rattle.otlp_proto.specs.Attributes.{levels_below, attribute_at, AttributesOf}
-use Rattle.otlp_proto.specs.Rows.{bytes_of, MeansText}
+use Rattle.otlp_proto.specs.Rows.{bytes_of, MeansCount, MeansNumber}
+use Rattle.otlp_proto.specs.Identifiers.{MeansTraceId, MeansSpanId}
+use Rattle.trace_model.specs.Proper.{IsProperTraceId, IsProperParent}
 use Rattle.otlp_proto.specs.Values.{Member, string_value, bool_value, int_value, double_value, array_value, kvlist_value, bytes_value, member_in, members_of, NotedValue, KeyValue, leaf, entry, IsListText, IsMapText, MeansMember, IsValueText, IsKeyValueText, value_in, key_value_in}
-use Rattle.otlp_proto.proofs.Ranges.{AreBytes, InRange, AllInRange, wire_in_range, all_bytes, in_each, chosen}
+use Rattle.otlp_proto.proofs.Ranges.{AreBytes, InRange, AllInRange, wire_in_range, all_bytes, in_each, chosen, span_below, trace_below, span_above, trace_above}
 use Rattle.otlp_proto.proofs.SoundLemmas.{kept_all}
 
 -- ---- rows
@@ -26,8 +28,8 @@ singular_in_range Means absent Q P none some [] b all h = subst P (sym h) none
 singular_in_range Means absent Q P none some (x ∷ []) b all h = some x b all.0 h
 singular_in_range Means absent Q P none some (x ∷ other ∷ more) b all h = absurd h
 
-pub each_in_range : {A B C : Type 0} (Is : B → A → Type 0) (f : B → C) (Q : A → Type 0) (P : C → Type 0) → ((x : B) (a : A) → Q a → Is x a → P (f x))
-    → (held : List A) (xs : List B) → AllByRecursion Q held → Each Is held xs → All P (map f xs)
+pub each_in_range : {A B C : Type 0} (Is : A → B → Type 0) (f : B → C) (Q : A → Type 0) (P : C → Type 0) → ((x : B) (a : A) → Q a → Is a x → P (f x))
+    → (held : List A) (xs : List B) → AllByRecursion Q held → AllZip Is held xs → All P (map f xs)
 each_in_range Is f Q P so [] [] all each = All-nil P
 each_in_range Is f Q P so [] (x ∷ xs) all each = absurd each
 each_in_range Is f Q P so (a ∷ held) [] all each = absurd each
@@ -71,13 +73,13 @@ double_proper n = (refl, All-from_recursion (λ b. b < 256) (to_be_bytes w64 n) 
 
 module _ (list_proper : (members : List Value) → IsProperValue (values.List members) ↔ All IsProperValue members)
     (map_proper : (pairs : List (List ℕ × Value)) → IsProperValue (values.Map pairs) ↔ AreProper pairs) where
-  module _ (IsValue : NotedValue → List ℕ → Type 0) (IsKeyValue : KeyValue → List ℕ → Type 0)
-      (values_proper : (r : NotedValue) (text : List ℕ) → AreBytes text → IsValue r text → IsProperValue r.means) (key_values_proper : (p : KeyValue) (text : List ℕ) → AreBytes text → IsKeyValue p text → IsProperPair (entry p)) where
-    list_member_proper : (r : NotedValue) (text : List ℕ) → AreBytes text → IsListText IsValue r text → IsProperValue r.means
+  module _ (IsValue : List ℕ → NotedValue → Type 0) (IsKeyValue : List ℕ → KeyValue → Type 0)
+      (values_proper : (r : NotedValue) (text : List ℕ) → AreBytes text → IsValue text r → IsProperValue r.means) (key_values_proper : (p : KeyValue) (text : List ℕ) → AreBytes text → IsKeyValue text p → IsProperPair (entry p)) where
+    list_member_proper : (r : NotedValue) (text : List ℕ) → AreBytes text → IsListText IsValue text r → IsProperValue r.means
     list_member_proper r text all is = subst IsProperValue (sym is.value)
         ((list_proper (map (λ m. m.means) is.members)).1 (each_in_range IsValue (λ m. m.means) AreBytes IsProperValue (λ x a b h. values_proper x a b h) (bytes_of 1 is.records) is.members (all_bytes 1 is.records (wire_in_range is.records text all is.wire)) is.each))
 
-    map_member_proper : (r : NotedValue) (text : List ℕ) → AreBytes text → IsMapText IsKeyValue r text → IsProperValue r.means
+    map_member_proper : (r : NotedValue) (text : List ℕ) → AreBytes text → IsMapText IsKeyValue text r → IsProperValue r.means
     map_member_proper r text all is = subst IsProperValue (sym is.value) ((map_proper is.attributes).1 (kept_all IsProperPair is.attributes (map entry is.pairs) is.kept
         (each_in_range IsKeyValue entry AreBytes IsProperPair (λ x a b h. key_values_proper x a b h) (bytes_of 1 is.records) is.pairs (all_bytes 1 is.records (wire_in_range is.records text all is.wire)) is.each)))
 
@@ -93,31 +95,59 @@ module _ (list_proper : (members : List Value) → IsProperValue (values.List me
     member_proper (kvlist_value held) r in_range h = map_member_proper r held in_range h
     member_proper (bytes_value held) r in_range h = leaf_proper r (values.Bytes held) in_range h
 
-    value_proper : (r : NotedValue) (text : List ℕ) → AreBytes text → IsValueText IsValue IsKeyValue r text → IsProperValue r.means
+    value_proper : (r : NotedValue) (text : List ℕ) → AreBytes text → IsValueText IsValue IsKeyValue text r → IsProperValue r.means
     value_proper r text all is = singular_in_range (MeansMember IsValue IsKeyValue) (leaf values.Nothing) MemberInRange (λ x. IsProperValue x.means) tt (λ m x b h. member_proper m x b h)
         (members_of is.records) r (members_in_range is.records (wire_in_range is.records text all is.wire)) is.value
 
-    key_value_proper : (p : KeyValue) (text : List ℕ) → AreBytes text → IsKeyValueText (λ r held. IsValueText IsValue IsKeyValue r held) p text → IsProperPair (entry p)
+    key_value_proper : (p : KeyValue) (text : List ℕ) → AreBytes text → IsKeyValueText (λ held r. IsValueText IsValue IsKeyValue held r) text p → IsProperPair (entry p)
     key_value_proper p text all is = record {
       key = text_proper (bytes_of 1 is.records) p.key (all_bytes 1 is.records (wire_in_range is.records text all is.wire)) is.key;
-      value = singular_in_range (λ held (r : NotedValue). IsValueText IsValue IsKeyValue r held) (leaf values.Nothing) AreBytes (λ x. IsProperValue x.means) tt (λ held x b h. value_proper x held b h)
+      value = singular_in_range (λ held (r : NotedValue). IsValueText IsValue IsKeyValue held r) (leaf values.Nothing) AreBytes (λ x. IsProperValue x.means) tt (λ held x b h. value_proper x held b h)
           (bytes_of 2 is.records) p.value (all_bytes 2 is.records (wire_in_range is.records text all is.wire)) is.value;
     }
 
   mutual
     unfolding value_in key_value_in
 
-    value_in_proper : (left : ℕ) (r : NotedValue) (text : List ℕ) → AreBytes text → value_in left r text → IsProperValue r.means
+    value_in_proper : (left : ℕ) (r : NotedValue) (text : List ℕ) → AreBytes text → value_in left text r → IsProperValue r.means
     value_in_proper zero r text all is = absurd is
     value_in_proper (suc left) r text all is = value_proper (value_in left) (key_value_in left) (value_in_proper left) (key_value_in_proper left) r text all is
 
-    key_value_in_proper : (left : ℕ) (p : KeyValue) (text : List ℕ) → AreBytes text → key_value_in left p text → IsProperPair (entry p)
+    key_value_in_proper : (left : ℕ) (p : KeyValue) (text : List ℕ) → AreBytes text → key_value_in left text p → IsProperPair (entry p)
     key_value_in_proper zero p text all is = absurd is
     key_value_in_proper (suc left) p text all is = key_value_proper (value_in left) (key_value_in left) (value_in_proper left) (key_value_in_proper left) p text all is
 
-  attribute_proper : (p : KeyValue) (text : List ℕ) → AreBytes text → attribute_at p text → IsProperPair (entry p)
+  attribute_proper : (p : KeyValue) (text : List ℕ) → AreBytes text → attribute_at text p → IsProperPair (entry p)
   attribute_proper p text all is = key_value_proper (value_in levels_below) (key_value_in levels_below) (value_in_proper levels_below) (key_value_in_proper levels_below) p text all is
 
   pub attributes_proper : (texts : List (List ℕ)) (attributes : List (List ℕ × Value)) → AllByRecursion AreBytes texts → AttributesOf texts attributes → AreProper attributes
   attributes_proper texts attributes all is = kept_all IsProperPair attributes (map entry is.pairs) is.kept
-      (each_in_range (λ p held. attribute_at p held) entry AreBytes IsProperPair (λ p held b h. attribute_proper p held b h) texts is.pairs all is.each)
+      (each_in_range (λ held p. attribute_at held p) entry AreBytes IsProperPair (λ p held b h. attribute_proper p held b h) texts is.pairs all is.each)
+
+-- ---- rows of numbers and identifiers
+
+pub count_proper : (numbers : List ℕ) (count : ℕ) → Singular MeansCount (λ n. n ≡ 0) numbers count → count < 2 ^ 32
+count_proper [] count h = omega (arith, h)
+count_proper (n ∷ []) count h = omega (arith, h)
+count_proper (n ∷ other ∷ more) count h = absurd h
+
+pub number_proper : (limit : ℕ) → 0 < limit → (numbers : List ℕ) (number : ℕ) → AllByRecursion (λ n. n < limit) numbers → Singular MeansNumber (λ n. n ≡ 0) numbers number → number < limit
+number_proper limit some numbers number all h = singular_in_range MeansNumber 0 (λ n. n < limit) (λ n. n < limit) some (λ n m below e. subst (λ x. x < limit) (sym e) below) numbers number all h
+
+abbrev pub ProperTrace : Option ℕ → Type 0
+ProperTrace None = ⊤
+ProperTrace (Some id) = IsProperTraceId id
+
+trace_means : (held : List ℕ) (id : Option ℕ) → AreBytes held → MeansTraceId held id → ProperTrace id
+trace_means held None all h = tt
+trace_means held (Some id) all h = (subst (λ n. 0 < n) (sym h.1) (trace_above held h.0.0 h.0.1), subst (λ n. n < 2 ^ 128) (sym h.1) (trace_below held h.0.0 all))
+
+span_means : (held : List ℕ) (id : Option ℕ) → AreBytes held → MeansSpanId held id → IsProperParent id
+span_means held None all h = tt
+span_means held (Some id) all h = (subst (λ n. 0 < n) (sym h.1) (span_above held h.0.0 h.0.1), subst (λ n. n < 2 ^ 64) (sym h.1) (span_below held h.0.0 all))
+
+pub trace_proper : (texts : List (List ℕ)) (id : Option ℕ) → AllByRecursion AreBytes texts → Singular MeansTraceId (λ x. x ≡ None) texts id → ProperTrace id
+trace_proper texts id all h = singular_in_range MeansTraceId None AreBytes ProperTrace tt trace_means texts id all h
+
+pub span_id_proper : (texts : List (List ℕ)) (id : Option ℕ) → AllByRecursion AreBytes texts → Singular MeansSpanId (λ x. x ≡ None) texts id → IsProperParent id
+span_id_proper texts id all h = singular_in_range MeansSpanId None AreBytes IsProperParent tt span_means texts id all h

@@ -1,50 +1,15 @@
 -- What is given to a row means one value at most, and nothing in it offends where it means one.
-use Rattle.std.proofs.Common.{◌≡◌, ◌<◌, ◌+◌, ◌%◌, ◌^◌, ℕ, ◌⊎◌, inl, inr, List, [], ◌∷◌, ◌++◌, length, Option, Some, None, refl, sym, ap, ◌∙◌, arith}
-use Rattle.span_io.specs.Tables.{Singular, Each, Twice, NotText}
+use Rattle.std.proofs.Common.{◌≡◌, ◌+◌, ◌%◌, ◌^◌, ℕ, inl, inr, List, [], length, Option, Some, None, refl, sym, ap, ◌∙◌, arith}
+use Rattle.std.specs.List.{AllZip}
+use Rattle.span_io.specs.Tables.{Singular, Twice, NotText, MeansText, Above}
 use Rattle.span_io.specs.TableLaws.{RowMeaning}
+use Rattle.span_io.specs.RowLaws.{all_zip_split, all_zip_once, singular_split, singular_once, singular_fine, EnumLaws}
 use Rattle.span_ids.specs.Identifiers.{IsIdText, SpellsTraceId, SpellsSpanId}
 use Rattle.proto_wire.specs.Records.{Record}
 use Rattle.otlp_proto.specs.Identifiers.{IsNoId, MeansTraceId, MeansSpanId, WrongLength}
-use Rattle.otlp_proto.specs.Rows.{MeansText, Above, bytes_row, number_row, text, time, flags, count, enum, trace_id, span_id, message, messages_of, fixed64_in, fixed32_in, varint_in}
+use Rattle.otlp_proto.specs.Rows.{bytes_row, number_row, text, time, flags, count, enum, trace_id, span_id, message, messages_of, fixed64_in, fixed32_in, varint_in}
 
--- ---- singular and repeated rows
-
-pub singular_split : {A B : Type 0} (Means : A → B → Type 0) (IsDefault : B → Type 0) (front back : List A) (held : A) (value : B) → Singular Means IsDefault (front ++ held ∷ back) value → (front ≡ []) × Means held value
-singular_split Means IsDefault [] [] held value h = (refl, h)
-singular_split Means IsDefault [] (other ∷ back) held value h = absurd h
-singular_split Means IsDefault (one ∷ []) back held value h = absurd h
-singular_split Means IsDefault (one ∷ other ∷ front) back held value h = absurd h
-
-pub each_split : {A B : Type 0} (Is : B → A → Type 0) (front back : List A) (held : A) (values : List B) → Each Is (front ++ held ∷ back) values → (x : B) × Is x held
-each_split Is [] back held [] h = absurd h
-each_split Is [] back held (x ∷ values) h = (x, h.0)
-each_split Is (one ∷ front) back held [] h = absurd h
-each_split Is (one ∷ front) back held (x ∷ values) h = each_split Is front back held values h.1
-
-pub singular_once : {A B : Type 0} (Means : A → B → Type 0) (absent : B) → ((held : A) (x y : B) → Means held x → Means held y → x ≡ y) → (xs : List A) (x y : B)
-    → Singular Means (λ z. z ≡ absent) xs x → Singular Means (λ z. z ≡ absent) xs y → x ≡ y
-singular_once Means absent one [] x y a b = a ∙ sym b
-singular_once Means absent one (held ∷ []) x y a b = one held x y a b
-singular_once Means absent one (held ∷ other ∷ more) x y a b = absurd a
-
-pub each_once : {A B : Type 0} (Is : B → A → Type 0) → ((held : A) (x y : B) → Is x held → Is y held → x ≡ y) → (held : List A) (xs ys : List B) → Each Is held xs → Each Is held ys → xs ≡ ys
-each_once Is one [] [] [] a b = refl
-each_once Is one [] (x ∷ xs) ys a b = absurd a
-each_once Is one [] [] (y ∷ ys) a b = absurd b
-each_once Is one (held ∷ more) [] ys a b = absurd a
-each_once Is one (held ∷ more) (x ∷ xs) [] a b = absurd b
-each_once Is one (held ∷ more) (x ∷ xs) (y ∷ ys) a b =
-    let head : x ≡ y = one held x y a.0 b.0 in
-    let rest : xs ≡ ys = each_once Is one more xs ys a.1 b.1 in
-    cc
-
--- a second record of a singular row, or one that means nothing
-singular_fine : {A B : Type 0} (Means : A → B → Type 0) (absent : B) (Wrong : A → ℕ → Type 0) → ((x : A) (v : B) → Means x v → (n : ℕ) → Wrong x n → ⊥)
-    → (front back : List A) (x : A) (value : B) → Singular Means (λ z. z ≡ absent) (front ++ x ∷ back) value → (n : ℕ) → Twice front n ⊎ Wrong x n → ⊥
-singular_fine Means absent Wrong right front back x value is n (inl twice) = twice.1 (singular_split Means (λ z. z ≡ absent) front back x value is).0
-singular_fine Means absent Wrong right front back x value is n (inr wrong) = right x value (singular_split Means (λ z. z ≡ absent) front back x value is).1 n wrong
-
--- ---- identifiers and enums
+-- ---- identifiers
 
 no_id_length : (size : ℕ) (held : List ℕ) → IsNoId size held → (n : ℕ) → WrongLength size held n → ⊥
 no_id_length size held (inl none) n wrong = wrong.1 none
@@ -61,11 +26,6 @@ trace_length held (Some id) means n wrong = wrong.2 means.0.0
 span_length : (held : List ℕ) (id : Option ℕ) → MeansSpanId held id → (n : ℕ) → WrongLength 8 held n → ⊥
 span_length held None means n wrong = no_id_length 8 held means n wrong
 span_length held (Some id) means n wrong = wrong.2 means.0.0
-
--- an enum, whose values have numbers of their own, and none above the last
-pub record EnumLaws (E : Type 0) (number_of : E → ℕ) (last : ℕ) : Type 0 where
-  pub same : (a b : E) → number_of a ≡ number_of b → a ≡ b
-  pub within : (e : E) → (n : ℕ) → last < number_of e → ⊥
 
 -- ---- rows
 
@@ -136,25 +96,25 @@ module _ (span_one : (bytes : List ℕ) (a b : ℕ) → SpellsSpanId bytes a →
   }
 
 -- what a message in a row keeps
-pub record Reads {B : Type 0} (Is : B → List ℕ → Type 0) (Offends : List ℕ → ℕ → ℕ → Type 0) : Type 0 where
-  pub once : (held : List ℕ) (x y : B) → Is x held → Is y held → x ≡ y
-  pub fine : (x : B) (held : List ℕ) → Is x held → (place n : ℕ) → Offends held place n → ⊥
+pub record Reads {B : Type 0} (Means : List ℕ → B → Type 0) (Offends : List ℕ → ℕ → ℕ → Type 0) : Type 0 where
+  pub once : (held : List ℕ) (x y : B) → Means held x → Means held y → x ≡ y
+  pub fine : (x : B) (held : List ℕ) → Means held x → (place n : ℕ) → Offends held place n → ⊥
 
-pub message_meaning : (number : ℕ) (B : Type 0) (Is : B → List ℕ → Type 0) (absent : B) (Offends : List ℕ → ℕ → ℕ → Type 0) → Reads Is Offends → RowMeaning (message number B Is absent Offends)
-message_meaning number B Is absent Offends reads = record {
-  once = λ xs a b h k. singular_once (λ held x. Is x held) absent reads.once xs a b h k;
-  fine_here = λ front back x value is n twice. twice.1 (singular_split (λ held y. Is y held) (λ z. z ≡ absent) front back x value is).0;
-  fine_inside = λ front back x value is place n inner. reads.fine value x (singular_split (λ held y. Is y held) (λ z. z ≡ absent) front back x value is).1 place n inner;
+pub message_meaning : (number : ℕ) (B : Type 0) (Means : List ℕ → B → Type 0) (absent : B) (Offends : List ℕ → ℕ → ℕ → Type 0) → Reads Means Offends → RowMeaning (message number B Means absent Offends)
+message_meaning number B Means absent Offends reads = record {
+  once = λ xs a b h k. singular_once Means absent reads.once xs a b h k;
+  fine_here = λ front back x value is n twice. twice.1 (singular_split Means (λ z. z ≡ absent) front back x value is).0;
+  fine_inside = λ front back x value is place n inner. reads.fine value x (singular_split Means (λ z. z ≡ absent) front back x value is).1 place n inner;
 }
 
 -- of repeated messages, whatever else they break
-pub repeated_meaning : (number : ℕ) (B : Type 0) (Is : B → List ℕ → Type 0) (Here : List (List ℕ) → List ℕ → ℕ → Type 0) (Offends : List ℕ → ℕ → ℕ → Type 0) → Reads Is Offends
-    → ((x : B) (earlier : List (List ℕ)) (held : List ℕ) → Is x held → (n : ℕ) → Here earlier held n → ⊥) → RowMeaning (bytes_row number (List B) (λ held xs. Each Is held xs) Here Offends)
-repeated_meaning number B Is Here Offends reads right = record {
-  once = λ xs a b h k. each_once Is reads.once xs a b h k;
-  fine_here = λ front back x value is n wrong. let at = each_split Is front back x value is in right at.0 front x at.1 n wrong;
-  fine_inside = λ front back x value is place n inner. let at = each_split Is front back x value is in reads.fine at.0 x at.1 place n inner;
+pub repeated_meaning : (number : ℕ) (B : Type 0) (Means : List ℕ → B → Type 0) (Here : List (List ℕ) → List ℕ → ℕ → Type 0) (Offends : List ℕ → ℕ → ℕ → Type 0) → Reads Means Offends
+    → ((x : B) (earlier : List (List ℕ)) (held : List ℕ) → Means held x → (n : ℕ) → Here earlier held n → ⊥) → RowMeaning (bytes_row number (List B) (λ held xs. AllZip Means held xs) Here Offends)
+repeated_meaning number B Means Here Offends reads right = record {
+  once = λ xs a b h k. all_zip_once Means reads.once xs a b h k;
+  fine_here = λ front back x value is n wrong. let at = all_zip_split Means front back x value is in right at.0 front x at.1 n wrong;
+  fine_inside = λ front back x value is place n inner. let at = all_zip_split Means front back x value is in reads.fine at.0 x at.1 place n inner;
 }
 
-pub messages_meaning : (number : ℕ) (B : Type 0) (Is : B → List ℕ → Type 0) (Offends : List ℕ → ℕ → ℕ → Type 0) → Reads Is Offends → RowMeaning (messages_of number B Is Offends)
-messages_meaning number B Is Offends reads = repeated_meaning number B Is (λ earlier held n. ⊥) Offends reads (λ x earlier held is n h. h)
+pub messages_meaning : (number : ℕ) (B : Type 0) (Means : List ℕ → B → Type 0) (Offends : List ℕ → ℕ → ℕ → Type 0) → Reads Means Offends → RowMeaning (messages_of number B Means Offends)
+messages_meaning number B Means Offends reads = repeated_meaning number B Means (λ earlier held n. ⊥) Offends reads (λ x earlier held is n h. h)

@@ -1,12 +1,12 @@
 -- What is added in the messages that a row's records hold changes no meaning of the row, where it changes none of them.
-use Rattle.std.proofs.Common.{◌≡◌, ℕ, List, [], ◌∷◌, inl, refl, subst}
-use Rattle.std.specs.Prelude.{◌↔◌}
+use Rattle.std.proofs.Common.{◌≡◌, ℕ, List, inl, subst}
 use Rattle.span_io.specs.FreeItemLaws.{means_padded, items_given, padded_whole, same_offence}
 use Rattle.span_io.specs.FreeItems.{Paddings, TextPadded, SameOffence, RowPadding, TablePadding}
 use Rattle.span_io.specs.OffenceLaws.{RulesLaws}
 use Rattle.span_io.specs.Offences.{Offence}
+use Rattle.span_io.specs.RowLaws.{same_twice, singular_moves, all_zip_moves}
 use Rattle.span_io.specs.TableDecisions.{TableDecides}
-use Rattle.span_io.specs.Tables.{Row, Singular, Each, Twice, Values, Mean, givens, rules_by, no_ends}
+use Rattle.span_io.specs.Tables.{Row, Values, Mean, givens, rules_by, no_ends}
 use Rattle.proto_wire.specs.Messages.{messages}
 use Rattle.proto_wire.specs.Records.{Record}
 use Rattle.proto_wire.specs.Wire.{Wire}
@@ -16,56 +16,27 @@ use Rattle.otlp_proto.proofs.ValueReadings.{WireFacts, wire_whole}
 
 -- ---- rows of messages
 
-module _ {A : Type 0} (Padded : A → A → Type 0) where
-  -- none stands on one side where none stands on the other
-  same_none : (xs ys : List A) → Each (λ y x. Padded x y) xs ys → (xs ≡ []) ↔ (ys ≡ [])
-  same_none [] [] each = (λ none. refl, λ none. refl)
-  same_none [] (y ∷ ys) each = absurd each
-  same_none (x ∷ xs) [] each = absurd each
-  same_none (x ∷ xs) (y ∷ ys) each = (λ none. cc, λ none. cc)
-
-  pub same_twice : (xs ys : List A) → Each (λ y x. Padded x y) xs ys → (n : ℕ) → Twice xs n ↔ Twice ys n
-  same_twice xs ys each n =
-      let none = same_none xs ys each in
-      (λ twice. (twice.0, λ e. twice.1 (none.1 e)), λ twice. (twice.0, λ e. twice.1 (none.0 e)))
-
-  module _ {B : Type 0} (Means : A → B → Type 0) (moves : (x y : A) → Padded x y → (v : B) → Means x v → Means y v) where
-    pub singular_moves : (IsDefault : B → Type 0) (xs ys : List A) → Each (λ y x. Padded x y) xs ys → (v : B) → Singular Means IsDefault xs v → Singular Means IsDefault ys v
-    singular_moves IsDefault [] [] each v means = means
-    singular_moves IsDefault [] (y ∷ ys) each v means = absurd each
-    singular_moves IsDefault (x ∷ []) [] each v means = absurd each
-    singular_moves IsDefault (x ∷ []) (y ∷ []) each v means = moves x y each.0 v means
-    singular_moves IsDefault (x ∷ []) (y ∷ z ∷ ys) each v means = absurd each.1
-    singular_moves IsDefault (x ∷ w ∷ xs) ys each v means = absurd means
-
-    pub each_moves : (xs ys : List A) → Each (λ y x. Padded x y) xs ys → (vs : List B) → Each (λ v x. Means x v) xs vs → Each (λ v x. Means x v) ys vs
-    each_moves [] [] each vs means = means
-    each_moves [] (y ∷ ys) each vs means = absurd each
-    each_moves (x ∷ xs) [] each vs means = absurd each
-    each_moves (x ∷ xs) (y ∷ ys) each [] means = absurd means
-    each_moves (x ∷ xs) (y ∷ ys) each (v ∷ vs) means = (moves x y each.0 v means.0, each_moves xs ys each.1 vs means.1)
-
 -- what a message in a row keeps
-pub record Keeps {B : Type 0} (Is : B → List ℕ → Type 0) (Offends : List ℕ → ℕ → ℕ → Type 0) (Padded : List ℕ → List ℕ → Type 0) : Type 0 where
+pub record Keeps {B : Type 0} (Means : List ℕ → B → Type 0) (Offends : List ℕ → ℕ → ℕ → Type 0) (Padded : List ℕ → List ℕ → Type 0) : Type 0 where
   pub none : (held : List ℕ) → Padded held held
-  pub means : (held other : List ℕ) → Padded held other → (x : B) → Is x held → Is x other
+  pub means : (held other : List ℕ) → Padded held other → (x : B) → Means held x → Means other x
   pub same : (held other : List ℕ) → Padded held other → SameOffence (λ p n. Offends held p n) (λ p n. Offends other p n)
 
-module _ {B : Type 0} (Is : B → List ℕ → Type 0) (Offends : List ℕ → ℕ → ℕ → Type 0) (Padded : List ℕ → List ℕ → Type 0) (keeps : Keeps Is Offends Padded) where
-  pub message_padding : (number : ℕ) (absent : B) → RowPadding (message number B Is absent Offends) Padded
+module _ {B : Type 0} (Means : List ℕ → B → Type 0) (Offends : List ℕ → ℕ → ℕ → Type 0) (Padded : List ℕ → List ℕ → Type 0) (keeps : Keeps Means Offends Padded) where
+  pub message_padding : (number : ℕ) (absent : B) → RowPadding (message number B Means absent Offends) Padded
   message_padding number absent = record {
     none = keeps.none;
     here = λ earlier others each x y padded n. same_twice Padded earlier others each n;
     inside = keeps.same;
-    means = singular_moves Padded (λ held v. Is v held) keeps.means (λ v. v ≡ absent);
+    means = singular_moves Padded Means keeps.means (λ v. v ≡ absent);
   }
 
-  pub messages_padding : (number : ℕ) → RowPadding (messages_of number B Is Offends) Padded
+  pub messages_padding : (number : ℕ) → RowPadding (messages_of number B Means Offends) Padded
   messages_padding number = record {
     none = keeps.none;
     here = λ earlier others each x y padded n. (λ h. h, λ h. h);
     inside = keeps.same;
-    means = each_moves Padded (λ held v. Is v held) keeps.means;
+    means = all_zip_moves Padded Means keeps.means;
   }
 
 -- ---- messages

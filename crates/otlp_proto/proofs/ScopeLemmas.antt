@@ -2,7 +2,7 @@
 use Rattle.std.proofs.Common.{◌≡◌, ℕ, suc, ◌+◌, List, [], ◌∷◌, ◌++◌, length, map, refl, sym, ap, ◌∙◌, append_assoc, arith}
 use Rattle.std.proofs.lemmas.List.{append-nil, map-append, length-map}
 use Rattle.std.specs.Option.{unwrap_or}
-use Rattle.span_io.specs.Tables.{givens}
+use Rattle.span_io.specs.Tables.{givens, MeansText}
 use Rattle.proto_wire.specs.Records.{Record}
 use Rattle.proto_wire.specs.Wire.{Wire}
 use Rattle.trace_model.specs.declared.place.Place.TheVariants as places
@@ -16,12 +16,12 @@ use Rattle.otlp_proto.specs.declared.scope.SpanList.{SpanList}
 use Rattle.otlp_proto.specs.Notes.{Noted, SpanNotes}
 use Rattle.otlp_proto.specs.ReadParts.{IsReadSpan, IsReadScope, instrumentation_scope_read}
 use Rattle.otlp_proto.specs.Remarks.{equal_keys, numbered, span_remarks}
-use Rattle.otlp_proto.specs.Rows.{bytes_of, MeansText}
-use Rattle.otlp_proto.specs.Scope.{IsInstrumentationScopeText, no_instrumentation_scope, scope_table}
+use Rattle.otlp_proto.specs.Rows.{bytes_of, MeansMessage}
+use Rattle.otlp_proto.specs.Scope.{IsInstrumentationScope, no_instrumentation_scope, scope_table}
 use Rattle.otlp_proto.specs.ScopeSoFar.{GatheredSpans, GatheredScope}
-use Rattle.otlp_proto.specs.Span.{IsSpanText}
-use Rattle.otlp_proto.proofs.Repeated.{each_push}
-use Rattle.otlp_proto.proofs.RowLemmas.{singular_or, singular_read}
+use Rattle.otlp_proto.specs.Span.{IsSpan}
+use Rattle.span_io.specs.RowLaws.{all_zip_push}
+use Rattle.span_io.specs.RowLaws.{singular_or, singular_read}
 
 -- ---- spans
 
@@ -42,7 +42,7 @@ pub span_push : (first : ℕ) (earlier : List (List ℕ)) (held : List ℕ) (old
 span_push first earlier held old new number read same_first spans remarks its_number is so_far = record {
   begins = same_first ∙ so_far.begins;
   read = so_far.read ++ this ∷ [];
-  each = each_push IsSpanText earlier so_far.read held this so_far.each is.is_span;
+  each = all_zip_push (MeansMessage IsSpan) earlier so_far.read held this so_far.each is.is_span;
   spans = spans ∙ ap (λ l. l ++ read.span ∷ []) so_far.spans ∙ sym (map-append (λ (s : Noted Span SpanNotes). s.means) so_far.read (this ∷ []));
   remarks = remarks ∙ ap (λ l. l ++ read.remarks) so_far.remarks ∙ ap (λ l. numbered span_remarks first notes ++ l) (is.remarks ∙ ap (λ (k : ℕ). span_remarks k is.notes) number_of)
       ∙ sym (numbered_push span_remarks first notes is.notes) ∙ ap (λ l. numbered span_remarks first l) (sym (map-append (λ (s : Noted Span SpanNotes). s.notes) so_far.read (this ∷ [])));
@@ -72,11 +72,11 @@ module _ (rows : ScopeRows) (records : List Record) (instrumentation : ReadInstr
   scope_is number first text empty remarks wire gathered is_empty its_instrumentation its_url its_remarks = record {
     notes = record { keys = instrumentation.keys; spans = map (λ s. s.notes) gathered.spans.read };
     is_scope = record {
-      records = records;
-      wire = wire;
-      scope = record {
+      items = records;
+      are = wire;
+      is = record {
         instrumentation = instrumentation_scope_read instrumentation;
-        its_instrumentation = singular_read IsInstrumentationScopeText instrumentation_scope_read no_instrumentation_scope (bytes_of 1 records) rows.instrumentation empty instrumentation its_instrumentation is_empty gathered.instrumentation;
+        its_instrumentation = singular_read (MeansMessage IsInstrumentationScope) instrumentation_scope_read no_instrumentation_scope (bytes_of 1 records) rows.instrumentation empty instrumentation its_instrumentation is_empty gathered.instrumentation;
         spans = gathered.spans.read;
         each_span = gathered.spans.each;
         url = url;

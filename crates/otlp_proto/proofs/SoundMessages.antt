@@ -2,7 +2,8 @@
 use Rattle.std.proofs.Common.{◌≡◌, ℕ, List, [], ◌∷◌, map, All, Option, Some, None, sym, ap, subst}
 use Rattle.std.specs.List.Sorted.{IsStrictlySortedBy}
 use Rattle.std.proofs.lemmas.List.Elements.{All-nil, All-cons}
-use Rattle.span_io.specs.Tables.{Singular, Each}
+use Rattle.std.specs.List.{AllZip}
+use Rattle.span_io.specs.Tables.{Singular}
 use Rattle.trace_model.specs.Soundness.{IsSoundEvent, IsSoundLink, IsSoundSpan, IsSoundScope, IsSoundGroup}
 use Rattle.trace_model.specs.Values.{IsSound, AreSound}
 use Rattle.trace_model.specs.declared.remark.Remark.{Remark}
@@ -13,13 +14,13 @@ use Rattle.trace_model.specs.declared.trace.Scope.{Scope}
 use Rattle.trace_model.specs.declared.trace.Group.{Group}
 use Rattle.trace_model.specs.declared.value.Value.{Value}
 use Rattle.otlp_proto.specs.Attributes.{AttributesOf}
-use Rattle.otlp_proto.specs.Event.{IsEventText}
-use Rattle.otlp_proto.specs.Group.{Resource, IsResourceText, no_resource, IsGroupText}
-use Rattle.otlp_proto.specs.Link.{LinkParts, link_of, IsLinkText}
+use Rattle.otlp_proto.specs.Event.{IsEvent}
+use Rattle.otlp_proto.specs.Group.{Resource, IsResource, no_resource, IsGroupText}
+use Rattle.otlp_proto.specs.Link.{LinkParts, link_of, IsLink}
 use Rattle.otlp_proto.specs.Notes.{Keys, Noted, SpanNotes, ScopeNotes}
-use Rattle.otlp_proto.specs.Rows.{bytes_of}
-use Rattle.otlp_proto.specs.Scope.{InstrumentationScope, IsInstrumentationScopeText, no_instrumentation_scope, IsScopeText}
-use Rattle.otlp_proto.specs.Span.{kept_links, IsSpanText}
+use Rattle.otlp_proto.specs.Rows.{bytes_of, MeansMessage}
+use Rattle.otlp_proto.specs.Scope.{InstrumentationScope, IsInstrumentationScope, no_instrumentation_scope, IsScope}
+use Rattle.otlp_proto.specs.Span.{kept_links, IsSpan}
 use Rattle.otlp_proto.proofs.SoundLemmas.{each_all}
 
 -- the value of a singular row has what its default and each that is meant have
@@ -42,46 +43,46 @@ unfolding IsStrictlySortedBy
 none_sound = record { rising = tt; values = All-nil (λ pair. IsSound pair.1) }
 
 module _ (attributes_sound : (texts : List (List ℕ)) (attributes : List (List ℕ × Value)) → AttributesOf texts attributes → AreSound attributes) where
-  event_sound : (e : Noted Event Keys) (text : List ℕ) → IsEventText e text → IsSoundEvent e.means
-  event_sound e text is = attributes_sound (bytes_of 3 is.records) e.means.attributes is.event.attributes
+  event_sound : (e : Noted Event Keys) (text : List ℕ) → MeansMessage IsEvent text e → IsSoundEvent e.means
+  event_sound e text is = attributes_sound (bytes_of 3 is.items) e.means.attributes is.is.attributes
 
-  links_sound : (texts : List (List ℕ)) (links : List (Option (Noted Link Keys))) → Each IsLinkText texts links → All IsSoundLink (map (λ l. l.means) (kept_links links))
+  links_sound : (texts : List (List ℕ)) (links : List (Option (Noted Link Keys))) → AllZip (MeansMessage IsLink) texts links → All IsSoundLink (map (λ l. l.means) (kept_links links))
   links_sound [] [] each = All-nil IsSoundLink
   links_sound [] (l ∷ links) each = absurd each
   links_sound (text ∷ texts) [] each = absurd each
   links_sound (text ∷ texts) (None ∷ links) each = links_sound texts links each.1
   links_sound (text ∷ texts) (Some link ∷ links) each =
-      let is = each.0.link in
-      All-cons IsSoundLink link.means (map (λ l. l.means) (kept_links links)) (link_has AreSound is.trace is.span is.parts link (attributes_sound (bytes_of 4 each.0.records) is.parts.attributes is.attributes) is.link)
+      let is = each.0.is in
+      All-cons IsSoundLink link.means (map (λ l. l.means) (kept_links links)) (link_has AreSound is.trace is.span is.parts link (attributes_sound (bytes_of 4 each.0.items) is.parts.attributes is.attributes) is.link)
       (links_sound texts links each.1)
 
-  span_sound : (s : Noted Span SpanNotes) (text : List ℕ) → IsSpanText s text → IsSoundSpan s.means
+  span_sound : (s : Noted Span SpanNotes) (text : List ℕ) → MeansMessage IsSpan text s → IsSoundSpan s.means
   span_sound s text h =
-      let is = h.span in
+      let is = h.is in
       record {
-        attributes = attributes_sound (bytes_of 9 h.records) s.means.attributes is.attributes;
-        events = subst (λ (l : List Event). All IsSoundEvent l) (sym is.its_events) (each_all IsEventText (λ e. e.means) IsSoundEvent (λ e held one. event_sound e held one) (bytes_of 11 h.records) is.events is.each_event);
-        links = subst (λ (l : List Link). All IsSoundLink l) (sym is.its_links) (links_sound (bytes_of 13 h.records) is.links is.each_link);
+        attributes = attributes_sound (bytes_of 9 h.items) s.means.attributes is.attributes;
+        events = subst (λ (l : List Event). All IsSoundEvent l) (sym is.its_events) (each_all (MeansMessage IsEvent) (λ e. e.means) IsSoundEvent (λ e held one. event_sound e held one) (bytes_of 11 h.items) is.events is.each_event);
+        links = subst (λ (l : List Link). All IsSoundLink l) (sym is.its_links) (links_sound (bytes_of 13 h.items) is.links is.each_link);
       }
 
-  instrumentation_scope_sound : (o : Noted InstrumentationScope Keys) (text : List ℕ) → IsInstrumentationScopeText o text → AreSound o.means.attributes
-  instrumentation_scope_sound o text is = attributes_sound (bytes_of 3 is.records) o.means.attributes is.scope.attributes
+  instrumentation_scope_sound : (o : Noted InstrumentationScope Keys) (text : List ℕ) → MeansMessage IsInstrumentationScope text o → AreSound o.means.attributes
+  instrumentation_scope_sound o text is = attributes_sound (bytes_of 3 is.items) o.means.attributes is.is.attributes
 
-  scope_sound : (s : Noted Scope ScopeNotes) (text : List ℕ) → IsScopeText s text → IsSoundScope s.means
+  scope_sound : (s : Noted Scope ScopeNotes) (text : List ℕ) → MeansMessage IsScope text s → IsSoundScope s.means
   scope_sound s text h =
-      let is = h.scope in
+      let is = h.is in
       subst (λ (x : Scope). IsSoundScope x) (sym is.scope) (record {
-        attributes = singular_has (λ held (o : Noted InstrumentationScope Keys). IsInstrumentationScopeText o held) no_instrumentation_scope (λ o. AreSound o.means.attributes) none_sound (λ held o one. instrumentation_scope_sound o held one) (bytes_of 1 h.records) is.instrumentation is.its_instrumentation;
-        spans = each_all IsSpanText (λ s. s.means) IsSoundSpan (λ s held one. span_sound s held one) (bytes_of 2 h.records) is.spans is.each_span;
+        attributes = singular_has (MeansMessage IsInstrumentationScope) no_instrumentation_scope (λ o. AreSound o.means.attributes) none_sound (λ held o one. instrumentation_scope_sound o held one) (bytes_of 1 h.items) is.instrumentation is.its_instrumentation;
+        spans = each_all (MeansMessage IsSpan) (λ s. s.means) IsSoundSpan (λ s held one. span_sound s held one) (bytes_of 2 h.items) is.spans is.each_span;
       })
 
-  resource_sound : (r : Noted Resource Keys) (text : List ℕ) → IsResourceText r text → AreSound r.means.attributes
-  resource_sound r text is = attributes_sound (bytes_of 1 is.records) r.means.attributes is.resource.attributes
+  resource_sound : (r : Noted Resource Keys) (text : List ℕ) → MeansMessage IsResource text r → AreSound r.means.attributes
+  resource_sound r text is = attributes_sound (bytes_of 1 is.items) r.means.attributes is.is.attributes
 
   pub group_sound : (g : Group) (remarks : List Remark) (text : List ℕ) → IsGroupText g remarks text → IsSoundGroup g
   group_sound g remarks text h =
-      let is = h.is_group in
+      let is = h.is in
       subst (λ (x : Group). IsSoundGroup x) (sym is.its_group) (record {
-        resource = singular_has (λ held (r : Noted Resource Keys). IsResourceText r held) no_resource (λ r. AreSound r.means.attributes) none_sound (λ held r one. resource_sound r held one) (bytes_of 1 h.records) is.resource is.its_resource;
-        scopes = each_all IsScopeText (λ s. s.means) IsSoundScope (λ s held one. scope_sound s held one) (bytes_of 2 h.records) is.scopes is.each_scope;
+        resource = singular_has (MeansMessage IsResource) no_resource (λ r. AreSound r.means.attributes) none_sound (λ held r one. resource_sound r held one) (bytes_of 1 h.items) is.resource is.its_resource;
+        scopes = each_all (MeansMessage IsScope) (λ s. s.means) IsSoundScope (λ s held one. scope_sound s held one) (bytes_of 2 h.items) is.scopes is.each_scope;
       })

@@ -1,16 +1,8 @@
 -- The events and links of a span, one more record each, and its end.
-use Rattle.std.proofs.Common.{◌≡◌, ℕ, suc, ◌+◌, List, [], ◌∷◌, ◌++◌, map, length, true, false, Option, Some, None, Result, Ok, Err, refl, sym, ap, subst, ◌∙◌, arith}
-use Rattle.std.specs.Result.{IsErrAnd}
-use Rattle.std.proofs.lemmas.Result.{err_from_is_err_and}
+use Rattle.std.proofs.Common.{◌≡◌, ℕ, suc, ◌+◌, List, [], ◌∷◌, ◌++◌, map, length, true, false, Option, Some, None, refl, sym, ap, ◌∙◌, arith}
 use Rattle.std.specs.List.{list_any}
 use Rattle.std.specs.Prelude.{is_none}
 use Rattle.std.proofs.lemmas.List.{append-nil, append_assoc, length-map, map-append}
-use Rattle.span_io.specs.Causes.{cause_number}
-use Rattle.span_io.specs.declared.cause.Cause.{Cause}
-use Rattle.span_io.specs.declared.halt.Halt.{Halt}
-use Rattle.span_io.specs.declared.halt.Halt.TheVariants as halts
-use Rattle.span_io.specs.Offences.{Rules, Offence, Judges, JudgesHere}
-use Rattle.proto_wire.specs.Messages.{messages}
 use Rattle.proto_wire.specs.Records.{Record}
 use Rattle.proto_wire.specs.Wire.{Wire}
 use Rattle.trace_model.specs.declared.place.Place.TheVariants as places
@@ -20,27 +12,16 @@ use Rattle.trace_model.specs.declared.span.Link.{Link}
 use Rattle.otlp_proto.specs.declared.noted.ReadSpan.{ReadSpan}
 use Rattle.otlp_proto.specs.declared.span.events.EventList.{EventList}
 use Rattle.otlp_proto.specs.declared.span.links.LinkList.{LinkList}
-use Rattle.otlp_proto.specs.Event.{IsEventText}
-use Rattle.otlp_proto.specs.Gathering.{GatheredAll}
-use Rattle.otlp_proto.specs.Link.{IsLinkText}
+use Rattle.otlp_proto.specs.Event.{IsEvent}
+use Rattle.otlp_proto.specs.Link.{IsLink}
 use Rattle.otlp_proto.specs.Notes.{Keys, Noted, SpanNotes}
 use Rattle.otlp_proto.specs.ReadParts.{IsReadSpan}
 use Rattle.otlp_proto.specs.Remarks.{equal_keys, link_dropped, numbered, event_remarks, link_remarks, span_remarks}
-use Rattle.otlp_proto.specs.RowsSoFar.{JudgesCause}
 use Rattle.otlp_proto.specs.Span.{kept_link, kept_links}
 use Rattle.otlp_proto.specs.SpanSoFar.{GatheredEvents, GatheredLinks, ReadsSpan}
-use Rattle.otlp_proto.proofs.Repeated.{each_push, flat_push}
-
--- what was answered of a message at its end
-pub judged_end : (K : Rules Record) (Gathered : List Record → Type 0) (text : List ℕ) (all : GatheredAll K Gathered text) → (T : Type 0) (answer : Result T (Halt Cause)) → JudgesHere answer (K.ends all.records)
-    → Judges answer (Offence messages K text)
-judged_end K Gathered text all T (Ok x) none = all.fine none
-judged_end K Gathered text all T (Err (halts.Why cause)) h = all.ended (cause_number cause) h.0 h.1
-judged_end K Gathered text all T (Err halts.OutOfMemory) h = tt
-
--- the same where no memory is wanted
-pub refused_end : (T : Type 0) (Offends : ℕ → Type 0) (cause : Cause) → JudgesCause {T = T} (Err cause) Offends → (answer : Result T (Halt Cause)) → IsErrAnd answer (λ halt. halt ≡ halts.Why cause) → JudgesHere answer Offends
-refused_end T Offends cause h answer is = let p = err_from_is_err_and answer is in subst (λ (a : Result T (Halt Cause)). JudgesHere a Offends) (sym (p.1 ∙ ap Err p.2)) h
+use Rattle.otlp_proto.specs.Rows.{MeansMessage}
+use Rattle.span_io.specs.RowLaws.{all_zip_push}
+use Rattle.span_io.specs.TableLaws.{flat_more}
 
 -- ---- remarks of numbered members, one more
 
@@ -62,7 +43,7 @@ numbered_next {A} remarks members list x number old new is next so_far adds =
 
 -- the records are those of the bytes
 pub span_read : (number : ℕ) (read : ReadSpan) (records : List Record) (text : List ℕ) → Wire records text → ReadsSpan number read records → IsReadSpan number read text
-span_read number read records text wire reads = record { notes = reads.notes; is_span = record { records = records; wire = wire; span = reads.is_span }; remarks = reads.remarks }
+span_read number read records text wire reads = record { notes = reads.notes; is_span = record { items = records; are = wire; is = reads.is_span }; remarks = reads.remarks }
 
 module _ (span : ℕ) where
   -- ---- events
@@ -71,11 +52,11 @@ module _ (span : ℕ) where
   unfolding numbered
   no_events list events remarks = record { members = []; each = tt; events = events; remarks = remarks }
 
-  pub event_push : (earlier : List (List ℕ)) (held : List ℕ) (old new : EventList) (e : Noted Event Keys) (number : ℕ) → IsEventText e held → number ≡ 1 + length old.events → new.events ≡ old.events ++ e.means ∷ []
+  pub event_push : (earlier : List (List ℕ)) (held : List ℕ) (old new : EventList) (e : Noted Event Keys) (number : ℕ) → MeansMessage IsEvent held e → number ≡ 1 + length old.events → new.events ≡ old.events ++ e.means ∷ []
       → new.remarks ≡ old.remarks ++ equal_keys (places.Event span number) e.notes → GatheredEvents span earlier old → GatheredEvents span (earlier ++ held ∷ []) new
   event_push earlier held old new e number is next events remarks so_far = record {
     members = so_far.members ++ e ∷ [];
-    each = each_push IsEventText earlier so_far.members held e so_far.each is;
+    each = all_zip_push (MeansMessage IsEvent) earlier so_far.members held e so_far.each is;
     events = events ∙ ap (λ l. l ++ e.means ∷ []) so_far.events ∙ sym (map-append (λ (m : Noted Event Keys). m.means) so_far.members (e ∷ []));
     remarks = numbered_next (λ n keys. equal_keys (places.Event span n) keys) so_far.members old.events e number old.remarks new.remarks so_far.events next so_far.remarks remarks;
   }
@@ -87,18 +68,18 @@ module _ (span : ℕ) where
   no_links list links dropped remarks = record { members = []; each = tt; links = links; dropped = dropped; remarks = remarks }
 
   -- one more link is dropped
-  pub link_drop : (earlier : List (List ℕ)) (held : List ℕ) (old new : LinkList) → IsLinkText None held → new.links ≡ old.links → new.dropped ≡ true → new.remarks ≡ old.remarks → GatheredLinks span earlier old
+  pub link_drop : (earlier : List (List ℕ)) (held : List ℕ) (old new : LinkList) → MeansMessage IsLink held None → new.links ≡ old.links → new.dropped ≡ true → new.remarks ≡ old.remarks → GatheredLinks span earlier old
       → GatheredLinks span (earlier ++ held ∷ []) new
   link_drop earlier held old new is links dropped remarks so_far = record {
     members = so_far.members ++ None ∷ [];
-    each = each_push IsLinkText earlier so_far.members held None so_far.each is;
+    each = all_zip_push (MeansMessage IsLink) earlier so_far.members held None so_far.each is;
     links = links ∙ so_far.links ∙ ap (λ l. map (λ m. m.means) l) (sym same);
     dropped = dropped ∙ sym (dropped_last so_far.members);
     remarks = remarks ∙ so_far.remarks ∙ ap (λ l. link_remarks span (map (λ m. m.notes) l)) (sym same);
   }
     where
       same : kept_links (so_far.members ++ None ∷ []) ≡ kept_links so_far.members
-      same = flat_push kept_link so_far.members None ∙ append-nil (kept_links so_far.members)
+      same = flat_more kept_link so_far.members None ∙ append-nil (kept_links so_far.members)
 
       dropped_last : (members : List (Option (Noted Link Keys))) → list_any (λ l. is_none l) (members ++ None ∷ []) ≡ true
       dropped_last [] = refl
@@ -106,11 +87,11 @@ module _ (span : ℕ) where
       dropped_last (Some link ∷ more) = dropped_last more
 
   -- one more link is kept
-  pub link_push : (earlier : List (List ℕ)) (held : List ℕ) (old new : LinkList) (link : Noted Link Keys) (number : ℕ) → IsLinkText (Some link) held → number ≡ 1 + length old.links → new.links ≡ old.links ++ link.means ∷ []
+  pub link_push : (earlier : List (List ℕ)) (held : List ℕ) (old new : LinkList) (link : Noted Link Keys) (number : ℕ) → MeansMessage IsLink held (Some link) → number ≡ 1 + length old.links → new.links ≡ old.links ++ link.means ∷ []
       → new.dropped ≡ old.dropped → new.remarks ≡ old.remarks ++ equal_keys (places.Link span number) link.notes → GatheredLinks span earlier old → GatheredLinks span (earlier ++ held ∷ []) new
   link_push earlier held old new link number is next links dropped remarks so_far = record {
     members = so_far.members ++ Some link ∷ [];
-    each = each_push IsLinkText earlier so_far.members held (Some link) so_far.each is;
+    each = all_zip_push (MeansMessage IsLink) earlier so_far.members held (Some link) so_far.each is;
     links = links ∙ ap (λ l. l ++ link.means ∷ []) so_far.links ∙ sym (map-append (λ (m : Noted Link Keys). m.means) (kept_links so_far.members) (link ∷ [])) ∙ ap (λ l. map (λ m. m.means) l) (sym more);
     dropped = dropped ∙ so_far.dropped ∙ sym (dropped_same so_far.members);
     remarks = numbered_next (λ n keys. equal_keys (places.Link span n) keys) (kept_links so_far.members) old.links link number old.remarks new.remarks so_far.links next so_far.remarks remarks
@@ -118,7 +99,7 @@ module _ (span : ℕ) where
   }
     where
       more : kept_links (so_far.members ++ Some link ∷ []) ≡ kept_links so_far.members ++ link ∷ []
-      more = flat_push kept_link so_far.members (Some link)
+      more = flat_more kept_link so_far.members (Some link)
 
       dropped_same : (members : List (Option (Noted Link Keys))) → list_any (λ l. is_none l) (members ++ Some link ∷ []) ≡ list_any (λ l. is_none l) members
       dropped_same [] = refl

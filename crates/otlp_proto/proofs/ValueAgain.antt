@@ -2,7 +2,7 @@
 use Rattle.std.proofs.Common.{◌≡◌, ℕ, zero, suc, ◌+◌, ◌*◌, ◌<◌, ◌≤◌, ◌^◌, ⊎_elim, inl, Bool, true, false, List, [], ◌∷◌, ◌++◌, length, map, All, get_or, refl, sym, ap, subst, ◌∙◌, arith}
 use Rattle.std.specs.Prelude.{◌↔◌, ◌≢◌, IsTrue, Contains, FitsSigned}
 use Rattle.std.specs.Int.{w64, from_be_bytes, to_be_bytes, cast_signed, cast_unsigned}
-use Rattle.std.specs.List.{flat_map}
+use Rattle.std.specs.List.{AllZip, flat_map}
 use Rattle.std.proofs.Math.Facts.{Fits-of_z}
 use Rattle.std.proofs.lemmas.Bool.{cases_lt}
 use Rattle.std.proofs.lemmas.Int.{to_z-of_z}
@@ -10,7 +10,7 @@ use Rattle.std.proofs.lemmas.List.{get_or_past}
 use Rattle.std.proofs.lemmas.List.Concat.{flat_map-cons}
 use Rattle.std.proofs.lemmas.List.Elements.{All-get_or}
 use Rattle.std.proofs.lemmas.Nat.{be_bytes_8}
-use Rattle.span_io.specs.Tables.{Singular, Each}
+use Rattle.span_io.specs.Tables.{Singular}
 use Rattle.proto_wire.specs.Records.{varint, fixed64, bytes, Record, IsProper, IsFieldNumber}
 use Rattle.proto_wire.specs.Wire.{record_text}
 use Rattle.trace_model.specs.Attributes.{Rise, keys, AreAttributes, AreRepeated}
@@ -160,27 +160,27 @@ record GivenKeyValue (d : ℕ) (pair : List ℕ × Value) : Type 0 where
   pub fits : Fits (key_value_text pair)
 
 module _ (L : Laws) where
-  key_value_again : (left d : ℕ) (pair : List ℕ × Value) → GivenKeyValue d pair → (Given d pair.1 → value_at left (leaf pair.1) (value_text pair.1)) → key_value_at left (quiet_key_value pair) (key_value_text pair)
+  key_value_again : (left d : ℕ) (pair : List ℕ × Value) → GivenKeyValue d pair → (Given d pair.1 → value_at left (value_text pair.1) (leaf pair.1)) → key_value_at left (key_value_text pair) (quiet_key_value pair)
   key_value_again left d pair given is =
       let rows : AllWritten (table_of_key_value left) =
       text_written L.spelled 1 refl pair.0 given.proper.key and
-      message_written L.spelled 2 refl _ (λ r held. value_at left r held) (leaf values.Nothing) _ (leaf pair.1) (value_text pair.1) (λ e. ap leaf (only_nothing pair.1 e))
+      message_written L.spelled 2 refl _ (λ held r. value_at left held r) (leaf values.Nothing) _ (leaf pair.1) (value_text pair.1) (λ e. ap leaf (only_nothing pair.1 e))
       (λ fits. is (record { shallow = given.shallow; rising = given.rising; proper = given.proper.value; fits = fits })) and
       tt in
       let read : IsReadAs (table_of_key_value left) (values_of (table_of_key_value left) rows) (key_value_text pair) = read_as (table_of_key_value left) rows refl given.fits in
       record { records = read.records; wire = read.wire; key = read.mean.0; value = read.mean.1.0 }
 
   -- in a list or map below which so many levels are left
-  key_value_in_again : (left : ℕ) → ((v : Value) → Given left v → value_in left (leaf v) (value_text v)) → (pair : List ℕ × Value) → GivenKeyValue left pair → key_value_in left (quiet_key_value pair) (key_value_text pair)
+  key_value_in_again : (left : ℕ) → ((v : Value) → Given left v → value_in left (value_text v) (leaf v)) → (pair : List ℕ × Value) → GivenKeyValue left pair → key_value_in left (key_value_text pair) (quiet_key_value pair)
   unfolding value_in key_value_in
   key_value_in_again zero inner pair given = absurd (omega (arith, some_depth pair.1, given.shallow))
   key_value_in_again (suc left) inner pair given = key_value_again left (suc left) pair given (inner pair.1)
 
-  module _ (left : ℕ) (inner : (v : Value) → Given left v → value_in left (leaf v) (value_text v)) where
+  module _ (left : ℕ) (inner : (v : Value) → Given left v → value_in left (value_text v) (leaf v)) where
     abbrev Means : Member → NotedValue → Type 0
     Means = MeansMember (value_in left) (key_value_in left)
 
-    one_again : (r : Record) (v : Value) → IsProper r → Singular Means (λ x. x ≡ leaf values.Nothing) (members_of (r ∷ [])) (leaf v) → value_at left (leaf v) (record_text r)
+    one_again : (r : Record) (v : Value) → IsProper r → Singular Means (λ x. x ≡ leaf values.Nothing) (members_of (r ∷ [])) (leaf v) → value_at left (record_text r) (leaf v)
     one_again r v proper is = record { records = r ∷ []; wire = one_wire L.spelled r proper; value = is }
 
     truth_bit_is : (truth : Bool) → IsTrue truth ↔ (truth_bit truth ≢ 0)
@@ -191,15 +191,15 @@ module _ (L : Laws) where
     truth_low true = omega arith
     truth_low false = omega arith
 
-    list_again : (members : List Value) → Given (left + 1) (values.List members) → value_at left (leaf (values.List members)) (value_text (values.List members))
-    list_again members given = subst (λ t. value_at left (leaf (values.List members)) t) (sym (list_value members)) (record {
+    list_again : (members : List Value) → Given (left + 1) (values.List members) → value_at left (value_text (values.List members)) (leaf (values.List members))
+    list_again members given = subst (λ t. value_at left t (leaf (values.List members))) (sym (list_value members)) (record {
       records = record_of bytes 5 body ∷ [];
       wire = held_wire L.spelled 5 refl body whole_fits;
       value = record {
         records = map (record_of bytes 1) (map value_text members);
         wire = list_wire L.spelled 1 refl value_text members body_fits;
         members = map leaf members;
-        each = subst (λ l. Each (value_in left) l (map leaf members)) (sym (given_all (bytes_in 1) (record_of bytes 1) (λ x. chosen_own 1 x) (map value_text members)))
+        each = subst (λ l. AllZip (value_in left) l (map leaf members)) (sym (given_all (bytes_in 1) (record_of bytes 1) (λ x. chosen_own 1 x) (map value_text members)))
             (each_row (value_in left) value_text leaf members (λ k d lt. inner (get_or members k d) (all_given k d lt)));
         value = ap values.List (sym (values_back members));
         noted = sym (values_quiet members);
@@ -223,15 +223,15 @@ module _ (L : Laws) where
           fits = list_fits 1 value_text members body_fits k d lt;
         }
 
-    map_again : (pairs : List (List ℕ × Value)) → Given (left + 1) (values.Map pairs) → value_at left (leaf (values.Map pairs)) (value_text (values.Map pairs))
-    map_again pairs given = subst (λ t. value_at left (leaf (values.Map pairs)) t) (sym (map_value pairs)) (record {
+    map_again : (pairs : List (List ℕ × Value)) → Given (left + 1) (values.Map pairs) → value_at left (value_text (values.Map pairs)) (leaf (values.Map pairs))
+    map_again pairs given = subst (λ t. value_at left t (leaf (values.Map pairs))) (sym (map_value pairs)) (record {
       records = record_of bytes 6 body ∷ [];
       wire = held_wire L.spelled 6 refl body whole_fits;
       value = record {
         records = map (record_of bytes 1) (map key_value_text pairs);
         wire = list_wire L.spelled 1 refl key_value_text pairs body_fits;
         pairs = map quiet_key_value pairs;
-        each = subst (λ l. Each (key_value_in left) l (map quiet_key_value pairs)) (sym (given_all (bytes_in 1) (record_of bytes 1) (λ x. chosen_own 1 x) (map key_value_text pairs)))
+        each = subst (λ l. AllZip (key_value_in left) l (map quiet_key_value pairs)) (sym (given_all (bytes_in 1) (record_of bytes 1) (λ x. chosen_own 1 x) (map key_value_text pairs)))
             (each_row (key_value_in left) key_value_text quiet_key_value pairs (λ k d lt. key_value_in_again left inner (get_or pairs k d) (all_given k d lt)));
         attributes = pairs;
         kept = subst (λ l. AreAttributes pairs l) (sym (pairs_back pairs)) (L.rising.themselves pairs rises.0);
@@ -262,8 +262,8 @@ module _ (L : Laws) where
           fits = list_fits 1 key_value_text pairs body_fits k d lt;
         }
 
-    value_again : (v : Value) → Given (left + 1) v → value_at left (leaf v) (value_text v)
-    value_again = by_variant (λ v. Given (left + 1) v → value_at left (leaf v) (value_text v)) (record {
+    value_again : (v : Value) → Given (left + 1) v → value_at left (value_text v) (leaf v)
+    value_again = by_variant (λ v. Given (left + 1) v → value_at left (value_text v) (leaf v)) (record {
       of_text = λ text given. one_again (record_of bytes 1 text) (values.Text text) (record { number = number_one; held = held_fits 1 text given.fits }) (given.proper, refl);
       of_truth = λ truth given. one_again (record_of varint 2 (truth_bit truth)) (values.Truth truth) (record { number = number_two; held = truth_low truth }) (truth, refl, truth_bit_is truth);
       of_number = λ n given. one_again (record_of varint 3 (cast_unsigned w64 n)) (values.Number n) (record { number = number_three; held = number_low n given.proper })
@@ -276,13 +276,13 @@ module _ (L : Laws) where
       of_nothing = λ given. record { records = []; wire = no_wire; value = refl };
     })
 
-  in_again : (left : ℕ) (v : Value) → Given left v → value_in left (leaf v) (value_text v)
+  in_again : (left : ℕ) (v : Value) → Given left v → value_in left (value_text v) (leaf v)
   unfolding value_in
   in_again zero v given = absurd (omega (arith, some_depth v, given.shallow))
   in_again (suc left) v given = value_again left (in_again left) v (record { shallow = omega (arith, given.shallow); rising = given.rising; proper = given.proper; fits = given.fits })
 
   -- the pair of an attribute
-  attribute_again : (pair : List ℕ × Value) → GivenKeyValue 16 pair → attribute_at (quiet_key_value pair) (key_value_text pair)
+  attribute_again : (pair : List ℕ × Value) → GivenKeyValue 16 pair → attribute_at (key_value_text pair) (quiet_key_value pair)
   attribute_again pair given = key_value_again levels_below 16 pair given (value_again levels_below (in_again levels_below) pair.1)
 
   module _ (number : ℕ) (attributes : List (List ℕ × Value)) (sound : AreSound attributes) (proper : AreProper attributes) (fits : Fits (attributes_text number attributes)) where
@@ -294,7 +294,7 @@ module _ (L : Laws) where
       fits = list_fits number key_value_text attributes fits k d lt;
     }
 
-    each_attribute : Each attribute_at (map key_value_text attributes) (map quiet_key_value attributes)
+    each_attribute : AllZip attribute_at (map key_value_text attributes) (map quiet_key_value attributes)
     each_attribute = each_row attribute_at key_value_text quiet_key_value attributes (λ k d lt. attribute_again (get_or attributes k d) (all_given k d lt))
 
     pub attributes_again : AttributesOf (map key_value_text attributes) attributes

@@ -2,7 +2,7 @@
 use Rattle.std.proofs.Common.{◌≡◌, ◌≢◌, ◌≤◌, ℕ, zero, suc, ◌⊎◌, inl, inr, List, [], ◌∷◌, ◌++◌, map, Bool, true, false, ◌==◌, if◌then◌else◌, refl, ap, ⊎_elim, arith}
 use Rattle.std.specs.Prelude.{◌↔◌, Contains, IsTrue}
 use Rattle.std.specs.Int.{w64, cast_signed, to_be_bytes}
-use Rattle.std.specs.List.{flat_map}
+use Rattle.std.specs.List.{AllZip, flat_map}
 use Rattle.std.proofs.lemmas.Bool.{cases_eq, eqb-true}
 use Rattle.std.proofs.lemmas.List.Elements.{Contains-append_left, Contains-append_right, Contains-append_cases}
 use Rattle.span_io.specs.Causes.{cause_number}
@@ -10,7 +10,7 @@ use Rattle.span_io.specs.declared.cause.Cause.{Cause}
 use Rattle.span_io.specs.declared.cause.Cause.TheVariants as causes
 use Rattle.span_io.specs.Offences.{Offence, Least}
 use Rattle.span_io.specs.OffenceLaws.{RulesLaws}
-use Rattle.span_io.specs.Tables.{Row, Singular, Each, Twice, rules_by, no_ends}
+use Rattle.span_io.specs.Tables.{Row, Singular, Twice, rules_by, no_ends}
 use Rattle.span_io.specs.TableLaws.{TableShape, Whole}
 use Rattle.span_io.specs.TableDecisions.{Decided, DecidedHere, Clean, RowDecides, TableDecides, Apart, Next, Means, decide_message}
 use Rattle.proto_wire.specs.Messages.{messages}
@@ -22,10 +22,11 @@ use Rattle.trace_model.specs.declared.value.Value.{Value}
 use Rattle.trace_model.specs.declared.value.Value.TheVariants as values
 use Rattle.otlp_proto.specs.Attributes.{attribute_at, attribute_rules, AttributesOf, NotedIn, attributes}
 use Rattle.otlp_proto.specs.Notes.{Keys, Noted}
-use Rattle.otlp_proto.specs.Rows.{bytes_in, varint_in, fixed64_in, bytes_of, bytes_row}
-use Rattle.otlp_proto.specs.Shapes.{shape_of_value, shape_of_key_value, many_shape, value_bounded, key_value_bounded, list_laws, map_laws, value_laws, key_value_laws}
+use Rattle.otlp_proto.specs.Rows.{bytes_in, varint_in, fixed64_in, fixed32_in, bytes_of, bytes_row}
+use Rattle.otlp_proto.proofs.Shapes.{shape_of_value, shape_of_key_value, many_shape, value_bounded, key_value_bounded, list_laws, map_laws, value_laws, key_value_laws}
 use Rattle.otlp_proto.specs.Values.{Member, string_value, bool_value, int_value, double_value, array_value, kvlist_value, bytes_value, member_in, NotedValue, KeyValue, leaf, entry, keys_inside, IsListText, IsMapText, MeansMember, value_in, key_value_in, value_at, key_value_at, BadMember, InMember, many_table, value_offends, key_value_offends, table_of_value, value_rules, table_of_key_value, key_value_rules, list_rules, map_rules}
-use Rattle.otlp_proto.proofs.RowDecisions.{Chosen, chosen_decided, twice_or, one_number, not_text, utf8_or, singular_exists, text_decides, message_decides, each_of}
+use Rattle.otlp_proto.proofs.RowDecisions.{Chosen, chosen_decided, text_decides, message_decides, all_of}
+use Rattle.span_io.specs.RowLaws.{twice_or, one_number, not_text, utf8_or, singular_exists}
 use Rattle.otlp_proto.proofs.ValueReadings.{WireFacts, list_reads, map_reads, value_at_reads, key_value_at_reads, attribute_reads}
 
 -- a message's records, to its end
@@ -73,6 +74,15 @@ fixed64_is number r x e = of r.held e
     of (varint n) e = cc
     of (fixed32 n) e = cc
 
+pub fixed32_is : (number : ℕ) (r : Record) (x : ℕ) → fixed32_in number r ≡ x ∷ [] → r ≡ record_of number (fixed32 x)
+fixed32_is number r x e = of r.held e
+  where
+    of : (h : Held) → fixed32_in number (record_of r.number h) ≡ x ∷ [] → record_of r.number h ≡ record_of number (fixed32 x)
+    of (fixed32 n) e = is_held fixed32 r.number number (r.number == number) n x refl e
+    of (bytes held) e = cc
+    of (varint n) e = cc
+    of (fixed64 n) e = cc
+
 -- ---- members of a value
 
 bad_above : (m : Member) (n : ℕ) → BadMember m n → 7 ≤ n
@@ -114,13 +124,13 @@ module _ (facts : WireFacts) (once : AttributesOnce) (exist : AttributesExist) (
   -- what is decided of those that stand in a list or map below which so many levels are left
   record Below (left : ℕ) : Type 0 where
     value_inside : (held : List ℕ) → Decided (λ p n. value_offends left held p n)
-    value_some : left ≢ 0 → (held : List ℕ) → ((p n : ℕ) → value_offends left held p n → ⊥) → (r : NotedValue) × value_in left r held
+    value_some : left ≢ 0 → (held : List ℕ) → ((p n : ℕ) → value_offends left held p n → ⊥) → (r : NotedValue) × value_in left held r
     pair_inside : (held : List ℕ) → Decided (λ p n. key_value_offends left held p n)
-    pair_some : left ≢ 0 → (held : List ℕ) → ((p n : ℕ) → key_value_offends left held p n → ⊥) → (r : KeyValue) × key_value_in left r held
+    pair_some : left ≢ 0 → (held : List ℕ) → ((p n : ℕ) → key_value_offends left held p n → ⊥) → (r : KeyValue) × key_value_in left held r
 
-  module _ (left : ℕ) (B : Type 0) (Is : B → List ℕ → Type 0) (Offends : List ℕ → ℕ → ℕ → Type 0) (inside : (held : List ℕ) → Decided (λ p n. Offends held p n))
-      (some : left ≢ 0 → (held : List ℕ) → ((p n : ℕ) → Offends held p n → ⊥) → (r : B) × Is r held) (shape : TableShape (many_table left B Is Offends) messages.held 3) (laws : RulesLaws messages (rules_by (many_table left B Is Offends) no_ends)) where
-    each_below : (xs earlier : List (List ℕ)) → Clean (bytes_row 1 (List B) (λ held ys. Each Is held ys) (λ before held n. (n ≡ 5) × (left ≡ 0)) Offends) earlier xs → (ys : List B) × Each Is xs ys
+  module _ (left : ℕ) (B : Type 0) (Is : List ℕ → B → Type 0) (Offends : List ℕ → ℕ → ℕ → Type 0) (inside : (held : List ℕ) → Decided (λ p n. Offends held p n))
+      (some : left ≢ 0 → (held : List ℕ) → ((p n : ℕ) → Offends held p n → ⊥) → (r : B) × Is held r) (shape : TableShape (many_table left B Is Offends) messages.held 3) (laws : RulesLaws messages (rules_by (many_table left B Is Offends) no_ends)) where
+    each_below : (xs earlier : List (List ℕ)) → Clean (bytes_row 1 (List B) (λ held ys. AllZip Is held ys) (λ before held n. (n ≡ 5) × (left ≡ 0)) Offends) earlier xs → (ys : List B) × AllZip Is xs ys
     each_below [] earlier clean = ([], tt)
     each_below (x ∷ xs) earlier clean =
         let first = some (λ none. clean.0 5 (refl, none)) x clean.1 in
@@ -136,7 +146,7 @@ module _ (facts : WireFacts) (once : AttributesOnce) (exist : AttributesExist) (
 
   -- of what stands at a level, where what is below it is decided
   module _ (left : ℕ) (below : Below left) where
-    list_chosen : (text : List ℕ) → Chosen (λ r held. IsListText (value_in left) r held) (λ held p n. Offence messages (list_rules left) held p n) text
+    list_chosen : (text : List ℕ) → Chosen (λ held r. IsListText (value_in left) held r) (λ held p n. Offence messages (list_rules left) held p n) text
     list_chosen text = ⊎_elim (λ m. inl (
       record { means = values.List (map (λ x. x.means) m.values.0); notes = flat_map (λ x. x.notes) m.values.0 },
       record { records = m.items; wire = whole_wire m.items text m.whole; members = m.values.0; each = m.mean.0; value = refl; noted = refl },
@@ -144,7 +154,7 @@ module _ (facts : WireFacts) (once : AttributesOnce) (exist : AttributesExist) (
         (many_chosen left NotedValue (value_in left) (value_offends left) below.value_inside below.value_some
         (many_shape facts.format left NotedValue (value_in left) (value_offends left) (value_bounded facts.format left)) (list_laws facts.format left) text)
 
-    map_of : (text : List ℕ) (records : List Record) → Wire records text → (pairs : List KeyValue) → Each (key_value_in left) (bytes_of 1 records) pairs → (r : NotedValue) × IsMapText (key_value_in left) r text
+    map_of : (text : List ℕ) (records : List Record) → Wire records text → (pairs : List KeyValue) → AllZip (key_value_in left) (bytes_of 1 records) pairs → (r : NotedValue) × IsMapText (key_value_in left) text r
     map_of text records wire pairs each =
         let kept = exist.attributes (map entry pairs) in
         let twice = exist.repeated (map entry pairs) in (
@@ -152,7 +162,7 @@ module _ (facts : WireFacts) (once : AttributesOnce) (exist : AttributesExist) (
           record { records = records; wire = wire; pairs = pairs; each = each; attributes = kept.0; kept = kept.1; repeated = twice.0; twice = twice.1; value = refl; noted = refl },
         )
 
-    map_chosen : (text : List ℕ) → Chosen (λ r held. IsMapText (key_value_in left) r held) (λ held p n. Offence messages (map_rules left) held p n) text
+    map_chosen : (text : List ℕ) → Chosen (λ held r. IsMapText (key_value_in left) held r) (λ held p n. Offence messages (map_rules left) held p n) text
     map_chosen text = ⊎_elim (λ m. inl (map_of text m.items (whole_wire m.items text m.whole) m.values.0 m.mean.0)) (λ least. inr least)
         (many_chosen left KeyValue (key_value_in left) (key_value_offends left) below.pair_inside below.pair_some
         (many_shape facts.format left KeyValue (key_value_in left) (key_value_offends left) (key_value_bounded facts.format left)) (map_laws facts.format left) text)
@@ -162,8 +172,8 @@ module _ (facts : WireFacts) (once : AttributesOnce) (exist : AttributesExist) (
     in_member (bool_value k) = inl (λ p n h. h)
     in_member (int_value k) = inl (λ p n h. h)
     in_member (double_value k) = inl (λ p n h. h)
-    in_member (array_value held) = chosen_decided (λ r text. IsListText (value_in left) r text) (λ text p n. Offence messages (list_rules left) text p n) (list_reads facts once left) list_chosen held
-    in_member (kvlist_value held) = chosen_decided (λ r text. IsMapText (key_value_in left) r text) (λ text p n. Offence messages (map_rules left) text p n) (map_reads facts once left) map_chosen held
+    in_member (array_value held) = chosen_decided (λ text r. IsListText (value_in left) text r) (λ text p n. Offence messages (list_rules left) text p n) (list_reads facts once left) list_chosen held
+    in_member (kvlist_value held) = chosen_decided (λ text r. IsMapText (key_value_in left) text r) (λ text p n. Offence messages (map_rules left) text p n) (map_reads facts once left) map_chosen held
     in_member (bytes_value held) = inl (λ p n h. h)
 
     some_member : (m : Member) → ((n : ℕ) → BadMember m n → ⊥) → ((p n : ℕ) → InMember (λ held q k. Offence messages (list_rules left) held q k) (λ held q k. Offence messages (map_rules left) held q k) m p n → ⊥)
@@ -191,7 +201,7 @@ module _ (facts : WireFacts) (once : AttributesOnce) (exist : AttributesExist) (
         (decide_message messages facts.format next (table_of_value left) 3 (shape_of_value facts.format left) value_decides ((λ r x e. tt), tt) no_ends (value_laws facts.format left) (λ seen. inl (λ n h. h)) text)
 
     key_value_decides : TableDecides (table_of_key_value left)
-    key_value_decides = (text_decides 1, (message_decides (λ r held. value_at left r held) (λ held p n. Offence messages (value_rules left) held p n) (value_at_reads facts once left) value_over 2 (leaf values.Nothing), tt))
+    key_value_decides = (text_decides 1, (message_decides (λ held r. value_at left held r) (λ held p n. Offence messages (value_rules left) held p n) (value_at_reads facts once left) value_over 2 (leaf values.Nothing), tt))
 
     key_value_over : (text : List ℕ) → Chosen (key_value_at left) (λ held p n. Offence messages (key_value_rules left) held p n) text
     key_value_over text = ⊎_elim (λ m. inl (record { key = m.values.0; value = m.values.1.0 }, record { records = m.items; wire = whole_wire m.items text m.whole; key = m.mean.0; value = m.mean.1.0 })) (λ least. inr least)
@@ -251,14 +261,14 @@ module _ (facts : WireFacts) (once : AttributesOnce) (exist : AttributesExist) (
   attributes_decides number = record {
     here = λ earlier held. inl (λ n h. h);
     inside = λ held. chosen_decided attribute_at (λ text p n. Offence messages attribute_rules text p n) (attribute_reads facts once) attribute_chosen held;
-    exists = λ xs clean. of xs (each_of attribute_at (λ text p n. Offence messages attribute_rules text p n) (attribute_reads facts once) attribute_chosen number (λ earlier held n. ⊥) xs [] (same_clean xs [] clean));
+    exists = λ xs clean. of xs (all_of attribute_at (λ text p n. Offence messages attribute_rules text p n) (attribute_reads facts once) attribute_chosen number (λ earlier held n. ⊥) xs [] (same_clean xs [] clean));
   }
     where
-      same_clean : (xs earlier : List (List ℕ)) → Clean (attributes number) earlier xs → Clean (bytes_row number (List KeyValue) (λ held ys. Each attribute_at held ys) (λ before held n. ⊥) (λ held p n. Offence messages attribute_rules held p n)) earlier xs
+      same_clean : (xs earlier : List (List ℕ)) → Clean (attributes number) earlier xs → Clean (bytes_row number (List KeyValue) (λ held ys. AllZip attribute_at held ys) (λ before held n. ⊥) (λ held p n. Offence messages attribute_rules held p n)) earlier xs
       same_clean [] earlier clean = tt
       same_clean (x ∷ xs) earlier clean = (clean.0, clean.1, same_clean xs (earlier ++ x ∷ []) clean.2)
 
-      of : (xs : List (List ℕ)) → (pairs : List KeyValue) × Each attribute_at xs pairs → (a : Noted (List (List ℕ × Value)) Keys) × (AttributesOf xs a.means × NotedIn xs a.notes)
+      of : (xs : List (List ℕ)) → (pairs : List KeyValue) × AllZip attribute_at xs pairs → (a : Noted (List (List ℕ × Value)) Keys) × (AttributesOf xs a.means × NotedIn xs a.notes)
       of xs (pairs, each) =
           let kept = exist.attributes (map entry pairs) in
           let twice = exist.repeated (map entry pairs) in

@@ -3,11 +3,12 @@ use Rattle.std.proofs.Common.{◌≡◌, ℕ, zero, suc, List, [], ◌∷◌, �
 use Rattle.std.specs.Result.{IsErrAnd}
 use Rattle.std.proofs.lemmas.List.{map-append}
 use Rattle.std.proofs.lemmas.Result.{err_from_is_err_and}
+use Rattle.std.specs.List.{AllZip}
 use Rattle.span_io.specs.declared.cause.Cause.{Cause}
 use Rattle.span_io.specs.declared.halt.Halt.{Halt}
 use Rattle.span_io.specs.Offences.{Rules, Offence, HereOrInside, ItemOffends, Judges}
 use Rattle.span_io.specs.OffenceLaws.{judged_inside}
-use Rattle.span_io.specs.Tables.{Row, Each, Twice, table_here, table_inside}
+use Rattle.span_io.specs.Tables.{Row, Twice, table_here, table_inside}
 use Rattle.proto_wire.specs.Messages.{messages}
 use Rattle.proto_wire.specs.Records.{bytes, Record}
 use Rattle.otlp_proto.specs.declared.noted.ReadValue.{ReadValue}
@@ -15,10 +16,11 @@ use Rattle.otlp_proto.specs.declared.value_rows.ListRows.{ListRows}
 use Rattle.otlp_proto.specs.declared.value_rows.MapRows.{MapRows}
 use Rattle.otlp_proto.specs.ReadParts.{value_read}
 use Rattle.otlp_proto.specs.Rows.{bytes_in, bytes_of}
-use Rattle.otlp_proto.specs.RowsSoFar.{Gave}
+use Rattle.span_io.specs.RowsSoFar.{Gave}
 use Rattle.otlp_proto.specs.Values.{Member, MeansMember, NotedValue, KeyValue, entry, value_in, key_value_in, value_at, key_value_at, value_offends, key_value_offends, value_rules, key_value_rules}
 use Rattle.otlp_proto.specs.ValuesSoFar.{GatheredMembers, GatheredField, GatheredList, GatheredMap}
-use Rattle.otlp_proto.proofs.Repeated.{each_push, flat_push}
+use Rattle.span_io.specs.RowLaws.{all_zip_push}
+use Rattle.span_io.specs.TableLaws.{flat_more}
 
 -- nothing was given to a row that is not set
 first_given : {A B : Type 0} (Means : A → B → Type 0) (earlier : List A) (row : Option B) → row ≡ None → Gave Means earlier row → (n : ℕ) → Twice earlier n → ⊥
@@ -32,7 +34,7 @@ no_member left earlier row unset gave n (inl twice) = first_given (λ member rea
 no_member left earlier row unset gave n (inr never) = never
 
 pub no_field : (left : ℕ) (earlier : List (List ℕ)) (row : Option ReadValue) → row ≡ None → GatheredField left earlier row → (n : ℕ) → Twice earlier n → ⊥
-no_field left earlier row unset gave = first_given (λ held read. value_at left (value_read read) held) earlier row unset gave
+no_field left earlier row unset gave = first_given (λ held read. value_at left held (value_read read)) earlier row unset gave
 
 -- what was answered of a record that is this one
 pub judged_as : (K : Rules Record) (seen : List Record) (r s : Record) → r ≡ s → (answer : Result Unit (Halt Cause)) → Judges answer (ItemOffends Record K seen s) → Judges answer (ItemOffends Record K seen r)
@@ -49,15 +51,15 @@ halted_inside_at table seen r s e fine S halt h answer is =
 
 -- ---- one level below
 
-value_below : (below left : ℕ) → left ≡ suc below → (v : NotedValue) (held : List ℕ) → value_at below v held → value_in left v held
+value_below : (below left : ℕ) → left ≡ suc below → (v : NotedValue) (held : List ℕ) → value_at below held v → value_in left held v
 unfolding value_in
 value_below below zero deeper v held value = absurd (omega (arith, deeper))
-value_below below (suc n) deeper v held value = let same : below ≡ n = omega (arith, deeper) in subst (λ (k : ℕ). value_at k v held) same value
+value_below below (suc n) deeper v held value = let same : below ≡ n = omega (arith, deeper) in subst (λ (k : ℕ). value_at k held v) same value
 
-key_value_below : (below left : ℕ) → left ≡ suc below → (p : KeyValue) (held : List ℕ) → key_value_at below p held → key_value_in left p held
+key_value_below : (below left : ℕ) → left ≡ suc below → (p : KeyValue) (held : List ℕ) → key_value_at below held p → key_value_in left held p
 unfolding key_value_in
 key_value_below below zero deeper p held value = absurd (omega (arith, deeper))
-key_value_below below (suc n) deeper p held value = let same : below ≡ n = omega (arith, deeper) in subst (λ (k : ℕ). key_value_at k p held) same value
+key_value_below below (suc n) deeper p held value = let same : below ≡ n = omega (arith, deeper) in subst (λ (k : ℕ). key_value_at k held p) same value
 
 pub value_judged : (below left : ℕ) → left ≡ suc below → (held : List ℕ) (T : Type 0) (answer : Result T (Halt Cause)) → Judges answer (Offence messages (value_rules below) held) → Judges answer (λ p n. value_offends left held p n)
 unfolding value_offends
@@ -75,22 +77,22 @@ key_value_judged below (suc n) deeper held T answer h =
 
 module _ (below left : ℕ) (deeper : left ≡ suc below) (seen : List Record) (r : Record) (held : List ℕ) (e : r ≡ record { number = 1; held = bytes held }) where
   one_more : bytes_of 1 (seen ++ r ∷ []) ≡ bytes_of 1 seen ++ held ∷ []
-  one_more = flat_push (bytes_in 1) seen r ∙ ap (λ (x : Record). bytes_of 1 seen ++ bytes_in 1 x) e
+  one_more = flat_more (bytes_in 1) seen r ∙ ap (λ (x : Record). bytes_of 1 seen ++ bytes_in 1 x) e
 
-  pub list_push : (old new : ListRows) (v : NotedValue) → value_at below v held → new.values ≡ old.values ++ v.means ∷ [] → new.noted ≡ old.noted ++ v.notes → GatheredList left seen old → GatheredList left (seen ++ r ∷ []) new
+  pub list_push : (old new : ListRows) (v : NotedValue) → value_at below held v → new.values ≡ old.values ++ v.means ∷ [] → new.noted ≡ old.noted ++ v.notes → GatheredList left seen old → GatheredList left (seen ++ r ∷ []) new
   list_push old new v value values noted so_far = record {
     members = so_far.members ++ v ∷ [];
-    each = subst (λ (l : List (List ℕ)). Each (value_in left) l (so_far.members ++ v ∷ [])) (sym one_more)
-        (each_push (value_in left) (bytes_of 1 seen) so_far.members held v so_far.each (value_below below left deeper v held value));
+    each = subst (λ (l : List (List ℕ)). AllZip (value_in left) l (so_far.members ++ v ∷ [])) (sym one_more)
+        (all_zip_push (value_in left) (bytes_of 1 seen) so_far.members held v so_far.each (value_below below left deeper v held value));
     values = values ∙ ap (λ l. l ++ v.means ∷ []) so_far.values ∙ sym (map-append (λ (m : NotedValue). m.means) so_far.members (v ∷ []));
-    noted = noted ∙ ap (λ l. l ++ v.notes) so_far.noted ∙ sym (flat_push (λ (m : NotedValue). m.notes) so_far.members v);
+    noted = noted ∙ ap (λ l. l ++ v.notes) so_far.noted ∙ sym (flat_more (λ (m : NotedValue). m.notes) so_far.members v);
   }
 
-  pub map_push : (old new : MapRows) (q : KeyValue) → key_value_at below q held → new.pairs ≡ old.pairs ++ entry q ∷ [] → new.noted ≡ old.noted ++ q.value.notes → GatheredMap left seen old → GatheredMap left (seen ++ r ∷ []) new
+  pub map_push : (old new : MapRows) (q : KeyValue) → key_value_at below held q → new.pairs ≡ old.pairs ++ entry q ∷ [] → new.noted ≡ old.noted ++ q.value.notes → GatheredMap left seen old → GatheredMap left (seen ++ r ∷ []) new
   map_push old new q value pairs noted so_far = record {
     members = so_far.members ++ q ∷ [];
-    each = subst (λ (l : List (List ℕ)). Each (key_value_in left) l (so_far.members ++ q ∷ [])) (sym one_more)
-        (each_push (key_value_in left) (bytes_of 1 seen) so_far.members held q so_far.each (key_value_below below left deeper q held value));
+    each = subst (λ (l : List (List ℕ)). AllZip (key_value_in left) l (so_far.members ++ q ∷ [])) (sym one_more)
+        (all_zip_push (key_value_in left) (bytes_of 1 seen) so_far.members held q so_far.each (key_value_below below left deeper q held value));
     pairs = pairs ∙ ap (λ l. l ++ entry q ∷ []) so_far.pairs ∙ sym (map-append entry so_far.members (q ∷ []));
-    noted = noted ∙ ap (λ l. l ++ q.value.notes) so_far.noted ∙ sym (flat_push (λ (m : KeyValue). m.value.notes) so_far.members q);
+    noted = noted ∙ ap (λ l. l ++ q.value.notes) so_far.noted ∙ sym (flat_more (λ (m : KeyValue). m.value.notes) so_far.members q);
   }

@@ -1,10 +1,10 @@
 -- Bytes mean one value at most, and nothing offends in those that mean one: values, lists, maps, `KeyValue`s and attributes.
 use Rattle.std.proofs.Common.{◌≡◌, ◌≢◌, ℕ, zero, suc, ◌⊎◌, inl, inr, List, [], ◌∷◌, ◌++◌, map, Bool, true, false, refl, sym, ap, subst, ◌∙◌, arith}
 use Rattle.std.specs.Prelude.{◌↔◌, Contains, IsTrue}
-use Rattle.std.specs.List.{flat_map}
+use Rattle.std.specs.List.{AllZip, flat_map}
 use Rattle.span_io.specs.Offences.{Offence}
 use Rattle.span_io.specs.OffenceLaws.{FormatLaws}
-use Rattle.span_io.specs.Tables.{Singular, Each, Twice, no_ends}
+use Rattle.span_io.specs.Tables.{Singular, Twice, no_ends, MeansText}
 use Rattle.span_io.specs.TableLaws.{RowMeaning, TableShape, TableMeaning, Whole, table_fine}
 use Rattle.proto_wire.specs.Messages.{messages}
 use Rattle.proto_wire.specs.Records.{Record}
@@ -15,10 +15,11 @@ use Rattle.trace_model.specs.declared.value.Value.{Value}
 use Rattle.trace_model.specs.declared.value.Value.TheVariants as values
 use Rattle.otlp_proto.specs.Attributes.{attribute_at, attribute_rules, AttributesOf, NotedIn, attributes}
 use Rattle.otlp_proto.specs.Notes.{Keys, Noted}
-use Rattle.otlp_proto.specs.Rows.{bytes_of, MeansText}
-use Rattle.otlp_proto.specs.Shapes.{shape_of_value, shape_of_key_value, many_shape, value_bounded, key_value_bounded}
+use Rattle.otlp_proto.specs.Rows.{bytes_of}
+use Rattle.otlp_proto.proofs.Shapes.{shape_of_value, shape_of_key_value, many_shape, value_bounded, key_value_bounded}
 use Rattle.otlp_proto.specs.Values.{Member, string_value, bool_value, int_value, double_value, array_value, kvlist_value, bytes_value, members_of, NotedValue, KeyValue, leaf, entry, keys_inside, IsListText, IsMapText, MeansMember, value_in, key_value_in, value_at, key_value_at, BadMember, InMember, value_table, many_table, many_rules, value_offends, key_value_offends, table_of_value, value_rules, table_of_key_value, key_value_rules, list_rules, map_rules}
-use Rattle.otlp_proto.proofs.RowMeanings.{Reads, singular_split, singular_once, each_once, each_split, text_meaning, message_meaning, repeated_meaning}
+use Rattle.span_io.specs.RowLaws.{all_zip_split, all_zip_once, singular_split, singular_once}
+use Rattle.otlp_proto.proofs.RowMeanings.{Reads, text_meaning, message_meaning, repeated_meaning}
 
 -- a message's records, to its end
 pub wire_whole : (records : List Record) (text : List ℕ) → Wire records text → Whole messages records text
@@ -46,18 +47,18 @@ noted_same : {A N : Type 0} (a b : Noted A N) → a.means ≡ b.means → a.note
 noted_same a b means notes = λ i. record { means = means i; notes = notes i }
 
 module _ (facts : WireFacts) (once : AttributesOnce) where
-  module _ (IsValue : NotedValue → List ℕ → Type 0) (IsKeyValue : KeyValue → List ℕ → Type 0)
-      (value_one : (held : List ℕ) (r s : NotedValue) → IsValue r held → IsValue s held → r ≡ s) (pair_one : (held : List ℕ) (p q : KeyValue) → IsKeyValue p held → IsKeyValue q held → p ≡ q) where
-    list_once : (text : List ℕ) (r s : NotedValue) → IsListText IsValue r text → IsListText IsValue s text → r ≡ s
+  module _ (IsValue : List ℕ → NotedValue → Type 0) (IsKeyValue : List ℕ → KeyValue → Type 0)
+      (value_one : (held : List ℕ) (r s : NotedValue) → IsValue held r → IsValue held s → r ≡ s) (pair_one : (held : List ℕ) (p q : KeyValue) → IsKeyValue held p → IsKeyValue held q → p ≡ q) where
+    list_once : (text : List ℕ) (r s : NotedValue) → IsListText IsValue text r → IsListText IsValue text s → r ≡ s
     list_once text r s a b =
         let records = facts.one_reading text a.records b.records a.wire b.wire in
-        let members : a.members ≡ b.members = each_once IsValue value_one (bytes_of 1 b.records) a.members b.members (subst (λ (l : List Record). Each IsValue (bytes_of 1 l) a.members) records a.each) b.each in
+        let members : a.members ≡ b.members = all_zip_once IsValue value_one (bytes_of 1 b.records) a.members b.members (subst (λ (l : List Record). AllZip IsValue (bytes_of 1 l) a.members) records a.each) b.each in
         noted_same r s (a.value ∙ ap (λ (l : List NotedValue). values.List (map (λ m. m.means) l)) members ∙ sym b.value) (a.noted ∙ ap (λ (l : List NotedValue). flat_map (λ m. m.notes) l) members ∙ sym b.noted)
 
-    map_once : (text : List ℕ) (r s : NotedValue) → IsMapText IsKeyValue r text → IsMapText IsKeyValue s text → r ≡ s
+    map_once : (text : List ℕ) (r s : NotedValue) → IsMapText IsKeyValue text r → IsMapText IsKeyValue text s → r ≡ s
     map_once text r s a b =
         let records = facts.one_reading text a.records b.records a.wire b.wire in
-        let pairs : a.pairs ≡ b.pairs = each_once IsKeyValue pair_one (bytes_of 1 b.records) a.pairs b.pairs (subst (λ (l : List Record). Each IsKeyValue (bytes_of 1 l) a.pairs) records a.each) b.each in
+        let pairs : a.pairs ≡ b.pairs = all_zip_once IsKeyValue pair_one (bytes_of 1 b.records) a.pairs b.pairs (subst (λ (l : List Record). AllZip IsKeyValue (bytes_of 1 l) a.pairs) records a.each) b.each in
         let kept : a.attributes ≡ b.attributes = once.attributes (map entry b.pairs) a.attributes b.attributes (subst (λ (l : List KeyValue). AreAttributes a.attributes (map entry l)) pairs a.kept) b.kept in
         let twice : a.repeated ≡ b.repeated = once.repeated (map entry b.pairs) a.repeated b.repeated (subst (λ (l : List KeyValue). AreRepeated a.repeated (map entry l)) pairs a.twice) b.twice in
         noted_same r s (a.value ∙ ap (λ (l : List (List ℕ × Value)). values.Map l) kept ∙ sym b.value)
@@ -72,9 +73,9 @@ module _ (facts : WireFacts) (once : AttributesOnce) where
     member_once (kvlist_value held) r s a b = map_once held r s a b
     member_once (bytes_value held) r s a b = a ∙ sym b
 
-  module _ (IsValue : NotedValue → List ℕ → Type 0) (IsKeyValue : KeyValue → List ℕ → Type 0) (InList InMap : List ℕ → ℕ → ℕ → Type 0)
-      (lists : (v : NotedValue) (held : List ℕ) → IsListText IsValue v held → (place n : ℕ) → InList held place n → ⊥)
-      (maps : (v : NotedValue) (held : List ℕ) → IsMapText IsKeyValue v held → (place n : ℕ) → InMap held place n → ⊥) where
+  module _ (IsValue : List ℕ → NotedValue → Type 0) (IsKeyValue : List ℕ → KeyValue → Type 0) (InList InMap : List ℕ → ℕ → ℕ → Type 0)
+      (lists : (v : NotedValue) (held : List ℕ) → IsListText IsValue held v → (place n : ℕ) → InList held place n → ⊥)
+      (maps : (v : NotedValue) (held : List ℕ) → IsMapText IsKeyValue held v → (place n : ℕ) → InMap held place n → ⊥) where
     member_good : (m : Member) (v : NotedValue) → MeansMember IsValue IsKeyValue m v → (n : ℕ) → BadMember m n → ⊥
     member_good (string_value held) v means n h = h.1 means.0
     member_good (bool_value k) v means n h = h
@@ -93,7 +94,7 @@ module _ (facts : WireFacts) (once : AttributesOnce) where
     member_inside (kvlist_value held) v means place n h = maps v held means place n h
     member_inside (bytes_value held) v means place n h = h
 
-    value_meaning : ((held : List ℕ) (r s : NotedValue) → IsValue r held → IsValue s held → r ≡ s) → ((held : List ℕ) (p q : KeyValue) → IsKeyValue p held → IsKeyValue q held → p ≡ q)
+    value_meaning : ((held : List ℕ) (r s : NotedValue) → IsValue held r → IsValue held s → r ≡ s) → ((held : List ℕ) (p q : KeyValue) → IsKeyValue held p → IsKeyValue held q → p ≡ q)
         → TableMeaning (value_table IsValue IsKeyValue InList InMap)
     value_meaning value_one pair_one = (
       record {
@@ -110,27 +111,27 @@ module _ (facts : WireFacts) (once : AttributesOnce) where
 
   -- ---- by the levels that are left
 
-  value_level : (left : ℕ) (v : NotedValue) (held : List ℕ) → value_in left v held → left ≡ 0 → ⊥
+  value_level : (left : ℕ) (v : NotedValue) (held : List ℕ) → value_in left held v → left ≡ 0 → ⊥
   unfolding value_in
   value_level zero v held is none = is
   value_level (suc left) v held is none = omega (arith, none)
 
-  key_value_level : (left : ℕ) (p : KeyValue) (held : List ℕ) → key_value_in left p held → left ≡ 0 → ⊥
+  key_value_level : (left : ℕ) (p : KeyValue) (held : List ℕ) → key_value_in left held p → left ≡ 0 → ⊥
   unfolding key_value_in
   key_value_level zero p held is none = is
   key_value_level (suc left) p held is none = omega (arith, none)
 
   module _ (left : ℕ) (below : Reads (value_in left) (value_offends left)) (pairs_below : Reads (key_value_in left) (key_value_offends left)) where
-    many_fine : (B : Type 0) (Is : B → List ℕ → Type 0) (Offends : List ℕ → ℕ → ℕ → Type 0) → Reads Is Offends → TableShape (many_table left B Is Offends) messages.held 3 → ((x : B) (held : List ℕ) → Is x held → left ≡ 0 → ⊥)
-        → (text : List ℕ) (records : List Record) (xs : List B) → Wire records text → Each Is (bytes_of 1 records) xs → (place n : ℕ) → Offence messages (many_rules left B Is Offends) text place n → ⊥
+    many_fine : (B : Type 0) (Is : List ℕ → B → Type 0) (Offends : List ℕ → ℕ → ℕ → Type 0) → Reads Is Offends → TableShape (many_table left B Is Offends) messages.held 3 → ((x : B) (held : List ℕ) → Is held x → left ≡ 0 → ⊥)
+        → (text : List ℕ) (records : List Record) (xs : List B) → Wire records text → AllZip Is (bytes_of 1 records) xs → (place n : ℕ) → Offence messages (many_rules left B Is Offends) text place n → ⊥
     many_fine B Is Offends reads shape level text records xs wire each =
         table_fine messages facts.format (many_table left B Is Offends) 3 shape
         (repeated_meaning 1 B Is (λ earlier held n. (n ≡ 5) × (left ≡ 0)) Offends reads (λ x earlier held is n h. level x held is h.1), tt) no_ends text records (wire_whole records text wire) (xs, tt) (each, tt) (λ n h. h)
 
-    lists_fine : (v : NotedValue) (held : List ℕ) → IsListText (value_in left) v held → (place n : ℕ) → Offence messages (list_rules left) held place n → ⊥
+    lists_fine : (v : NotedValue) (held : List ℕ) → IsListText (value_in left) held v → (place n : ℕ) → Offence messages (list_rules left) held place n → ⊥
     lists_fine v held is = many_fine NotedValue (value_in left) (value_offends left) below (many_shape facts.format left NotedValue (value_in left) (value_offends left) (value_bounded facts.format left)) (value_level left) held is.records is.members is.wire is.each
 
-    maps_fine : (v : NotedValue) (held : List ℕ) → IsMapText (key_value_in left) v held → (place n : ℕ) → Offence messages (map_rules left) held place n → ⊥
+    maps_fine : (v : NotedValue) (held : List ℕ) → IsMapText (key_value_in left) held v → (place n : ℕ) → Offence messages (map_rules left) held place n → ⊥
     maps_fine v held is = many_fine KeyValue (key_value_in left) (key_value_offends left) pairs_below (many_shape facts.format left KeyValue (key_value_in left) (key_value_offends left) (key_value_bounded facts.format left)) (key_value_level left) held is.records is.pairs is.wire is.each
 
     over : TableMeaning (table_of_value left)
@@ -145,14 +146,14 @@ module _ (facts : WireFacts) (once : AttributesOnce) where
     }
 
     key_value_meaning : TableMeaning (table_of_key_value left)
-    key_value_meaning = (text_meaning 1, (message_meaning 2 NotedValue (λ r held. value_at left r held) (leaf values.Nothing) (λ held p n. Offence messages (value_rules left) held p n) value_over, tt))
+    key_value_meaning = (text_meaning 1, (message_meaning 2 NotedValue (λ held r. value_at left held r) (leaf values.Nothing) (λ held p n. Offence messages (value_rules left) held p n) value_over, tt))
 
     key_value_over : Reads (key_value_at left) (λ held p n. Offence messages (key_value_rules left) held p n)
     key_value_over = record {
       once = λ text p q a b.
           let records = facts.one_reading text a.records b.records a.wire b.wire in
           let key = key_value_meaning.0.once (bytes_of 1 b.records) p.key q.key (subst (λ (l : List Record). Singular MeansText (λ x. x ≡ []) (bytes_of 1 l) p.key) records a.key) b.key in
-          let value = key_value_meaning.1.0.once (bytes_of 2 b.records) p.value q.value (subst (λ (l : List Record). Singular (λ held r. value_at left r held) (λ r. r ≡ leaf values.Nothing) (bytes_of 2 l) p.value) records a.value) b.value in
+          let value = key_value_meaning.1.0.once (bytes_of 2 b.records) p.value q.value (subst (λ (l : List Record). Singular (λ held r. value_at left held r) (λ r. r ≡ leaf values.Nothing) (bytes_of 2 l) p.value) records a.value) b.value in
           λ i. record { key = key i; value = value i };
       fine = λ p text is. table_fine messages facts.format (table_of_key_value left) 3 (shape_of_key_value facts.format left) key_value_meaning no_ends text is.records (wire_whole is.records text is.wire) (p.key, (p.value, tt)) (is.key, (is.value, tt)) (λ n h. h);
     }
@@ -172,13 +173,13 @@ module _ (facts : WireFacts) (once : AttributesOnce) where
         let reads = key_value_over left (value_reads left) (key_value_reads left) in
         record { once = λ held x y h k. reads.once held x y h k; fine = λ x held h place n o. reads.fine x held h place n o }
 
-  pub list_reads : (left : ℕ) → Reads (λ r held. IsListText (value_in left) r held) (λ held p n. Offence messages (list_rules left) held p n)
+  pub list_reads : (left : ℕ) → Reads (λ held r. IsListText (value_in left) held r) (λ held p n. Offence messages (list_rules left) held p n)
   list_reads left = record {
     once = λ held x y a b. list_once (value_in left) (key_value_in left) (value_reads left).once (key_value_reads left).once held x y a b;
     fine = λ x held is. lists_fine left (value_reads left) (key_value_reads left) x held is;
   }
 
-  pub map_reads : (left : ℕ) → Reads (λ r held. IsMapText (key_value_in left) r held) (λ held p n. Offence messages (map_rules left) held p n)
+  pub map_reads : (left : ℕ) → Reads (λ held r. IsMapText (key_value_in left) held r) (λ held p n. Offence messages (map_rules left) held p n)
   map_reads left = record {
     once = λ held x y a b. map_once (value_in left) (key_value_in left) (value_reads left).once (key_value_reads left).once held x y a b;
     fine = λ x held is. maps_fine left (value_reads left) (key_value_reads left) x held is;
@@ -197,12 +198,12 @@ module _ (facts : WireFacts) (once : AttributesOnce) where
 
   pub attributes_of_once : (texts : List (List ℕ)) (xs ys : List (List ℕ × Value)) → AttributesOf texts xs → AttributesOf texts ys → xs ≡ ys
   attributes_of_once texts xs ys a b =
-      let pairs = each_once attribute_at attribute_reads.once texts a.pairs b.pairs a.each b.each in
+      let pairs = all_zip_once attribute_at attribute_reads.once texts a.pairs b.pairs a.each b.each in
       once.attributes (map entry b.pairs) xs ys (subst (λ (l : List KeyValue). AreAttributes xs (map entry l)) pairs a.kept) b.kept
 
   pub noted_in_once : (texts : List (List ℕ)) (xs ys : Keys) → NotedIn texts xs → NotedIn texts ys → xs ≡ ys
   noted_in_once texts xs ys a b =
-      let pairs = each_once attribute_at attribute_reads.once texts a.pairs b.pairs a.each b.each in
+      let pairs = all_zip_once attribute_at attribute_reads.once texts a.pairs b.pairs a.each b.each in
       let noted = subst (λ (l : List KeyValue). (key : List ℕ) → Contains xs key ↔ (StandsTwice key (map entry l) ⊎ Contains (keys_inside l) key)) pairs a.noted in
       once.same_keys xs ys a.rising b.rising (λ z. (λ there. (b.noted z).1 ((noted z).0 there), λ there. (noted z).1 ((b.noted z).0 there)))
 
@@ -210,5 +211,5 @@ module _ (facts : WireFacts) (once : AttributesOnce) where
   attributes_meaning number = record {
     once = λ xs a b h k. noted_same a b (attributes_of_once xs a.means b.means h.0 k.0) (noted_in_once xs a.notes b.notes h.1 k.1);
     fine_here = λ front back x value is n h. h;
-    fine_inside = λ front back x value is place n o. let at = each_split attribute_at front back x is.0.pairs is.0.each in attribute_reads.fine at.0 x at.1 place n o;
+    fine_inside = λ front back x value is place n o. let at = all_zip_split attribute_at front back x is.0.pairs is.0.each in attribute_reads.fine at.0 x at.1 place n o;
   }

@@ -4,16 +4,17 @@ use Rattle.std.specs.Prelude.{◌==◌, Option, Some, None, IsUtf8}
 use Rattle.std.specs.Int.{w128, to_be_bytes}
 use Rattle.std.proofs.Math.Nat.{mod-eq_of_lt}
 use Rattle.std.proofs.lemmas.Bool.{cases_lt, eqb-true}
-use Rattle.span_io.specs.Tables.{Singular, Each}
+use Rattle.std.specs.List.{AllZip}
+use Rattle.span_io.specs.Tables.{Singular, MeansText}
 use Rattle.span_ids.specs.Laws.{IdentifiersReadBack}
 use Rattle.proto_wire.specs.Records.{varint, fixed64, fixed32, Record, IsProper}
 use Rattle.proto_wire.specs.Wire.{SpellsRecord, record_text}
 use Rattle.trace_model.specs.Proper.{IsProperTraceId, IsProperParent}
 use Rattle.otlp_proto.specs.Identifiers.{MeansSpanId}
-use Rattle.otlp_proto.specs.Rows.{varint_in, fixed64_in, fixed32_in, MeansText, MeansNumber, MeansCount, text, time, flags, count, enum, trace_id, span_id, message, messages_of}
+use Rattle.otlp_proto.specs.Rows.{varint_in, fixed64_in, fixed32_in, MeansNumber, MeansCount, text, time, flags, count, enum, trace_id, span_id, message, messages_of}
 use Rattle.otlp_proto.specs.Texts.{filled_field, count_field, time_field, flags_field, trace_field, parent_field, list_text}
 use Rattle.otlp_proto.proofs.FieldLemmas.{Fits, filled_fits, list_fits, present, unless_zero, some, parent_held, IsSmall, field_number, held_wire, filled_wire, list_wire, parent_wire, number_wire}
-use Rattle.otlp_proto.proofs.RowMeanings.{EnumLaws}
+use Rattle.span_io.specs.RowLaws.{EnumLaws}
 use Rattle.otlp_proto.proofs.WrittenRows.{Written, of_bytes, of_numbers, finds_varint, finds_fixed64, finds_fixed32}
 
 -- ---- what a row that may be left out means
@@ -50,11 +51,11 @@ module _ {E : Type 0} (number_of : E → ℕ) (last : ℕ) (default e : E) (laws
     | inr within ↦ omega (arith, within, small)
   ]
 
-pub message_row : {B : Type 0} (Is : B → List ℕ → Type 0) (absent value : B) (held : List ℕ) → (held ≡ [] → value ≡ absent) → Is value held → Singular (λ h x. Is x h) (λ x. x ≡ absent) (present held) value
+pub message_row : {B : Type 0} (Is : List ℕ → B → Type 0) (absent value : B) (held : List ℕ) → (held ≡ [] → value ≡ absent) → Is held value → Singular Is (λ x. x ≡ absent) (present held) value
 message_row Is absent value [] none is = none refl
 message_row Is absent value (b ∷ held) none is = is
 
-pub each_row : {A B : Type 0} (Is : B → List ℕ → Type 0) (written : A → List ℕ) (value : A → B) (xs : List A) → ((k : ℕ) (d : A) → k < length xs → Is (value (get_or xs k d)) (written (get_or xs k d))) → Each Is (map written xs) (map value xs)
+pub each_row : {A B : Type 0} (Is : List ℕ → B → Type 0) (written : A → List ℕ) (value : A → B) (xs : List A) → ((k : ℕ) (d : A) → k < length xs → Is (written (get_or xs k d)) (value (get_or xs k d))) → AllZip Is (map written xs) (map value xs)
 each_row Is written value [] all = tt
 each_row Is written value (x ∷ xs) all = (all 0 x (omega arith), each_row Is written value xs (λ k d lt. all (suc k) d (omega (arith, lt))))
 
@@ -81,13 +82,13 @@ module _ (spelled : (r : Record) → IsProper r → SpellsRecord (record_text r)
       (λ fits. number_wire spelled number small varint (number_of e == 0) (number_of e) (record { number = field_number number small; held = omega (arith, enum_low number_of last default e laws none low) }))
       (enum_row number_of last default e laws none)
 
-  abbrev pub message_written : (B : Type 0) (Is : B → List ℕ → Type 0) (absent : B) (Offends : List ℕ → ℕ → ℕ → Type 0) (value : B) (held : List ℕ) → (held ≡ [] → value ≡ absent) → (Fits held → Is value held)
+  abbrev pub message_written : (B : Type 0) (Is : List ℕ → B → Type 0) (absent : B) (Offends : List ℕ → ℕ → ℕ → Type 0) (value : B) (held : List ℕ) → (held ≡ [] → value ≡ absent) → (Fits held → Is held value)
       → Written (message number B Is absent Offends)
   message_written B Is absent Offends value held none is = of_bytes number _ _ _ _ value (present held) (filled_field number held) (filled_wire spelled number small held)
       (λ fits. message_row Is absent value held none (is (filled_fits number held fits)))
 
-  abbrev pub messages_written : {A : Type 0} (B : Type 0) (Is : B → List ℕ → Type 0) (Offends : List ℕ → ℕ → ℕ → Type 0) (written : A → List ℕ) (value : A → B) (xs : List A)
-      → ((k : ℕ) (d : A) → k < length xs → Fits (written (get_or xs k d)) → Is (value (get_or xs k d)) (written (get_or xs k d))) → Written (messages_of number B Is Offends)
+  abbrev pub messages_written : {A : Type 0} (B : Type 0) (Is : List ℕ → B → Type 0) (Offends : List ℕ → ℕ → ℕ → Type 0) (written : A → List ℕ) (value : A → B) (xs : List A)
+      → ((k : ℕ) (d : A) → k < length xs → Fits (written (get_or xs k d)) → Is (written (get_or xs k d)) (value (get_or xs k d))) → Written (messages_of number B Is Offends)
   messages_written B Is Offends written value xs all = of_bytes number _ _ _ _ (map value xs) (map written xs) (list_text number written xs) (list_wire spelled number small written xs)
       (λ fits. each_row Is written value xs (λ k d lt. all k d lt (list_fits number written xs fits k d lt)))
 

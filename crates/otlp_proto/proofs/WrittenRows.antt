@@ -32,7 +32,7 @@ same_number n = of (n == n) refl
     of true e = e
     of false e = absurd (eqb-false n n e refl)
 
-other_number : (n m : ℕ) → (n == m) ≡ false → (m == n) ≡ false
+pub other_number : (n m : ℕ) → (n == m) ≡ false → (m == n) ≡ false
 other_number n m differ = of (m == n) refl
   where
     of : (b : Bool) → (m == n) ≡ b → (m == n) ≡ false
@@ -66,7 +66,7 @@ bytes_apart number r other = of r.held
     of (fixed64 n) = refl
     of (fixed32 n) = refl
 
-varint_apart : (number : ℕ) (r : Record) → (r.number == number) ≡ false → varint_in number r ≡ []
+pub varint_apart : (number : ℕ) (r : Record) → (r.number == number) ≡ false → varint_in number r ≡ []
 varint_apart number r other = of r.held
   where
     of : (held : Held) → varint_in number (record { number = r.number; held = held }) ≡ []
@@ -75,7 +75,7 @@ varint_apart number r other = of r.held
     of (fixed64 n) = refl
     of (fixed32 n) = refl
 
-fixed64_apart : (number : ℕ) (r : Record) → (r.number == number) ≡ false → fixed64_in number r ≡ []
+pub fixed64_apart : (number : ℕ) (r : Record) → (r.number == number) ≡ false → fixed64_in number r ≡ []
 fixed64_apart number r other = of r.held
   where
     of : (held : Held) → fixed64_in number (record { number = r.number; held = held }) ≡ []
@@ -84,7 +84,7 @@ fixed64_apart number r other = of r.held
     of (fixed64 n) = chosen_none (r.number == number) n other
     of (fixed32 n) = refl
 
-fixed32_apart : (number : ℕ) (r : Record) → (r.number == number) ≡ false → fixed32_in number r ≡ []
+pub fixed32_apart : (number : ℕ) (r : Record) → (r.number == number) ≡ false → fixed32_in number r ≡ []
 fixed32_apart number r other = of r.held
   where
     of : (held : Held) → fixed32_in number (record { number = r.number; held = held }) ≡ []
@@ -178,11 +178,11 @@ abbrev AllApart : List ℕ → List Record → Type 0
 AllApart [] records = Unit {0}
 AllApart (n ∷ ns) records = Apart n records × AllApart ns records
 
-if_both : (b c : Bool) → (if b then c else false) ≡ true → (b ≡ true) × (c ≡ true)
+pub if_both : (b c : Bool) → (if b then c else false) ≡ true → (b ≡ true) × (c ≡ true)
 if_both true c e = (refl, e)
 if_both false c e = absurd (cc)
 
-if_neither : (b c : Bool) → (if b then false else c) ≡ true → (b ≡ false) × (c ≡ true)
+pub if_neither : (b c : Bool) → (if b then false else c) ≡ true → (b ≡ false) × (c ≡ true)
 if_neither true c e = absurd (cc)
 if_neither false c e = (refl, e)
 

@@ -1,6 +1,6 @@
 -- What the reader of attributes has gathered.
 use Rattle.std.specs.Prelude.{◌≡◌, ℕ, List, map}
-use Rattle.span_io.specs.Tables.{Each}
+use Rattle.std.specs.List.{AllZip}
 use Rattle.otlp_proto.specs.declared.attributes.AttributeRows.{AttributeRows}
 use Rattle.otlp_proto.specs.Attributes.{attribute_at}
 use Rattle.otlp_proto.specs.Values.{KeyValue, entry, keys_inside}
@@ -8,6 +8,6 @@ use Rattle.otlp_proto.specs.Values.{KeyValue, entry, keys_inside}
 -- of these bytes of `KeyValue`s
 pub record GatheredAttributes (texts : List (List ℕ)) (rows : AttributeRows) : Type 0 where
   pub members : List KeyValue
-  pub each : Each attribute_at texts members
+  pub each : AllZip attribute_at texts members
   pub pairs : rows.pairs ≡ map entry members
   pub noted : rows.noted ≡ keys_inside members

@@ -1,13 +1,15 @@
 -- `Span.Event` (OTLP trace.proto): `time_unix_nano` 1, eight bytes, `name` 2, a text, `attributes` 3 and `dropped_attributes_count` 4.
 use Rattle.std.specs.Prelude.{◌≡◌, ℕ, List, [], ◌∷◌}
+use Rattle.span_io.specs.FreeItems.{Paddings, Same, TextPadded}
 use Rattle.span_io.specs.Offences.{Rules}
-use Rattle.span_io.specs.Tables.{Row, Singular, rules_by, no_ends}
+use Rattle.span_io.specs.Tables.{Row, Singular, rules_by, no_ends, MeansText}
+use Rattle.proto_wire.specs.Messages.{messages}
 use Rattle.proto_wire.specs.Records.{Record}
-use Rattle.proto_wire.specs.Wire.{Wire}
 use Rattle.trace_model.specs.declared.span.Event.{Event}
 use Rattle.otlp_proto.specs.Attributes.{AttributesOf, NotedIn, attributes}
 use Rattle.otlp_proto.specs.Notes.{Keys, Noted}
-use Rattle.otlp_proto.specs.Rows.{bytes_of, varints_of, fixed64s_of, MeansText, MeansNumber, MeansCount, text, time, count}
+use Rattle.otlp_proto.specs.PaddedValues.{AttributePadded}
+use Rattle.otlp_proto.specs.Rows.{bytes_of, varints_of, fixed64s_of, MeansNumber, MeansCount, text, time, count}
 
 -- the records, in any order, are those of this event
 pub record IsEvent (e : Noted Event Keys) (records : List Record) : Type 0 where
@@ -17,13 +19,15 @@ pub record IsEvent (e : Noted Event Keys) (records : List Record) : Type 0 where
   pub noted : NotedIn (bytes_of 3 records) e.notes
   pub dropped : Singular MeansCount (λ n. n ≡ 0) (varints_of 4 records) e.means.dropped
 
-pub record IsEventText (e : Noted Event Keys) (text : List ℕ) : Type 0 where
-  pub records : List Record
-  pub wire : Wire records text
-  pub event : IsEvent e records
-
 abbrev pub event_table : List (Row Record)
 event_table = time 1 ∷ text 2 ∷ attributes 3 ∷ count 4 ∷ []
 
 abbrev pub event_rules : Rules Record
 event_rules = rules_by event_table no_ends
+
+-- free records added in it, and in what its rows hold
+abbrev pub event_padded : Paddings event_table
+event_padded = (Same, (Same, (AttributePadded, (Same, tt))))
+
+abbrev pub EventPadded : List ℕ → List ℕ → Type 0
+EventPadded held other = TextPadded messages event_table event_padded held other

@@ -1,7 +1,7 @@
 -- What the readers of a `Resource` and of a `ResourceSpans` have gathered.
 use Rattle.std.specs.Prelude.{◌≡◌, ℕ, ◌+◌, List, length, map}
-use Rattle.std.specs.List.{sum_by}
-use Rattle.span_io.specs.Tables.{Givens, givens, Each}
+use Rattle.std.specs.List.{AllZip, sum_by}
+use Rattle.span_io.specs.Tables.{Givens, givens, MeansText}
 use Rattle.proto_wire.specs.Records.{Record}
 use Rattle.trace_model.specs.declared.remark.Remark.{Remark}
 use Rattle.trace_model.specs.declared.trace.Group.{Group}
@@ -11,13 +11,13 @@ use Rattle.otlp_proto.specs.declared.group.ScopeList.{ScopeList}
 use Rattle.otlp_proto.specs.declared.noted.ReadResource.{ReadResource}
 use Rattle.otlp_proto.specs.declared.resource.ResourceRows.{ResourceRows}
 use Rattle.otlp_proto.specs.AttributesSoFar.{GatheredAttributes}
-use Rattle.otlp_proto.specs.Group.{IsResource, IsResourceText, resource_table, IsGroup, group_table}
+use Rattle.otlp_proto.specs.Group.{IsResource, resource_table, IsGroup, group_table}
 use Rattle.otlp_proto.specs.Notes.{Noted, ScopeNotes}
 use Rattle.otlp_proto.specs.ReadParts.{resource_read}
 use Rattle.otlp_proto.specs.Remarks.{scopes_remarks}
-use Rattle.otlp_proto.specs.Rows.{MeansText, MeansCount}
-use Rattle.otlp_proto.specs.RowsSoFar.{Gave}
-use Rattle.otlp_proto.specs.Scope.{IsScopeText}
+use Rattle.otlp_proto.specs.Rows.{MeansCount, MeansMessage}
+use Rattle.span_io.specs.RowsSoFar.{Gave}
+use Rattle.otlp_proto.specs.Scope.{IsScope}
 
 pub record GatheredResource (rows : ResourceRows) (given : Givens resource_table) : Type 0 where
   pub attributes : GatheredAttributes given.0 rows.attributes
@@ -28,12 +28,12 @@ abbrev pub MakesResource : ResourceRows → ReadResource → Type 0
 MakesResource rows read = (records : List Record) → GatheredResource rows (givens resource_table records) → IsResource (resource_read read) records
 
 abbrev pub MeansResource : List ℕ → ReadResource → Type 0
-MeansResource held read = IsResourceText (resource_read read) held
+MeansResource held read = MeansMessage IsResource held (resource_read read)
 
 -- the scopes of a group, the remarks on them, and the number of the span that comes next
 pub record GatheredScopes (texts : List (List ℕ)) (list : ScopeList) : Type 0 where
   pub read : List (Noted Scope ScopeNotes)
-  pub each : Each IsScopeText texts read
+  pub each : AllZip (MeansMessage IsScope) texts read
   pub scopes : list.scopes ≡ map (λ s. s.means) read
   pub remarks : list.remarks ≡ scopes_remarks 1 1 (map (λ s. s.notes) read)
   pub next_span : list.next_span ≡ 1 + sum_by (λ n. length n.spans) (map (λ s. s.notes) read)
@@ -45,4 +45,4 @@ pub record GatheredGroup (rows : GroupRows) (given : Givens group_table) : Type 
 
 -- the rows make this group, with these remarks on it
 abbrev pub MakesGroup : GroupRows → Group → List Remark → Type 0
-MakesGroup rows group remarks = (records : List Record) → GatheredGroup rows (givens group_table records) → IsGroup group remarks records
+MakesGroup rows group remarks = (records : List Record) → GatheredGroup rows (givens group_table records) → IsGroup (record { means = group; notes = remarks }) records

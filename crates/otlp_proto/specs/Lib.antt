@@ -2,7 +2,6 @@ pub mod Attributes
 pub mod AttributesSoFar
 pub mod Event
 pub mod EventSoFar
-pub mod Gathering
 pub mod Group
 pub mod GroupSoFar
 pub mod Identifiers
@@ -10,15 +9,12 @@ pub mod Laws
 pub mod Link
 pub mod LinkSoFar
 pub mod Notes
-pub mod Padded
 pub mod PaddedValues
 pub mod ReadParts
 pub mod Remarks
 pub mod Rows
-pub mod RowsSoFar
 pub mod Scope
 pub mod ScopeSoFar
-pub mod Shapes
 pub mod Span
 pub mod SpanSoFar
 pub mod Status

@@ -1,16 +1,18 @@
 -- `Span.Link` (OTLP trace.proto): `trace_id` 1 and `span_id` 2, `trace_state` 3, a text, `attributes` 4, `dropped_attributes_count` 5
 -- and `flags` 6, four bytes. A link without one of its identifiers is dropped.
 use Rattle.std.specs.Prelude.{◌≡◌, ℕ, List, [], ◌∷◌, Option, Some, None}
+use Rattle.span_io.specs.FreeItems.{Paddings, Same, TextPadded}
 use Rattle.span_io.specs.Offences.{Rules}
-use Rattle.span_io.specs.Tables.{Row, Singular, rules_by, no_ends}
+use Rattle.span_io.specs.Tables.{Row, Singular, rules_by, no_ends, MeansText}
+use Rattle.proto_wire.specs.Messages.{messages}
 use Rattle.proto_wire.specs.Records.{Record}
-use Rattle.proto_wire.specs.Wire.{Wire}
 use Rattle.trace_model.specs.declared.span.Link.{Link}
 use Rattle.trace_model.specs.declared.value.Value.{Value}
 use Rattle.otlp_proto.specs.Attributes.{AttributesOf, NotedIn, attributes}
 use Rattle.otlp_proto.specs.Identifiers.{MeansTraceId, MeansSpanId}
 use Rattle.otlp_proto.specs.Notes.{Keys, Noted}
-use Rattle.otlp_proto.specs.Rows.{bytes_of, varints_of, fixed32s_of, MeansText, MeansNumber, MeansCount, text, count, flags, trace_id, span_id}
+use Rattle.otlp_proto.specs.PaddedValues.{AttributePadded}
+use Rattle.otlp_proto.specs.Rows.{bytes_of, varints_of, fixed32s_of, MeansNumber, MeansCount, text, count, flags, trace_id, span_id}
 
 -- what stands in a link beside its identifiers
 pub record LinkParts : Type 0 where
@@ -43,13 +45,15 @@ pub record IsLink (l : Option (Noted Link Keys)) (records : List Record) : Type 
   pub flags : Singular MeansNumber (λ n. n ≡ 0) (fixed32s_of 6 records) parts.flags
   pub link : l ≡ link_of trace span parts
 
-pub record IsLinkText (l : Option (Noted Link Keys)) (text : List ℕ) : Type 0 where
-  pub records : List Record
-  pub wire : Wire records text
-  pub link : IsLink l records
-
 abbrev pub link_table : List (Row Record)
 link_table = trace_id 1 ∷ span_id 2 ∷ text 3 ∷ attributes 4 ∷ count 5 ∷ flags 6 ∷ []
 
 abbrev pub link_rules : Rules Record
 link_rules = rules_by link_table no_ends
+
+-- free records added in it, and in what its rows hold
+abbrev pub link_padded : Paddings link_table
+link_padded = (Same, (Same, (Same, (AttributePadded, (Same, (Same, tt))))))
+
+abbrev pub LinkPadded : List ℕ → List ℕ → Type 0
+LinkPadded held other = TextPadded messages link_table link_padded held other

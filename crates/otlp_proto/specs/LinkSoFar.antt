@@ -1,6 +1,6 @@
 -- What the reader of a link has gathered.
 use Rattle.std.specs.Prelude.{List, Option, Result, IfOk}
-use Rattle.span_io.specs.Tables.{Givens, givens}
+use Rattle.span_io.specs.Tables.{Givens, givens, MeansText}
 use Rattle.proto_wire.specs.Records.{Record}
 use Rattle.otlp_proto.specs.declared.noted.ReadLink.{ReadLink}
 use Rattle.otlp_proto.specs.declared.link.LinkRows.{LinkRows}
@@ -8,8 +8,8 @@ use Rattle.otlp_proto.specs.AttributesSoFar.{GatheredAttributes}
 use Rattle.otlp_proto.specs.Identifiers.{MeansTraceId, MeansSpanId}
 use Rattle.otlp_proto.specs.Link.{IsLink, link_table}
 use Rattle.otlp_proto.specs.ReadParts.{link_read}
-use Rattle.otlp_proto.specs.Rows.{MeansText, MeansNumber, MeansCount}
-use Rattle.otlp_proto.specs.RowsSoFar.{Gave}
+use Rattle.otlp_proto.specs.Rows.{MeansNumber, MeansCount}
+use Rattle.span_io.specs.RowsSoFar.{Gave}
 
 pub record GatheredLink (rows : LinkRows) (given : Givens link_table) : Type 0 where
   pub trace : Gave MeansTraceId given.0 rows.trace

@@ -13,9 +13,10 @@ use Rattle.otlp_proto.specs.declared.noted.ReadResource.{ReadResource}
 use Rattle.otlp_proto.specs.Group.{Resource}
 use Rattle.otlp_proto.specs.Notes.{Keys, Noted, SpanNotes, ScopeNotes}
 use Rattle.otlp_proto.specs.Remarks.{span_remarks, scope_remarks}
-use Rattle.otlp_proto.specs.Scope.{InstrumentationScope, IsScopeText}
-use Rattle.otlp_proto.specs.Span.{IsSpanText}
+use Rattle.otlp_proto.specs.Scope.{InstrumentationScope, IsScope}
+use Rattle.otlp_proto.specs.Span.{IsSpan}
 use Rattle.otlp_proto.specs.Values.{NotedValue, KeyValue}
+use Rattle.otlp_proto.specs.Rows.{MeansMessage}
 
 abbrev pub value_read : ReadValue → NotedValue
 value_read r = record { means = r.value; notes = r.keys }
@@ -39,11 +40,11 @@ resource_read r = record { means = record { attributes = r.attributes; dropped =
 -- the bytes are a text of the span, of which these are the remarks where it has this number
 pub record IsReadSpan (number : ℕ) (read : ReadSpan) (text : List ℕ) : Type 0 where
   pub notes : SpanNotes
-  pub is_span : IsSpanText (record { means = read.span; notes = notes }) text
+  pub is_span : MeansMessage IsSpan text (record { means = read.span; notes = notes })
   pub remarks : read.remarks ≡ span_remarks number notes
 
 -- the same of a scope of this number, whose first span has that number
 pub record IsReadScope (number first : ℕ) (read : ReadScope) (text : List ℕ) : Type 0 where
   pub notes : ScopeNotes
-  pub is_scope : IsScopeText (record { means = read.scope; notes = notes }) text
+  pub is_scope : MeansMessage IsScope text (record { means = read.scope; notes = notes })
   pub remarks : read.remarks ≡ scope_remarks number first notes

@@ -1,9 +1,10 @@
 -- Rows of the tables of OTLP's messages: which records belong to a row, by the number of its field and its wire type, what value they
 -- give to it, and how they offend.
-use Rattle.std.specs.Prelude.{◌≡◌, ℕ, ◌%◌, ◌^◌, ◌<◌, ◌⊎◌, ◌==◌, if◌then◌else◌, List, [], ◌∷◌, Option, None, IsUtf8}
-use Rattle.std.specs.List.{flat_map}
-use Rattle.span_io.specs.Tables.{Row, Singular, Each, Twice, NotText}
+use Rattle.std.specs.Prelude.{◌≡◌, ℕ, ◌%◌, ◌^◌, ◌⊎◌, ◌==◌, if◌then◌else◌, List, [], ◌∷◌, Option, None}
+use Rattle.std.specs.List.{AllZip, flat_map}
+use Rattle.span_io.specs.Tables.{Row, MeansByItems, Singular, Twice, MeansText, NotText, Above}
 use Rattle.proto_wire.specs.Records.{Held, varint, fixed64, bytes, fixed32, Record}
+use Rattle.proto_wire.specs.Wire.{Wire}
 use Rattle.otlp_proto.specs.Identifiers.{MeansTraceId, MeansSpanId, WrongLength}
 
 -- what a record holds, if it is of this number and of wire type 2
@@ -61,8 +62,9 @@ fixed32s_of number records = flat_map (fixed32_in number) records
 
 -- ---- what one record of a row means
 
-abbrev pub MeansText : List ℕ → List ℕ → Type 0
-MeansText held text = IsUtf8 held × (text ≡ held)
+-- a message, by the relation of what its records are those of, in any order
+abbrev pub MeansMessage : {X : Type 0} → (X → List Record → Type 0) → List ℕ → X → Type 0
+MeansMessage Is = MeansByItems Wire Is
 
 -- a time or flags
 abbrev pub MeansNumber : ℕ → ℕ → Type 0
@@ -71,10 +73,6 @@ MeansNumber n number = number ≡ n
 -- a count of 32 bits, the low ones of its varint
 abbrev pub MeansCount : ℕ → ℕ → Type 0
 MeansCount n count = count ≡ n % 2 ^ 32
-
--- BadEnum: the value is above the last of the enum
-abbrev pub Above : ℕ → ℕ → ℕ → Type 0
-Above last n number = (number ≡ 13) × (last < n)
 
 -- ---- rows by wire type
 
@@ -133,9 +131,9 @@ abbrev pub span_id : ℕ → Row Record
 span_id number = bytes_row number (Option ℕ) (λ held id. Singular MeansSpanId (λ x. x ≡ None) held id) (λ earlier held n. Twice earlier n ⊎ WrongLength 8 held n) nothing_inside
 
 -- one message, with what its absence means
-abbrev pub message : ℕ → (B : Type 0) → (B → List ℕ → Type 0) → B → (List ℕ → ℕ → ℕ → Type 0) → Row Record
-message number B Is absent Offends = bytes_row number B (λ held x. Singular (λ h y. Is y h) (λ y. y ≡ absent) held x) (λ earlier held n. Twice earlier n) Offends
+abbrev pub message : ℕ → (B : Type 0) → (List ℕ → B → Type 0) → B → (List ℕ → ℕ → ℕ → Type 0) → Row Record
+message number B Means absent Offends = bytes_row number B (λ held x. Singular Means (λ y. y ≡ absent) held x) (λ earlier held n. Twice earlier n) Offends
 
 -- repeated messages
-abbrev pub messages_of : ℕ → (B : Type 0) → (B → List ℕ → Type 0) → (List ℕ → ℕ → ℕ → Type 0) → Row Record
-messages_of number B Is Offends = bytes_row number (List B) (λ held xs. Each Is held xs) (λ earlier held n. ⊥) Offends
+abbrev pub messages_of : ℕ → (B : Type 0) → (List ℕ → B → Type 0) → (List ℕ → ℕ → ℕ → Type 0) → Row Record
+messages_of number B Means Offends = bytes_row number (List B) (λ held xs. AllZip Means held xs) (λ earlier held n. ⊥) Offends

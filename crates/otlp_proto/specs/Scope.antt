@@ -1,18 +1,20 @@
 -- `InstrumentationScope` (OTLP common.proto): `name` 1 and `version` 2, texts, `attributes` 3 and `dropped_attributes_count` 4; and
 -- `ScopeSpans` (trace.proto): `scope` 1, `spans` 2 and `schema_url` 3, a text.
 use Rattle.std.specs.Prelude.{◌≡◌, ℕ, List, [], ◌∷◌, map}
+use Rattle.std.specs.List.{AllZip}
+use Rattle.span_io.specs.FreeItems.{Paddings, Same, TextPadded}
 use Rattle.span_io.specs.Offences.{Rules, Offence}
-use Rattle.span_io.specs.Tables.{Row, Singular, Each, rules_by, no_ends}
+use Rattle.span_io.specs.Tables.{Row, Singular, rules_by, no_ends, MeansText}
 use Rattle.proto_wire.specs.Messages.{messages}
 use Rattle.proto_wire.specs.Records.{Record}
-use Rattle.proto_wire.specs.Wire.{Wire}
 use Rattle.trace_model.specs.declared.span.Span.{Span}
 use Rattle.trace_model.specs.declared.trace.Scope.{Scope}
 use Rattle.trace_model.specs.declared.value.Value.{Value}
 use Rattle.otlp_proto.specs.Attributes.{AttributesOf, NotedIn, attributes}
 use Rattle.otlp_proto.specs.Notes.{Keys, Noted, SpanNotes, ScopeNotes}
-use Rattle.otlp_proto.specs.Rows.{bytes_of, varints_of, MeansText, MeansCount, text, count, message, messages_of}
-use Rattle.otlp_proto.specs.Span.{IsSpanText, span_rules}
+use Rattle.otlp_proto.specs.PaddedValues.{AttributePadded}
+use Rattle.otlp_proto.specs.Rows.{bytes_of, varints_of, MeansCount, text, count, message, messages_of, MeansMessage}
+use Rattle.otlp_proto.specs.Span.{IsSpan, span_rules, SpanPadded}
 
 -- ---- `InstrumentationScope`
 
@@ -30,11 +32,6 @@ pub record IsInstrumentationScope (s : Noted InstrumentationScope Keys) (records
   pub noted : NotedIn (bytes_of 3 records) s.notes
   pub dropped : Singular MeansCount (λ n. n ≡ 0) (varints_of 4 records) s.means.dropped
 
-pub record IsInstrumentationScopeText (s : Noted InstrumentationScope Keys) (text : List ℕ) : Type 0 where
-  pub records : List Record
-  pub wire : Wire records text
-  pub scope : IsInstrumentationScope s records
-
 -- what stands for one that is absent
 abbrev pub no_instrumentation_scope : Noted InstrumentationScope Keys
 no_instrumentation_scope = record { means = record { name = []; version = []; attributes = []; dropped = 0 }; notes = [] }
@@ -45,13 +42,20 @@ instrumentation_scope_table = text 1 ∷ text 2 ∷ attributes 3 ∷ count 4 ∷
 abbrev pub instrumentation_scope_rules : Rules Record
 instrumentation_scope_rules = rules_by instrumentation_scope_table no_ends
 
+-- free records added in it, and in what its rows hold
+abbrev pub instrumentation_scope_padded : Paddings instrumentation_scope_table
+instrumentation_scope_padded = (Same, (Same, (AttributePadded, (Same, tt))))
+
+abbrev pub InstrumentationScopePadded : List ℕ → List ℕ → Type 0
+InstrumentationScopePadded held other = TextPadded messages instrumentation_scope_table instrumentation_scope_padded held other
+
 -- ---- `ScopeSpans`
 
 pub record IsScope (s : Noted Scope ScopeNotes) (records : List Record) : Type 0 where
   pub instrumentation : Noted InstrumentationScope Keys
-  pub its_instrumentation : Singular (λ held i. IsInstrumentationScopeText i held) (λ i. i ≡ no_instrumentation_scope) (bytes_of 1 records) instrumentation
+  pub its_instrumentation : Singular (λ held i. MeansMessage IsInstrumentationScope held i) (λ i. i ≡ no_instrumentation_scope) (bytes_of 1 records) instrumentation
   pub spans : List (Noted Span SpanNotes)
-  pub each_span : Each IsSpanText (bytes_of 2 records) spans
+  pub each_span : AllZip (MeansMessage IsSpan) (bytes_of 2 records) spans
   pub url : List ℕ
   pub its_url : Singular MeansText (λ text. text ≡ []) (bytes_of 3 records) url
   pub scope : s.means ≡ record {
@@ -64,14 +68,16 @@ pub record IsScope (s : Noted Scope ScopeNotes) (records : List Record) : Type 0
   }
   pub noted : s.notes ≡ record { keys = instrumentation.notes; spans = map (λ x. x.notes) spans }
 
-pub record IsScopeText (s : Noted Scope ScopeNotes) (text : List ℕ) : Type 0 where
-  pub records : List Record
-  pub wire : Wire records text
-  pub scope : IsScope s records
-
 abbrev pub scope_table : List (Row Record)
-scope_table = message 1 (Noted InstrumentationScope Keys) IsInstrumentationScopeText no_instrumentation_scope (λ held p n. Offence messages instrumentation_scope_rules held p n)
-    ∷ messages_of 2 (Noted Span SpanNotes) IsSpanText (λ held p n. Offence messages span_rules held p n) ∷ text 3 ∷ []
+scope_table = message 1 (Noted InstrumentationScope Keys) (MeansMessage IsInstrumentationScope) no_instrumentation_scope (λ held p n. Offence messages instrumentation_scope_rules held p n)
+    ∷ messages_of 2 (Noted Span SpanNotes) (MeansMessage IsSpan) (λ held p n. Offence messages span_rules held p n) ∷ text 3 ∷ []
 
 abbrev pub scope_rules : Rules Record
 scope_rules = rules_by scope_table no_ends
+
+-- free records added in it, and in what its rows hold
+abbrev pub scope_padded : Paddings scope_table
+scope_padded = (InstrumentationScopePadded, (SpanPadded, (Same, tt)))
+
+abbrev pub ScopePadded : List ℕ → List ℕ → Type 0
+ScopePadded held other = TextPadded messages scope_table scope_padded held other

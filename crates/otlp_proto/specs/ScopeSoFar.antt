@@ -1,6 +1,7 @@
 -- What the readers of an `InstrumentationScope` and of a `ScopeSpans` have gathered.
 use Rattle.std.specs.Prelude.{◌≡◌, ℕ, List, map}
-use Rattle.span_io.specs.Tables.{Givens, givens, Each}
+use Rattle.std.specs.List.{AllZip}
+use Rattle.span_io.specs.Tables.{Givens, givens, MeansText}
 use Rattle.proto_wire.specs.Records.{Record}
 use Rattle.proto_wire.specs.Wire.{Wire}
 use Rattle.trace_model.specs.declared.span.Span.{Span}
@@ -13,10 +14,10 @@ use Rattle.otlp_proto.specs.AttributesSoFar.{GatheredAttributes}
 use Rattle.otlp_proto.specs.Notes.{Noted, SpanNotes}
 use Rattle.otlp_proto.specs.ReadParts.{IsReadScope, instrumentation_scope_read}
 use Rattle.otlp_proto.specs.Remarks.{numbered, span_remarks}
-use Rattle.otlp_proto.specs.Rows.{MeansText, MeansCount}
-use Rattle.otlp_proto.specs.RowsSoFar.{Gave}
-use Rattle.otlp_proto.specs.Scope.{IsInstrumentationScope, IsInstrumentationScopeText, instrumentation_scope_table, scope_table}
-use Rattle.otlp_proto.specs.Span.{IsSpanText}
+use Rattle.otlp_proto.specs.Rows.{MeansCount, MeansMessage}
+use Rattle.span_io.specs.RowsSoFar.{Gave}
+use Rattle.otlp_proto.specs.Scope.{IsInstrumentationScope, instrumentation_scope_table, scope_table}
+use Rattle.otlp_proto.specs.Span.{IsSpan}
 
 pub record GatheredInstrumentationScope (rows : InstrumentationScopeRows) (given : Givens instrumentation_scope_table) : Type 0 where
   pub name : Gave MeansText given.0 rows.name
@@ -30,13 +31,13 @@ MakesInstrumentationScope rows read =
     (records : List Record) → GatheredInstrumentationScope rows (givens instrumentation_scope_table records) → IsInstrumentationScope (instrumentation_scope_read read) records
 
 abbrev pub MeansInstrumentationScope : List ℕ → ReadInstrumentationScope → Type 0
-MeansInstrumentationScope held read = IsInstrumentationScopeText (instrumentation_scope_read read) held
+MeansInstrumentationScope held read = MeansMessage IsInstrumentationScope held (instrumentation_scope_read read)
 
 -- spans, of which the first has this number, and the remarks on them
 pub record GatheredSpans (first : ℕ) (texts : List (List ℕ)) (list : SpanList) : Type 0 where
   pub begins : list.first ≡ first
   pub read : List (Noted Span SpanNotes)
-  pub each : Each IsSpanText texts read
+  pub each : AllZip (MeansMessage IsSpan) texts read
   pub spans : list.spans ≡ map (λ s. s.means) read
   pub remarks : list.remarks ≡ numbered span_remarks first (map (λ s. s.notes) read)
 

@@ -2,12 +2,12 @@
 -- `start_time_unix_nano` 7 and `end_time_unix_nano` 8, eight bytes each, `attributes` 9, `dropped_attributes_count` 10, `events` 11,
 -- `dropped_events_count` 12, `links` 13, `dropped_links_count` 14, `status` 15 and `flags` 16, four bytes.
 use Rattle.std.specs.Prelude.{◌≡◌, ℕ, ◌⊎◌, List, [], ◌∷◌, map, Option, Some, None, is_none}
-use Rattle.std.specs.List.{flat_map, list_any}
+use Rattle.std.specs.List.{AllZip, flat_map, list_any}
+use Rattle.span_io.specs.FreeItems.{Paddings, Same, TextPadded}
 use Rattle.span_io.specs.Offences.{Rules, Offence}
-use Rattle.span_io.specs.Tables.{Row, Singular, Each, rules_by}
+use Rattle.span_io.specs.Tables.{Row, Singular, rules_by, MeansText}
 use Rattle.proto_wire.specs.Messages.{messages}
 use Rattle.proto_wire.specs.Records.{Record}
-use Rattle.proto_wire.specs.Wire.{Wire}
 use Rattle.trace_model.specs.declared.span.Event.{Event}
 use Rattle.trace_model.specs.declared.span.Kind.{Kind}
 use Rattle.trace_model.specs.declared.span.Kind.TheVariants as kinds
@@ -15,12 +15,13 @@ use Rattle.trace_model.specs.declared.span.Link.{Link}
 use Rattle.trace_model.specs.declared.span.Span.{Span}
 use Rattle.trace_model.specs.declared.span.Status.{Status}
 use Rattle.otlp_proto.specs.Attributes.{AttributesOf, NotedIn, attributes}
-use Rattle.otlp_proto.specs.Event.{IsEventText, event_rules}
+use Rattle.otlp_proto.specs.Event.{IsEvent, event_rules, EventPadded}
 use Rattle.otlp_proto.specs.Identifiers.{MeansTraceId, MeansSpanId}
-use Rattle.otlp_proto.specs.Link.{IsLinkText, link_rules}
+use Rattle.otlp_proto.specs.Link.{IsLink, link_rules, LinkPadded}
 use Rattle.otlp_proto.specs.Notes.{Keys, Noted, SpanNotes}
-use Rattle.otlp_proto.specs.Rows.{bytes_of, varints_of, fixed64s_of, fixed32s_of, MeansText, MeansNumber, MeansCount, text, time, count, flags, enum, trace_id, span_id, message, messages_of}
-use Rattle.otlp_proto.specs.Status.{IsStatusText, status_rules, no_status}
+use Rattle.otlp_proto.specs.PaddedValues.{AttributePadded}
+use Rattle.otlp_proto.specs.Rows.{bytes_of, varints_of, fixed64s_of, fixed32s_of, MeansNumber, MeansCount, text, time, count, flags, enum, trace_id, span_id, message, messages_of, MeansMessage}
+use Rattle.otlp_proto.specs.Status.{IsStatus, status_rules, no_status, StatusPadded}
 use Rattle.otlp_proto.specs.Texts.{kind_number}
 
 abbrev pub MeansKind : ℕ → Kind → Type 0
@@ -48,29 +49,24 @@ pub record IsSpan (s : Noted Span SpanNotes) (records : List Record) : Type 0 wh
   pub noted : NotedIn (bytes_of 9 records) s.notes.keys
   pub dropped_attributes : Singular MeansCount (λ n. n ≡ 0) (varints_of 10 records) s.means.dropped_attributes
   pub events : List (Noted Event Keys)
-  pub each_event : Each IsEventText (bytes_of 11 records) events
+  pub each_event : AllZip (MeansMessage IsEvent) (bytes_of 11 records) events
   pub its_events : s.means.events ≡ map (λ e. e.means) events
   pub events_noted : s.notes.events ≡ map (λ e. e.notes) events
   pub dropped_events : Singular MeansCount (λ n. n ≡ 0) (varints_of 12 records) s.means.dropped_events
   pub links : List (Option (Noted Link Keys))
-  pub each_link : Each IsLinkText (bytes_of 13 records) links
+  pub each_link : AllZip (MeansMessage IsLink) (bytes_of 13 records) links
   pub its_links : s.means.links ≡ map (λ l. l.means) (kept_links links)
   pub links_noted : s.notes.links ≡ map (λ l. l.notes) (kept_links links)
   pub any_dropped : s.notes.dropped ≡ list_any (λ l. is_none l) links
   pub dropped_links : Singular MeansCount (λ n. n ≡ 0) (varints_of 14 records) s.means.dropped_links
-  pub status : Singular (λ held status. IsStatusText status held) (λ status. status ≡ no_status) (bytes_of 15 records) s.means.status
+  pub status : Singular (λ held status. MeansMessage IsStatus held status) (λ status. status ≡ no_status) (bytes_of 15 records) s.means.status
   pub flags : Singular MeansNumber (λ n. n ≡ 0) (fixed32s_of 16 records) s.means.flags
-
-pub record IsSpanText (s : Noted Span SpanNotes) (text : List ℕ) : Type 0 where
-  pub records : List Record
-  pub wire : Wire records text
-  pub span : IsSpan s records
 
 abbrev pub span_table : List (Row Record)
 span_table = trace_id 1 ∷ span_id 2 ∷ text 3 ∷ span_id 4 ∷ text 5 ∷ enum 6 5 Kind kind_number kinds.Unspecified ∷ time 7 ∷ time 8
-    ∷ attributes 9 ∷ count 10 ∷ messages_of 11 (Noted Event Keys) IsEventText (λ held p n. Offence messages event_rules held p n) ∷ count 12
-    ∷ messages_of 13 (Option (Noted Link Keys)) IsLinkText (λ held p n. Offence messages link_rules held p n) ∷ count 14
-    ∷ message 15 Status IsStatusText no_status (λ held p n. Offence messages status_rules held p n) ∷ flags 16 ∷ []
+    ∷ attributes 9 ∷ count 10 ∷ messages_of 11 (Noted Event Keys) (MeansMessage IsEvent) (λ held p n. Offence messages event_rules held p n) ∷ count 12
+    ∷ messages_of 13 (Option (Noted Link Keys)) (MeansMessage IsLink) (λ held p n. Offence messages link_rules held p n) ∷ count 14
+    ∷ message 15 Status (MeansMessage IsStatus) no_status (λ held p n. Offence messages status_rules held p n) ∷ flags 16 ∷ []
 
 -- BadId: the span has no trace id, or no span id
 abbrev pub span_ends : List Record → ℕ → Type 0
@@ -79,3 +75,10 @@ span_ends seen number = (number ≡ 12)
 
 abbrev pub span_rules : Rules Record
 span_rules = rules_by span_table span_ends
+
+-- free records added in it, and in what its rows hold
+abbrev pub span_padded : Paddings span_table
+span_padded = (Same, (Same, (Same, (Same, (Same, (Same, (Same, (Same, (AttributePadded, (Same, (EventPadded, (Same, (LinkPadded, (Same, (StatusPadded, (Same, tt))))))))))))))))
+
+abbrev pub SpanPadded : List ℕ → List ℕ → Type 0
+SpanPadded held other = TextPadded messages span_table span_padded held other

@@ -1,9 +1,9 @@
 -- What the reader of a span has gathered, of which the number in its group is known.
 use Rattle.std.specs.Prelude.{◌≡◌, ℕ, List, map, Option, Some, None, is_none, Result, IfOk}
-use Rattle.std.specs.List.{list_any}
+use Rattle.std.specs.List.{AllZip, list_any}
 use Rattle.span_io.specs.declared.cause.Cause.{Cause}
 use Rattle.span_io.specs.declared.halt.Halt.{Halt}
-use Rattle.span_io.specs.Tables.{Givens, givens, Each, Singular}
+use Rattle.span_io.specs.Tables.{Givens, givens, Singular, MeansText}
 use Rattle.proto_wire.specs.Records.{Record}
 use Rattle.trace_model.specs.declared.span.Event.{Event}
 use Rattle.trace_model.specs.declared.span.Link.{Link}
@@ -13,33 +13,33 @@ use Rattle.otlp_proto.specs.declared.span.SpanRows.{SpanRows}
 use Rattle.otlp_proto.specs.declared.span.events.EventList.{EventList}
 use Rattle.otlp_proto.specs.declared.span.links.LinkList.{LinkList}
 use Rattle.otlp_proto.specs.AttributesSoFar.{GatheredAttributes}
-use Rattle.otlp_proto.specs.Event.{IsEventText}
+use Rattle.otlp_proto.specs.Event.{IsEvent}
 use Rattle.otlp_proto.specs.Identifiers.{MeansTraceId, MeansSpanId}
-use Rattle.otlp_proto.specs.Link.{IsLinkText}
+use Rattle.otlp_proto.specs.Link.{IsLink}
 use Rattle.otlp_proto.specs.Notes.{Keys, Noted, SpanNotes}
 use Rattle.otlp_proto.specs.Remarks.{event_remarks, link_remarks, span_remarks}
-use Rattle.otlp_proto.specs.Rows.{MeansText, MeansNumber, MeansCount}
-use Rattle.otlp_proto.specs.RowsSoFar.{Gave}
+use Rattle.otlp_proto.specs.Rows.{MeansNumber, MeansCount, MeansMessage}
+use Rattle.span_io.specs.RowsSoFar.{Gave}
 use Rattle.otlp_proto.specs.Span.{IsSpan, MeansKind, kept_links, span_table}
-use Rattle.otlp_proto.specs.Status.{IsStatusText}
+use Rattle.otlp_proto.specs.Status.{IsStatus}
 
 -- of these bytes of events of the span
 pub record GatheredEvents (span : ℕ) (texts : List (List ℕ)) (list : EventList) : Type 0 where
   pub members : List (Noted Event Keys)
-  pub each : Each IsEventText texts members
+  pub each : AllZip (MeansMessage IsEvent) texts members
   pub events : list.events ≡ map (λ e. e.means) members
   pub remarks : list.remarks ≡ event_remarks span (map (λ e. e.notes) members)
 
 -- of these bytes of links of the span
 pub record GatheredLinks (span : ℕ) (texts : List (List ℕ)) (list : LinkList) : Type 0 where
   pub members : List (Option (Noted Link Keys))
-  pub each : Each IsLinkText texts members
+  pub each : AllZip (MeansMessage IsLink) texts members
   pub links : list.links ≡ map (λ l. l.means) (kept_links members)
   pub dropped : list.dropped ≡ list_any (λ l. is_none l) members
   pub remarks : list.remarks ≡ link_remarks span (map (λ l. l.notes) (kept_links members))
 
 abbrev pub MeansStatus : List ℕ → Status → Type 0
-MeansStatus held status = IsStatusText status held
+MeansStatus held status = MeansMessage IsStatus held status
 
 pub record GatheredSpan (span : ℕ) (rows : SpanRows) (given : Givens span_table) : Type 0 where
   pub number : rows.number ≡ span

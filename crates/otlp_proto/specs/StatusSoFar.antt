@@ -1,8 +1,7 @@
 -- What the reader of a status has gathered.
-use Rattle.span_io.specs.Tables.{Givens}
+use Rattle.span_io.specs.Tables.{Givens, MeansText}
 use Rattle.otlp_proto.specs.declared.status.StatusRows.{StatusRows}
-use Rattle.otlp_proto.specs.Rows.{MeansText}
-use Rattle.otlp_proto.specs.RowsSoFar.{Gave}
+use Rattle.span_io.specs.RowsSoFar.{Gave}
 use Rattle.otlp_proto.specs.Status.{MeansCode, status_table}
 
 pub record GatheredStatus (rows : StatusRows) (given : Givens status_table) : Type 0 where

@@ -3,9 +3,9 @@
 -- and maps may stand goes by the levels that are left below one: an attribute's value stands at level 1 of 16, with 15 left.
 use Rattle.std.specs.Prelude.{◌≡◌, ◌≢◌, ◌↔◌, ℕ, zero, suc, ◌⊎◌, ◌==◌, if◌then◌else◌, List, [], ◌∷◌, ◌++◌, map, Bool, IsTrue, IsUtf8}
 use Rattle.std.specs.Int.{w64, cast_signed, to_be_bytes}
-use Rattle.std.specs.List.{flat_map}
+use Rattle.std.specs.List.{AllZip, flat_map}
 use Rattle.span_io.specs.Offences.{Rules, Offence}
-use Rattle.span_io.specs.Tables.{Row, Singular, Each, Twice, NotText, rules_by, no_ends}
+use Rattle.span_io.specs.Tables.{Row, Singular, Twice, NotText, rules_by, no_ends, MeansText}
 use Rattle.proto_wire.specs.Messages.{messages}
 use Rattle.proto_wire.specs.Records.{Held, varint, fixed64, bytes, fixed32, Record}
 use Rattle.proto_wire.specs.Wire.{Wire}
@@ -13,7 +13,7 @@ use Rattle.trace_model.specs.Attributes.{AreAttributes, AreRepeated}
 use Rattle.trace_model.specs.declared.value.Value.{Value}
 use Rattle.trace_model.specs.declared.value.Value.TheVariants as values
 use Rattle.otlp_proto.specs.Notes.{Keys, Noted}
-use Rattle.otlp_proto.specs.Rows.{bytes_of, MeansText, bytes_row, text, message}
+use Rattle.otlp_proto.specs.Rows.{bytes_of, bytes_row, text, message}
 
 -- a member of a value
 pub data Member : Type 0 where
@@ -60,20 +60,20 @@ entry p = (p.key, p.value.means)
 abbrev pub keys_inside : List KeyValue → Keys
 keys_inside pairs = flat_map (λ p. p.value.notes) pairs
 
-pub record IsListText (IsValue : NotedValue → List ℕ → Type 0) (r : NotedValue) (text : List ℕ) : Type 0 where
+pub record IsListText (IsValue : List ℕ → NotedValue → Type 0) (text : List ℕ) (r : NotedValue) : Type 0 where
   pub records : List Record
   pub wire : Wire records text
   pub members : List NotedValue
-  pub each : Each IsValue (bytes_of 1 records) members
+  pub each : AllZip IsValue (bytes_of 1 records) members
   pub value : r.means ≡ values.List (map (λ m. m.means) members)
   pub noted : r.notes ≡ flat_map (λ m. m.notes) members
 
 -- the last value of each key is kept
-pub record IsMapText (IsKeyValue : KeyValue → List ℕ → Type 0) (r : NotedValue) (text : List ℕ) : Type 0 where
+pub record IsMapText (IsKeyValue : List ℕ → KeyValue → Type 0) (text : List ℕ) (r : NotedValue) : Type 0 where
   pub records : List Record
   pub wire : Wire records text
   pub pairs : List KeyValue
-  pub each : Each IsKeyValue (bytes_of 1 records) pairs
+  pub each : AllZip IsKeyValue (bytes_of 1 records) pairs
   pub attributes : List (List ℕ × Value)
   pub kept : AreAttributes attributes (map entry pairs)
   pub repeated : List (List ℕ)
@@ -82,43 +82,43 @@ pub record IsMapText (IsKeyValue : KeyValue → List ℕ → Type 0) (r : NotedV
   pub noted : r.notes ≡ keys_inside pairs ++ repeated
 
 -- the value of a member, by what the values of a list and the pairs of a map mean
-abbrev pub MeansMember : (NotedValue → List ℕ → Type 0) → (KeyValue → List ℕ → Type 0) → Member → NotedValue → Type 0
+abbrev pub MeansMember : (List ℕ → NotedValue → Type 0) → (List ℕ → KeyValue → Type 0) → Member → NotedValue → Type 0
 MeansMember IsValue IsKeyValue (string_value held) r = IsUtf8 held × (r ≡ leaf (values.Text held))
 MeansMember IsValue IsKeyValue (bool_value n) r = (b : Bool) × (r ≡ leaf (values.Truth b)) × (IsTrue b ↔ (n ≢ 0))
 MeansMember IsValue IsKeyValue (int_value n) r = r ≡ leaf (values.Number (cast_signed w64 n))
 MeansMember IsValue IsKeyValue (double_value n) r = r ≡ leaf (values.Eight (to_be_bytes w64 n))
-MeansMember IsValue IsKeyValue (array_value held) r = IsListText IsValue r held
-MeansMember IsValue IsKeyValue (kvlist_value held) r = IsMapText IsKeyValue r held
+MeansMember IsValue IsKeyValue (array_value held) r = IsListText IsValue held r
+MeansMember IsValue IsKeyValue (kvlist_value held) r = IsMapText IsKeyValue held r
 MeansMember IsValue IsKeyValue (bytes_value held) r = r ≡ leaf (values.Bytes held)
 
-pub record IsValueText (IsValue : NotedValue → List ℕ → Type 0) (IsKeyValue : KeyValue → List ℕ → Type 0) (r : NotedValue) (text : List ℕ) : Type 0 where
+pub record IsValueText (IsValue : List ℕ → NotedValue → Type 0) (IsKeyValue : List ℕ → KeyValue → Type 0) (text : List ℕ) (r : NotedValue) : Type 0 where
   pub records : List Record
   pub wire : Wire records text
   pub value : Singular (MeansMember IsValue IsKeyValue) (λ x. x ≡ leaf values.Nothing) (members_of records) r
 
-pub record IsKeyValueText (IsValue : NotedValue → List ℕ → Type 0) (p : KeyValue) (text : List ℕ) : Type 0 where
+pub record IsKeyValueText (IsValue : List ℕ → NotedValue → Type 0) (text : List ℕ) (p : KeyValue) : Type 0 where
   pub records : List Record
   pub wire : Wire records text
   pub key : Singular MeansText (λ key. key ≡ []) (bytes_of 1 records) p.key
-  pub value : Singular (λ held r. IsValue r held) (λ r. r ≡ leaf values.Nothing) (bytes_of 2 records) p.value
+  pub value : Singular IsValue (λ r. r ≡ leaf values.Nothing) (bytes_of 2 records) p.value
 
 unfoldable mutual
   -- a value in a list or map below which so many levels are left
-  pub value_in : ℕ → NotedValue → List ℕ → Type 0
-  value_in zero r text = ⊥
-  value_in (suc left) r text = IsValueText (value_in left) (key_value_in left) r text
+  pub value_in : ℕ → List ℕ → NotedValue → Type 0
+  value_in zero text r = ⊥
+  value_in (suc left) text r = IsValueText (value_in left) (key_value_in left) text r
 
   -- a `KeyValue` in such a map
-  pub key_value_in : ℕ → KeyValue → List ℕ → Type 0
-  key_value_in zero p text = ⊥
-  key_value_in (suc left) p text = IsKeyValueText (λ r held. IsValueText (value_in left) (key_value_in left) r held) p text
+  pub key_value_in : ℕ → List ℕ → KeyValue → Type 0
+  key_value_in zero text p = ⊥
+  key_value_in (suc left) text p = IsKeyValueText (λ held r. IsValueText (value_in left) (key_value_in left) held r) text p
 
 -- a value, and a `KeyValue` with such a value, below which so many levels are left
-abbrev pub value_at : ℕ → NotedValue → List ℕ → Type 0
-value_at left r text = IsValueText (value_in left) (key_value_in left) r text
+abbrev pub value_at : ℕ → List ℕ → NotedValue → Type 0
+value_at left text r = IsValueText (value_in left) (key_value_in left) text r
 
-abbrev pub key_value_at : ℕ → KeyValue → List ℕ → Type 0
-key_value_at left p text = IsKeyValueText (λ r held. value_at left r held) p text
+abbrev pub key_value_at : ℕ → List ℕ → KeyValue → Type 0
+key_value_at left text p = IsKeyValueText (λ held r. value_at left held r) text p
 
 -- ---- the tables
 
@@ -134,7 +134,7 @@ InMember InList InMap (kvlist_value held) place number = InMap held place number
 InMember InList InMap other place number = ⊥
 
 -- `AnyValue`: all its members are one row
-abbrev pub value_table : (NotedValue → List ℕ → Type 0) → (KeyValue → List ℕ → Type 0) → (List ℕ → ℕ → ℕ → Type 0) → (List ℕ → ℕ → ℕ → Type 0) → List (Row Record)
+abbrev pub value_table : (List ℕ → NotedValue → Type 0) → (List ℕ → KeyValue → Type 0) → (List ℕ → ℕ → ℕ → Type 0) → (List ℕ → ℕ → ℕ → Type 0) → List (Row Record)
 value_table IsValue IsKeyValue InList InMap = record {
   Given = Member;
   given = λ r. member_in r;
@@ -145,18 +145,18 @@ value_table IsValue IsKeyValue InList InMap = record {
 } ∷ []
 
 -- `ArrayValue` and `KeyValueList`; TooDeep: a record with no level left below the list or map
-abbrev pub many_table : ℕ → (B : Type 0) → (B → List ℕ → Type 0) → (List ℕ → ℕ → ℕ → Type 0) → List (Row Record)
-many_table left B Is Offends = bytes_row 1 (List B) (λ held xs. Each Is held xs) (λ earlier held n. (n ≡ 5) × (left ≡ 0)) Offends ∷ []
+abbrev pub many_table : ℕ → (B : Type 0) → (List ℕ → B → Type 0) → (List ℕ → ℕ → ℕ → Type 0) → List (Row Record)
+many_table left B Means Offends = bytes_row 1 (List B) (λ held xs. AllZip Means held xs) (λ earlier held n. (n ≡ 5) × (left ≡ 0)) Offends ∷ []
 
 -- `KeyValue`
-abbrev pub key_value_table : (NotedValue → List ℕ → Type 0) → (List ℕ → ℕ → ℕ → Type 0) → List (Row Record)
+abbrev pub key_value_table : (List ℕ → NotedValue → Type 0) → (List ℕ → ℕ → ℕ → Type 0) → List (Row Record)
 key_value_table IsValue Offends = text 1 ∷ message 2 NotedValue IsValue (leaf values.Nothing) Offends ∷ []
 
 -- ---- offences
 
 -- the rules of a list or map below which so many levels are left, by how what stands in it offends
-abbrev pub many_rules : ℕ → (B : Type 0) → (B → List ℕ → Type 0) → (List ℕ → ℕ → ℕ → Type 0) → Rules Record
-many_rules left B Is Offends = rules_by (many_table left B Is Offends) no_ends
+abbrev pub many_rules : ℕ → (B : Type 0) → (List ℕ → B → Type 0) → (List ℕ → ℕ → ℕ → Type 0) → Rules Record
+many_rules left B Means Offends = rules_by (many_table left B Means Offends) no_ends
 
 unfoldable mutual
   -- how a value offends in a list or map below which so many levels are left
@@ -169,7 +169,7 @@ unfoldable mutual
   -- how a `KeyValue` does in such a map
   pub key_value_offends : ℕ → List ℕ → ℕ → ℕ → Type 0
   key_value_offends zero held place number = ⊥
-  key_value_offends (suc left) held place number = Offence messages (rules_by (key_value_table (λ r inner. IsValueText (value_in left) (key_value_in left) r inner)
+  key_value_offends (suc left) held place number = Offence messages (rules_by (key_value_table (λ inner r. IsValueText (value_in left) (key_value_in left) inner r)
       (λ inside q m. Offence messages (rules_by (value_table (value_in left) (key_value_in left)
       (λ inner p n. Offence messages (many_rules left NotedValue (value_in left) (value_offends left)) inner p n)
       (λ inner p n. Offence messages (many_rules left KeyValue (key_value_in left) (key_value_offends left)) inner p n)) no_ends) inside q m)) no_ends) held place number
@@ -188,7 +188,7 @@ abbrev pub value_rules : ℕ → Rules Record
 value_rules left = rules_by (table_of_value left) no_ends
 
 abbrev pub table_of_key_value : ℕ → List (Row Record)
-table_of_key_value left = key_value_table (λ r held. value_at left r held) (λ held p n. Offence messages (value_rules left) held p n)
+table_of_key_value left = key_value_table (λ held r. value_at left held r) (λ held p n. Offence messages (value_rules left) held p n)
 
 abbrev pub key_value_rules : ℕ → Rules Record
 key_value_rules left = rules_by (table_of_key_value left) no_ends

@@ -1,10 +1,10 @@
 -- What the readers of the messages of values have gathered, and what they answer of one record more.
 use Rattle.std.specs.Prelude.{◌≡◌, ℕ, ◌⊎◌, List, map, Option, Result}
-use Rattle.std.specs.List.{flat_map}
+use Rattle.std.specs.List.{AllZip, flat_map}
 use Rattle.span_io.specs.declared.cause.Cause.{Cause}
 use Rattle.span_io.specs.declared.halt.Halt.{Halt}
-use Rattle.span_io.specs.Offences.{Rules, Offence, HereOrInside, ItemOffends, Judges}
-use Rattle.span_io.specs.Tables.{Singular, Each, Twice}
+use Rattle.span_io.specs.Offences.{Offence, HereOrInside, Judges}
+use Rattle.span_io.specs.Tables.{Singular, Twice, MeansText}
 use Rattle.proto_wire.specs.Messages.{messages}
 use Rattle.proto_wire.specs.Records.{Record}
 use Rattle.proto_wire.specs.Wire.{Wire}
@@ -15,21 +15,21 @@ use Rattle.otlp_proto.specs.declared.value_rows.ListRows.{ListRows}
 use Rattle.otlp_proto.specs.declared.value_rows.MapRows.{MapRows}
 use Rattle.otlp_proto.specs.declared.value_rows.KeyValueRows.{KeyValueRows}
 use Rattle.otlp_proto.specs.ReadParts.{value_read}
-use Rattle.otlp_proto.specs.Rows.{bytes_of, MeansText}
-use Rattle.otlp_proto.specs.RowsSoFar.{Gave, Adds}
+use Rattle.otlp_proto.specs.Rows.{bytes_of}
+use Rattle.span_io.specs.RowsSoFar.{Gave, Adds}
 use Rattle.otlp_proto.specs.Values.{Member, members_of, NotedValue, KeyValue, leaf, entry, keys_inside, MeansMember, BadMember, InMember, value_in, key_value_in, value_at, list_rules, map_rules}
 
 -- ---- of these records
 
 pub record GatheredList (left : ℕ) (records : List Record) (rows : ListRows) : Type 0 where
   pub members : List NotedValue
-  pub each : Each (value_in left) (bytes_of 1 records) members
+  pub each : AllZip (value_in left) (bytes_of 1 records) members
   pub values : rows.values ≡ map (λ m. m.means) members
   pub noted : rows.noted ≡ flat_map (λ m. m.notes) members
 
 pub record GatheredMap (left : ℕ) (records : List Record) (rows : MapRows) : Type 0 where
   pub members : List KeyValue
-  pub each : Each (key_value_in left) (bytes_of 1 records) members
+  pub each : AllZip (key_value_in left) (bytes_of 1 records) members
   pub pairs : rows.pairs ≡ map entry members
   pub noted : rows.noted ≡ keys_inside members
 
@@ -42,17 +42,13 @@ GatheredValue left records row = GatheredMembers left (members_of records) row
 
 -- of a row of bytes that hold a value
 abbrev pub GatheredField : ℕ → List (List ℕ) → Option ReadValue → Type 0
-GatheredField left texts row = Gave (λ held read. value_at left (value_read read) held) texts row
+GatheredField left texts row = Gave (λ held read. value_at left held (value_read read)) texts row
 
 pub record GatheredKeyValue (left : ℕ) (records : List Record) (rows : KeyValueRows) : Type 0 where
   pub key : Gave MeansText (bytes_of 1 records) rows.key
   pub value : GatheredField left (bytes_of 2 records) rows.value
 
 -- ---- what is answered of one more
-
--- of one record more
-abbrev pub JudgesNext : {B : Type 0} → Rules Record → (List Record → B → Type 0) → B → Record → Result Unit (Halt Cause) → Type 0
-JudgesNext K Gathered rows r answer = (seen : List Record) → Gathered seen rows → Judges answer (ItemOffends Record K seen r)
 
 -- how a member offends behind earlier ones
 abbrev pub MemberOffends : ℕ → List Member → Member → ℕ → ℕ → Type 0
@@ -70,9 +66,9 @@ SetsLeaf value old new = (left : ℕ) (member : Member) → MeansMember (value_i
 -- ---- what the rows give
 
 -- where all records of a text were gathered, at any level
-abbrev pub GivesRead : {B C : Type 0} → (ℕ → List Record → B → Type 0) → (ℕ → C → List ℕ → Type 0) → B → C → Type 0
-GivesRead Gathered Is rows read = (left : ℕ) (records : List Record) (text : List ℕ) → Wire records text → Gathered left records rows → Is left read text
+abbrev pub GivesRead : {B C : Type 0} → (ℕ → List Record → B → Type 0) → (ℕ → List ℕ → C → Type 0) → B → C → Type 0
+GivesRead Gathered Is rows read = (left : ℕ) (records : List Record) (text : List ℕ) → Wire records text → Gathered left records rows → Is left text read
 
 -- the value of a row of bytes, which is empty if there are none
 abbrev pub GivesField : Option ReadValue → NotedValue → Type 0
-GivesField row read = (left : ℕ) (texts : List (List ℕ)) → GatheredField left texts row → Singular (λ held r. value_at left r held) (λ r. r ≡ leaf values.Nothing) texts read
+GivesField row read = (left : ℕ) (texts : List (List ℕ)) → GatheredField left texts row → Singular (λ held r. value_at left held r) (λ r. r ≡ leaf values.Nothing) texts read

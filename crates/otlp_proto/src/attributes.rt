@@ -6,7 +6,7 @@ ghost use Rattle.trace_model.specs.Attributes.{Rise};
 ghost use Rattle.trace_model.specs.Values.{AreSound};
 ghost use Rattle.otlp_proto.specs.Attributes.{attribute_rules, AttributesOf, NotedIn};
 ghost use Rattle.otlp_proto.specs.AttributesSoFar.{GatheredAttributes};
-ghost use Rattle.otlp_proto.specs.RowsSoFar.{Adds};
+ghost use Rattle.span_io.specs.RowsSoFar.{Adds};
 
 use crate::value::read_key_value;
 use crate::value_rows::{note_all, push_key_value};

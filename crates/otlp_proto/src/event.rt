@@ -3,11 +3,13 @@ ghost use Rattle.std.specs.Prelude.{[], IfOk};
 ghost use Rattle.span_io.specs.Offences.{Offence, Judges};
 ghost use Rattle.span_io.specs.Tables.{givens};
 ghost use Rattle.proto_wire.specs.Messages.{messages};
-ghost use Rattle.otlp_proto.specs.Event.{IsEventText, event_table, event_rules};
+ghost use Rattle.otlp_proto.specs.Event.{IsEvent, event_table, event_rules};
 ghost use Rattle.otlp_proto.specs.EventSoFar.{GatheredEvent, MakesEvent};
 ghost use Rattle.otlp_proto.specs.ReadParts.{event_read};
+ghost use Rattle.otlp_proto.specs.Rows.{MeansMessage};
 
 use crate::attributes::AttributeRows;
+use crate::laws::message_rules;
 use crate::message::{Rows, read_rows};
 use crate::noted::ReadEvent;
 use crate::rows::{count_row, text_row, time_row};
@@ -44,15 +46,12 @@ impl Rows for EventRows {
     ghost use Rattle.span_io.specs.Tables.{givens, no_ends};
     ghost use Rattle.otlp_proto.specs.Event.{event_table};
     ghost use Rattle.otlp_proto.specs.EventSoFar.{GatheredEvent};
-    ghost use Rattle.otlp_proto.specs.Shapes.{event_laws};
 
     ghost table = { event_table };
 
     ghost ends = { no_ends };
 
     ghost gathered = { λ first rows seen. GatheredEvent rows (givens event_table seen) };
-
-    ghost laws = { event_laws };
 
     fn gather(&mut self, alloc: Global, found: &WireRecord<'_>) -> Result<(), Halt<Cause>> {
         match found.payload {
@@ -90,9 +89,10 @@ fn event_of(alloc: Global, rows: EventRows) -> Result<ReadEvent, OutOfMemory>
 
 /// Reads an event from its message.
 pub fn read_event(alloc: Global, bytes: &[u8]) -> Result<ReadEvent, Halt<Cause>>
-    ensures value { IfOk result (λ read. IsEventText (event_read read) bytes.now) }
+    ensures value { IfOk result (λ read. MeansMessage IsEvent bytes.now (event_read read)) }
     ensures judged { Judges result (Offence messages event_rules bytes.now) }
 {
+    message_rules();
     let rows = read_rows(alloc, EventRows::none(alloc), bytes)?;
     let read = event_of(alloc, rows)?;
     Ok(read)

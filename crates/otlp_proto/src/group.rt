@@ -7,10 +7,10 @@ ghost use Rattle.trace_model.specs.Soundness.{IsSoundGroup};
 ghost use Rattle.otlp_proto.specs.Group.{IsGroupText, OnlyReads, no_resource, resource_rules, group_table, group_rules};
 ghost use Rattle.otlp_proto.specs.GroupSoFar.{MeansResource, GatheredScopes, GatheredGroup, MakesGroup};
 ghost use Rattle.otlp_proto.specs.ReadParts.{resource_read};
-ghost use Rattle.otlp_proto.specs.RowsSoFar.{Sets, Adds, JudgesMessage};
+ghost use Rattle.span_io.specs.RowsSoFar.{Sets, Adds, JudgesMessage};
 ghost use Rattle.otlp_proto.specs.Scope.{scope_rules};
 
-use crate::laws::one_group;
+use crate::laws::{message_rules, one_group};
 use crate::message::{Rows, read_rows};
 use crate::noted::ReadResource;
 use crate::remarks::{number_behind, remark_all, remark_keys};
@@ -46,7 +46,7 @@ fn resource_row(
     held: &[u8],
 ) -> Result<(), Halt<Cause>>
     ensures ok { OnOk result (Sets MeansResource held.now row.old row.new) }
-    ensures judged { JudgesMessage MeansResource resource_rules row.old held.now result }
+    ensures judged { JudgesMessage messages MeansResource resource_rules row.old held.now result }
 {
     once(row)?;
     *row = Some(read_resource(alloc, held)?);
@@ -96,15 +96,12 @@ impl Rows for GroupRows {
     ghost use Rattle.span_io.specs.Tables.{givens, no_ends};
     ghost use Rattle.otlp_proto.specs.Group.{group_table};
     ghost use Rattle.otlp_proto.specs.GroupSoFar.{GatheredGroup};
-    ghost use Rattle.otlp_proto.specs.Shapes.{group_laws};
 
     ghost table = { group_table };
 
     ghost ends = { no_ends };
 
     ghost gathered = { λ first rows seen. GatheredGroup rows (givens group_table seen) };
-
-    ghost laws = { group_laws };
 
     fn gather(&mut self, alloc: Global, found: &WireRecord<'_>) -> Result<(), Halt<Cause>> {
         match found.payload {
@@ -154,6 +151,7 @@ fn read_rows_of(alloc: Global, unit: &[u8]) -> Result<(Group, Items<Remark>), Ha
     ensures value { IfOk result (λ parts. IsGroupText parts.0 parts.1 unit.now) }
     ensures judged { Judges result (Offence messages group_rules unit.now) }
 {
+    message_rules();
     let rows = read_rows(alloc, GroupRows::none(alloc), unit)?;
     let read = group_of(alloc, rows)?;
     Ok(read)

@@ -4,10 +4,12 @@ ghost use Rattle.span_io.specs.Offences.{Offence, Judges};
 ghost use Rattle.span_io.specs.Tables.{givens};
 ghost use Rattle.proto_wire.specs.Messages.{messages};
 ghost use Rattle.otlp_proto.specs.ReadParts.{instrumentation_scope_read};
-ghost use Rattle.otlp_proto.specs.Scope.{IsInstrumentationScopeText, instrumentation_scope_table, instrumentation_scope_rules};
+ghost use Rattle.otlp_proto.specs.Scope.{IsInstrumentationScope, instrumentation_scope_table, instrumentation_scope_rules};
 ghost use Rattle.otlp_proto.specs.ScopeSoFar.{GatheredInstrumentationScope, MakesInstrumentationScope};
+ghost use Rattle.otlp_proto.specs.Rows.{MeansMessage};
 
 use crate::attributes::AttributeRows;
+use crate::laws::message_rules;
 use crate::message::{Rows, read_rows};
 use crate::noted::ReadInstrumentationScope;
 use crate::rows::{count_row, text_row};
@@ -42,15 +44,12 @@ impl Rows for InstrumentationScopeRows {
     ghost use Rattle.span_io.specs.Tables.{givens, no_ends};
     ghost use Rattle.otlp_proto.specs.Scope.{instrumentation_scope_table};
     ghost use Rattle.otlp_proto.specs.ScopeSoFar.{GatheredInstrumentationScope};
-    ghost use Rattle.otlp_proto.specs.Shapes.{instrumentation_scope_laws};
 
     ghost table = { instrumentation_scope_table };
 
     ghost ends = { no_ends };
 
     ghost gathered = { λ first rows seen. GatheredInstrumentationScope rows (givens instrumentation_scope_table seen) };
-
-    ghost laws = { instrumentation_scope_laws };
 
     fn gather(&mut self, alloc: Global, found: &WireRecord<'_>) -> Result<(), Halt<Cause>> {
         match found.payload {
@@ -91,9 +90,10 @@ pub fn read_instrumentation_scope(
     alloc: Global,
     bytes: &[u8],
 ) -> Result<ReadInstrumentationScope, Halt<Cause>>
-    ensures value { IfOk result (λ read. IsInstrumentationScopeText (instrumentation_scope_read read) bytes.now) }
+    ensures value { IfOk result (λ read. MeansMessage IsInstrumentationScope bytes.now (instrumentation_scope_read read)) }
     ensures judged { Judges result (Offence messages instrumentation_scope_rules bytes.now) }
 {
+    message_rules();
     let rows = read_rows(alloc, InstrumentationScopeRows::none(alloc), bytes)?;
     let read = instrumentation_scope_of(alloc, rows)?;
     Ok(read)

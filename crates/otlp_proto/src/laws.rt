@@ -5,7 +5,7 @@ ghost use Rattle.trace_model.specs.Soundness.{IsSoundGroup};
 ghost use Rattle.trace_model.specs.declared.remark.Remark.{Remark};
 ghost use Rattle.trace_model.specs.declared.trace.Group.{Group};
 ghost use Rattle.otlp_proto.specs.Group.{IsGroupText};
-ghost use Rattle.otlp_proto.specs.Laws.{OneGroup, SomeGroup, FreeRecords, FreeAnywhere};
+ghost use Rattle.otlp_proto.specs.Laws.{MessageRules, OneGroup, SomeGroup, FreeRecords, FreeAnywhere};
 ghost use Rattle.otlp_proto.specs.Texts.{bytes_field, list_text, value_text, attributes_text, group_text, group_record};
 
 use trace_model::Value;
@@ -37,6 +37,19 @@ pub fn read_proper()
     trace_model::laws::members_of_proper_values();
 }
 
+/// What the search for the offence that counts asks of each message: what stands inside a record
+/// offends within its bytes, and at their end with no number above that of the message around it.
+pub fn message_rules()
+    ensures { MessageRules }
+{
+    proto_wire::laws::message_cuts();
+    proto_wire::laws::one_reading();
+    proto_wire::laws::open_fronts();
+    span_ids::laws::identifiers_read_back();
+    trace_model::laws::attributes_once();
+    trace_model::laws::attributes_exist();
+}
+
 /// Bytes are a text of one group at most, with one list of remarks; nothing offends in such a text,
 /// and the group is sound.
 pub fn one_group()
@@ -44,8 +57,10 @@ pub fn one_group()
 {
     proto_wire::laws::message_cuts();
     proto_wire::laws::one_reading();
+    proto_wire::laws::open_fronts();
     span_ids::laws::identifiers_read_back();
     trace_model::laws::attributes_once();
+    trace_model::laws::attributes_exist();
     trace_model::laws::members_of_values();
 }
 

@@ -3,11 +3,13 @@ ghost use Rattle.std.specs.Prelude.{[], IfOk};
 ghost use Rattle.span_io.specs.Offences.{Offence, Judges};
 ghost use Rattle.span_io.specs.Tables.{givens};
 ghost use Rattle.proto_wire.specs.Messages.{messages};
-ghost use Rattle.otlp_proto.specs.Link.{IsLinkText, link_table, link_rules};
+ghost use Rattle.otlp_proto.specs.Link.{IsLink, link_table, link_rules};
 ghost use Rattle.otlp_proto.specs.LinkSoFar.{GatheredLink, MakesLink};
 ghost use Rattle.otlp_proto.specs.ReadParts.{link_read};
+ghost use Rattle.otlp_proto.specs.Rows.{MeansMessage};
 
 use crate::attributes::AttributeRows;
+use crate::laws::message_rules;
 use crate::message::{Rows, read_rows};
 use crate::noted::ReadLink;
 use crate::rows::{count_row, flags_row, span_id_row, text_row, trace_id_row};
@@ -48,15 +50,12 @@ impl Rows for LinkRows {
     ghost use Rattle.span_io.specs.Tables.{givens, no_ends};
     ghost use Rattle.otlp_proto.specs.Link.{link_table};
     ghost use Rattle.otlp_proto.specs.LinkSoFar.{GatheredLink};
-    ghost use Rattle.otlp_proto.specs.Shapes.{link_laws};
 
     ghost table = { link_table };
 
     ghost ends = { no_ends };
 
     ghost gathered = { λ first rows seen. GatheredLink rows (givens link_table seen) };
-
-    ghost laws = { link_laws };
 
     fn gather(&mut self, alloc: Global, found: &WireRecord<'_>) -> Result<(), Halt<Cause>> {
         match found.payload {
@@ -105,9 +104,10 @@ fn link_of(alloc: Global, rows: LinkRows) -> Result<Option<ReadLink>, OutOfMemor
 
 /// Reads a link from its message; a link without one of its identifiers is none.
 pub fn read_link(alloc: Global, bytes: &[u8]) -> Result<Option<ReadLink>, Halt<Cause>>
-    ensures value { IfOk result (λ read. IsLinkText (link_read read) bytes.now) }
+    ensures value { IfOk result (λ read. MeansMessage IsLink bytes.now (link_read read)) }
     ensures judged { Judges result (Offence messages link_rules bytes.now) }
 {
+    message_rules();
     let rows = read_rows(alloc, LinkRows::none(alloc), bytes)?;
     let read = link_of(alloc, rows)?;
     Ok(read)

@@ -1,11 +1,12 @@
 //! The walk over the records of a message.
 ghost use Rattle.std.specs.Prelude.{◌≡◌, ◌++◌, ◌∷◌, [], ℕ, List, IfOk, OnOk};
 ghost use Rattle.span_io.specs.Offences.{Offence, OnHalt};
-ghost use Rattle.span_io.specs.OffenceLaws.{FormatLaws, RulesLaws};
+ghost use Rattle.span_io.specs.OffenceLaws.{RulesLaws};
 ghost use Rattle.span_io.specs.Tables.{Row, rules_by};
 ghost use Rattle.proto_wire.specs.Records.{Record, plain_record};
 ghost use Rattle.proto_wire.specs.Messages.{messages};
-ghost use Rattle.otlp_proto.specs.Gathering.{AddsRecord, JudgesRecord, GatheredAll};
+ghost use Rattle.proto_wire.specs.Wire.{Wire};
+ghost use Rattle.span_io.specs.Gathering.{AddsItem, JudgesItem, GatheredAll};
 
 use proto_wire::laws::message_cuts;
 use proto_wire::{WireRecord, next_record};
@@ -23,16 +24,15 @@ pub trait Rows: Drop {
 
     /// Adds a record.
     fn gather(&mut self, alloc: Global, found: &WireRecord<'_>) -> Result<(), Halt<Cause>>
-        ensures ok { OnOk result (AddsRecord gathered (plain_record found.now) self.old self.new) }
-        ensures judged { JudgesRecord gathered table (plain_record found.now) self.old result };
-
-    ghost laws: { FormatLaws messages → RulesLaws messages (rules_by table ends) };
+        ensures ok { OnOk result (AddsItem gathered (plain_record found.now) self.old self.new) }
+        ensures judged { JudgesItem gathered table (plain_record found.now) self.old result };
 }
 
 /// Gathers the rows of a message, from rows that gave nothing yet.
 pub fn read_rows<R: Rows>(alloc: Global, first: R, bytes: &[u8]) -> Result<R, Halt<Cause>>
-    requires { R.gathered first first [] }
-    ensures all { IfOk result (λ rows. GatheredAll (rules_by R.table R.ends) (R.gathered first rows) bytes.now) }
+    requires none { R.gathered first first [] }
+    requires lawful { RulesLaws messages (rules_by R.table R.ends) }
+    ensures all { IfOk result (λ rows. GatheredAll messages (rules_by R.table R.ends) Wire (R.gathered first rows) bytes.now) }
     ensures halted { OnHalt result (Offence messages (rules_by R.table R.ends) bytes.now) }
 {
     message_cuts();

@@ -3,11 +3,13 @@ ghost use Rattle.std.specs.Prelude.{[], IfOk};
 ghost use Rattle.span_io.specs.Offences.{Offence, Judges};
 ghost use Rattle.span_io.specs.Tables.{givens};
 ghost use Rattle.proto_wire.specs.Messages.{messages};
-ghost use Rattle.otlp_proto.specs.Group.{IsResourceText, resource_table, resource_rules};
+ghost use Rattle.otlp_proto.specs.Group.{IsResource, resource_table, resource_rules};
 ghost use Rattle.otlp_proto.specs.GroupSoFar.{GatheredResource, MakesResource};
 ghost use Rattle.otlp_proto.specs.ReadParts.{resource_read};
+ghost use Rattle.otlp_proto.specs.Rows.{MeansMessage};
 
 use crate::attributes::AttributeRows;
+use crate::laws::message_rules;
 use crate::message::{Rows, read_rows};
 use crate::noted::ReadResource;
 use crate::rows::count_row;
@@ -38,15 +40,12 @@ impl Rows for ResourceRows {
     ghost use Rattle.span_io.specs.Tables.{givens, no_ends};
     ghost use Rattle.otlp_proto.specs.Group.{resource_table};
     ghost use Rattle.otlp_proto.specs.GroupSoFar.{GatheredResource};
-    ghost use Rattle.otlp_proto.specs.Shapes.{resource_laws};
 
     ghost table = { resource_table };
 
     ghost ends = { no_ends };
 
     ghost gathered = { λ first rows seen. GatheredResource rows (givens resource_table seen) };
-
-    ghost laws = { resource_laws };
 
     fn gather(&mut self, alloc: Global, found: &WireRecord<'_>) -> Result<(), Halt<Cause>> {
         match found.payload {
@@ -77,9 +76,10 @@ fn resource_of(alloc: Global, rows: ResourceRows) -> Result<ReadResource, OutOfM
 
 /// Reads a resource from its message.
 pub fn read_resource(alloc: Global, bytes: &[u8]) -> Result<ReadResource, Halt<Cause>>
-    ensures value { IfOk result (λ read. IsResourceText (resource_read read) bytes.now) }
+    ensures value { IfOk result (λ read. MeansMessage IsResource bytes.now (resource_read read)) }
     ensures judged { Judges result (Offence messages resource_rules bytes.now) }
 {
+    message_rules();
     let rows = read_rows(alloc, ResourceRows::none(alloc), bytes)?;
     let read = resource_of(alloc, rows)?;
     Ok(read)

@@ -1,10 +1,11 @@
 //! Rows of a message's table, as a reader sets them.
 ghost use Rattle.std.specs.Prelude.{◌≡◌, ℕ, List, None, Err, IsSome, IfOk, OnOk, OnErr};
 ghost use Rattle.span_io.specs.Offences.{JudgesHere};
-ghost use Rattle.span_io.specs.Tables.{Twice, NotText};
+ghost use Rattle.span_io.specs.Tables.{Twice, NotText, MeansText};
 ghost use Rattle.otlp_proto.specs.Identifiers.{MeansTraceId, MeansSpanId, WrongLength};
-ghost use Rattle.otlp_proto.specs.Rows.{MeansText, MeansNumber, MeansCount};
-ghost use Rattle.otlp_proto.specs.RowsSoFar.{Gave, Sets, JudgesCause, JudgesText, JudgesIdentifier};
+ghost use Rattle.otlp_proto.specs.Rows.{MeansNumber, MeansCount};
+ghost use Rattle.otlp_proto.specs.Identifiers.{JudgesIdentifier};
+ghost use Rattle.span_io.specs.RowsSoFar.{Gave, Sets, JudgesCause, JudgesText};
 ghost use Rattle.span_io.specs.declared.cause.Cause.TheVariants as causes;
 
 use span_ids::{SpanId, TraceId};

@@ -4,12 +4,13 @@ ghost use Rattle.span_io.specs.Offences.{Offence, Judges};
 ghost use Rattle.span_io.specs.Tables.{givens};
 ghost use Rattle.proto_wire.specs.Messages.{messages};
 ghost use Rattle.otlp_proto.specs.ReadParts.{IsReadScope, instrumentation_scope_read};
-ghost use Rattle.otlp_proto.specs.RowsSoFar.{Sets, Adds, JudgesMessage};
+ghost use Rattle.span_io.specs.RowsSoFar.{Sets, Adds, JudgesMessage};
 ghost use Rattle.otlp_proto.specs.Scope.{no_instrumentation_scope, instrumentation_scope_rules, scope_table, scope_rules};
 ghost use Rattle.otlp_proto.specs.ScopeSoFar.{MeansInstrumentationScope, GatheredSpans, GatheredScope, MakesScope};
 ghost use Rattle.otlp_proto.specs.Span.{span_rules};
 
 use crate::instrumentation_scope::read_instrumentation_scope;
+use crate::laws::message_rules;
 use crate::message::{Rows, read_rows};
 use crate::noted::{ReadInstrumentationScope, ReadScope};
 use crate::remarks::{number_behind, remark_all, remark_keys};
@@ -44,7 +45,7 @@ fn instrumentation_row(
     held: &[u8],
 ) -> Result<(), Halt<Cause>>
     ensures ok { OnOk result (Sets MeansInstrumentationScope held.now row.old row.new) }
-    ensures judged { JudgesMessage MeansInstrumentationScope instrumentation_scope_rules row.old held.now result }
+    ensures judged { JudgesMessage messages MeansInstrumentationScope instrumentation_scope_rules row.old held.now result }
 {
     once(row)?;
     *row = Some(read_instrumentation_scope(alloc, held)?);
@@ -94,15 +95,12 @@ impl Rows for ScopeRows {
     ghost use Rattle.span_io.specs.Tables.{givens, no_ends};
     ghost use Rattle.otlp_proto.specs.Scope.{scope_table};
     ghost use Rattle.otlp_proto.specs.ScopeSoFar.{GatheredScope};
-    ghost use Rattle.otlp_proto.specs.Shapes.{scope_laws};
 
     ghost table = { scope_table };
 
     ghost ends = { no_ends };
 
     ghost gathered = { λ first rows seen. GatheredScope first.spans.first rows (givens scope_table seen) };
-
-    ghost laws = { scope_laws };
 
     fn gather(&mut self, alloc: Global, found: &WireRecord<'_>) -> Result<(), Halt<Cause>> {
         match found.payload {
@@ -162,6 +160,7 @@ pub fn read_scope(
     ensures value { IfOk result (λ read. IsReadScope number first read bytes.now) }
     ensures judged { Judges result (Offence messages scope_rules bytes.now) }
 {
+    message_rules();
     let rows = read_rows(alloc, ScopeRows::none(alloc, first), bytes)?;
     let read = scope_of(alloc, number, rows)?;
     Ok(read)

@@ -5,7 +5,7 @@ ghost use Rattle.span_io.specs.Tables.{givens};
 ghost use Rattle.proto_wire.specs.Messages.{messages};
 ghost use Rattle.proto_wire.specs.Records.{Record};
 ghost use Rattle.otlp_proto.specs.ReadParts.{IsReadSpan};
-ghost use Rattle.otlp_proto.specs.RowsSoFar.{Sets, JudgesCause, JudgesEnum, JudgesMessage};
+ghost use Rattle.span_io.specs.RowsSoFar.{Sets, JudgesCause, JudgesEnum, JudgesMessage};
 ghost use Rattle.otlp_proto.specs.Span.{MeansKind, span_ends, span_rules, span_table};
 ghost use Rattle.otlp_proto.specs.SpanSoFar.{GatheredSpan, GaveSpan, MakesSpan, MeansStatus, TakesSpanId, TakesTraceId};
 ghost use Rattle.otlp_proto.specs.Status.{no_status, status_rules};
@@ -15,6 +15,7 @@ mod links;
 mod remarks;
 
 use crate::attributes::AttributeRows;
+use crate::laws::message_rules;
 use crate::message::{Rows, read_rows};
 use crate::noted::ReadSpan;
 use crate::rows::{count_row, flags_row, once, span_id_row, text_row, time_row, trace_id_row};
@@ -71,7 +72,7 @@ fn kind_row(row: &mut Option<Kind>, n: u64) -> Result<(), Cause>
 // Sets the row of the status.
 fn status_row(alloc: Global, row: &mut Option<Status>, held: &[u8]) -> Result<(), Halt<Cause>>
     ensures ok { OnOk result (Sets MeansStatus held.now row.old row.new) }
-    ensures judged { JudgesMessage MeansStatus status_rules row.old held.now result }
+    ensures judged { JudgesMessage messages MeansStatus status_rules row.old held.now result }
 {
     once(row)?;
     *row = Some(read_status(alloc, held)?);
@@ -122,7 +123,6 @@ impl SpanRows {
 
 impl Rows for SpanRows {
     ghost use Rattle.span_io.specs.Tables.{givens};
-    ghost use Rattle.otlp_proto.specs.Shapes.{span_laws};
     ghost use Rattle.otlp_proto.specs.Span.{span_ends, span_table};
     ghost use Rattle.otlp_proto.specs.SpanSoFar.{GatheredSpan};
 
@@ -131,8 +131,6 @@ impl Rows for SpanRows {
     ghost ends = { span_ends };
 
     ghost gathered = { λ first rows seen. GatheredSpan first.number rows (givens span_table seen) };
-
-    ghost laws = { span_laws };
 
     fn gather(&mut self, alloc: Global, found: &WireRecord<'_>) -> Result<(), Halt<Cause>> {
         match found.payload {
@@ -220,6 +218,7 @@ pub fn read_span(alloc: Global, number: u32, bytes: &[u8]) -> Result<ReadSpan, H
     ensures value { IfOk result (λ read. IsReadSpan number read bytes.now) }
     ensures judged { Judges result (Offence messages span_rules bytes.now) }
 {
+    message_rules();
     let rows = read_rows(alloc, SpanRows::none(alloc, number), bytes)?;
     span_of(alloc, rows)
 }

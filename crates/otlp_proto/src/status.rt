@@ -4,10 +4,12 @@ ghost use Rattle.span_io.specs.Offences.{Offence, Judges};
 ghost use Rattle.span_io.specs.Tables.{givens};
 ghost use Rattle.proto_wire.specs.Records.{Record};
 ghost use Rattle.proto_wire.specs.Messages.{messages};
-ghost use Rattle.otlp_proto.specs.RowsSoFar.{Sets, JudgesEnum};
-ghost use Rattle.otlp_proto.specs.Status.{MeansCode, IsStatus, IsStatusText, status_table, status_rules};
+ghost use Rattle.span_io.specs.RowsSoFar.{Sets, JudgesEnum};
+ghost use Rattle.otlp_proto.specs.Status.{MeansCode, IsStatus, status_table, status_rules};
 ghost use Rattle.otlp_proto.specs.StatusSoFar.{GatheredStatus};
+ghost use Rattle.otlp_proto.specs.Rows.{MeansMessage};
 
+use crate::laws::message_rules;
 use crate::message::{Rows, read_rows};
 use crate::rows::{once, text_row};
 use proto_wire::{Payload, WireRecord};
@@ -53,7 +55,6 @@ impl Rows for StatusRows {
     ghost use Rattle.std.specs.Prelude.{List};
     ghost use Rattle.span_io.specs.Tables.{givens, no_ends};
     ghost use Rattle.proto_wire.specs.Records.{Record};
-    ghost use Rattle.otlp_proto.specs.Shapes.{status_laws};
     ghost use Rattle.otlp_proto.specs.Status.{status_table};
     ghost use Rattle.otlp_proto.specs.StatusSoFar.{GatheredStatus};
 
@@ -62,8 +63,6 @@ impl Rows for StatusRows {
     ghost ends = { no_ends };
 
     ghost gathered = { λ first rows seen. GatheredStatus rows (givens status_table seen) };
-
-    ghost laws = { status_laws };
 
     fn gather(&mut self, alloc: Global, found: &WireRecord<'_>) -> Result<(), Halt<Cause>> {
         match found.payload {
@@ -92,9 +91,10 @@ fn status_of(alloc: Global, rows: StatusRows) -> Status
 
 /// Reads a status from its message.
 pub fn read_status(alloc: Global, bytes: &[u8]) -> Result<Status, Halt<Cause>>
-    ensures value { IfOk result (λ status. IsStatusText status bytes.now) }
+    ensures value { IfOk result (λ status. MeansMessage IsStatus bytes.now status) }
     ensures judged { Judges result (Offence messages status_rules bytes.now) }
 {
+    message_rules();
     let rows = read_rows(alloc, StatusRows::none(), bytes)?;
     Ok(status_of(alloc, rows))
 }

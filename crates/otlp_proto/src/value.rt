@@ -5,12 +5,13 @@ ghost use Rattle.span_io.specs.Offences.{Offence, Judges};
 ghost use Rattle.proto_wire.specs.Records.{plain_record};
 ghost use Rattle.proto_wire.specs.Messages.{messages};
 ghost use Rattle.otlp_proto.specs.ReadParts.{value_read, key_value_read};
-ghost use Rattle.otlp_proto.specs.RowsSoFar.{Adds, JudgesCause};
+ghost use Rattle.span_io.specs.RowsSoFar.{Adds, JudgesCause};
 ghost use Rattle.otlp_proto.specs.Values.{array_value, kvlist_value, IsListText, IsMapText};
 ghost use Rattle.otlp_proto.specs.Values.{value_in, key_value_in, value_at, key_value_at};
 ghost use Rattle.otlp_proto.specs.Values.{list_rules, map_rules, value_rules, key_value_rules};
 ghost use Rattle.otlp_proto.specs.ValuesSoFar.{GatheredList, GatheredMap, GatheredMembers, GatheredValue, GatheredKeyValue};
-ghost use Rattle.otlp_proto.specs.ValuesSoFar.{JudgesNext, JudgesMember};
+ghost use Rattle.otlp_proto.specs.ValuesSoFar.{JudgesMember};
+ghost use Rattle.span_io.specs.Gathering.{JudgesNext};
 
 use crate::noted::{ReadKeyValue, ReadValue};
 use crate::rows::{once, text_row};
@@ -167,7 +168,7 @@ fn add_field(
 /// Reads a value below which so many levels are left.
 #[cycle(values)]
 pub fn read_value(alloc: Global, left: u8, bytes: &[u8]) -> Result<ReadValue, Halt<Cause>>
-    ensures value { IfOk result (λ r. value_at left (value_read r) bytes.now) }
+    ensures value { IfOk result (λ r. value_at left bytes.now (value_read r)) }
     ensures judged { Judges result (Offence messages (value_rules left) bytes.now) }
 {
     message_cuts();
@@ -185,7 +186,7 @@ pub fn read_value(alloc: Global, left: u8, bytes: &[u8]) -> Result<ReadValue, Ha
 // Reads a list below which so many levels are left.
 #[cycle(values)]
 fn read_list(alloc: Global, left: u8, bytes: &[u8]) -> Result<ReadValue, Halt<Cause>>
-    ensures value { IfOk result (λ r. IsListText (value_in left) (value_read r) bytes.now) }
+    ensures value { IfOk result (λ r. IsListText (value_in left) bytes.now (value_read r)) }
     ensures judged { Judges result (Offence messages (list_rules left) bytes.now) }
 {
     message_cuts();
@@ -203,7 +204,7 @@ fn read_list(alloc: Global, left: u8, bytes: &[u8]) -> Result<ReadValue, Halt<Ca
 // Reads a map below which so many levels are left.
 #[cycle(values)]
 fn read_map(alloc: Global, left: u8, bytes: &[u8]) -> Result<ReadValue, Halt<Cause>>
-    ensures value { IfOk result (λ r. IsMapText (key_value_in left) (value_read r) bytes.now) }
+    ensures value { IfOk result (λ r. IsMapText (key_value_in left) bytes.now (value_read r)) }
     ensures judged { Judges result (Offence messages (map_rules left) bytes.now) }
 {
     message_cuts();
@@ -221,7 +222,7 @@ fn read_map(alloc: Global, left: u8, bytes: &[u8]) -> Result<ReadValue, Halt<Cau
 /// Reads a `KeyValue` below whose value so many levels are left.
 #[cycle(values)]
 pub fn read_key_value(alloc: Global, left: u8, bytes: &[u8]) -> Result<ReadKeyValue, Halt<Cause>>
-    ensures value { IfOk result (λ p. key_value_at left (key_value_read p) bytes.now) }
+    ensures value { IfOk result (λ p. key_value_at left bytes.now (key_value_read p)) }
     ensures judged { Judges result (Offence messages (key_value_rules left) bytes.now) }
 {
     message_cuts();

@@ -2,7 +2,7 @@
 ghost use Rattle.std.specs.Prelude.{◌≡◌, ◌++◌, ◌∷◌, [], ℕ, List, IfOk, OnOk};
 ghost use Rattle.span_io.specs.Tables.{Twice};
 ghost use Rattle.otlp_proto.specs.ReadParts.{value_read, key_value_read};
-ghost use Rattle.otlp_proto.specs.RowsSoFar.{Adds, JudgesCause};
+ghost use Rattle.span_io.specs.RowsSoFar.{Adds, JudgesCause};
 ghost use Rattle.otlp_proto.specs.Values.{Member, string_value, bytes_value, leaf, entry, IsListText, IsMapText};
 ghost use Rattle.otlp_proto.specs.Values.{value_in, key_value_in, value_at, key_value_at};
 ghost use Rattle.otlp_proto.specs.ValuesSoFar.{GatheredList, GatheredMap, GatheredMembers, GatheredValue, GatheredKeyValue};

@@ -1,5 +1,5 @@
 -- The groups of an input are sound and proper, so that what is written for them is read back.
-use Rattle.std.proofs.Common.{◌≡◌, ℕ, suc, ◌<◌, ◌++◌, ◌∷◌, List, [], length, take, All, Bool, true, false, refl, ap, sym, subst}
+use Rattle.std.proofs.Common.{ℕ, ◌<◌, ◌++◌, ◌∷◌, List, [], take, All, Bool, true, false, sym, subst}
 use Rattle.std.specs.Prelude.{◌==◌, if◌then◌else◌}
 use Rattle.std.specs.List.{AllByRecursion}
 use Rattle.std.proofs.lemmas.List.Elements.{All-nil, All-cons, All-head, All-tail, All-take}
@@ -15,7 +15,6 @@ use Rattle.trace_model.specs.declared.remark.Remark.{Remark}
 use Rattle.trace_model.specs.declared.trace.Group.{Group}
 use Rattle.otlp_proto.specs.Group.{IsGroupText}
 use Rattle.otlp_proto.specs.Rows.{bytes_in}
-use Rattle.span_io.specs.Tables.{Each}
 use Rattle.span_convert.specs.Canonical.{IsProperTrace}
 use Rattle.span_convert.specs.Requests.{AreRequestUnits}
 use Rattle.span_convert.specs.Units.{HoldsUnits, IsUnitOf, AreGroups}
@@ -70,14 +69,8 @@ held_units forms.OtlpProto limits text units rest all h = units_bytes h.frames u
 
 -- ---- their groups
 
-pub same_length : {A B : Type 0} (Is : B → A → Type 0) (units : List A) (groups : List B) → Each Is units groups → length units ≡ length groups
-same_length Is [] [] h = refl
-same_length Is [] (g ∷ groups) h = absurd h
-same_length Is (unit ∷ units) [] h = absurd h
-same_length Is (unit ∷ units) (g ∷ groups) h = ap (λ n. suc n) (same_length Is units groups h.1)
-
 module _ (sound : (text : List ℕ) (g : Group) (r : List Remark) → IsGroupText g r text → IsSoundGroup g) where
-  sound_unit : (from : Form) (g : Group) (unit : List ℕ) → IsUnitOf from g unit → IsSoundGroup g
+  sound_unit : (from : Form) (g : Group) (unit : List ℕ) → IsUnitOf from unit g → IsSoundGroup g
   sound_unit forms.OtlpProto g unit h = sound unit g h.remarks h.text
 
   pub sound_groups : (from : Form) (units : List (List ℕ)) (groups : List Group) → AreGroups from units groups → IsSoundTrace groups
@@ -87,7 +80,7 @@ module _ (sound : (text : List ℕ) (g : Group) (r : List Remark) → IsGroupTex
   sound_groups from (unit ∷ units) (g ∷ groups) h = All-cons IsSoundGroup g groups (sound_unit from g unit h.0) (sound_groups from units groups h.1)
 
 module _ (proper : (text : List ℕ) (g : Group) (r : List Remark) → AreBytes text → IsGroupText g r text → IsProperGroup g) where
-  proper_unit : (from : Form) (g : Group) (unit : List ℕ) → AreBytes unit → IsUnitOf from g unit → IsProperGroup g
+  proper_unit : (from : Form) (g : Group) (unit : List ℕ) → AreBytes unit → IsUnitOf from unit g → IsProperGroup g
   proper_unit forms.OtlpProto g unit all h = proper unit g h.remarks all h.text
 
   pub proper_groups : (from : Form) (units : List (List ℕ)) (groups : List Group) → AllBytes units → AreGroups from units groups → IsProperTrace groups

@@ -2,6 +2,7 @@
 use Rattle.std.proofs.Common.{◌≡◌, ℕ, ◌+◌, ◌<◌, ◌≤◌, ◌⊎◌, inl, inr, List, [], ◌∷◌, ◌++◌, length, take, refl, ap, sym, subst}
 use Rattle.std.proofs.lemmas.Bool.{cases_lt}
 use Rattle.std.proofs.lemmas.List.Elements.{All-take}
+use Rattle.std.specs.List.{AllZip}
 use Rattle.span_io.specs.Causes.{cause_number}
 use Rattle.span_io.specs.Frames.{ItemsThen}
 use Rattle.span_io.specs.Framings.{Framed, RestIs}
@@ -15,7 +16,6 @@ use Rattle.proto_wire.specs.Records.{Record}
 use Rattle.proto_wire.specs.Wire.{SpellsRecord, records, NeedsMoreBytes, RefusedBy}
 use Rattle.trace_model.specs.declared.trace.Group.{Group}
 use Rattle.otlp_proto.specs.Rows.{bytes_in}
-use Rattle.span_io.specs.Tables.{Each}
 use Rattle.span_convert.specs.Requests.{AreRequestUnits, HoldsRequestUnits, IsRequestUnit, RequestRestCause}
 use Rattle.span_convert.specs.Units.{IsUnitOf, UnitOffence, trace_text, span_count}
 use Rattle.span_convert.specs.Verdicts.{Verdict, good, refused, IsVerdict, tally_of}
@@ -26,7 +26,7 @@ use Rattle.span_convert.proofs.VerdictLaws.{one_or_none}
 
 -- the unit is a text of a group, or an offence counts in it
 abbrev pub IsDecidedUnit : Form → List ℕ → Type 0
-IsDecidedUnit from unit = ((group : Group) × IsUnitOf from group unit) ⊎ ((cause : Cause) × Least (UnitOffence from unit) (cause_number cause))
+IsDecidedUnit from unit = ((group : Group) × IsUnitOf from unit group) ⊎ ((cause : Cause) × Least (UnitOffence from unit) (cause_number cause))
 
 -- what the crates below say of units and frames
 abbrev pub Decides : Form → Type 0
@@ -44,7 +44,7 @@ record FirstBad (limit : ℕ) (text : List ℕ) : Type 0 where
   unit : List ℕ
   are_units : AreRequestUnits frames (before ++ unit ∷ [])
   groups : List Group
-  are_groups : Each IsRequestUnit before groups
+  are_groups : AllZip IsRequestUnit before groups
   cause : Cause
   least : Least (UnitOffence forms.OtlpProto unit) (cause_number cause)
 
@@ -53,7 +53,7 @@ record AllFine (frames : List (List ℕ)) : Type 0 where
   units : List (List ℕ)
   are_units : AreRequestUnits frames units
   groups : List Group
-  are_groups : Each IsRequestUnit units groups
+  are_groups : AllZip IsRequestUnit units groups
 
 -- a frame in front of others: it holds no unit, or one
 module _ (limit : ℕ) (f behind text : List ℕ) (r : Record) (spelled : SpellsRecord f r) (within : length f ≤ limit) (parts : text ≡ f ++ behind) where
@@ -66,7 +66,7 @@ module _ (limit : ℕ) (f behind text : List ℕ) (r : Record) (spelled : Spells
     are_groups = w.are_groups;
   }
 
-  fine_unit : (more : List (List ℕ)) (unit : List ℕ) (group : Group) → bytes_in 1 r ≡ unit ∷ [] → IsRequestUnit group unit → AllFine more → AllFine (f ∷ more)
+  fine_unit : (more : List (List ℕ)) (unit : List ℕ) (group : Group) → bytes_in 1 r ≡ unit ∷ [] → IsRequestUnit unit group → AllFine more → AllFine (f ∷ more)
   unfolding AreRequestUnits
   fine_unit more unit group one is w = record {
     units = unit ∷ w.units;
@@ -105,7 +105,7 @@ module _ (limit : ℕ) (f behind text : List ℕ) (r : Record) (spelled : Spells
     least = w.least;
   }
 
-  bad_unit : (unit : List ℕ) (group : Group) → bytes_in 1 r ≡ unit ∷ [] → IsRequestUnit group unit → FirstBad limit behind → FirstBad limit text
+  bad_unit : (unit : List ℕ) (group : Group) → bytes_in 1 r ≡ unit ∷ [] → IsRequestUnit unit group → FirstBad limit behind → FirstBad limit text
   unfolding AreRequestUnits ItemsThen
   bad_unit unit group one is w = record {
     frames = f ∷ w.frames;

@@ -2,11 +2,13 @@
 use Rattle.std.proofs.Common.{◌≡◌, ℕ, ◌+◌, ◌<◌, ◌≤◌, ◌^◌, ◌++◌, ◌∷◌, inl, inr, List, [], length, map, All, refl, ap, sym, ◌∙◌, subst, arith}
 use Rattle.std.proofs.lemmas.List.{append-nil, length-append, length-map, take_all}
 use Rattle.std.proofs.lemmas.List.Elements.{All-nil, All-cons, All-head, All-tail}
+use Rattle.std.specs.List.{AllZip}
 use Rattle.span_io.specs.Frames.{ItemsThen, GoesOn, BeginsFrame}
 use Rattle.span_io.specs.Limits.{AreLimits}
 use Rattle.span_io.specs.declared.form.Form.{Form}
 use Rattle.span_io.specs.declared.form.Form.TheVariants as forms
 use Rattle.span_io.specs.declared.limits.Limits.{Limits}
+use Rattle.span_io.specs.RowLaws.{all_zip_once}
 use Rattle.proto_wire.specs.Records.{Record, IsProper, bytes}
 use Rattle.proto_wire.specs.Wire.{SpellsRecord, records, record_text, opening_text}
 use Rattle.trace_model.specs.Proper.{IsProperGroup}
@@ -14,7 +16,6 @@ use Rattle.trace_model.specs.Soundness.{IsSoundGroup, IsSoundTrace}
 use Rattle.trace_model.specs.declared.trace.Group.{Group}
 use Rattle.otlp_proto.specs.Group.{IsGroupText}
 use Rattle.otlp_proto.specs.Texts.{group_text, group_record}
-use Rattle.span_io.specs.Tables.{Each}
 use Rattle.span_convert.specs.Canonical.{normal_form, Reads, ReadsPlainly, IsProperTrace, IsSized, IsWithin}
 use Rattle.span_convert.specs.Requests.{AreRequestUnits, IsRequestUnit, request_text, IsRequestWithin, ReadsRequest, ReadsRequestPlainly, IsPlainRequestUnit}
 use Rattle.span_convert.specs.Units.{trace_text, span_count}
@@ -45,7 +46,7 @@ each_within limit [] h = All-nil (λ g. length (group_record g) ≤ limit)
 each_within limit (g ∷ groups) h = All-cons (λ g. length (group_record g) ≤ limit) g groups (first_within limit g groups h) (each_within limit groups (rest_within limit g groups h))
 
 -- units without remarks are units
-remarked : (units : List (List ℕ)) (groups : List Group) → Each IsPlainRequestUnit units groups → Each IsRequestUnit units groups
+remarked : (units : List (List ℕ)) (groups : List Group) → AllZip IsPlainRequestUnit units groups → AllZip IsRequestUnit units groups
 remarked [] [] h = tt
 remarked [] (g ∷ groups) h = absurd h
 remarked (unit ∷ units) [] h = absurd h
@@ -79,7 +80,7 @@ module _ (L : TextLaws) where
       let first : length (group_record g) ≤ limit = All-head (λ g. length (group_record g) ≤ limit) g groups all in
       (unit_record g, record_spelled g (omega (arith, first, short)), map group_text groups, refl, units_held limit groups short (All-tail (λ g. length (group_record g) ≤ limit) g groups all))
 
-  pub plain_units : (limit : ℕ) (groups : List Group) → limit < 2 ^ 63 → All (λ g. length (group_record g) ≤ limit) groups → IsSoundTrace groups → IsProperTrace groups → Each IsPlainRequestUnit (map group_text groups) groups
+  pub plain_units : (limit : ℕ) (groups : List Group) → limit < 2 ^ 63 → All (λ g. length (group_record g) ≤ limit) groups → IsSoundTrace groups → IsProperTrace groups → AllZip IsPlainRequestUnit (map group_text groups) groups
   plain_units limit [] short all sound proper = tt
   plain_units limit (g ∷ groups) short all sound proper =
       let first : length (group_record g) ≤ limit = All-head (λ g. length (group_record g) ≤ limit) g groups all in (
@@ -163,7 +164,7 @@ module _ (L : verdicts.Laws) where
   one_request text a b h g =
       let frames : h.frames ≡ g.frames = same_frames (length text) text h.frames g.frames h.framed g.framed in
       let units : h.units ≡ g.units = verdicts.units_once L g.frames h.units g.units (subst (λ (l : List (List ℕ)). AreRequestUnits l h.units) frames h.are_units) g.are_units in
-      verdicts.each_once IsRequestUnit (verdicts.one_group L) g.units a b (subst (λ (l : List (List ℕ)). Each IsRequestUnit l a) units h.are_groups) g.are_groups
+      all_zip_once IsRequestUnit (verdicts.one_group L) g.units a b (subst (λ (l : List (List ℕ)). AllZip IsRequestUnit l a) units h.are_groups) g.are_groups
 
   pub one_trace : (from : Form) (text : List ℕ) (a b : List Group) → Reads from text a → Reads from text b → a ≡ b
   one_trace forms.OtlpProto text a b h g = one_request text a b h g

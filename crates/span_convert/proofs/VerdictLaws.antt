@@ -3,6 +3,8 @@ use Rattle.std.proofs.Common.{◌≡◌, ◌≢◌, ◌+◌, ◌<◌, ◌≤◌,
 use Rattle.std.specs.Prelude.{◌==◌, if◌then◌else◌}
 use Rattle.std.proofs.lemmas.Grind.{flat_map-append}
 use Rattle.std.proofs.lemmas.List.{append_assoc, append-nil, length-append}
+use Rattle.std.specs.List.{AllZip}
+use Rattle.span_io.specs.RowLaws.{all_zip_once}
 use Rattle.span_io.specs.Frames.{ItemsThen, GoesOn, BeginsFrame}
 use Rattle.span_io.specs.Limits.{AreLimits}
 use Rattle.span_io.specs.Causes.{cause_number}
@@ -23,7 +25,6 @@ use Rattle.trace_model.specs.declared.trace.Group.{Group}
 use Rattle.otlp_proto.specs.Group.{IsGroupText, group_rules}
 use Rattle.otlp_proto.specs.Rows.{bytes_in}
 use Rattle.otlp_proto.specs.Texts.{group_record}
-use Rattle.span_io.specs.Tables.{Each}
 use Rattle.span_convert.specs.Requests.{AreRequestUnits, HoldsRequestUnits, IsRequestUnit, RequestRestCause}
 use Rattle.span_convert.specs.Units.{HoldsUnits, AreGroups, trace_text, span_count}
 use Rattle.span_convert.specs.Verdicts.{Verdict, good, refused, IsVerdict, text_in, tally_of}
@@ -73,30 +74,19 @@ last_of [] x (z ∷ first) behind e = at_end_of first behind (head_is x z [] (fi
 last_of (y ∷ front) x (z ∷ first) behind e = longer_last y front x z first behind (head_is y z _ _ e) (last_of front x first behind (tail_is y z _ _ e))
 
 -- what stands for the two parts of a list
-pub record Parts {A B : Type 0} (Is : B → A → Type 0) (a b : List A) (xs : List B) : Type 0 where
+pub record Parts {A B : Type 0} (Is : A → B → Type 0) (a b : List A) (xs : List B) : Type 0 where
   pub first : List B
   pub behind : List B
-  pub are_first : Each Is a first
-  pub are_behind : Each Is b behind
+  pub are_first : AllZip Is a first
+  pub are_behind : AllZip Is b behind
   pub whole : xs ≡ first ++ behind
 
-parts_of : {A B : Type 0} (Is : B → A → Type 0) (a b : List A) (xs : List B) → Each Is (a ++ b) xs → Parts Is a b xs
+parts_of : {A B : Type 0} (Is : A → B → Type 0) (a b : List A) (xs : List B) → AllZip Is (a ++ b) xs → Parts Is a b xs
 parts_of Is [] b xs h = record { first = []; behind = xs; are_first = tt; are_behind = h; whole = refl }
 parts_of Is (x ∷ a) b [] h = absurd h
 parts_of Is (x ∷ a) b (y ∷ ys) h =
     let w : Parts Is a b ys = parts_of Is a b ys h.1 in
     record { first = y ∷ w.first; behind = w.behind; are_first = (h.0, w.are_first); are_behind = w.are_behind; whole = ap (λ l. y ∷ l) w.whole }
-
-pub each_once : {A B : Type 0} (Is : B → A → Type 0) → ((x y : B) (held : A) → Is x held → Is y held → x ≡ y) → (a : List A) (xs ys : List B) → Each Is a xs → Each Is a ys → xs ≡ ys
-each_once Is one [] [] [] h g = refl
-each_once Is one [] [] (y ∷ ys) h g = absurd g
-each_once Is one [] (x ∷ xs) ys h g = absurd h
-each_once Is one (a ∷ more) [] ys h g = absurd h
-each_once Is one (a ∷ more) (x ∷ xs) [] h g = absurd g
-each_once Is one (a ∷ more) (x ∷ xs) (y ∷ ys) h g =
-    let e : x ≡ y = one x y a h.0 g.0 in
-    let f : xs ≡ ys = each_once Is one more xs ys h.1 g.1 in
-    cc
 
 -- the text of two lists of groups
 text_append : (to : Form) (a b : List Group) → trace_text to (a ++ b) ≡ trace_text to a ++ trace_text to b
@@ -229,18 +219,18 @@ module _ (L : Laws) where
 
   -- ---- a unit that offends is a text of no group
 
-  no_group : (unit : List ℕ) (n : ℕ) (groups : List Group) → Least (Offence messages group_rules unit) n → Each IsRequestUnit (unit ∷ []) groups → ⊥
+  no_group : (unit : List ℕ) (n : ℕ) (groups : List Group) → Least (Offence messages group_rules unit) n → AllZip IsRequestUnit (unit ∷ []) groups → ⊥
   no_group unit n [] least h = h
   no_group unit n (g ∷ groups) least h = L.fine unit g h.0.remarks h.0.text least.place n least.offence
 
-  last_group : (front : List (List ℕ)) (unit : List ℕ) (behind : List (List ℕ)) (n : ℕ) (groups : List Group) → Least (Offence messages group_rules unit) n → Each IsRequestUnit ((front ++ unit ∷ []) ++ behind) groups → ⊥
+  last_group : (front : List (List ℕ)) (unit : List ℕ) (behind : List (List ℕ)) (n : ℕ) (groups : List Group) → Least (Offence messages group_rules unit) n → AllZip IsRequestUnit ((front ++ unit ∷ []) ++ behind) groups → ⊥
   last_group front unit behind n groups least h =
       let p : Parts IsRequestUnit (front ++ unit ∷ []) behind groups = parts_of IsRequestUnit (front ++ unit ∷ []) behind groups h in
       let q : Parts IsRequestUnit front (unit ∷ []) p.first = parts_of IsRequestUnit front (unit ∷ []) p.first p.are_first in
       no_group unit n q.behind least q.are_behind
 
-  pub one_group : (g h : Group) (unit : List ℕ) → IsRequestUnit g unit → IsRequestUnit h unit → g ≡ h
-  one_group g h unit a b = (L.once unit g h a.remarks b.remarks a.text b.text).0
+  pub one_group : (unit : List ℕ) (g h : Group) → IsRequestUnit unit g → IsRequestUnit unit h → g ≡ h
+  one_group unit g h a b = (L.once unit g h a.remarks b.remarks a.text b.text).0
 
   module _ (to : Form) where
     -- ---- the units and groups before a verdict
@@ -261,7 +251,7 @@ module _ (L : Laws) where
     text_is limits text (refused refusal out) (inl h) = h.partial
     text_is limits text (refused refusal out) (inr h) = h.partial
 
-    are_in : (limits : Limits) (text : List ℕ) (v : Verdict) (h : IsVerdict forms.OtlpProto to limits text v) → Each IsRequestUnit (units_in limits text v h) (groups_in limits text v h)
+    are_in : (limits : Limits) (text : List ℕ) (v : Verdict) (h : IsVerdict forms.OtlpProto to limits text v) → AllZip IsRequestUnit (units_in limits text v h) (groups_in limits text v h)
     unfolding units_in groups_in
     are_in limits text (good out tally) h = h.are_groups
     are_in limits text (refused refusal out) (inl h) = h.are_groups
@@ -287,21 +277,21 @@ module _ (L : Laws) where
       more : List (List ℕ)
       parts : all ≡ units ++ more
 
-    first_unit : (limits : Limits) (text : List ℕ) (units : List (List ℕ)) (rest : List ℕ) (groups : List Group) (before : List (List ℕ)) (unit other : List ℕ) (n : ℕ) → Least (Offence messages group_rules unit) n → Each IsRequestUnit units groups
+    first_unit : (limits : Limits) (text : List ℕ) (units : List (List ℕ)) (rest : List ℕ) (groups : List Group) (before : List (List ℕ)) (unit other : List ℕ) (n : ℕ) → Least (Offence messages group_rules unit) n → AllZip IsRequestUnit units groups
         → GoOn limits units (before ++ unit ∷ []) rest other ⊎ GoOn limits (before ++ unit ∷ []) units other rest → First units before
     first_unit limits text units rest groups before unit other n least are (inl w) = of (last_of before unit units w.behind w.parts)
       where
         of : Last (List ℕ) before unit units w.behind → First units before
-        of (at_end p q) = absurd (last_group before unit [] n groups least (subst (λ (l : List (List ℕ)). Each IsRequestUnit l groups) (sym p ∙ sym (append-nil (before ++ unit ∷ []))) are))
+        of (at_end p q) = absurd (last_group before unit [] n groups least (subst (λ (l : List (List ℕ)). AllZip IsRequestUnit l groups) (sym p ∙ sym (append-nil (before ++ unit ∷ []))) are))
         of (inside more p) = record { more = more; parts = p }
-    first_unit limits text units rest groups before unit other n least are (inr w) = absurd (last_group before unit w.behind n groups least (subst (λ (l : List (List ℕ)). Each IsRequestUnit l groups) w.parts are))
+    first_unit limits text units rest groups before unit other n least are (inr w) = absurd (last_group before unit w.behind n groups least (subst (λ (l : List (List ℕ)). AllZip IsRequestUnit l groups) w.parts are))
 
     first_in : (limits : Limits) (text : List ℕ) (units : List (List ℕ)) (rest : List ℕ) (groups : List Group) (all : List (List ℕ)) (other : List ℕ) → ((n : ℕ) → BeginsFrame records limits.unit n other → ⊥)
         → GoOn limits units all rest other ⊎ GoOn limits all units other rest → First units all
     first_in limits text units rest groups all other none (inl w) = record { more = w.behind; parts = w.parts }
     first_in limits text units rest groups all other none (inr w) = record { more = []; parts = sym (no_more limits all units other rest none w).0 ∙ sym (append-nil units) }
 
-    first : (limits : Limits) → AreLimits limits → (text : List ℕ) (units : List (List ℕ)) (rest : List ℕ) (groups : List Group) → HoldsRequestUnits limits text units rest → Each IsRequestUnit units groups → (v : Verdict) (h : IsVerdict forms.OtlpProto to limits text v)
+    first : (limits : Limits) → AreLimits limits → (text : List ℕ) (units : List (List ℕ)) (rest : List ℕ) (groups : List Group) → HoldsRequestUnits limits text units rest → AllZip IsRequestUnit units groups → (v : Verdict) (h : IsVerdict forms.OtlpProto to limits text v)
         → First units (units_in limits text v h)
     unfolding units_in
     first limits valid text units rest groups held are (good out tally) h =
@@ -316,12 +306,12 @@ module _ (L : Laws) where
       more : List Group
       parts : all ≡ groups ++ more
 
-    first_groups : (units all : List (List ℕ)) (groups them : List Group) → Each IsRequestUnit units groups → Each IsRequestUnit all them → First units all → FirstGroups groups them
+    first_groups : (units all : List (List ℕ)) (groups them : List Group) → AllZip IsRequestUnit units groups → AllZip IsRequestUnit all them → First units all → FirstGroups groups them
     first_groups units all groups them are all_are f =
-        let p : Parts IsRequestUnit units f.more them = parts_of IsRequestUnit units f.more them (subst (λ (l : List (List ℕ)). Each IsRequestUnit l them) f.parts all_are) in
-        record { more = p.behind; parts = p.whole ∙ ap (λ l. l ++ p.behind) (each_once IsRequestUnit one_group units p.first groups p.are_first are) }
+        let p : Parts IsRequestUnit units f.more them = parts_of IsRequestUnit units f.more them (subst (λ (l : List (List ℕ)). AllZip IsRequestUnit l them) f.parts all_are) in
+        record { more = p.behind; parts = p.whole ∙ ap (λ l. l ++ p.behind) (all_zip_once IsRequestUnit one_group units p.first groups p.are_first are) }
 
-    request_so_far : (limits : Limits) → AreLimits limits → (text rest : List ℕ) (units : List (List ℕ)) (groups : List Group) (v : Verdict) → HoldsRequestUnits limits text units rest → Each IsRequestUnit units groups → IsVerdict forms.OtlpProto to limits text v → IsFront (trace_text to groups) (text_in v)
+    request_so_far : (limits : Limits) → AreLimits limits → (text rest : List ℕ) (units : List (List ℕ)) (groups : List Group) (v : Verdict) → HoldsRequestUnits limits text units rest → AllZip IsRequestUnit units groups → IsVerdict forms.OtlpProto to limits text v → IsFront (trace_text to groups) (text_in v)
     request_so_far limits valid text rest units groups v held are h =
         let f : First units (units_in limits text v h) = first limits valid text units rest groups held are v h in
         let g : FirstGroups groups (groups_in limits text v h) = first_groups units (units_in limits text v h) groups (groups_in limits text v h) are (are_in limits text v h) f in
@@ -345,8 +335,8 @@ module _ (L : Laws) where
         both_first (units_in limits text v h) (units_in limits text w g) q.more p.more q.parts p.parts
 
     same_groups : (limits : Limits) → AreLimits limits → (text : List ℕ) (v w : Verdict) (h : IsVerdict forms.OtlpProto to limits text v) (g : IsVerdict forms.OtlpProto to limits text w) → groups_in limits text v h ≡ groups_in limits text w g
-    same_groups limits valid text v w h g = each_once IsRequestUnit one_group (units_in limits text v h) (groups_in limits text v h) (groups_in limits text w g) (are_in limits text v h)
-        (subst (λ (l : List (List ℕ)). Each IsRequestUnit l (groups_in limits text w g)) (sym (same_units limits valid text v w h g)) (are_in limits text w g))
+    same_groups limits valid text v w h g = all_zip_once IsRequestUnit one_group (units_in limits text v h) (groups_in limits text v h) (groups_in limits text w g) (are_in limits text v h)
+        (subst (λ (l : List (List ℕ)). AllZip IsRequestUnit l (groups_in limits text w g)) (sym (same_units limits valid text v w h g)) (are_in limits text w g))
 
     same_text : (limits : Limits) → AreLimits limits → (text : List ℕ) (v w : Verdict) → IsVerdict forms.OtlpProto to limits text v → IsVerdict forms.OtlpProto to limits text w → text_in v ≡ text_in w
     same_text limits valid text v w h g = text_is limits text v h ∙ ap (λ l. trace_text to l) (same_groups limits valid text v w h g) ∙ sym (text_is limits text w g)

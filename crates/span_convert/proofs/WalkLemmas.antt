@@ -5,6 +5,8 @@ use Rattle.std.proofs.lemmas.List.Concat.{flat_map-append, flat_map-cons}
 use Rattle.std.proofs.lemmas.Bool.{false≢true}
 use Rattle.std.proofs.KnownBytes.{Appends-nil}
 use Rattle.std.specs.List.{flat_map}
+use Rattle.span_io.specs.RowLaws.{all_zip_push}
+use Rattle.span_io.specs.TableLaws.{flat_more}
 use Rattle.span_io.specs.Causes.{cause_number}
 use Rattle.span_io.specs.Frames.{ItemsThen}
 use Rattle.span_io.specs.Offences.{Offence, Least}
@@ -23,7 +25,6 @@ use Rattle.trace_model.specs.declared.trace.Scope.{Scope}
 use Rattle.otlp_proto.specs.Group.{group_rules}
 use Rattle.otlp_proto.specs.Rows.{bytes_in}
 use Rattle.otlp_proto.specs.Texts.{group_record}
-use Rattle.span_io.specs.Tables.{Each}
 use Rattle.span_convert.specs.Requests.{AreRequestUnits, HoldsRequestUnits, IsRequestUnit, RequestRestCause}
 use Rattle.span_convert.specs.Units.{span_count}
 use Rattle.span_convert.specs.Verdicts.{tally_of, IsBadUnit, IsBadRest, IsTextSoFar, WritesFront}
@@ -48,15 +49,6 @@ cut_at limit rest behind found units first others holds = record {
 
 -- ---- lists that grow by one
 
-pub flat_push : {X A : Type 0} (f : X → List A) (xs : List X) (x : X) → flat_map f (xs ++ x ∷ []) ≡ flat_map f xs ++ f x
-flat_push f xs x = flat_map-append f xs (x ∷ []) ∙ ap (λ l. flat_map f xs ++ l) (flat_map-cons f x [] ∙ append-nil (f x))
-
-each_push : {A B : Type 0} (Is : B → A → Type 0) (held : List A) (xs : List B) (a : A) (x : B) → Each Is held xs → Is x a → Each Is (held ++ a ∷ []) (xs ++ x ∷ [])
-each_push Is [] [] a x all here = (here, tt)
-each_push Is [] (y ∷ xs) a x all here = absurd all
-each_push Is (b ∷ held) [] a x all here = absurd all
-each_push Is (b ∷ held) (y ∷ xs) a x all here = (all.0, each_push Is held xs a x all.1 here)
-
 items_push : (limit : ℕ) (items : List (List ℕ)) (frame behind rest bytes : List ℕ) (r : Record) → SpellsRecord frame r → length frame ≤ limit → rest ≡ frame ++ behind → ItemsThen records limit items rest bytes → ItemsThen records limit (items ++ frame ∷ []) behind bytes
 unfolding ItemsThen
 items_push limit [] frame behind rest bytes r spelled within parts so_far = ((r, spelled), within, behind, so_far ∙ parts, refl)
@@ -75,7 +67,7 @@ one_group group = ap (λ l. length (flat_map (λ (s : Scope). s.spans) l)) (flat
 
 spans_push : (groups : List Group) (group : Group) → span_count (groups ++ group ∷ []) ≡ span_count groups + span_count (group ∷ [])
 spans_push groups group =
-    ap (λ l. length (flat_map (λ (s : Scope). s.spans) l)) (flat_push (λ (g : Group). g.scopes) groups group)
+    ap (λ l. length (flat_map (λ (s : Scope). s.spans) l)) (flat_more (λ (g : Group). g.scopes) groups group)
     ∙ ap length (flat_map-append (λ (s : Scope). s.spans) (flat_map (λ (g : Group). g.scopes) groups) group.scopes)
     ∙ length-append (flat_map (λ (s : Scope). s.spans) (flat_map (λ (g : Group). g.scopes) groups)) (flat_map (λ (s : Scope). s.spans) group.scopes)
     ∙ ap (λ k. span_count groups + k) (sym (one_group group))
@@ -85,7 +77,7 @@ pub scopes_push : (count next : ℕ) (scopes : List Scope) (i : ℕ) (scope : Sc
 scopes_push count next scopes i scope lt is so_far e =
     let more : length (flat_map (λ (s : Scope). s.spans) (take (i + 1) scopes)) ≡ length (flat_map (λ (s : Scope). s.spans) (take i scopes)) + length scope.spans =
     ap (λ l. length (flat_map (λ (s : Scope). s.spans) l)) (take_more scopes i scope lt ∙ ap (λ (y : Scope). take i scopes ++ y ∷ []) (sym is))
-    ∙ ap length (flat_push (λ (s : Scope). s.spans) (take i scopes) scope)
+    ∙ ap length (flat_more (λ (s : Scope). s.spans) (take i scopes) scope)
     ∙ length-append (flat_map (λ (s : Scope). s.spans) (take i scopes)) scope.spans in
     omega arith
 
@@ -157,10 +149,10 @@ module _ (limits : Limits) (whole : List ℕ) where
       units = w.units ++ unit ∷ [];
       held = held_then rest behind w.units (unit ∷ []) cut w.held;
       groups = w.groups ++ adds.group ∷ [];
-      are_groups = each_push IsRequestUnit w.units w.groups unit adds.group w.are_groups adds.is_unit;
+      are_groups = all_zip_push IsRequestUnit w.units w.groups unit adds.group w.are_groups adds.is_unit;
       written = w.written;
       gains = w.gains;
-      parts = flat_push group_record w.groups adds.group ∙ ap (λ l. l ++ group_record adds.group) w.parts ∙ append_assoc w.written progress.unwritten (group_record adds.group) ∙ ap (λ l. w.written ++ l) (sym adds.text);
+      parts = flat_more group_record w.groups adds.group ∙ ap (λ l. l ++ group_record adds.group) w.parts ∙ append_assoc w.written progress.unwritten (group_record adds.group) ∙ ap (λ l. w.written ++ l) (sym adds.text);
       counts = tally_from next.tally (length (w.units ++ unit ∷ [])) (span_count (w.groups ++ adds.group ∷ []))
           (adds.units ∙ ap (λ (t : Tally). t.units + 1) w.counts ∙ sym (length-append w.units (unit ∷ [])))
           (spans_more progress.tally.spans next.tally.spans (span_count w.groups) (span_count (adds.group ∷ [])) (ap (λ (t : Tally). t.spans) w.counts) adds.spans ∙ ap (λ n. min n last_count) (sym (spans_push w.groups adds.group)));

@@ -1,7 +1,7 @@
 -- An OTLP request in protobuf, `ExportTraceServiceRequest` (OTLP trace_service.proto). Its units are what its records `resource_spans`
 -- hold, of number 1 and wire type 2. Other records are frames as well, and no units.
 use Rattle.std.specs.Prelude.{◌≡◌, ◌≢◌, ℕ, ◌<◌, ◌≤◌, ◌⊎◌, take, List, [], ◌∷◌, ◌++◌, length, All}
-use Rattle.std.specs.List.{flat_map}
+use Rattle.std.specs.List.{AllZip, flat_map}
 use Rattle.span_io.specs.Frames.{ItemsThen}
 use Rattle.span_io.specs.declared.cause.Cause.{Cause}
 use Rattle.span_io.specs.declared.cause.Cause.TheVariants as causes
@@ -13,7 +13,6 @@ use Rattle.trace_model.specs.declared.trace.Group.{Group}
 use Rattle.otlp_proto.specs.Group.{IsGroupText}
 use Rattle.otlp_proto.specs.Rows.{bytes_in}
 use Rattle.otlp_proto.specs.Texts.{group_record}
-use Rattle.span_io.specs.Tables.{Each}
 
 -- among these frames, in order, those are the units
 unfoldable pub AreRequestUnits : List (List ℕ) → List (List ℕ) → Type 0
@@ -29,7 +28,7 @@ pub record HoldsRequestUnits (limits : Limits) (bytes : List ℕ) (units : List 
   pub are_units : AreRequestUnits frames units
 
 -- the unit is a text of the group
-pub record IsRequestUnit (group : Group) (unit : List ℕ) : Type 0 where
+pub record IsRequestUnit (unit : List ℕ) (group : Group) : Type 0 where
   pub remarks : List Remark
   pub text : IsGroupText group remarks unit
 
@@ -59,11 +58,11 @@ pub record ReadsRequest (bytes : List ℕ) (groups : List Group) : Type 0 where
   pub framed : ItemsThen records (length bytes) frames [] bytes
   pub units : List (List ℕ)
   pub are_units : AreRequestUnits frames units
-  pub are_groups : Each IsRequestUnit units groups
+  pub are_groups : AllZip IsRequestUnit units groups
 
 -- the unit is a text of the group on which there is no remark
-abbrev pub IsPlainRequestUnit : Group → List ℕ → Type 0
-IsPlainRequestUnit group unit = IsGroupText group [] unit
+abbrev pub IsPlainRequestUnit : List ℕ → Group → Type 0
+IsPlainRequestUnit unit group = IsGroupText group [] unit
 
 -- The same, and no remark arises.
 pub record ReadsRequestPlainly (bytes : List ℕ) (groups : List Group) : Type 0 where
@@ -71,4 +70,4 @@ pub record ReadsRequestPlainly (bytes : List ℕ) (groups : List Group) : Type 0
   pub framed : ItemsThen records (length bytes) frames [] bytes
   pub units : List (List ℕ)
   pub are_units : AreRequestUnits frames units
-  pub are_groups : Each IsPlainRequestUnit units groups
+  pub are_groups : AllZip IsPlainRequestUnit units groups

@@ -2,6 +2,7 @@
 -- request, of which it writes the text as an OTLP request.
 use Rattle.std.specs.Prelude.{◌≡◌, ◌≢◌, ℕ, ◌+◌, min, ◌<◌, ◌≤◌, ◌⊎◌, take, Bool, true, false, List, [], ◌∷◌, ◌++◌, length, Option, Some, None, Result, Ok, Err}
 use Rattle.std.specs.Borrow.{Bor}
+use Rattle.std.specs.List.{AllZip}
 use Rattle.span_io.specs.Outside.{Outlet, Gains, GainsFront, OutputFails, last_count}
 use Rattle.span_io.specs.declared.cause.Cause.{Cause}
 use Rattle.span_io.specs.declared.cause.Cause.TheVariants as causes
@@ -16,7 +17,6 @@ use Rattle.proto_wire.specs.Wire.{SpellsRecord, NeedsMoreBytes, IsRefusedAs}
 use Rattle.trace_model.specs.declared.trace.Group.{Group}
 use Rattle.otlp_proto.specs.Rows.{bytes_in}
 use Rattle.otlp_proto.specs.Texts.{group_record}
-use Rattle.span_io.specs.Tables.{Each}
 use Rattle.span_convert.specs.Requests.{HoldsRequestUnits, IsRequestUnit, request_text}
 use Rattle.span_convert.specs.Units.{span_count}
 use Rattle.span_convert.specs.Verdicts.{tally_of, IsGood, IsBadUnit, IsBadRest, IsTextSoFar, WritesFront}
@@ -69,7 +69,7 @@ pub record WalkedUnits (limits : Limits) (whole rest : List ℕ) (before now : O
   pub units : List (List ℕ)
   pub held : HoldsRequestUnits limits whole units rest
   pub groups : List Group
-  pub are_groups : Each IsRequestUnit units groups
+  pub are_groups : AllZip IsRequestUnit units groups
   pub written : List ℕ
   pub gains : Gains before now written
   pub parts : request_text groups ≡ written ++ progress.unwritten
@@ -78,7 +78,7 @@ pub record WalkedUnits (limits : Limits) (whole rest : List ℕ) (before now : O
 -- the unit is a text of a group, whose canonical text and spans were added
 pub record AddsUnit (unit : List ℕ) (before now : Progress) : Type 0 where
   pub group : Group
-  pub is_unit : IsRequestUnit group unit
+  pub is_unit : IsRequestUnit unit group
   pub text : now.unwritten ≡ before.unwritten ++ group_record group
   pub units : now.tally.units ≡ before.tally.units + 1
   pub spans : now.tally.spans ≡ min (before.tally.spans + span_count (group ∷ [])) last_count

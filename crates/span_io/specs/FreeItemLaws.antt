@@ -1,30 +1,17 @@
 -- What follows for a message to which free items were added: it means the same, or the offence that counts has the same number.
 use Rattle.std.proofs.Common.{◌≡◌, ℕ, zero, suc, ◌<◌, ◌⊎◌, inl, inr, List, [], ◌∷◌, ◌++◌, refl, sym, ap, subst, ◌∙◌, arith}
 use Rattle.std.specs.Prelude.{◌↔◌}
-use Rattle.std.specs.List.{flat_map}
+use Rattle.std.specs.List.{AllZip, flat_map}
 use Rattle.std.proofs.lemmas.List.{append-nil}
-use Rattle.std.proofs.lemmas.List.Concat.{flat_map-append, flat_map-cons}
+use Rattle.std.proofs.lemmas.List.Concat.{flat_map-cons}
 use Rattle.span_io.specs.Causes.{cause_number}
 use Rattle.span_io.specs.Offences.{Format, Offence, Cut, Least, HereOrInside}
 use Rattle.span_io.specs.OffenceLaws.{FormatLaws, RulesLaws, Walked, walked_start, walked_step, least_here, least_inside, none_in_item, least_unread, least_end, none_at_end, least_item}
-use Rattle.span_io.specs.Tables.{Row, OfFirst, table_here, table_inside, rules_by, IsFree, Each, givens, Values, Mean}
-use Rattle.span_io.specs.TableLaws.{Whole, cut_whole, free_here, free_inside}
+use Rattle.span_io.specs.Tables.{Row, OfFirst, table_here, table_inside, rules_by, IsFree, givens, Values, Mean}
+use Rattle.span_io.specs.RowLaws.{all_zip_append, all_zip_equal, all_zip_self}
+use Rattle.span_io.specs.TableLaws.{Whole, cut_whole, flat_more, free_here, free_inside}
 use Rattle.span_io.specs.TableDecisions.{Decided, DecidedHere, RowDecides, TableDecides, Next, ended, stopped, begun}
 use Rattle.span_io.specs.FreeItems.{Paddings, GivenPadded, ItemPadded, ItemsPadded, no_more, one_free, one_same, TextPadded, SameOffence, RowPadding, TablePadding}
-
--- ---- lists that are related thing by thing
-
-pub each_append : {A B : Type 0} (Is : B → A → Type 0) (xs more : List A) (ys others : List B) → Each Is xs ys → Each Is more others → Each Is (xs ++ more) (ys ++ others)
-each_append Is [] more [] others each rest = rest
-each_append Is [] more (y ∷ ys) others each rest = absurd each
-each_append Is (x ∷ xs) more [] others each rest = absurd each
-each_append Is (x ∷ xs) more (y ∷ ys) others each rest = (each.0, each_append Is xs more ys others each.1 rest)
-
-pub each_equal : {A : Type 0} (xs ys : List A) → Each (λ (y : A) (x : A). x ≡ y) xs ys → xs ≡ ys
-each_equal [] [] each = refl
-each_equal [] (y ∷ ys) each = absurd each
-each_equal (x ∷ xs) [] each = absurd each
-each_equal (x ∷ xs) (y ∷ ys) each = let first = each.0 in let others = each_equal xs ys each.1 in λ i. first i ∷ others i
 
 -- ---- rows
 
@@ -33,12 +20,12 @@ pub equal_padding : {Item : Type 0} (row : Row Item) → RowDecides row → RowP
 equal_padding row decides = record {
   none = λ x. refl;
   here = λ earlier others each x y e n.
-      let same = each_equal earlier others each in (
+      let same = all_zip_equal earlier others each in (
         λ h. subst (λ (l : List row.Given). row.here l y n) same (subst (λ (z : row.Given). row.here earlier z n) e h),
         λ h. subst (λ (z : row.Given). row.here earlier z n) (sym e) (subst (λ (l : List row.Given). row.here l y n) (sym same) h),
       );
   inside = λ x y e. of x y e (decides.inside x);
-  means = λ xs ys each v means. subst (λ (l : List row.Given). row.Means l v) (each_equal xs ys each) means;
+  means = λ xs ys each v means. subst (λ (l : List row.Given). row.Means l v) (all_zip_equal xs ys each) means;
 }
   where
     of : (x y : row.Given) → x ≡ y → Decided (λ p n. row.inside x p n) → SameOffence (λ p n. row.inside x p n) (λ p n. row.inside y p n)
@@ -55,9 +42,6 @@ means_padded (row ∷ table) padded pads items others given v mean =
 -- ---- what is given by more items
 
 module _ {Item : Type 0} where
-  flat_one : {A : Type 0} (give : Item → List A) (seen : List Item) (this : Item) → flat_map give (seen ++ this ∷ []) ≡ flat_map give seen ++ give this
-  flat_one give seen this = flat_map-append give seen (this ∷ []) ∙ ap (λ l. flat_map give seen ++ l) (flat_map-cons give this [] ∙ append-nil (give this))
-
   none_given : (table : List (Row Item)) (padded : Paddings table) → GivenPadded table padded [] []
   none_given [] padded = tt
   none_given (row ∷ table) padded = (tt, none_given table padded.1)
@@ -65,24 +49,24 @@ module _ {Item : Type 0} where
   free_before : (table : List (Row Item)) (padded : Paddings table) (free : Item) (items others : List Item) → IsFree table free → GivenPadded table padded items others → GivenPadded table padded items (free ∷ others)
   free_before [] padded free items others is given = tt
   free_before (row ∷ table) padded free items others is given = (
-    subst (λ (l : List row.Given). Each (λ y x. padded.0 x y) (flat_map row.given items) l) (sym (flat_map-cons row.given free others ∙ ap (λ l. l ++ flat_map row.given others) is.0)) given.0,
+    subst (λ (l : List row.Given). AllZip padded.0 (flat_map row.given items) l) (sym (flat_map-cons row.given free others ∙ ap (λ l. l ++ flat_map row.given others) is.0)) given.0,
     free_before table padded.1 free items others is.1 given.1,
   )
 
   same_before : (table : List (Row Item)) (padded : Paddings table) (this other : Item) (items others : List Item) → ItemPadded table padded this other → GivenPadded table padded items others → GivenPadded table padded (this ∷ items) (other ∷ others)
   same_before [] padded this other items others is given = tt
   same_before (row ∷ table) padded this other items others is given = (
-    subst (λ (l : List row.Given). Each (λ y x. padded.0 x y) l (flat_map row.given (other ∷ others))) (sym (flat_map-cons row.given this items))
-        (subst (λ (l : List row.Given). Each (λ y x. padded.0 x y) (row.given this ++ flat_map row.given items) l) (sym (flat_map-cons row.given other others))
-        (each_append (λ y x. padded.0 x y) (row.given this) (flat_map row.given items) (row.given other) (flat_map row.given others) is.0 given.0)),
+    subst (λ (l : List row.Given). AllZip padded.0 l (flat_map row.given (other ∷ others))) (sym (flat_map-cons row.given this items))
+        (subst (λ (l : List row.Given). AllZip padded.0 (row.given this ++ flat_map row.given items) l) (sym (flat_map-cons row.given other others))
+        (all_zip_append padded.0 (row.given this) (flat_map row.given items) (row.given other) (flat_map row.given others) is.0 given.0)),
     same_before table padded.1 this other items others is.1 given.1,
   )
 
   free_behind : (table : List (Row Item)) (padded : Paddings table) (free : Item) (items others : List Item) → IsFree table free → GivenPadded table padded items others → GivenPadded table padded items (others ++ free ∷ [])
   free_behind [] padded free items others is given = tt
   free_behind (row ∷ table) padded free items others is given = (
-    subst (λ (l : List row.Given). Each (λ y x. padded.0 x y) (flat_map row.given items) l)
-        (sym (flat_one row.given others free ∙ (ap (λ l. flat_map row.given others ++ l) is.0 ∙ append-nil (flat_map row.given others)))) given.0,
+    subst (λ (l : List row.Given). AllZip padded.0 (flat_map row.given items) l)
+        (sym (flat_more row.given others free ∙ (ap (λ l. flat_map row.given others ++ l) is.0 ∙ append-nil (flat_map row.given others)))) given.0,
     free_behind table padded.1 free items others is.1 given.1,
   )
 
@@ -90,9 +74,9 @@ module _ {Item : Type 0} where
       → GivenPadded table padded (items ++ this ∷ []) (others ++ other ∷ [])
   same_behind [] padded this other items others is given = tt
   same_behind (row ∷ table) padded this other items others is given = (
-    subst (λ (l : List row.Given). Each (λ y x. padded.0 x y) l (flat_map row.given (others ++ other ∷ []))) (sym (flat_one row.given items this))
-        (subst (λ (l : List row.Given). Each (λ y x. padded.0 x y) (flat_map row.given items ++ row.given this) l) (sym (flat_one row.given others other))
-        (each_append (λ y x. padded.0 x y) (flat_map row.given items) (row.given this) (flat_map row.given others) (row.given other) given.0 is.0)),
+    subst (λ (l : List row.Given). AllZip padded.0 l (flat_map row.given (others ++ other ∷ []))) (sym (flat_more row.given items this))
+        (subst (λ (l : List row.Given). AllZip padded.0 (flat_map row.given items ++ row.given this) l) (sym (flat_more row.given others other))
+        (all_zip_append padded.0 (flat_map row.given items) (row.given this) (flat_map row.given others) (row.given other) given.0 is.0)),
     same_behind table padded.1 this other items others is.1 given.1,
   )
 
@@ -103,7 +87,7 @@ module _ {Item : Type 0} where
 
   -- ---- what offends in one item
 
-  row_pair : (row : Row Item) (Padded : row.Given → row.Given → Type 0) → RowDecides row → RowPadding row Padded → (earlier others : List row.Given) → Each (λ y x. Padded x y) earlier others
+  row_pair : (row : Row Item) (Padded : row.Given → row.Given → Type 0) → RowDecides row → RowPadding row Padded → (earlier others : List row.Given) → AllZip Padded earlier others
       → (x y : row.Given) → Padded x y → SameOffence (HereOrInside (λ n. row.here earlier x n) (λ p n. row.inside x p n)) (HereOrInside (λ n. row.here others y n) (λ p n. row.inside y p n))
   row_pair row Padded decides pads earlier others each x y is = at_here (decides.here earlier x)
     where
@@ -139,7 +123,7 @@ module _ {Item : Type 0} where
   item_pair (row ∷ table) padded decides pads seen past given this other is =
       of (row.given this) (row.given other) is.0 (item_pair table padded.1 decides.1 pads.1 seen past given.1 this other is.1)
     where
-      of : (xs ys : List row.Given) → Each (λ y x. padded.0 x y) xs ys
+      of : (xs ys : List row.Given) → AllZip padded.0 xs ys
           → SameOffence (HereOrInside (λ n. table_here table seen this n) (λ p n. table_inside table this p n)) (HereOrInside (λ n. table_here table past other n) (λ p n. table_inside table other p n))
           → SameOffence (HereOrInside (λ n. OfFirst xs (λ x. row.here (flat_map row.given seen) x n) (table_here table seen this n)) (λ p n. OfFirst xs (λ x. row.inside x p n) (table_inside table this p n)))
           (HereOrInside (λ n. OfFirst ys (λ y. row.here (flat_map row.given past) y n) (table_here table past other n)) (λ p n. OfFirst ys (λ y. row.inside y p n) (table_inside table other p n)))
@@ -228,13 +212,9 @@ module _ (F : Format) (L : FormatLaws F) where
 
 -- ---- nothing need be added
 
-each_self : {A : Type 0} (Is : A → A → Type 0) → ((x : A) → Is x x) → (xs : List A) → Each Is xs xs
-each_self Is self [] = tt
-each_self Is self (x ∷ xs) = (self x, each_self Is self xs)
-
 item_self : {Item : Type 0} (table : List (Row Item)) (padded : Paddings table) → TablePadding table padded → (this : Item) → ItemPadded table padded this this
 item_self [] padded pads this = tt
-item_self (row ∷ table) padded pads this = (each_self (λ y x. padded.0 x y) pads.0.none (row.given this), item_self table padded.1 pads.1 this)
+item_self (row ∷ table) padded pads this = (all_zip_self padded.0 pads.0.none (row.given this), item_self table padded.1 pads.1 this)
 
 items_self : {Item : Type 0} (table : List (Row Item)) (padded : Paddings table) → TablePadding table padded → (items : List Item) → ItemsPadded table padded items items
 items_self table padded pads [] = no_more

@@ -1,8 +1,12 @@
 -- Free items added anywhere in a message, in messages inside it too: what it means, or the number of the offence that counts, stays.
-use Rattle.std.specs.Prelude.{◌↔◌, ℕ, ◌⊎◌, List, [], ◌∷◌}
-use Rattle.std.specs.List.{flat_map}
+use Rattle.std.specs.Prelude.{◌≡◌, ◌↔◌, ℕ, ◌⊎◌, List, [], ◌∷◌}
+use Rattle.std.specs.List.{AllZip, flat_map}
 use Rattle.span_io.specs.Offences.{Format, Cut, Least}
-use Rattle.span_io.specs.Tables.{Row, IsFree, Each}
+use Rattle.span_io.specs.Tables.{Row, IsFree}
+
+-- nothing is added inside a text, a number or an identifier
+abbrev pub Same : {A : Type 0} → A → A → Type 0
+Same x y = x ≡ y
 
 -- For each row, when one thing that is given to it is another with free items added inside.
 abbrev pub Paddings : {Item : Type 0} → List (Row Item) → Type 1
@@ -14,12 +18,12 @@ module _ {Item : Type 0} where
   abbrev pub GivenPadded : (table : List (Row Item)) → Paddings table → List Item → List Item → Type 0
   GivenPadded [] padded items others = Unit {0}
   GivenPadded (row ∷ table) padded items others =
-      Each (λ y x. padded.0 x y) (flat_map row.given items) (flat_map row.given others) × GivenPadded table padded.1 items others
+      AllZip padded.0 (flat_map row.given items) (flat_map row.given others) × GivenPadded table padded.1 items others
 
   -- so of one item
   abbrev pub ItemPadded : (table : List (Row Item)) → Paddings table → Item → Item → Type 0
   ItemPadded [] padded this other = Unit {0}
-  ItemPadded (row ∷ table) padded this other = Each (λ y x. padded.0 x y) (row.given this) (row.given other) × ItemPadded table padded.1 this other
+  ItemPadded (row ∷ table) padded this other = AllZip padded.0 (row.given this) (row.given other) × ItemPadded table padded.1 this other
 
   -- the same items, each of which may have more free items inside, and free items between them
   pub data ItemsPadded (table : List (Row Item)) (padded : Paddings table) : List Item → List Item → Type 0 where
@@ -46,9 +50,9 @@ SameOffence Offends Others =
 pub record RowPadding {Item : Type 0} (row : Row Item) (Padded : row.Given → row.Given → Type 0) : Type 0 where
   -- nothing need be added
   pub none : (x : row.Given) → Padded x x
-  pub here : (earlier others : List row.Given) → Each (λ y x. Padded x y) earlier others → (x y : row.Given) → Padded x y → (n : ℕ) → row.here earlier x n ↔ row.here others y n
+  pub here : (earlier others : List row.Given) → AllZip Padded earlier others → (x y : row.Given) → Padded x y → (n : ℕ) → row.here earlier x n ↔ row.here others y n
   pub inside : (x y : row.Given) → Padded x y → SameOffence (λ p n. row.inside x p n) (λ p n. row.inside y p n)
-  pub means : (xs ys : List row.Given) → Each (λ y x. Padded x y) xs ys → (v : row.Value) → row.Means xs v → row.Means ys v
+  pub means : (xs ys : List row.Given) → AllZip Padded xs ys → (v : row.Value) → row.Means xs v → row.Means ys v
 
 abbrev pub TablePadding : {Item : Type 0} (table : List (Row Item)) → Paddings table → Type 0
 TablePadding [] padded = Unit {0}

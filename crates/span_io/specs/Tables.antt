@@ -1,6 +1,6 @@
 -- Tables of messages. A message's table has a row for each of its fields: which items belong to it, what they mean together, and how
 -- they offend. These words serve every wire format. An item of no row is free: it is passed over.
-use Rattle.std.specs.Prelude.{◌≡◌, ◌≢◌, ℕ, List, [], ◌∷◌, ◌++◌, IsUtf8}
+use Rattle.std.specs.Prelude.{◌≡◌, ◌≢◌, ℕ, ◌<◌, List, [], ◌∷◌, ◌++◌, IsUtf8}
 use Rattle.std.specs.List.{flat_map}
 use Rattle.span_io.specs.Offences.{Rules}
 
@@ -70,6 +70,14 @@ module _ {Item : Type 0} where
   Mean [] given values = Unit {0}
   Mean (row ∷ table) given values = row.Means given.0 values.0 × Mean table given.1 values.1
 
+-- ---- what a message means
+
+-- the text has items that are those of this thing; `Are` says which items a text has
+pub record MeansByItems {Item Rest X : Type 0} (Are : List Item → Rest → Type 0) (Is : X → List Item → Type 0) (text : Rest) (x : X) : Type 0 where
+  pub items : List Item
+  pub are : Are items text
+  pub is : Is x items
+
 -- ---- for a reader that goes on item by item
 
 -- the one thing more
@@ -85,23 +93,24 @@ module _ {Item : Type 0} where
 
 -- ---- rows of many formats
 
--- a singular row has at most one item, and without one the value that is its default
+-- a singular row has at most one item, and without one the value that is its default; what a repeated row means is std's `AllZip`
 abbrev pub Singular : {A B : Type 0} → (A → B → Type 0) → (B → Type 0) → List A → B → Type 0
 Singular Means IsDefault [] value = IsDefault value
 Singular Means IsDefault (held ∷ []) value = Means held value
 Singular Means IsDefault (held ∷ other ∷ more) value = ⊥
 
--- of a repeated row they are, in order, what was given means
-abbrev pub Each : {A B : Type 0} → (B → A → Type 0) → List A → List B → Type 0
-Each Is [] [] = Unit {0}
-Each Is [] (x ∷ xs) = ⊥
-Each Is (held ∷ more) [] = ⊥
-Each Is (held ∷ more) (x ∷ xs) = Is x held × Each Is more xs
-
 -- FieldTwice: a singular row has an earlier item
 abbrev pub Twice : {A : Type 0} → List A → ℕ → Type 0
 Twice earlier number = (number ≡ 7) × (earlier ≢ [])
 
+-- bytes that are a text
+abbrev pub MeansText : List ℕ → List ℕ → Type 0
+MeansText held text = IsUtf8 held × (text ≡ held)
+
 -- NotText: the bytes are no text
 abbrev pub NotText : List ℕ → ℕ → Type 0
 NotText held number = (number ≡ 9) × ¬ IsUtf8 held
+
+-- BadEnum: the value is above the last of the enum
+abbrev pub Above : ℕ → ℕ → ℕ → Type 0
+Above last n number = (number ≡ 13) × (last < n)

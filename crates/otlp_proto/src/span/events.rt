@@ -3,7 +3,7 @@ ghost use Rattle.std.specs.Prelude.{[], ℕ, OnOk};
 ghost use Rattle.span_io.specs.Offences.{Offence, Judges};
 ghost use Rattle.proto_wire.specs.Messages.{messages};
 ghost use Rattle.otlp_proto.specs.Event.{event_rules};
-ghost use Rattle.otlp_proto.specs.RowsSoFar.{Adds};
+ghost use Rattle.span_io.specs.RowsSoFar.{Adds};
 ghost use Rattle.otlp_proto.specs.SpanSoFar.{GatheredEvents};
 
 use crate::event::read_event;

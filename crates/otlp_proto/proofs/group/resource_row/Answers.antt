@@ -7,7 +7,7 @@ use Rattle.proto_wire.specs.Messages.{messages}
 use Rattle.otlp_proto.specs.declared.noted.ReadResource.{ReadResource}
 use Rattle.otlp_proto.specs.Group.{resource_rules}
 use Rattle.otlp_proto.specs.GroupSoFar.{MeansResource}
-use Rattle.otlp_proto.proofs.RowLemmas.{first_record}
+use Rattle.span_io.specs.RowLaws.{first_item}
 use Rattle.otlp_proto.proofs.group.resource_row.Goals as goal
 
 pub returns-in_err-read_resource-clause-judged : goal.returns-in_err-read_resource-clause-judged
@@ -15,9 +15,9 @@ returns-in_err-read_resource-clause-judged c = λ earlier gave.
     let answered = c.from_residual-in_err-read_resource in
     let p = err_from_is_err_and answered.result answered.ensures.1 in
     rw (p.1, p.2) (judged_inside (Twice earlier) (Offence messages resource_rules c.args.held.now) ReadResource Unit c.in_err-read_resource.field-0.0
-    (first_record MeansResource earlier c.args.row.now (search rules) gave) c.in_err-read_resource.ensures.judged)
+    (first_item MeansResource earlier c.args.row.now (search rules) gave) c.in_err-read_resource.ensures.judged)
 
 pub returns-clause-judged : goal.returns-clause-judged
 returns-clause-judged c = λ earlier gave.
-    none_in_item (Twice earlier) (Offence messages resource_rules c.args.held.now) (first_record MeansResource earlier c.args.row.now (search rules) gave)
+    none_in_item (Twice earlier) (Offence messages resource_rules c.args.held.now) (first_item MeansResource earlier c.args.row.now (search rules) gave)
     c.in_ok-read_resource.ensures.judged

@@ -1,6 +1,4 @@
-use Rattle.std.proofs.Common.{List}
 use Rattle.span_io.specs.Tables.{no_ends}
-use Rattle.proto_wire.specs.Records.{Record}
 use Rattle.otlp_proto.specs.Event.{IsEvent, event_table}
 use Rattle.otlp_proto.specs.Group.{IsResource, resource_table, IsGroup, group_table}
 use Rattle.otlp_proto.specs.Link.{IsLink, link_table}
@@ -9,7 +7,12 @@ use Rattle.otlp_proto.specs.Span.{IsSpan, span_table, span_ends}
 use Rattle.otlp_proto.specs.Status.{IsStatus, status_table}
 use Rattle.otlp_proto.proofs.Bridges.{without_free}
 use Rattle.otlp_proto.proofs.FreeValues.{value_passes, list_passes, map_passes, key_value_passes}
-use Rattle.otlp_proto.proofs.Readings.{Marked, status_bridge, event_bridge, link_bridge, span_bridge, instrumentation_scope_bridge, scope_bridge, resource_bridge, group_bridge}
+use Rattle.otlp_proto.proofs.EventMessage.{event_bridge}
+use Rattle.otlp_proto.proofs.GroupMessages.{resource_bridge, group_bridge}
+use Rattle.otlp_proto.proofs.LinkMessage.{link_bridge}
+use Rattle.otlp_proto.proofs.ScopeMessages.{instrumentation_scope_bridge, scope_bridge}
+use Rattle.otlp_proto.proofs.SpanMessage.{span_bridge}
+use Rattle.otlp_proto.proofs.StatusMessage.{status_bridge}
 use Rattle.otlp_proto.proofs.ValueReadings.{WireFacts}
 use Rattle.otlp_proto.proofs.laws.free_records.Goals as goal
 
@@ -28,5 +31,5 @@ returns c =
       instrumentation_scope = without_free instrumentation_scope_table no_ends IsInstrumentationScope instrumentation_scope_bridge;
       scope = without_free scope_table no_ends IsScope scope_bridge;
       resource = without_free resource_table no_ends IsResource resource_bridge;
-      group = λ remarks g. without_free group_table no_ends (λ (m : Marked) (records : List Record). IsGroup m.means m.notes records) group_bridge (record { means = g; notes = remarks });
+      group = without_free group_table no_ends IsGroup group_bridge;
     }

@@ -1,5 +1,5 @@
 use Rattle.otlp_proto.proofs.ProperLemmas.{attributes_proper}
-use Rattle.otlp_proto.proofs.ProperMessages.{group_proper}
+use Rattle.otlp_proto.proofs.GroupMessages.{group_proper}
 use Rattle.otlp_proto.proofs.laws.read_proper.Goals as goal
 
 pub returns : goal.returns

@@ -2,7 +2,7 @@ use Rattle.std.proofs.Common.{arith}
 use Rattle.otlp_proto.specs.Texts.{group_text}
 use Rattle.otlp_proto.proofs.CanonicalLaws.{Laws}
 use Rattle.otlp_proto.proofs.FieldLemmas.{held_fits}
-use Rattle.otlp_proto.proofs.MessagesAgain.{group_again}
+use Rattle.otlp_proto.proofs.GroupMessages.{group_again}
 use Rattle.otlp_proto.proofs.laws.written_again.Goals as goal
 
 pub returns : goal.returns

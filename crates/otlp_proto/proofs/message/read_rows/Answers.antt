@@ -3,32 +3,34 @@ use Rattle.std.proofs.lemmas.Result.{err_from_is_err_and}
 use Rattle.span_io.specs.Causes.{cause_number}
 use Rattle.proto_wire.specs.Records.{Record, plain_record}
 use Rattle.span_io.specs.Tables.{rules_by}
-use Rattle.otlp_proto.proofs.Reading.{seen_start, seen_step, seen_unread, seen_end, seen_halt}
+use Rattle.span_io.specs.GatheringLaws.{seen_start, seen_step, seen_unread, seen_halt}
+use Rattle.proto_wire.specs.Messages.{messages}
+use Rattle.otlp_proto.proofs.Reading.{seen_to_end}
 use Rattle.otlp_proto.proofs.message.read_rows.Goals as goal
 
 pub records-init : goal.records-init
 records-init g c =
-    rw c.new-cursor.ensures (seen_start c.message_cuts.ensures.laws (rules_by g.R.Rows.table g.R.Rows.ends) (λ (l : List Record). g.R.Rows.gathered c.args.first c.args.first l) c.args.bytes.now c.requires)
+    rw c.new-cursor.ensures (seen_start messages c.message_cuts.ensures.laws (rules_by g.R.Rows.table g.R.Rows.ends) (λ (l : List Record). g.R.Rows.gathered c.args.first c.args.first l) c.args.bytes.now c.requires.none)
 
 pub returns-in-Ok-None-clause-all : goal.returns-in-Ok-None-clause-all
 returns-in-Ok-None-clause-all g c =
     let next = rw c.in-Ok-None.field-0-is at c.in-Ok-None.ensures in
-    seen_end c.message_cuts.ensures.laws (rules_by g.R.Rows.table g.R.Rows.ends) c.message_cuts.ensures.whole (λ (l : List Record). g.R.Rows.gathered c.args.first c.records.rows l) c.args.bytes.now c.records.cursor.rest c.records.invariant (next.end.0 tt)
+    seen_to_end c.message_cuts.ensures (rules_by g.R.Rows.table g.R.Rows.ends) (λ (l : List Record). g.R.Rows.gathered c.args.first c.records.rows l) c.args.bytes.now c.records.cursor.rest c.records.invariant (next.end.0 tt)
 
 pub records-preserved : goal.records-preserved
 records-preserved g c =
     let next = rw c.in-Ok-Some.field-0-is at c.in-Ok-Some.ensures in
-    seen_step c.message_cuts.ensures.laws (rules_by g.R.Rows.table g.R.Rows.ends) (λ (l : List Record). g.R.Rows.gathered c.args.first c.records.rows l) (λ (l : List Record). g.R.Rows.gathered c.args.first c.gather.new.self l)
+    seen_step messages c.message_cuts.ensures.laws (rules_by g.R.Rows.table g.R.Rows.ends) (λ (l : List Record). g.R.Rows.gathered c.args.first c.records.rows l) (λ (l : List Record). g.R.Rows.gathered c.args.first c.gather.new.self l)
     c.args.bytes.now c.records.cursor.rest c.next_record.new.c.rest (plain_record c.in-Ok-Some.found) c.records.invariant next.found (c.in_ok-gather-in-Ok-Some.ensures.judged c.args.first) (c.in_ok-gather-in-Ok-Some.ensures.ok c.args.first)
 
 pub returns-in_err-gather-in-Ok-Some-clause-halted : goal.returns-in_err-gather-in-Ok-Some-clause-halted
 returns-in_err-gather-in-Ok-Some-clause-halted g c =
     let next = rw c.in-Ok-Some.field-0-is at c.in-Ok-Some.ensures in
     let p = err_from_is_err_and c.from_residual.result c.from_residual.ensures.1 in
-    rw (p.1, p.2) (seen_halt c.message_cuts.ensures.laws (rules_by g.R.Rows.table g.R.Rows.ends) (g.met.R.Rows.laws c.message_cuts.ensures.laws) (λ (l : List Record). g.R.Rows.gathered c.args.first c.records.rows l)
+    rw (p.1, p.2) (seen_halt messages c.message_cuts.ensures.laws (rules_by g.R.Rows.table g.R.Rows.ends) c.requires.lawful (λ (l : List Record). g.R.Rows.gathered c.args.first c.records.rows l)
     c.args.bytes.now c.records.cursor.rest c.next_record.new.c.rest (plain_record c.in-Ok-Some.found) c.records.invariant next.found Unit Unit c.in_err-gather-in-Ok-Some.field-0.0 (c.in_err-gather-in-Ok-Some.ensures.judged c.args.first))
 
 pub returns-in-Err-clause-halted : goal.returns-in-Err-clause-halted
 returns-in-Err-clause-halted g c =
-    seen_unread c.message_cuts.ensures.laws (rules_by g.R.Rows.table g.R.Rows.ends) (λ (l : List Record). g.R.Rows.gathered c.args.first c.records.rows l) c.args.bytes.now c.records.cursor.rest
+    seen_unread messages c.message_cuts.ensures.laws (rules_by g.R.Rows.table g.R.Rows.ends) (λ (l : List Record). g.R.Rows.gathered c.args.first c.records.rows l) c.args.bytes.now c.records.cursor.rest
     (cause_number c.in-Err.cause) c.records.invariant c.in-Err.ensures.unread

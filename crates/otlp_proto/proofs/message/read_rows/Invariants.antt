@@ -1,10 +1,11 @@
 use Rattle.std.proofs.Common.{length}
 use Rattle.span_io.specs.Tables.{rules_by}
-use Rattle.otlp_proto.proofs.Reading.{Seen}
+use Rattle.span_io.specs.GatheringLaws.{Seen}
+use Rattle.proto_wire.specs.Messages.{messages}
 use Rattle.otlp_proto.proofs.message.read_rows.Given as goal
 
 abbrev pub invariant-records : goal.invariant-records
-invariant-records g l = Seen (rules_by g.R.Rows.table g.R.Rows.ends) (g.R.Rows.gathered l.fn.first l.rows) l.bytes l.cursor.rest
+invariant-records g l = Seen messages (rules_by g.R.Rows.table g.R.Rows.ends) (g.R.Rows.gathered l.fn.first l.rows) l.bytes l.cursor.rest
 
 abbrev pub decreases-records : goal.decreases-records
 decreases-records g l = length l.cursor.rest

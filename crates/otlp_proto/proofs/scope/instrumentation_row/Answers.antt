@@ -7,7 +7,7 @@ use Rattle.proto_wire.specs.Messages.{messages}
 use Rattle.otlp_proto.specs.declared.noted.ReadInstrumentationScope.{ReadInstrumentationScope}
 use Rattle.otlp_proto.specs.Scope.{instrumentation_scope_rules}
 use Rattle.otlp_proto.specs.ScopeSoFar.{MeansInstrumentationScope}
-use Rattle.otlp_proto.proofs.RowLemmas.{first_record}
+use Rattle.span_io.specs.RowLaws.{first_item}
 use Rattle.otlp_proto.proofs.scope.instrumentation_row.Goals as goal
 
 pub returns-in_err-read_instrumentation_scope-clause-judged : goal.returns-in_err-read_instrumentation_scope-clause-judged
@@ -15,9 +15,9 @@ returns-in_err-read_instrumentation_scope-clause-judged c = λ earlier gave.
     let answered = c.from_residual-in_err-read_instrumentation_scope in
     let p = err_from_is_err_and answered.result answered.ensures.1 in
     rw (p.1, p.2) (judged_inside (Twice earlier) (Offence messages instrumentation_scope_rules c.args.held.now) ReadInstrumentationScope Unit c.in_err-read_instrumentation_scope.field-0.0
-    (first_record MeansInstrumentationScope earlier c.args.row.now (search rules) gave) c.in_err-read_instrumentation_scope.ensures.judged)
+    (first_item MeansInstrumentationScope earlier c.args.row.now (search rules) gave) c.in_err-read_instrumentation_scope.ensures.judged)
 
 pub returns-clause-judged : goal.returns-clause-judged
 returns-clause-judged c = λ earlier gave.
-    none_in_item (Twice earlier) (Offence messages instrumentation_scope_rules c.args.held.now) (first_record MeansInstrumentationScope earlier c.args.row.now (search rules) gave)
+    none_in_item (Twice earlier) (Offence messages instrumentation_scope_rules c.args.held.now) (first_item MeansInstrumentationScope earlier c.args.row.now (search rules) gave)
     c.in_ok-read_instrumentation_scope.ensures.judged

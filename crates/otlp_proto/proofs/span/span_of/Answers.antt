@@ -3,12 +3,14 @@ use Rattle.trace_model.specs.declared.span.Kind.TheVariants as kinds
 use Rattle.otlp_proto.specs.declared.noted.ReadSpan.{ReadSpan}
 use Rattle.otlp_proto.specs.Identifiers.{MeansSpanId}
 use Rattle.otlp_proto.specs.Notes.{SpanNotes}
-use Rattle.otlp_proto.specs.Rows.{bytes_of, varints_of, fixed64s_of, fixed32s_of, MeansText, MeansNumber, MeansCount}
+use Rattle.otlp_proto.specs.Rows.{bytes_of, varints_of, fixed64s_of, fixed32s_of, MeansNumber, MeansCount}
+use Rattle.span_io.specs.Tables.{MeansText}
 use Rattle.otlp_proto.specs.Span.{MeansKind, kept_links, span_ends}
 use Rattle.otlp_proto.specs.SpanSoFar.{MeansStatus}
 use Rattle.otlp_proto.specs.Status.{no_status}
-use Rattle.otlp_proto.proofs.RowLemmas.{singular_or}
-use Rattle.otlp_proto.proofs.SpanLemmas.{refused_end, remarks_are}
+use Rattle.span_io.specs.RowLaws.{singular_or}
+use Rattle.span_io.specs.GatheringLaws.{refused_end}
+use Rattle.otlp_proto.proofs.SpanLemmas.{remarks_are}
 use Rattle.otlp_proto.proofs.span.span_of.Goals as goal
 
 pub returns-in_err-trace-clause-ended : goal.returns-in_err-trace-clause-ended

@@ -7,14 +7,14 @@ use Rattle.proto_wire.specs.Messages.{messages}
 use Rattle.trace_model.specs.declared.span.Status.{Status}
 use Rattle.otlp_proto.specs.SpanSoFar.{MeansStatus}
 use Rattle.otlp_proto.specs.Status.{status_rules}
-use Rattle.otlp_proto.proofs.RowLemmas.{first_record}
+use Rattle.span_io.specs.RowLaws.{first_item}
 use Rattle.otlp_proto.proofs.span.status_row.Goals as goal
 
 pub returns-in_err-read_status-clause-judged : goal.returns-in_err-read_status-clause-judged
 returns-in_err-read_status-clause-judged c = λ earlier gave.
     let p = err_from_is_err_and c.from_residual-in_err-read_status.result c.from_residual-in_err-read_status.ensures.1 in
-    rw (p.1, p.2) (judged_inside (λ n. Twice earlier n) (λ p n. Offence messages status_rules c.args.held.now p n) Status Unit c.in_err-read_status.field-0.0 (first_record MeansStatus earlier c.args.row.now (search rules) gave) c.in_err-read_status.ensures.judged)
+    rw (p.1, p.2) (judged_inside (λ n. Twice earlier n) (λ p n. Offence messages status_rules c.args.held.now p n) Status Unit c.in_err-read_status.field-0.0 (first_item MeansStatus earlier c.args.row.now (search rules) gave) c.in_err-read_status.ensures.judged)
 
 pub returns-clause-judged : goal.returns-clause-judged
 returns-clause-judged c = λ earlier gave.
-    none_in_item (λ n. Twice earlier n) (λ p n. Offence messages status_rules c.args.held.now p n) (first_record MeansStatus earlier c.args.row.now (search rules) gave) c.in_ok-read_status.ensures.judged
+    none_in_item (λ n. Twice earlier n) (λ p n. Offence messages status_rules c.args.held.now p n) (first_item MeansStatus earlier c.args.row.now (search rules) gave) c.in_ok-read_status.ensures.judged

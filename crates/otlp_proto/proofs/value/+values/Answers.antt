@@ -8,9 +8,10 @@ use Rattle.proto_wire.specs.Records.{bytes, plain_record}
 use Rattle.otlp_proto.specs.declared.noted.ReadValue.{ReadValue}
 use Rattle.otlp_proto.specs.declared.noted.ReadKeyValue.{ReadKeyValue}
 use Rattle.otlp_proto.specs.ReadParts.{value_read, key_value_read}
-use Rattle.otlp_proto.specs.Shapes.{value_laws, list_laws, map_laws, key_value_laws}
+use Rattle.otlp_proto.proofs.Shapes.{value_laws, list_laws, map_laws, key_value_laws}
 use Rattle.otlp_proto.specs.Values.{NotedValue, KeyValue, value_in, key_value_in, value_offends, key_value_offends, many_table, table_of_key_value, list_rules, map_rules, value_rules}
-use Rattle.otlp_proto.proofs.Reading.{seen_start, seen_step, seen_unread, seen_end, seen_item, judged_at, judged_inside_at}
+use Rattle.span_io.specs.GatheringLaws.{seen_start, seen_step, seen_unread, seen_item, judged_at, judged_inside_at}
+use Rattle.otlp_proto.proofs.Reading.{seen_to_end}
 use Rattle.otlp_proto.proofs.ValueLemmas.{no_member, no_field, judged_as, halted_inside_at, value_judged, key_value_judged, list_push, map_push}
 use Rattle.otlp_proto.proofs.value.+values.Goals as goal
 
@@ -113,93 +114,93 @@ map_member-returns-clause-judged t c = λ earlier gathered. none_in_item (λ n. 
 -- ---- loops
 
 pub read_value-members-init : goal.read_value-members-init
-read_value-members-init t c = rw c.new-cursor.ensures (seen_start c.message_cuts.ensures.laws _ _ _ tt)
+read_value-members-init t c = rw c.new-cursor.ensures (seen_start messages c.message_cuts.ensures.laws _ _ _ tt)
 
 pub read_value-members-preserved : goal.read_value-members-preserved
 read_value-members-preserved t c =
     let next = rw c.in-Ok-Some.field-0-is at c.in-Ok-Some.ensures in
-    seen_step c.message_cuts.ensures.laws _ _ _ _ _ _ _ c.members.invariant next.found c.in_ok-add_member-in-Ok-Some.ensures.judged c.in_ok-add_member-in-Ok-Some.ensures.ok
+    seen_step messages c.message_cuts.ensures.laws _ _ _ _ _ _ _ c.members.invariant next.found c.in_ok-add_member-in-Ok-Some.ensures.judged c.in_ok-add_member-in-Ok-Some.ensures.ok
 
 pub read_value-returns-in_err-add_member-in-Ok-Some-clause-judged : goal.read_value-returns-in_err-add_member-in-Ok-Some-clause-judged
 read_value-returns-in_err-add_member-in-Ok-Some-clause-judged t c =
     let next = rw c.in-Ok-Some.field-0-is at c.in-Ok-Some.ensures in
     let p = err_from_is_err_and c.from_residual.result c.from_residual.ensures.1 in
-    rw (p.1, p.2) (seen_item c.message_cuts.ensures.laws _ (value_laws c.message_cuts.ensures.laws c.args.left) _ _ _ _ _ c.members.invariant next.found Unit ReadValue c.in_err-add_member-in-Ok-Some.field-0.0 c.in_err-add_member-in-Ok-Some.ensures.judged)
+    rw (p.1, p.2) (seen_item messages c.message_cuts.ensures.laws _ (value_laws c.message_cuts.ensures.laws c.args.left) _ _ _ _ _ c.members.invariant next.found Unit ReadValue c.in_err-add_member-in-Ok-Some.field-0.0 c.in_err-add_member-in-Ok-Some.ensures.judged)
 
 pub read_value-returns-in-Err-clause-judged : goal.read_value-returns-in-Err-clause-judged
-read_value-returns-in-Err-clause-judged t c = seen_unread c.message_cuts.ensures.laws _ _ _ _ _ c.members.invariant c.in-Err.ensures.unread
+read_value-returns-in-Err-clause-judged t c = seen_unread messages c.message_cuts.ensures.laws _ _ _ _ _ c.members.invariant c.in-Err.ensures.unread
 
 pub read_value-returns-in-Ok-None-clause-judged : goal.read_value-returns-in-Ok-None-clause-judged
 read_value-returns-in-Ok-None-clause-judged t c =
     let next = rw c.in-Ok-None.field-0-is at c.in-Ok-None.ensures in
-    let all = seen_end c.message_cuts.ensures.laws _ c.message_cuts.ensures.whole _ _ _ c.members.invariant (next.end.0 tt) in
+    let all = seen_to_end c.message_cuts.ensures _ _ _ _ c.members.invariant (next.end.0 tt) in
     all.fine (λ n h. h)
 
 pub read_list-values-init : goal.read_list-values-init
-read_list-values-init t c = rw c.new-cursor.ensures (seen_start c.message_cuts.ensures.laws _ _ _ (c.none-rows.ensures c.args.left))
+read_list-values-init t c = rw c.new-cursor.ensures (seen_start messages c.message_cuts.ensures.laws _ _ _ (c.none-rows.ensures c.args.left))
 
 pub read_list-values-preserved : goal.read_list-values-preserved
 read_list-values-preserved t c =
     let next = rw c.in-Ok-Some.field-0-is at c.in-Ok-Some.ensures in
-    seen_step c.message_cuts.ensures.laws _ _ _ _ _ _ _ c.values.invariant next.found c.in_ok-add_value-in-Ok-Some.ensures.judged c.in_ok-add_value-in-Ok-Some.ensures.ok
+    seen_step messages c.message_cuts.ensures.laws _ _ _ _ _ _ _ c.values.invariant next.found c.in_ok-add_value-in-Ok-Some.ensures.judged c.in_ok-add_value-in-Ok-Some.ensures.ok
 
 pub read_list-returns-in_err-add_value-in-Ok-Some-clause-judged : goal.read_list-returns-in_err-add_value-in-Ok-Some-clause-judged
 read_list-returns-in_err-add_value-in-Ok-Some-clause-judged t c =
     let next = rw c.in-Ok-Some.field-0-is at c.in-Ok-Some.ensures in
     let p = err_from_is_err_and c.from_residual.result c.from_residual.ensures.1 in
-    rw (p.1, p.2) (seen_item c.message_cuts.ensures.laws _ (list_laws c.message_cuts.ensures.laws c.args.left) _ _ _ _ _ c.values.invariant next.found Unit ReadValue c.in_err-add_value-in-Ok-Some.field-0.0 c.in_err-add_value-in-Ok-Some.ensures.judged)
+    rw (p.1, p.2) (seen_item messages c.message_cuts.ensures.laws _ (list_laws c.message_cuts.ensures.laws c.args.left) _ _ _ _ _ c.values.invariant next.found Unit ReadValue c.in_err-add_value-in-Ok-Some.field-0.0 c.in_err-add_value-in-Ok-Some.ensures.judged)
 
 pub read_list-returns-in-Err-clause-judged : goal.read_list-returns-in-Err-clause-judged
-read_list-returns-in-Err-clause-judged t c = seen_unread c.message_cuts.ensures.laws _ _ _ _ _ c.values.invariant c.in-Err.ensures.unread
+read_list-returns-in-Err-clause-judged t c = seen_unread messages c.message_cuts.ensures.laws _ _ _ _ _ c.values.invariant c.in-Err.ensures.unread
 
 pub read_list-returns-in-Ok-None-clause-judged : goal.read_list-returns-in-Ok-None-clause-judged
 read_list-returns-in-Ok-None-clause-judged t c =
     let next = rw c.in-Ok-None.field-0-is at c.in-Ok-None.ensures in
-    let all = seen_end c.message_cuts.ensures.laws _ c.message_cuts.ensures.whole _ _ _ c.values.invariant (next.end.0 tt) in
+    let all = seen_to_end c.message_cuts.ensures _ _ _ _ c.values.invariant (next.end.0 tt) in
     all.fine (λ n h. h)
 
 pub read_map-pairs-init : goal.read_map-pairs-init
-read_map-pairs-init t c = rw c.new-cursor.ensures (seen_start c.message_cuts.ensures.laws _ _ _ (c.none-rows.ensures c.args.left))
+read_map-pairs-init t c = rw c.new-cursor.ensures (seen_start messages c.message_cuts.ensures.laws _ _ _ (c.none-rows.ensures c.args.left))
 
 pub read_map-pairs-preserved : goal.read_map-pairs-preserved
 read_map-pairs-preserved t c =
     let next = rw c.in-Ok-Some.field-0-is at c.in-Ok-Some.ensures in
-    seen_step c.message_cuts.ensures.laws _ _ _ _ _ _ _ c.pairs.invariant next.found c.in_ok-add_key_value-in-Ok-Some.ensures.judged c.in_ok-add_key_value-in-Ok-Some.ensures.ok
+    seen_step messages c.message_cuts.ensures.laws _ _ _ _ _ _ _ c.pairs.invariant next.found c.in_ok-add_key_value-in-Ok-Some.ensures.judged c.in_ok-add_key_value-in-Ok-Some.ensures.ok
 
 pub read_map-returns-in_err-add_key_value-in-Ok-Some-clause-judged : goal.read_map-returns-in_err-add_key_value-in-Ok-Some-clause-judged
 read_map-returns-in_err-add_key_value-in-Ok-Some-clause-judged t c =
     let next = rw c.in-Ok-Some.field-0-is at c.in-Ok-Some.ensures in
     let p = err_from_is_err_and c.from_residual-in_err-add_key_value-in-Ok-Some.result c.from_residual-in_err-add_key_value-in-Ok-Some.ensures.1 in
-    rw (p.1, p.2) (seen_item c.message_cuts.ensures.laws _ (map_laws c.message_cuts.ensures.laws c.args.left) _ _ _ _ _ c.pairs.invariant next.found Unit ReadValue c.in_err-add_key_value-in-Ok-Some.field-0.0 c.in_err-add_key_value-in-Ok-Some.ensures.judged)
+    rw (p.1, p.2) (seen_item messages c.message_cuts.ensures.laws _ (map_laws c.message_cuts.ensures.laws c.args.left) _ _ _ _ _ c.pairs.invariant next.found Unit ReadValue c.in_err-add_key_value-in-Ok-Some.field-0.0 c.in_err-add_key_value-in-Ok-Some.ensures.judged)
 
 pub read_map-returns-in-Err-clause-judged : goal.read_map-returns-in-Err-clause-judged
-read_map-returns-in-Err-clause-judged t c = seen_unread c.message_cuts.ensures.laws _ _ _ _ _ c.pairs.invariant c.in-Err.ensures.unread
+read_map-returns-in-Err-clause-judged t c = seen_unread messages c.message_cuts.ensures.laws _ _ _ _ _ c.pairs.invariant c.in-Err.ensures.unread
 
 pub read_map-returns-in-Ok-None-clause-judged : goal.read_map-returns-in-Ok-None-clause-judged
 read_map-returns-in-Ok-None-clause-judged t c =
     let next = rw c.in-Ok-None.field-0-is at c.in-Ok-None.ensures in
-    let all = seen_end c.message_cuts.ensures.laws _ c.message_cuts.ensures.whole _ _ _ c.pairs.invariant (next.end.0 tt) in
+    let all = seen_to_end c.message_cuts.ensures _ _ _ _ c.pairs.invariant (next.end.0 tt) in
     all.fine (λ n h. h)
 
 pub read_key_value-fields-init : goal.read_key_value-fields-init
-read_key_value-fields-init t c = rw c.new-cursor.ensures (seen_start c.message_cuts.ensures.laws _ _ _ (record { key = tt; value = tt }))
+read_key_value-fields-init t c = rw c.new-cursor.ensures (seen_start messages c.message_cuts.ensures.laws _ _ _ (record { key = tt; value = tt }))
 
 pub read_key_value-fields-preserved : goal.read_key_value-fields-preserved
 read_key_value-fields-preserved t c =
     let next = rw c.in-Ok-Some.field-0-is at c.in-Ok-Some.ensures in
-    seen_step c.message_cuts.ensures.laws _ _ _ _ _ _ _ c.fields.invariant next.found c.in_ok-add_field-in-Ok-Some.ensures.judged c.in_ok-add_field-in-Ok-Some.ensures.ok
+    seen_step messages c.message_cuts.ensures.laws _ _ _ _ _ _ _ c.fields.invariant next.found c.in_ok-add_field-in-Ok-Some.ensures.judged c.in_ok-add_field-in-Ok-Some.ensures.ok
 
 pub read_key_value-returns-in_err-add_field-in-Ok-Some-clause-judged : goal.read_key_value-returns-in_err-add_field-in-Ok-Some-clause-judged
 read_key_value-returns-in_err-add_field-in-Ok-Some-clause-judged t c =
     let next = rw c.in-Ok-Some.field-0-is at c.in-Ok-Some.ensures in
     let p = err_from_is_err_and c.from_residual.result c.from_residual.ensures.1 in
-    rw (p.1, p.2) (seen_item c.message_cuts.ensures.laws _ (key_value_laws c.message_cuts.ensures.laws c.args.left) _ _ _ _ _ c.fields.invariant next.found Unit ReadKeyValue c.in_err-add_field-in-Ok-Some.field-0.0 c.in_err-add_field-in-Ok-Some.ensures.judged)
+    rw (p.1, p.2) (seen_item messages c.message_cuts.ensures.laws _ (key_value_laws c.message_cuts.ensures.laws c.args.left) _ _ _ _ _ c.fields.invariant next.found Unit ReadKeyValue c.in_err-add_field-in-Ok-Some.field-0.0 c.in_err-add_field-in-Ok-Some.ensures.judged)
 
 pub read_key_value-returns-in-Err-clause-judged : goal.read_key_value-returns-in-Err-clause-judged
-read_key_value-returns-in-Err-clause-judged t c = seen_unread c.message_cuts.ensures.laws _ _ _ _ _ c.fields.invariant c.in-Err.ensures.unread
+read_key_value-returns-in-Err-clause-judged t c = seen_unread messages c.message_cuts.ensures.laws _ _ _ _ _ c.fields.invariant c.in-Err.ensures.unread
 
 pub read_key_value-returns-in-Ok-None-clause-judged : goal.read_key_value-returns-in-Ok-None-clause-judged
 read_key_value-returns-in-Ok-None-clause-judged t c =
     let next = rw c.in-Ok-None.field-0-is at c.in-Ok-None.ensures in
-    let all = seen_end c.message_cuts.ensures.laws _ c.message_cuts.ensures.whole _ _ _ c.fields.invariant (next.end.0 tt) in
+    let all = seen_to_end c.message_cuts.ensures _ _ _ _ c.fields.invariant (next.end.0 tt) in
     all.fine (λ n h. h)

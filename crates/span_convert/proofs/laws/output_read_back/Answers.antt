@@ -7,7 +7,8 @@ use Rattle.span_convert.specs.Canonical.{normal_form, IsProperTrace, IsSized, Re
 use Rattle.span_convert.specs.Units.{IsUnitOf, trace_text, span_count}
 use Rattle.span_convert.specs.Verdicts.{good, IsVerdict, IsGood, tally_of}
 use Rattle.span_convert.specs.declared.tally.Tally.{Tally}
-use Rattle.span_convert.proofs.OutputLaws.{held_units, same_length, sound_groups, proper_groups}
+use Rattle.span_convert.proofs.OutputLaws.{held_units, sound_groups, proper_groups}
+use Rattle.std.proofs.lemmas.Slice.Zip.{AllZip-long}
 use Rattle.span_convert.proofs.TextLaws.{normal_text}
 use Rattle.span_convert.proofs.laws.output_read_back.Goals as goal
 
@@ -36,7 +37,7 @@ returns-clause-read c = λ from to limits bytes text tally all short h. read c f
 
 pub returns-clause-again : goal.returns-clause-again
 returns-clause-again c = λ from to limits bytes text tally valid all h within.
-    let counts : tally_of (length h.groups) (span_count h.groups) ≡ tally = ap (λ n. tally_of n (span_count h.groups)) (sym (same_length (IsUnitOf from) h.units h.groups h.are_groups)) ∙ sym h.counts in
+    let counts : tally_of (length h.groups) (span_count h.groups) ≡ tally = ap (λ n. tally_of n (span_count h.groups)) (AllZip-long (IsUnitOf from) h.units h.groups h.are_groups) ∙ sym h.counts in
     let done : IsVerdict to to limits (trace_text to h.groups) (good (trace_text to h.groups) (tally_of (length h.groups) (span_count h.groups))) =
     c.converts_to_itself.ensures to limits h.groups valid (sound c from to limits bytes text tally h) (proper c from to limits bytes text tally all h) within in
     subst (λ (t : Tally). IsVerdict to to limits text (good text t)) counts

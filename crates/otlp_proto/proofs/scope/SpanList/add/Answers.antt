@@ -1,7 +1,6 @@
-use Rattle.std.proofs.Common.{ℕ, ap, ◌+◌, ◌∙◌}
+use Rattle.std.proofs.Common.{ℕ, ap, ◌+◌, ◌∙◌, refl}
 use Rattle.otlp_proto.proofs.ScopeLemmas.{span_push}
 use Rattle.otlp_proto.proofs.scope.SpanList.add.Goals as goal
-use Rattle.std.proofs.Common.{refl}
 
 pub returns-clause-ok : goal.returns-clause-ok
 returns-clause-ok c = λ first earlier so_far.

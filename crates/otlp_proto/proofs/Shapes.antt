@@ -1,31 +1,14 @@
--- What stands inside a record offends within its bytes, in each message of OTLP, and at their end with no number above that of what
--- offends at the end of the message around it. The search for the offence that counts asks it.
-use Rattle.std.proofs.Common.{◌≡◌, ℕ, zero, suc, ◌≤◌, inl, inr, ◌==◌, if◌then◌else◌, Bool, true, false, List, [], ◌∷◌, length, Option, refl, ap, subst, arith}
+-- What stands inside a record offends within its bytes, in each row of OTLP's tables, and at their end with no number above a bound. The
+-- search for the offence that counts asks it.
+use Rattle.std.proofs.Common.{◌≡◌, ℕ, zero, suc, ◌≤◌, inl, inr, ◌==◌, if◌then◌else◌, Bool, true, false, List, [], ◌∷◌, length, refl, ap, subst, arith}
 use Rattle.span_io.specs.Offences.{Offence}
 use Rattle.span_io.specs.OffenceLaws.{FormatLaws, RulesLaws}
 use Rattle.span_io.specs.Tables.{Row, rules_by, no_ends}
 use Rattle.span_io.specs.TableLaws.{IsFew, RowShape, TableShape, table_rules, message_within, message_late}
 use Rattle.proto_wire.specs.Messages.{messages, inner_size, NoRecord}
 use Rattle.proto_wire.specs.Records.{Held, varint, fixed64, bytes, fixed32, Record}
-use Rattle.trace_model.specs.declared.span.Code.TheVariants as codes
-use Rattle.trace_model.specs.declared.span.Code.{Code}
-use Rattle.trace_model.specs.declared.span.Event.{Event}
-use Rattle.trace_model.specs.declared.span.Kind.TheVariants as kinds
-use Rattle.trace_model.specs.declared.span.Kind.{Kind}
-use Rattle.trace_model.specs.declared.span.Link.{Link}
-use Rattle.trace_model.specs.declared.span.Span.{Span}
-use Rattle.trace_model.specs.declared.span.Status.{Status}
-use Rattle.trace_model.specs.declared.trace.Scope.{Scope}
 use Rattle.otlp_proto.specs.Attributes.{attributes, attribute_rules}
-use Rattle.otlp_proto.specs.Event.{event_table, event_rules, IsEventText}
-use Rattle.otlp_proto.specs.Group.{Resource, IsResourceText, no_resource, resource_table, resource_rules, group_table, group_rules}
-use Rattle.otlp_proto.specs.Link.{link_table, link_rules, IsLinkText}
-use Rattle.otlp_proto.specs.Notes.{Keys, Noted, SpanNotes, ScopeNotes}
 use Rattle.otlp_proto.specs.Rows.{bytes_in, varint_in, fixed64_in, fixed32_in, bytes_row, number_row, text, time, flags, count, enum, trace_id, span_id, message, messages_of}
-use Rattle.otlp_proto.specs.Scope.{InstrumentationScope, IsInstrumentationScopeText, no_instrumentation_scope, instrumentation_scope_table, instrumentation_scope_rules, IsScopeText, scope_table, scope_rules}
-use Rattle.otlp_proto.specs.Span.{IsSpanText, span_table, span_ends, span_rules}
-use Rattle.otlp_proto.specs.Status.{status_table, status_rules, IsStatusText, no_status}
-use Rattle.otlp_proto.specs.Texts.{code_number, kind_number}
 use Rattle.otlp_proto.specs.Values.{Member, string_value, bool_value, int_value, double_value, array_value, kvlist_value, bytes_value, member_in, NotedValue, KeyValue, InMember, value_in, key_value_in, value_offends, key_value_offends, many_table, many_rules, value_table, key_value_table, table_of_value, value_rules, table_of_key_value, key_value_rules, list_rules, map_rules}
 
 -- what offends in some bytes does so within them, and at their end with no number above `top`
@@ -127,14 +110,14 @@ module _ (top : ℕ) where
   pub enum_shape : (number last : ℕ) (E : Type 0) (number_of : E → ℕ) (default : E) → RowShape (enum number last E number_of default) messages.held top
   enum_shape number last E number_of default = number_shape (varint_in number) _ _ _ (varint_few number)
 
-  pub message_shape : (number : ℕ) (B : Type 0) (Is : B → List ℕ → Type 0) (absent : B) (Offends : List ℕ → ℕ → ℕ → Type 0) → Bounded top Offends → RowShape (message number B Is absent Offends) messages.held top
+  pub message_shape : (number : ℕ) (B : Type 0) (Is : List ℕ → B → Type 0) (absent : B) (Offends : List ℕ → ℕ → ℕ → Type 0) → Bounded top Offends → RowShape (message number B Is absent Offends) messages.held top
   message_shape number B Is absent Offends bounded = bytes_shape number B _ _ Offends bounded
 
-  pub messages_shape : (number : ℕ) (B : Type 0) (Is : B → List ℕ → Type 0) (Offends : List ℕ → ℕ → ℕ → Type 0) → Bounded top Offends → RowShape (messages_of number B Is Offends) messages.held top
+  pub messages_shape : (number : ℕ) (B : Type 0) (Is : List ℕ → B → Type 0) (Offends : List ℕ → ℕ → ℕ → Type 0) → Bounded top Offends → RowShape (messages_of number B Is Offends) messages.held top
   messages_shape number B Is Offends bounded = bytes_shape number (List B) _ _ Offends bounded
 
 -- where no record begins the number of the cause is at most 3
-unread_late : (rest : List ℕ) (n : ℕ) → NoRecord rest n → n ≤ 3
+pub unread_late : (rest : List ℕ) (n : ℕ) → NoRecord rest n → n ≤ 3
 unread_late rest n (inl h) = omega (arith, h.0)
 unread_late rest n (inr (inl h)) = omega (arith, h.0)
 unread_late rest n (inr (inr h)) = omega (arith, h.0)
@@ -182,7 +165,7 @@ member_small r m e = of r.held e
     of (fixed64 n) e = small_or (r.number == 4) (double_value n) [] 0 (omega arith) (never 0) e
     of (fixed32 n) e = never 0 e
 
-module _ (IsValue : NotedValue → List ℕ → Type 0) (IsKeyValue : KeyValue → List ℕ → Type 0) (InList InMap : List ℕ → ℕ → ℕ → Type 0) (lists : Bounded 3 InList) (maps : Bounded 3 InMap) where
+module _ (IsValue : List ℕ → NotedValue → Type 0) (IsKeyValue : List ℕ → KeyValue → Type 0) (InList InMap : List ℕ → ℕ → ℕ → Type 0) (lists : Bounded 3 InList) (maps : Bounded 3 InMap) where
   in_member_within : (m : Member) (place n : ℕ) → InMember InList InMap m place n → place ≤ length (member_bytes m)
   unfolding member_bytes
   in_member_within (string_value held) place n h = absurd h
@@ -227,13 +210,13 @@ module _ (laws : FormatLaws messages) where
   endless_rules : (table : List (Row Record)) (top : ℕ) → TableShape table messages.held top → RulesLaws messages (rules_by table no_ends)
   endless_rules table top shape = table_rules messages laws table top shape no_ends (λ seen m e. absurd e)
 
-  pub many_shape : (left : ℕ) (B : Type 0) (Is : B → List ℕ → Type 0) (Offends : List ℕ → ℕ → ℕ → Type 0) → Bounded 3 Offends → TableShape (many_table left B Is Offends) messages.held 3
+  pub many_shape : (left : ℕ) (B : Type 0) (Is : List ℕ → B → Type 0) (Offends : List ℕ → ℕ → ℕ → Type 0) → Bounded 3 Offends → TableShape (many_table left B Is Offends) messages.held 3
   many_shape left B Is Offends bounded = (bytes_shape 3 1 (List B) _ _ Offends bounded, tt)
 
-  many_bounded : (left : ℕ) (B : Type 0) (Is : B → List ℕ → Type 0) (Offends : List ℕ → ℕ → ℕ → Type 0) → Bounded 3 Offends → Bounded 3 (λ held p n. Offence messages (many_rules left B Is Offends) held p n)
+  many_bounded : (left : ℕ) (B : Type 0) (Is : List ℕ → B → Type 0) (Offends : List ℕ → ℕ → ℕ → Type 0) → Bounded 3 Offends → Bounded 3 (λ held p n. Offence messages (many_rules left B Is Offends) held p n)
   many_bounded left B Is Offends bounded = endless (many_table left B Is Offends) 3 (omega arith) (many_shape left B Is Offends bounded)
 
-  key_value_shape : (IsValue : NotedValue → List ℕ → Type 0) (Offends : List ℕ → ℕ → ℕ → Type 0) → Bounded 3 Offends → TableShape (key_value_table IsValue Offends) messages.held 3
+  key_value_shape : (IsValue : List ℕ → NotedValue → Type 0) (Offends : List ℕ → ℕ → ℕ → Type 0) → Bounded 3 Offends → TableShape (key_value_table IsValue Offends) messages.held 3
   key_value_shape IsValue Offends bounded = (text_shape 3 1, (message_shape 3 2 NotedValue IsValue _ Offends bounded, tt))
 
   -- a value and a `KeyValue`, where what stands below them is bounded
@@ -289,112 +272,8 @@ module _ (laws : FormatLaws messages) where
   pub attribute_bounded : Bounded 3 (λ held p n. Offence messages attribute_rules held p n)
   attribute_bounded = key_value_over 15 (value_bounded 15) (key_value_bounded 15)
 
-  attributes_shape : (number : ℕ) → RowShape (attributes number) messages.held 3
+  pub attributes_shape : (number : ℕ) → RowShape (attributes number) messages.held 3
   attributes_shape number = bytes_shape 3 number _ _ _ _ attribute_bounded
 
-  pub status_shape : TableShape status_table messages.held 3
-  status_shape = (text_shape 3 2, (enum_shape 3 3 2 Code code_number codes.Unset, tt))
-
-  pub status_laws : RulesLaws messages status_rules
-  status_laws = endless_rules status_table 3 status_shape
-
-  pub event_shape : TableShape event_table messages.held 3
-  event_shape = (time_shape 3 1, (text_shape 3 2, (attributes_shape 3, (count_shape 3 4, tt))))
-
-  pub event_laws : RulesLaws messages event_rules
-  event_laws = endless_rules event_table 3 event_shape
-
-  pub link_shape : TableShape link_table messages.held 3
-  link_shape = (trace_id_shape 3 1, (span_id_shape 3 2, (text_shape 3 3, (attributes_shape 4, (count_shape 3 5, (flags_shape 3 6, tt))))))
-
-  pub link_laws : RulesLaws messages link_rules
-  link_laws = endless_rules link_table 3 link_shape
-
-  pub span_shape : TableShape span_table messages.held 3
-  span_shape = (
-    trace_id_shape 3 1,
-    (
-      span_id_shape 3 2,
-      (
-        text_shape 3 3,
-        (
-          span_id_shape 3 4,
-          (
-            text_shape 3 5,
-            (
-              enum_shape 3 6 5 Kind kind_number kinds.Unspecified,
-              (
-                time_shape 3 7,
-                (
-                  time_shape 3 8,
-                  (
-                    attributes_shape 9,
-                    (
-                      count_shape 3 10,
-                      (
-                        messages_shape 3 11 (Noted Event Keys) IsEventText _ (endless event_table 3 (omega arith) event_shape),
-                        (
-                          count_shape 3 12,
-                          (
-                            messages_shape 3 13 (Option (Noted Link Keys)) IsLinkText _ (endless link_table 3 (omega arith) link_shape),
-                            (
-                              count_shape 3 14,
-                              (message_shape 3 15 Status IsStatusText no_status _ (endless status_table 3 (omega arith) status_shape), (flags_shape 3 16, tt)),
-                            ),
-                          ),
-                        ),
-                      ),
-                    ),
-                  ),
-                ),
-              ),
-            ),
-          ),
-        ),
-      ),
-    ),
-  )
-
-  -- the end of a span offends with 12, and what stands inside at most with 3 there
-  pub span_laws : RulesLaws messages span_rules
-  span_laws = table_rules messages laws span_table 3 span_shape span_ends (λ seen n e. omega (arith, e.0))
-
-  span_bounded : Bounded 12 (λ held p n. Offence messages span_rules held p n)
-  span_bounded = record {
-    within = λ held p n o. message_within messages laws span_table 3 span_shape span_ends (λ seen m e. omega (arith, e.0)) held p n o;
-    late = λ held p n o behind. message_late messages laws span_table 3 span_shape span_ends 12 (omega arith) (λ rest m u. omega (arith, unread_late rest m u)) (λ seen m e. omega (arith, e.0)) held p n o behind;
-  }
-
-  pub instrumentation_scope_shape : TableShape instrumentation_scope_table messages.held 3
-  instrumentation_scope_shape = (text_shape 3 1, (text_shape 3 2, (attributes_shape 3, (count_shape 3 4, tt))))
-
-  pub instrumentation_scope_laws : RulesLaws messages instrumentation_scope_rules
-  instrumentation_scope_laws = endless_rules instrumentation_scope_table 3 instrumentation_scope_shape
-
-  higher : (low high : ℕ) (Offends : List ℕ → ℕ → ℕ → Type 0) → low ≤ high → Bounded low Offends → Bounded high Offends
-  higher low high Offends above bounded = record { within = bounded.within; late = λ held p n h behind. omega (arith, bounded.late held p n h behind, above) }
-
-  pub scope_shape : TableShape scope_table messages.held 12
-  scope_shape = (
-    message_shape 12 1 (Noted InstrumentationScope Keys) IsInstrumentationScopeText no_instrumentation_scope _
-        (higher 3 12 _ (omega arith) (endless instrumentation_scope_table 3 (omega arith) instrumentation_scope_shape)),
-    (messages_shape 12 2 (Noted Span SpanNotes) IsSpanText _ span_bounded, (text_shape 12 3, tt)),
-  )
-
-  pub scope_laws : RulesLaws messages scope_rules
-  scope_laws = endless_rules scope_table 12 scope_shape
-
-  pub resource_shape : TableShape resource_table messages.held 3
-  resource_shape = (attributes_shape 1, (count_shape 3 2, tt))
-
-  pub resource_laws : RulesLaws messages resource_rules
-  resource_laws = endless_rules resource_table 3 resource_shape
-
-  pub group_shape : TableShape group_table messages.held 12
-  group_shape = (
-    message_shape 12 1 (Noted Resource Keys) IsResourceText no_resource _ (higher 3 12 _ (omega arith) (endless resource_table 3 (omega arith) resource_shape)),
-    (messages_shape 12 2 (Noted Scope ScopeNotes) IsScopeText _ (endless scope_table 12 (omega arith) scope_shape), (text_shape 12 3, tt)),
-  )
-
-  pub group_laws : RulesLaws messages group_rules
-  group_laws = endless_rules group_table 12 group_shape
+pub higher : (low high : ℕ) (Offends : List ℕ → ℕ → ℕ → Type 0) → low ≤ high → Bounded low Offends → Bounded high Offends
+higher low high Offends above bounded = record { within = bounded.within; late = λ held p n h behind. omega (arith, bounded.late held p n h behind, above) }
