@@ -1,0 +1,6 @@
+pub mod Parts
+pub mod Reading
+pub mod Trees
+pub mod Walks
+pub mod Protocols
+pub mod Stops

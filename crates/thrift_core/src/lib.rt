@@ -1,0 +1,12 @@
+//! The Thrift wire format, over any protocol: what stands in a text of a struct, the trait that a protocol meets, passing
+//! over values, and the first struct of a stream.
+#![tactic(auto)]
+
+mod field;
+mod passing;
+mod protocol;
+mod type_code;
+
+pub use field::{Field, ListHead, MapHead};
+pub use protocol::Protocol;
+pub use type_code::TypeCode;
