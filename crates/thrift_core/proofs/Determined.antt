@@ -104,6 +104,10 @@ ended_there Spells text after rest h = by_count h.count h.turns
 
 -- ---- one way
 
+-- no turn is made there
+abbrev pub Stuck : Spelling → Open → List ℕ → Type 0
+Stuck Spells top text = (opened : List Open) (rest : List ℕ) → Turn Spells (first_of top) text opened rest → ⊥
+
 same_ok : {A : Type 0} (a b : A) (r : Result A Cause) → r ≡ Ok a → r ≡ Ok b → a ≡ b
 same_ok a b r e f = cc
 
@@ -141,11 +145,7 @@ module _ (Spells : Spelling) (reads : ReadingOf) (ThenVarint : Part → List ℕ
       → Passes Spells a rest b left ⊎ Passes Spells b left a rest
   walks_meet before whole a b rest left h g = turns_meet h.count g.count before whole a b rest left h.turns g.turns
 
-  -- no turn is made there
-  abbrev pub Stuck : Open → List ℕ → Type 0
-  Stuck top text = (opened : List Open) (rest : List ℕ) → Turn Spells (first_of top) text opened rest → ⊥
-
-  stuck_there : (top : Open) (below : List Open) (text : List ℕ) (after : List Open) (rest : List ℕ) → Stuck top text → Passes Spells (top ∷ below) text after rest → (top ∷ below ≡ after) × (text ≡ rest)
+  stuck_there : (top : Open) (below : List Open) (text : List ℕ) (after : List Open) (rest : List ℕ) → Stuck Spells top text → Passes Spells (top ∷ below) text after rest → (top ∷ below ≡ after) × (text ≡ rest)
   unfolding Turns
   stuck_there top below text after rest stuck h = by_count h.count h.turns
     where
@@ -154,7 +154,7 @@ module _ (Spells : Spelling) (reads : ReadingOf) (ThenVarint : Part → List ℕ
       by_count (suc n) h = absurd (stuck h.0 h.1 h.2)
 
   -- each walk goes on to where no turn is made
-  pub goes_on : (before : List Open) (whole : List ℕ) (top : Open) (below : List Open) (rest : List ℕ) (b : List Open) (left : List ℕ) → Stuck top rest → Passes Spells before whole (top ∷ below) rest → Passes Spells before whole b left
+  pub goes_on : (before : List Open) (whole : List ℕ) (top : Open) (below : List Open) (rest : List ℕ) (b : List Open) (left : List ℕ) → Stuck Spells top rest → Passes Spells before whole (top ∷ below) rest → Passes Spells before whole b left
       → Passes Spells b left (top ∷ below) rest
   goes_on before whole top below rest b left stuck h g = elim (walks_meet before whole (top ∷ below) b rest left h g) as (λ x. Passes Spells b left (top ∷ below) rest) [
     | inl w ↦ (let same : (top ∷ below ≡ b) × (rest ≡ left) = stuck_there top below rest b left stuck w in
@@ -163,13 +163,13 @@ module _ (Spells : Spelling) (reads : ReadingOf) (ThenVarint : Part → List ℕ
   ]
 
   -- there is one such place, and the walk that stands there doesn't end
-  pub one_place : (before : List Open) (whole : List ℕ) (top : Open) (below : List Open) (rest : List ℕ) (other : Open) (others : List Open) (left : List ℕ) → Stuck top rest → Stuck other left
+  pub one_place : (before : List Open) (whole : List ℕ) (top : Open) (below : List Open) (rest : List ℕ) (other : Open) (others : List Open) (left : List ℕ) → Stuck Spells top rest → Stuck Spells other left
       → Passes Spells before whole (top ∷ below) rest → Passes Spells before whole (other ∷ others) left → (top ≡ other) × (rest ≡ left)
   one_place before whole top below rest other others left stuck halts h g =
       let same : (other ∷ others ≡ top ∷ below) × (left ≡ rest) = stuck_there other others left (top ∷ below) rest halts (goes_on before whole top below rest (other ∷ others) left stuck h g) in
       (let e : other ∷ others ≡ top ∷ below = same.0 in cc, sym same.1)
 
-  pub not_ended : (before : List Open) (whole : List ℕ) (top : Open) (below : List Open) (rest left : List ℕ) → Stuck top rest → Passes Spells before whole (top ∷ below) rest → Passes Spells before whole [] left → ⊥
+  pub not_ended : (before : List Open) (whole : List ℕ) (top : Open) (below : List Open) (rest left : List ℕ) → Stuck Spells top rest → Passes Spells before whole (top ∷ below) rest → Passes Spells before whole [] left → ⊥
   not_ended before whole top below rest left stuck h g =
       let e : [] ≡ top ∷ below = (ended_there Spells left (top ∷ below) rest (goes_on before whole top below rest [] left stuck h g)).0 in cc
 

@@ -1,3 +1,4 @@
 pub mod Determined
 pub mod Completed
 pub mod Ends
+pub mod Halts
