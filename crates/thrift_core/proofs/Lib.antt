@@ -1,1 +1,5 @@
+pub mod Determined
+pub mod Completed
+pub mod Ends
+pub mod Halts
 pub mod WalkSteps

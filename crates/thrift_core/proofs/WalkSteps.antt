@@ -1,4 +1,4 @@
--- Walks put together: one behind another, one over what lies on top of more, and what the code says of each step.
+-- The steps of passing over a value: what a walk comes to behind each, and what is answered where one halts.
 use Rattle.std.proofs.Common.{◌≡◌, ◌≢◌, ◌+◌, ◌-◌, ◌≤◌, ◌<◌, ◌++◌, ◌∷◌, ℕ, ℤ, zero, suc, Bool, Option, Some, None, List, [], length, take, drop, Result, Ok, Err, refl, ap, sym, ◌∙◌, subst, arith}
 use Rattle.std.proofs.lemmas.List.{length-append, append_assoc, length-take, take-append-drop}
 use Rattle.std.specs.Result.{IsErrAnd}
@@ -16,7 +16,8 @@ use Rattle.thrift_core.specs.declared.passing.Halted.TheVariants as halts
 use Rattle.thrift_core.specs.Parts.{Part, header, list_head, map_head, WordOf, Spelling, Begins}
 use Rattle.thrift_core.specs.Reading.{ReadingOf, Stays}
 use Rattle.thrift_core.specs.Walks.{Open, opened_by_header, opened_elements, opened_pairs, first_of_list, first_of_map, in_struct, in_value, in_elements, in_pairs, in_bytes, First, a_part, some_bytes, made_of, no_level, first_of, Turn, Turns, Passes}
-use Rattle.thrift_core.specs.Stops.{StopsBy, StopsFor, Lacks, HaltsAs, Passed}
+use Rattle.thrift_core.specs.Stops.{StopsBy, HaltsAs, Passed}
+use Rattle.thrift_core.proofs.Determined.{no_turns, one_turn, passes_on, passes_above}
 
 -- a cursor walked from what is open here to what is open there
 pub record Within (Spells : Spelling) (start top : Open) (old new : Walk) : Type 0 where
@@ -24,39 +25,6 @@ pub record Within (Spells : Spelling) (start top : Open) (old new : Walk) : Type
   pub stays : Stays old new
 
 module _ (Spells : Spelling) where
-  pub no_turn : (before : List Open) (whole : List ℕ) → Passes Spells before whole before whole
-  unfolding Turns
-  no_turn before whole = record { count = zero; turns = (refl, refl) }
-
-  more_turns : (m n : ℕ) (a b c : List Open) (x y z : List ℕ) → Turns Spells m a x b y → Turns Spells n b y c z → (k : ℕ) × Turns Spells k a x c z
-  unfolding Turns
-  more_turns zero n a b c x y z h g = (n, subst (λ o. Turns Spells n o x c z) (sym h.0) (subst (λ l. Turns Spells n b l c z) (sym h.1) g))
-  more_turns (suc m) n [] b c x y z h g = absurd h
-  more_turns (suc m) n (top ∷ below) b c x y z h g =
-      let next : (k : ℕ) × Turns Spells k (h.0 ++ below) h.1 c z = more_turns m n (h.0 ++ below) b c h.1 y z h.3 g in
-      (suc next.0, (h.0, h.1, h.2, next.1))
-
-  -- one walk behind another
-  pub behind : (a b c : List Open) (x y z : List ℕ) → Passes Spells a x b y → Passes Spells b y c z → Passes Spells a x c z
-  behind a b c x y z h g =
-      let both : (k : ℕ) × Turns Spells k a x c z = more_turns h.count g.count a b c x y z h.turns g.turns in
-      record { count = both.0; turns = both.1 }
-
-  turns_over : (n : ℕ) (a b below : List Open) (x y : List ℕ) → Turns Spells n a x b y → Turns Spells n (a ++ below) x (b ++ below) y
-  unfolding Turns
-  turns_over zero a b below x y h = (ap (λ l. l ++ below) h.0, h.1)
-  turns_over (suc n) [] b below x y h = absurd h
-  turns_over (suc n) (top ∷ more) b below x y h =
-      (h.0, h.1, h.2, subst (λ l. Turns Spells n l h.1 (b ++ below) y) (append_assoc h.0 more below) (turns_over n (h.0 ++ more) b below h.1 y h.3))
-
-  -- the same walk over what lies on top of more
-  pub over : (a b below : List Open) (x y : List ℕ) → Passes Spells a x b y → Passes Spells (a ++ below) x (b ++ below) y
-  over a b below x y h = record { count = h.count; turns = turns_over h.count a b below x y h.turns }
-
-  pub one_turn : (top : Open) (below opened : List Open) (whole rest : List ℕ) → Turn Spells (first_of top) whole opened rest → Passes Spells (top ∷ below) whole (opened ++ below) rest
-  unfolding Turns
-  one_turn top below opened whole rest h = record { count = suc zero; turns = (opened, rest, h, (refl, refl)) }
-
   -- The bytes of a binary that are there were taken.
   pub bytes_passed : (start : Open) (whole between rest : List ℕ) (many : ℕ) → Passes Spells (start ∷ []) whole (in_bytes many ∷ []) between → (length between < many → ⊥)
       → rest ≡ drop many between → Passes Spells (start ∷ []) whole [] rest
@@ -67,7 +35,7 @@ module _ (Spells : Spelling) where
         omega (arith, length-take many between, enough),
         refl,
       ) in
-      behind (start ∷ []) (in_bytes many ∷ []) [] whole between rest h (one_turn (in_bytes many) [] [] between rest taken)
+      passes_on Spells (start ∷ []) whole (in_bytes many ∷ []) between [] rest h (one_turn Spells (in_bytes many) [] between [] rest taken)
 
   -- ---- elements and pairs, one by one
 
@@ -76,28 +44,28 @@ module _ (Spells : Spelling) where
   element_opened start left many i kind whole between more h =
       let opened = in_value left kind None ∷ in_elements left kind (many - (i + 1)) ∷ [] in
       let e : many - i ≡ suc (many - (i + 1)) = omega (arith, more) in
-      behind (start ∷ []) (in_elements left kind (many - i) ∷ []) opened whole between between h
-      (one_turn (in_elements left kind (many - i)) [] opened between between (subst (λ n. Turn Spells (first_of (in_elements left kind n)) between opened between) (sym e) (refl, refl)))
+      passes_on Spells (start ∷ []) whole (in_elements left kind (many - i) ∷ []) between opened between h
+      (one_turn Spells (in_elements left kind (many - i)) [] between opened between (subst (λ n. Turn Spells (first_of (in_elements left kind n)) between opened between) (sym e) (refl, refl)))
 
   pub no_element_left : (start : Open) (left n : ℕ) (kind : TypeCode) (whole between : List ℕ) → n ≡ 0 → Passes Spells (start ∷ []) whole (in_elements left kind n ∷ []) between
       → Passes Spells (start ∷ []) whole [] between
   no_element_left start left n kind whole between e h =
-      behind (start ∷ []) (in_elements left kind n ∷ []) [] whole between between h
-      (one_turn (in_elements left kind n) [] [] between between (subst (λ n. Turn Spells (first_of (in_elements left kind n)) between [] between) (sym e) (refl, refl)))
+      passes_on Spells (start ∷ []) whole (in_elements left kind n ∷ []) between [] between h
+      (one_turn Spells (in_elements left kind n) [] between [] between (subst (λ n. Turn Spells (first_of (in_elements left kind n)) between [] between) (sym e) (refl, refl)))
 
   pub pair_opened : (start : Open) (left many i : ℕ) (key value : TypeCode) (whole between : List ℕ) → i < many → Passes Spells (start ∷ []) whole (in_pairs left key value (many - i) ∷ []) between
       → Passes Spells (start ∷ []) whole (in_value left key None ∷ in_value left value None ∷ in_pairs left key value (many - (i + 1)) ∷ []) between
   pair_opened start left many i key value whole between more h =
       let opened = in_value left key None ∷ in_value left value None ∷ in_pairs left key value (many - (i + 1)) ∷ [] in
       let e : many - i ≡ suc (many - (i + 1)) = omega (arith, more) in
-      behind (start ∷ []) (in_pairs left key value (many - i) ∷ []) opened whole between between h
-      (one_turn (in_pairs left key value (many - i)) [] opened between between (subst (λ n. Turn Spells (first_of (in_pairs left key value n)) between opened between) (sym e) (refl, refl)))
+      passes_on Spells (start ∷ []) whole (in_pairs left key value (many - i) ∷ []) between opened between h
+      (one_turn Spells (in_pairs left key value (many - i)) [] between opened between (subst (λ n. Turn Spells (first_of (in_pairs left key value n)) between opened between) (sym e) (refl, refl)))
 
   pub no_pair_left : (start : Open) (left n : ℕ) (key value : TypeCode) (whole between : List ℕ) → n ≡ 0 → Passes Spells (start ∷ []) whole (in_pairs left key value n ∷ []) between
       → Passes Spells (start ∷ []) whole [] between
   no_pair_left start left n key value whole between e h =
-      behind (start ∷ []) (in_pairs left key value n ∷ []) [] whole between between h
-      (one_turn (in_pairs left key value n) [] [] between between (subst (λ n. Turn Spells (first_of (in_pairs left key value n)) between [] between) (sym e) (refl, refl)))
+      passes_on Spells (start ∷ []) whole (in_pairs left key value n ∷ []) between [] between h
+      (one_turn Spells (in_pairs left key value n) [] between [] between (subst (λ n. Turn Spells (first_of (in_pairs left key value n)) between [] between) (sym e) (refl, refl)))
 
   -- ---- a walk goes onward
 
@@ -140,14 +108,14 @@ module _ (Spells : Spelling) (reads : ReadingOf) where
     top = g.top;
     below = g.below ++ below;
     rest = g.rest;
-    passes = behind Spells (start ∷ []) (top ∷ below) (g.top ∷ (g.below ++ below)) whole between g.rest h (over Spells (top ∷ []) (g.top ∷ g.below) below between g.rest g.passes);
+    passes = passes_on Spells (start ∷ []) whole (top ∷ below) between (g.top ∷ (g.below ++ below)) g.rest h (passes_above Spells (top ∷ []) between (g.top ∷ g.below) g.rest below g.passes);
     stops = g.stops;
   }
   halted_over start top below whole between (halts.Lacking many) h g = record {
     held = g.held;
     below = g.below ++ below;
     rest = g.rest;
-    passes = behind Spells (start ∷ []) (top ∷ below) (in_bytes g.held ∷ (g.below ++ below)) whole between g.rest h (over Spells (top ∷ []) (in_bytes g.held ∷ g.below) below between g.rest g.passes);
+    passes = passes_on Spells (start ∷ []) whole (top ∷ below) between (in_bytes g.held ∷ (g.below ++ below)) g.rest h (passes_above Spells (top ∷ []) between (in_bytes g.held ∷ g.below) g.rest below g.passes);
     missing = g.missing;
     some = g.some;
   }
@@ -155,7 +123,7 @@ module _ (Spells : Spelling) (reads : ReadingOf) where
   -- What comes last of it was passed over, or halted.
   pub passed_last : (start top : Open) (whole between rest : List ℕ) (result : Result Unit Halted) → Passes Spells (start ∷ []) whole (top ∷ []) between
       → Passed Spells reads top result between rest → Passed Spells reads start result whole rest
-  passed_last start top whole between rest (Ok x) h g = behind Spells (start ∷ []) (top ∷ []) [] whole between rest h g
+  passed_last start top whole between rest (Ok x) h g = passes_on Spells (start ∷ []) whole (top ∷ []) between [] rest h g
   passed_last start top whole between rest (Err halted) h g = halted_over start top [] whole between halted h g
 
   -- Something in it halted.
@@ -168,7 +136,7 @@ module _ (Spells : Spelling) (reads : ReadingOf) where
   -- Something in it was passed over.
   pub passed_in : (start top : Open) (below : List Open) (whole between rest : List ℕ) → Passes Spells (start ∷ []) whole (top ∷ below) between
       → Passes Spells (top ∷ []) between [] rest → Passes Spells (start ∷ []) whole below rest
-  passed_in start top below whole between rest h g = behind Spells (start ∷ []) (top ∷ below) below whole between rest h (over Spells (top ∷ []) [] below between rest g)
+  passed_in start top below whole between rest h g = passes_on Spells (start ∷ []) whole (top ∷ below) between below rest h (passes_above Spells (top ∷ []) between [] rest below g)
 
   -- A part of it is refused.
   pub part_refused : (start top : Open) (below : List Open) (whole between rest : List ℕ) (part : Part) (opens : WordOf part → List Open) (cause : Cause) (result : Result Unit Halted)
@@ -193,7 +161,7 @@ module _ (Spells : Spelling) (reads : ReadingOf) where
         top = start;
         below = [];
         rest = whole;
-        passes = no_turn Spells (start ∷ []) whole;
+        passes = no_turns Spells (start ∷ []) whole;
         stops = subst (λ f. StopsBy reads f whole cause) (sym first) deep;
       } in
       let p = err_from_is_err_and result is in
@@ -203,19 +171,19 @@ module _ (Spells : Spelling) (reads : ReadingOf) where
   pub made_of_one : (start top : Open) (whole rest : List ℕ) (result : Result Unit Halted) → first_of start ≡ made_of (top ∷ []) → Passed Spells reads top result whole rest
       → Passed Spells reads start result whole rest
   made_of_one start top whole rest result first h =
-      passed_last start top whole whole rest result (one_turn Spells start [] (top ∷ []) whole whole (subst (λ f. Turn Spells f whole (top ∷ []) whole) (sym first) (refl, refl))) h
+      passed_last start top whole whole rest result (one_turn Spells start [] whole (top ∷ []) whole (subst (λ f. Turn Spells f whole (top ∷ []) whole) (sym first) (refl, refl))) h
 
   -- A first part of it is refused.
   pub first_refused : (start : Open) (whole rest : List ℕ) (part : Part) (opens : WordOf part → List Open) (cause : Cause) (result : Result Unit Halted)
       → first_of start ≡ a_part part opens → reads part whole ≡ Err cause → IsErrAnd result (λ e. e ≡ halts.For cause) → Passed Spells reads start result whole rest
-  first_refused start whole rest part opens cause result first e is = part_refused start start [] whole whole rest part opens cause result (no_turn Spells (start ∷ []) whole) first e is
+  first_refused start whole rest part opens cause result first e is = part_refused start start [] whole whole rest part opens cause result (no_turns Spells (start ∷ []) whole) first e is
 
   module _ (found : (part : Part) (word : WordOf part) (bytes rest : List ℕ) → reads part bytes ≡ Ok (word, rest) → Begins Spells part word bytes rest) where
     -- A part of it was read.
     pub part_read : (top : Open) (below : List Open) (whole rest : List ℕ) (part : Part) (opens : WordOf part → List Open) (word : WordOf part)
         → first_of top ≡ a_part part opens → reads part whole ≡ Ok (word, rest) → Passes Spells (top ∷ below) whole (opens word ++ below) rest
     part_read top below whole rest part opens word first e =
-        one_turn Spells top below (opens word) whole rest (subst (λ f. Turn Spells f whole (opens word) rest) (sym first) (word, found part word whole rest e, refl))
+        one_turn Spells top below whole (opens word) rest (subst (λ f. Turn Spells f whole (opens word) rest) (sym first) (word, found part word whole rest e, refl))
 
     -- A part that has bytes shortens what is left.
     pub part_shortens : (part : Part) (word : WordOf part) (whole rest : List ℕ) → ((text : List ℕ) → Spells part word text → text ≢ []) → reads part whole ≡ Ok (word, rest) → length rest < length whole
@@ -228,13 +196,13 @@ module _ (Spells : Spelling) (reads : ReadingOf) where
     pub field_read : (start : Open) (left : ℕ) (last : ℤ) (f : Field) (o : Option Field) (whole between rest : List ℕ) → Passes Spells (start ∷ []) whole (in_struct left last ∷ []) between
         → reads (header left last) between ≡ Ok (o, rest) → o ≡ Some f → Passes Spells (start ∷ []) whole (in_value left f.kind f.held ∷ in_struct left f.id ∷ []) rest
     field_read start left last f o whole between rest h e is =
-        behind Spells (start ∷ []) (in_struct left last ∷ []) (in_value left f.kind f.held ∷ in_struct left f.id ∷ []) whole between rest h
+        passes_on Spells (start ∷ []) whole (in_struct left last ∷ []) between (in_value left f.kind f.held ∷ in_struct left f.id ∷ []) rest h
         (part_read (in_struct left last) [] between rest (header left last) (opened_by_header left) (Some f) refl (e ∙ ap (λ x. Ok (x, rest)) is))
 
     pub stop_read : (start : Open) (left : ℕ) (last : ℤ) (o : Option Field) (whole between rest : List ℕ) → Passes Spells (start ∷ []) whole (in_struct left last ∷ []) between
         → reads (header left last) between ≡ Ok (o, rest) → o ≡ None → Passes Spells (start ∷ []) whole [] rest
     stop_read start left last o whole between rest h e is =
-        behind Spells (start ∷ []) (in_struct left last ∷ []) [] whole between rest h
+        passes_on Spells (start ∷ []) whole (in_struct left last ∷ []) between [] rest h
         (part_read (in_struct left last) [] between rest (header left last) (opened_by_header left) None refl (e ∙ ap (λ x. Ok (x, rest)) is))
 
     pub list_read : (start : Open) (left : ℕ) (head : ListHead) (o : Option TypeCode) (whole rest : List ℕ) → first_of start ≡ first_of_list left

@@ -40,3 +40,8 @@ HaltsAs Spells reads start text (halts.Lacking many) = Lacks Spells start text m
 abbrev pub Passed : Spelling → ReadingOf → Open → Result Unit Halted → List ℕ → List ℕ → Type 0
 Passed Spells reads start (Ok _) text rest = Passes Spells (start ∷ []) text [] rest
 Passed Spells reads start (Err halted) text rest = HaltsAs Spells reads start text halted
+
+-- the cause that callers are told: the text ends where bytes of a binary aren't there
+abbrev pub cause_of : Halted → Cause
+cause_of (halts.For cause) = cause
+cause_of (halts.Lacking many) = causes.Truncated

@@ -7,7 +7,7 @@ use Rattle.span_io.specs.Frames.{Framing}
 use Rattle.thrift_core.specs.declared.field.Field.{Field}
 use Rattle.thrift_core.specs.declared.type_code.TypeCode.{TypeCode}
 use Rattle.thrift_core.specs.declared.type_code.TypeCode.TheVariants as kinds
-use Rattle.thrift_core.specs.Parts.{Part, header, truth, byte, short, int, long, eight, size, list_head, map_head, WordOf, Spelling, Begins}
+use Rattle.thrift_core.specs.Parts.{Part, header, truth, byte, short, int, long, eight, size, list_head, map_head, WordOf, Spelling, Begins, BeginsNone}
 use Rattle.thrift_core.specs.Trees.{Tree, Fields, kind_of, ValueThen, FieldsThen, outer_levels}
 
 pub data Open : Type 0 where
@@ -150,7 +150,7 @@ texts_from Spells ThenVarint start = record {
 -- what refuses such a text, by the cause that this names
 abbrev pub RefusedFrom : Spelling → (Part → Cause → List ℕ → Type 0) → Open → Cause → List ℕ → Type 0
 RefusedFrom Spells Refuses start cause text =
-    EndsInPart Spells start (λ part rest. Refuses part cause rest) text ⊎ ((cause ≡ causes.TooDeep) × EndsAtNoLevel Spells start text)
+    EndsInPart Spells start (λ part rest. BeginsNone Spells part rest × Refuses part cause rest) text ⊎ ((cause ≡ causes.TooDeep) × EndsAtNoLevel Spells start text)
 
 -- what is open where a struct begins that no other container holds
 abbrev pub outer_struct : Open

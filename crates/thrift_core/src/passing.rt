@@ -2,7 +2,7 @@ ghost use Rattle.std.specs.Prelude.{◌≡◌, ◌+◌, ℕ, pos, Bool, Option, 
 ghost use Rattle.thrift_core.specs.Parts.{list_head, map_head};
 ghost use Rattle.thrift_core.specs.Reading.{Stays};
 ghost use Rattle.thrift_core.specs.Walks.{Open, in_struct, in_value, in_elements, in_pairs, first_of, first_of_list, first_of_map};
-ghost use Rattle.thrift_core.specs.Stops.{Passed};
+ghost use Rattle.thrift_core.specs.Stops.{Passed, cause_of};
 ghost use Rattle.thrift_core.specs.declared.passing.Halted.TheVariants as halts;
 ghost use Rattle.thrift_core.specs.declared.type_code.TypeCode.TheVariants as kinds;
 
@@ -15,6 +15,18 @@ use span_io::{Cause, Cursor, Short};
 pub(crate) enum Halted {
     For(Cause),
     Lacking(usize),
+}
+
+impl Halted {
+    // The cause that callers are told.
+    pub(crate) fn cause(self) -> Cause
+        ensures { result ≡ cause_of self }
+    {
+        match self {
+            Halted::For(cause) => cause,
+            Halted::Lacking(_) => Cause::Truncated,
+        }
+    }
 }
 
 impl From<Cause> for Halted {
@@ -39,7 +51,7 @@ fn pass_bytes<P: Protocol>(c: &mut Cursor<'_>) -> Result<(), Halted>
 
 // Passes over a value for which so many levels are left.
 #[cycle(passing)]
-fn pass_value<P: Protocol>(
+pub(crate) fn pass_value<P: Protocol>(
     c: &mut Cursor<'_>,
     kind: TypeCode,
     held: Option<bool>,

@@ -4,7 +4,8 @@ use Rattle.std.proofs.lemmas.Int.{to_z-of_z}
 use Rattle.thrift_core.specs.Parts.{header, truth, byte, short, int, long, eight, list_head, map_head}
 use Rattle.thrift_core.specs.Walks.{Open, in_struct, in_value, in_elements, in_pairs, first_of, first_of_list, first_of_map, no_level, nothing_more, opened_by_header, opened_elements, opened_pairs, Passes}
 use Rattle.thrift_core.specs.declared.type_code.TypeCode.TheVariants as kinds
-use Rattle.thrift_core.proofs.WalkSteps.{no_turn, part_refused, first_refused, part_read, passed_in, passed_last, part_shortens, field_read, stop_read, list_read, map_read, halted_in, element_opened, no_element_left, pair_opened, no_pair_left, onward}
+use Rattle.thrift_core.proofs.Determined.{no_turns}
+use Rattle.thrift_core.proofs.WalkSteps.{part_refused, first_refused, part_read, passed_in, passed_last, part_shortens, field_read, stop_read, list_read, map_read, halted_in, element_opened, no_element_left, pair_opened, no_pair_left, onward}
 use Rattle.thrift_core.proofs.WalkSteps.{value_first, value_below, value_without_level, level_refused, made_of_one}
 use Rattle.thrift_core.proofs.passing.+passing.Goals as goal
 
@@ -110,7 +111,7 @@ pass_value-returns-in_ok-level_below-in-Set-clause-passed g t c =
 -- ---- structs
 
 pub pass_struct-fields-init : goal.pass_struct-fields-init
-pass_struct-fields-init g t c = record { passes = no_turn g.P.Protocol.spells (in_struct c.args.left (pos 0) ∷ []) c.args.c.now.rest; stays = refl }
+pass_struct-fields-init g t c = record { passes = no_turns g.P.Protocol.spells (in_struct c.args.left (pos 0) ∷ []) c.args.c.now.rest; stays = refl }
 
 pub pass_struct-returns-in-None-clause-passed : goal.pass_struct-returns-in-None-clause-passed
 pass_struct-returns-in-None-clause-passed g t c =
@@ -164,7 +165,7 @@ pass_list-returns-in-None-clause-passed g t c = λ start first.
 pub pass_elements-elements-init : goal.pass_elements-elements-init
 pass_elements-elements-init g t c = record {
   passes = subst (λ n. Passes g.P.Protocol.spells (in_elements c.args.left c.args.kind c.args.many ∷ []) c.args.c.now.rest (in_elements c.args.left c.args.kind n ∷ []) c.args.c.now.rest) (omega arith)
-  (no_turn g.P.Protocol.spells (in_elements c.args.left c.args.kind c.args.many ∷ []) c.args.c.now.rest);
+  (no_turns g.P.Protocol.spells (in_elements c.args.left c.args.kind c.args.many ∷ []) c.args.c.now.rest);
   stays = refl;
 }
 
@@ -216,7 +217,7 @@ pass_map-returns-in_default-2-clause-passed g t c = λ start first.
 pub pass_pairs-pairs-init : goal.pass_pairs-pairs-init
 pass_pairs-pairs-init g t c = record {
   passes = subst (λ n. Passes g.P.Protocol.spells (in_pairs c.args.left c.args.key c.args.value c.args.many ∷ []) c.args.c.now.rest (in_pairs c.args.left c.args.key c.args.value n ∷ []) c.args.c.now.rest) (omega arith)
-  (no_turn g.P.Protocol.spells (in_pairs c.args.left c.args.key c.args.value c.args.many ∷ []) c.args.c.now.rest);
+  (no_turns g.P.Protocol.spells (in_pairs c.args.left c.args.key c.args.value c.args.many ∷ []) c.args.c.now.rest);
   stays = refl;
 }
 

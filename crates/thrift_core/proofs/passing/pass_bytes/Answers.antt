@@ -3,14 +3,15 @@ use Rattle.std.proofs.lemmas.List.{length-take, take-append-drop}
 use Rattle.thrift_core.specs.Parts.{size, Spelling}
 use Rattle.thrift_core.specs.Walks.{Open, in_value, in_bytes, opened_by_size, Passes}
 use Rattle.thrift_core.specs.declared.type_code.TypeCode.TheVariants as kinds
-use Rattle.thrift_core.proofs.WalkSteps.{no_turn, one_turn, part_refused, part_read, bytes_passed}
+use Rattle.thrift_core.proofs.Determined.{no_turns}
+use Rattle.thrift_core.proofs.WalkSteps.{part_refused, part_read, bytes_passed}
 use Rattle.thrift_core.proofs.passing.pass_bytes.Goals as goal
 
 pub returns-in_err-size-clause-passed : goal.returns-in_err-size-clause-passed
 returns-in_err-size-clause-passed g c = λ left held.
     let start = in_value left kinds.Binary held in
     part_refused g.P.Protocol.spells g.P.Protocol.reads start start [] c.args.c.now.rest c.args.c.now.rest c.length.new.c.rest size opened_by_size c.in_err-size.field-0.0 c.from_residual.result
-    (no_turn g.P.Protocol.spells (start ∷ []) c.args.c.now.rest) refl c.in_err-size.ensures.exact c.from_residual.ensures.1
+    (no_turns g.P.Protocol.spells (start ∷ []) c.args.c.now.rest) refl c.in_err-size.ensures.exact c.from_residual.ensures.1
 
 pub returns-in-Ok-clause-passed : goal.returns-in-Ok-clause-passed
 returns-in-Ok-clause-passed g c = λ left held.
