@@ -2,3 +2,4 @@ pub mod Determined
 pub mod Completed
 pub mod Ends
 pub mod Halts
+pub mod Stopping
