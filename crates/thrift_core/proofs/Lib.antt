@@ -3,3 +3,4 @@ pub mod Completed
 pub mod Ends
 pub mod Halts
 pub mod Stopping
+pub mod Meanings
