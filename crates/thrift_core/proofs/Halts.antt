@@ -67,7 +67,7 @@ module _ (Spells : Spelling) (reads : ReadingOf) (ThenVarint : Part → List ℕ
   one_stop no_level text a b e f = e ∙ sym f
 
   -- a cause other than Truncated stays
-  stays_by : (first : First) (text more : List ℕ) (cause : Cause) → cause ≢ causes.Truncated → StopsBy reads first text cause → StopsBy reads first (text ++ more) cause
+  pub stays_by : (first : First) (text more : List ℕ) (cause : Cause) → cause ≢ causes.Truncated → StopsBy reads first text cause → StopsBy reads first (text ++ more) cause
   stays_by (a_part part opens) text more cause other e = (R.bad part (text ++ more) cause other).1 (refused_more Spells ThenVarint part (Refuses part cause) text more ((R.bad part text cause other).0 e))
   stays_by (some_bytes many) text more cause other e = absurd e
   stays_by (made_of opens) text more cause other e = absurd e
