@@ -4,3 +4,4 @@ pub mod Ends
 pub mod Halts
 pub mod Stopping
 pub mod Meanings
+pub mod TextsFrom
