@@ -5,3 +5,4 @@ pub mod Halts
 pub mod Stopping
 pub mod Meanings
 pub mod TextsFrom
+pub mod OneTree
