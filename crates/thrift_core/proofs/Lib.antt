@@ -6,3 +6,4 @@ pub mod Stopping
 pub mod Meanings
 pub mod TextsFrom
 pub mod OneTree
+pub mod WalkSteps
