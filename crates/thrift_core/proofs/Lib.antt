@@ -5,6 +5,7 @@ pub mod Halts
 pub mod Stopping
 pub mod Meanings
 pub mod TextsFrom
+pub mod OneTree
 pub mod WalkSteps
 pub mod Answering
 pub mod FirstStruct

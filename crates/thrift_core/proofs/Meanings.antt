@@ -323,7 +323,7 @@ module _ (Spells : Spelling) (ThenVarint : Part → List ℕ → Type 0) (Refuse
           tree = pair_then u.tree v.tree w.tree;
           between = w.between;
           is = (
-            ap (λ k. suc k) w.is.0,
+            ap (λ k. suc k) {y = pair_count w.tree} w.is.0,
             (
               ap (λ k. Some k) {y = kind_of u.tree} (sym u.is.0),
               ap (λ k. Some k) {y = kind_of v.tree} (sym v.is.0),
