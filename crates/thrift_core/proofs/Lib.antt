@@ -7,3 +7,4 @@ pub mod Meanings
 pub mod TextsFrom
 pub mod OneTree
 pub mod WalkSteps
+pub mod OpenStructs
