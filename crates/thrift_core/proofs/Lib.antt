@@ -8,3 +8,5 @@ pub mod TextsFrom
 pub mod OneTree
 pub mod WalkSteps
 pub mod OpenStructs
+pub mod Answering
+pub mod FirstStruct

@@ -1,18 +1,16 @@
 -- Where a walk over a struct stands, the bytes can be completed to a struct.
-use Rattle.std.proofs.Common.{◌≡◌, ◌≢◌, ◌++◌, ◌∷◌, ◌⊎◌, inl, inr, ℕ, zero, suc, ℤ, pos, Bool, List, [], Option, Some, None, Ok, refl, ap, sym, ◌∙◌, subst, arith}
+use Rattle.std.proofs.Common.{◌≡◌, ◌++◌, ◌∷◌, ◌⊎◌, inl, inr, ℕ, zero, suc, ℤ, pos, Bool, List, [], Option, Some, None, refl, ap, sym, ◌∙◌, subst, arith}
 use Rattle.std.proofs.lemmas.List.{append-nil}
 use Rattle.span_io.specs.declared.cause.Cause.{Cause}
-use Rattle.span_io.specs.declared.cause.Cause.TheVariants as causes
 use Rattle.span_io.specs.Cuts.{append_empty_right}
 use Rattle.span_io.specs.Frames.{Framing, IsProperFront, IsOpen, BeginsWhole, IsRefusedAt, CanBeCompleted}
 use Rattle.span_io.specs.FramingLaws.{Place, is_open, is_begun, is_refused, open_front}
 use Rattle.thrift_core.specs.declared.field.Field.{Field}
-use Rattle.thrift_core.specs.Parts.{Part, header, WordOf, Spelling, Begins}
+use Rattle.thrift_core.specs.Parts.{Part, Spelling}
 use Rattle.thrift_core.specs.Reading.{ReadingOf}
-use Rattle.thrift_core.specs.Protocols.{ReadsExactly, PartLaws, WritingOf, WritesShortest, MayWrite}
-use Rattle.thrift_core.specs.Trees.{Fields, FieldsThen, StructText, outer_levels}
+use Rattle.thrift_core.specs.Protocols.{ReadsExactly, PartLaws, WritingOf, WritesShortest}
+use Rattle.thrift_core.specs.Trees.{Fields, StructText, outer_levels}
 use Rattle.thrift_core.specs.Walks.{Open, in_struct, in_value, first_of, opened_by_header, Turn, Turns, Passes, outer_struct}
-use Rattle.thrift_core.specs.Stops.{StopsFor, Lacks}
 use Rattle.thrift_core.specs.Values.{structs, RefusedStruct}
 use Rattle.thrift_core.specs.Laws.{OneReading, ReadsBack, OpenFronts}
 use Rattle.thrift_core.proofs.Determined.{front_of, one_turn, one_word, one_end, passes_more, passes_on, ended_there}
