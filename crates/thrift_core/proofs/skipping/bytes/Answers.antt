@@ -68,5 +68,5 @@ returns-in-Err-clause-refused g c =
 pub returns-in-Ok-clause-nearer : goal.returns-in-Ok-clause-nearer
 returns-in-Ok-clause-nearer g c =
     let read : length c.length.new.c.rest < length c.again-at.result.rest = part_shortens g.P.Protocol.spells g.P.Protocol.reads g.met.P.Protocol.reads_exactly.found size c.in_ok-size.size c.again-at.result.rest c.length.new.c.rest
-        (λ text h. g.met.P.Protocol.part_laws.some size c.in_ok-size.size text tt h) c.in_ok-size.ensures.exact in
+    (λ text h. g.met.P.Protocol.part_laws.some size c.in_ok-size.size text tt h) c.in_ok-size.ensures.exact in
     omega (arith, read, ap (λ w. length w.rest) c.again-at.ensures, ap (λ w. length w.rest) c.in-Ok.ensures.ok, length-drop c.in_ok-size.size c.length.new.c.rest)

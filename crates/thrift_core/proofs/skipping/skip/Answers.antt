@@ -38,5 +38,5 @@ returns-in-Err-clause-refused g c =
 pub returns-in-Ok-clause-onward : goal.returns-in-Ok-clause-onward
 returns-in-Ok-clause-onward g c =
     let on : length c.pass_value.new.c.rest ≤ length c.again-at.result.rest =
-        onward g.P.Protocol.spells (in_value c.args.left c.args.kind c.args.held ∷ []) [] c.again-at.result.rest c.pass_value.new.c.rest c.in-Ok.ensures.passed in
+    onward g.P.Protocol.spells (in_value c.args.left c.args.kind c.args.held ∷ []) [] c.again-at.result.rest c.pass_value.new.c.rest c.in-Ok.ensures.passed in
     omega (arith, on, ap (λ w. length w.rest) c.again-at.ensures)
