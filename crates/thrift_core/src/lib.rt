@@ -1,0 +1,17 @@
+//! The Thrift wire format, over any protocol: what stands in a text of a struct, the trait that a protocol meets, passing
+//! over values, and the first struct of a stream.
+#![tactic(auto)]
+
+mod field;
+mod frame;
+pub mod laws;
+mod passing;
+mod protocol;
+mod skipping;
+mod type_code;
+
+pub use field::{Field, ListHead, MapHead};
+pub use frame::{OUTER_LEVELS, first_frame};
+pub use protocol::Protocol;
+pub use skipping::{bytes, skip};
+pub use type_code::TypeCode;
