@@ -5,7 +5,6 @@ use Rattle.std.specs.List.{flat_map}
 use Rattle.std.proofs.lemmas.List.{append-nil}
 use Rattle.std.proofs.lemmas.List.Concat.{flat_map-append, flat_map-cons}
 use Rattle.span_io.specs.Causes.{cause_number}
-use Rattle.span_io.specs.declared.cause.Cause.{Cause}
 use Rattle.span_io.specs.Offences.{Format, Offence, Cut, Least, HereOrInside}
 use Rattle.span_io.specs.OffenceLaws.{FormatLaws, RulesLaws, Walked, walked_start, walked_step, least_here, least_inside, none_in_item, least_unread, least_end, none_at_end, least_item}
 use Rattle.span_io.specs.Tables.{Row, OfFirst, table_here, table_inside, rules_by, IsFree, Each, givens, Values, Mean}

@@ -7,22 +7,37 @@ ghost use Rattle.span_io.specs.Causes.{cause_number, cause_name};
 pub enum Cause {
     /// The bytes, or the enclosing message, end inside an item.
     Truncated,
-    /// A varint has more than ten bytes, or a tenth byte above 1 (proto3 wire format).
+    /// A varint has more than ten bytes, or a tenth byte above 1 (proto3 wire format), or the value
+    /// of an i16 or i32 is outside its type (Thrift compact protocol).
     BadVarint,
-    /// A wire type or field number is outside its table (proto3 wire format).
+    /// A wire type, type code, field number or field id is outside its table (proto3 wire format,
+    /// Thrift binary and compact protocols).
     BadWire,
-    /// A value lies deeper than 16 levels.
+    /// A size or length is negative or above 2,147,483,647 (Thrift binary and compact protocols).
+    BadSize,
+    /// A value lies deeper than 16 levels, or a Thrift container at level 33.
     TooDeep,
     /// A unit has more bytes than its limit, or a length in it says so.
     UnitTooLong,
     /// A known singular field stands twice in one message, or one value has two members.
     FieldTwice,
+    /// A required field (jaeger.thrift) or member (Zipkin v2) is absent.
+    Missing,
     /// A text field is not UTF-8.
     NotText,
+    /// The bytes are no JSON text (RFC 8259), or one that nests deeper than 127 levels.
+    BadJson,
+    /// A JSON value is not of the shape that its member has.
+    BadShape,
     /// An identifier is zero, or of another length or spelling.
     BadId,
     /// An enum value is outside its table.
     BadEnum,
+    /// A known list that isn't empty names another element type (jaeger.thrift).
+    BadElement,
+    /// A count of microseconds, or a start and a duration together, is negative or above
+    /// 18446744073709551, the last whose nanoseconds fit 64 bits.
+    BadTime,
     /// The input has more bytes than its limit.
     InputTooLong,
 }
@@ -35,12 +50,18 @@ impl Cause {
             Cause::Truncated => 1,
             Cause::BadVarint => 2,
             Cause::BadWire => 3,
+            Cause::BadSize => 4,
             Cause::TooDeep => 5,
             Cause::UnitTooLong => 6,
             Cause::FieldTwice => 7,
+            Cause::Missing => 8,
             Cause::NotText => 9,
+            Cause::BadJson => 10,
+            Cause::BadShape => 11,
             Cause::BadId => 12,
             Cause::BadEnum => 13,
+            Cause::BadElement => 14,
+            Cause::BadTime => 16,
             Cause::InputTooLong => 17,
         }
     }
@@ -52,12 +73,18 @@ impl Cause {
             Cause::Truncated => "Truncated",
             Cause::BadVarint => "BadVarint",
             Cause::BadWire => "BadWire",
+            Cause::BadSize => "BadSize",
             Cause::TooDeep => "TooDeep",
             Cause::UnitTooLong => "UnitTooLong",
             Cause::FieldTwice => "FieldTwice",
+            Cause::Missing => "Missing",
             Cause::NotText => "NotText",
+            Cause::BadJson => "BadJson",
+            Cause::BadShape => "BadShape",
             Cause::BadId => "BadId",
             Cause::BadEnum => "BadEnum",
+            Cause::BadElement => "BadElement",
+            Cause::BadTime => "BadTime",
             Cause::InputTooLong => "InputTooLong",
         }
     }

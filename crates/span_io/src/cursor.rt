@@ -1,5 +1,5 @@
 ghost use Rattle.std.specs.Prelude.{◌≡◌, ◌+◌, ◌<◌, ◌≤◌, ◌↔◌, ℕ, List, length, take, IfOk, OnErr, IsErr, MatchResult, Ok, Err, ◌∷◌};
-ghost use Rattle.std.specs.Int.{w32, w64, from_le_bytes};
+ghost use Rattle.std.specs.Int.{w16, w32, w64, from_be_bytes, from_le_bytes};
 ghost use Rattle.span_io.specs.Varint.{BeginsVarint, IsInsideVarint, BeginsOverlong, varint_at};
 ghost use Rattle.span_io.specs.Walks.{further, Gives};
 
@@ -114,6 +114,48 @@ impl<'a> Cursor<'a> {
         };
         self.rest = rest;
         Ok(*byte)
+    }
+
+    /// A number of two bytes, the most significant first.
+    pub fn be16(&mut self) -> Result<u16, Short>
+        ensures value { IfOk result (λ n. n ≡ from_be_bytes w16 (take 2 self.old.rest)) }
+        ensures ok { IfOk result (λ _. self.new ≡ further self.old 2) }
+        ensures short { IsErr result ↔ (length self.old.rest < 2) }
+        ensures err { OnErr result (self.new ≡ self.old) }
+    {
+        let [a, b, rest @ ..] = self.rest else {
+            return Err(Short);
+        };
+        self.rest = rest;
+        Ok(u16::from_be_bytes([*a, *b]))
+    }
+
+    /// A number of four bytes, the most significant first.
+    pub fn be32(&mut self) -> Result<u32, Short>
+        ensures value { IfOk result (λ n. n ≡ from_be_bytes w32 (take 4 self.old.rest)) }
+        ensures ok { IfOk result (λ _. self.new ≡ further self.old 4) }
+        ensures short { IsErr result ↔ (length self.old.rest < 4) }
+        ensures err { OnErr result (self.new ≡ self.old) }
+    {
+        let [a, b, c, d, rest @ ..] = self.rest else {
+            return Err(Short);
+        };
+        self.rest = rest;
+        Ok(u32::from_be_bytes([*a, *b, *c, *d]))
+    }
+
+    /// A number of eight bytes, the most significant first.
+    pub fn be64(&mut self) -> Result<u64, Short>
+        ensures value { IfOk result (λ n. n ≡ from_be_bytes w64 (take 8 self.old.rest)) }
+        ensures ok { IfOk result (λ _. self.new ≡ further self.old 8) }
+        ensures short { IsErr result ↔ (length self.old.rest < 8) }
+        ensures err { OnErr result (self.new ≡ self.old) }
+    {
+        let [a, b, c, d, e, f, g, h, rest @ ..] = self.rest else {
+            return Err(Short);
+        };
+        self.rest = rest;
+        Ok(u64::from_be_bytes([*a, *b, *c, *d, *e, *f, *g, *h]))
     }
 
     /// A number of four bytes, the least significant first.

@@ -143,12 +143,18 @@ fn causes(rt: HostRuntime) {
         (Cause::Truncated, 1, "Truncated"),
         (Cause::BadVarint, 2, "BadVarint"),
         (Cause::BadWire, 3, "BadWire"),
+        (Cause::BadSize, 4, "BadSize"),
         (Cause::TooDeep, 5, "TooDeep"),
         (Cause::UnitTooLong, 6, "UnitTooLong"),
         (Cause::FieldTwice, 7, "FieldTwice"),
+        (Cause::Missing, 8, "Missing"),
         (Cause::NotText, 9, "NotText"),
+        (Cause::BadJson, 10, "BadJson"),
+        (Cause::BadShape, 11, "BadShape"),
         (Cause::BadId, 12, "BadId"),
         (Cause::BadEnum, 13, "BadEnum"),
+        (Cause::BadElement, 14, "BadElement"),
+        (Cause::BadTime, 16, "BadTime"),
         (Cause::InputTooLong, 17, "InputTooLong"),
     ] {
         assert_eq!(rt; cause.number(), number);

@@ -65,11 +65,25 @@ fn walks(rt: HostRuntime) {
     assert_eq!(rt; other.take(2), Ok(b"ab".as_slice()));
     assert_eq!(rt; other.place(), 15);
     assert_eq!(rt; other.byte(), Err(Short));
+    assert_eq!(rt; other.be16(), Err(Short));
     assert_eq!(rt; cursor.take(3), Err(Short));
     assert_eq!(rt; cursor.le32(), Err(Short));
     assert_eq!(rt; cursor.le64(), Err(Short));
+    assert_eq!(rt; cursor.be32(), Err(Short));
+    assert_eq!(rt; cursor.be64(), Err(Short));
     assert_eq!(rt; cursor.rest(), b"ab".as_slice());
     assert_eq!(rt; cursor.place(), 13);
+}
+
+#[test]
+fn walks_from_the_most_significant(rt: HostRuntime) {
+    let mut cursor = Cursor::new(b"\x80\x01\x80\x02\x03\x04\x80\x00\x00\x00\x00\x00\x00\x01a");
+    assert_eq!(rt; cursor.be16(), Ok(0x8001));
+    assert_eq!(rt; cursor.be32(), Ok(0x8002_0304));
+    assert_eq!(rt; cursor.be64(), Ok(0x8000_0000_0000_0001));
+    assert_eq!(rt; cursor.rest(), b"a".as_slice());
+    assert_eq!(rt; cursor.be16(), Err(Short));
+    assert_eq!(rt; cursor.place(), 14);
 }
 
 #[test]
