@@ -1,0 +1,3 @@
+pub mod Fixed
+pub mod Heads
+pub mod Sizes
