@@ -1,12 +1,12 @@
 -- What the heads of fields, lists and maps give, by what their parts give.
-use Rattle.std.proofs.Common.{◌≡◌, ◌≢◌, ◌≤◌, ◌<◌, ◌∷◌, ℕ, zero, suc, ℤ, List, [], length, Option, Some, None, Ok, Err, refl, ap, sym, ◌∙◌, subst, arith}
+use Rattle.std.proofs.Common.{◌≡◌, ◌≢◌, ◌<◌, ◌∷◌, ℕ, zero, suc, ℤ, List, [], length, Some, None, Ok, Err, refl, arith}
 use Rattle.std.specs.Int.{w16}
 use Rattle.span_io.specs.declared.cause.Cause.{Cause}
 use Rattle.span_io.specs.declared.cause.Cause.TheVariants as causes
 use Rattle.thrift_core.specs.declared.type_code.TypeCode.{TypeCode}
 use Rattle.thrift_binary.specs.TypeCodes.{kind_of_code, why_none, why_no_pair}
 use Rattle.thrift_binary.specs.Spelling.{signed}
-use Rattle.thrift_binary.specs.Reading.{◌>>=◌, fixed_at, unless, known, size_at, header_at, list_at, map_at}
+use Rattle.thrift_binary.specs.Reading.{fixed_at, size_at, header_at, list_at, map_at}
 
 -- ---- fields
 

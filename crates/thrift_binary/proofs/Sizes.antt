@@ -1,12 +1,11 @@
 -- What a size gives where its four bytes are there, by the number that they are, and where they are not.
-use Rattle.std.proofs.Common.{◌≡◌, ◌≢◌, ◌≤◌, ◌<◌, ◌∷◌, ℕ, zero, suc, List, [], length, take, drop, get_or, replicate, Any, Bool, true, false, Option, Some, None, Ok, Err, refl, ap, sym, ◌∙◌, subst, arith}
+use Rattle.std.proofs.Common.{◌≡◌, ◌≢◌, ◌≤◌, ◌<◌, ◌∷◌, ℕ, zero, suc, List, [], length, take, drop, get_or, replicate, Any, Option, Some, None, Ok, Err, refl, sym, ◌∙◌, arith}
 use Rattle.std.proofs.lemmas.Bool.{lt-ltb, le-ltb}
 use Rattle.std.proofs.lemmas.List.{get_or-replicate}
 use Rattle.std.specs.List.{slice_get}
 use Rattle.std.specs.Int.{w32, from_be_bytes}
 use Rattle.span_io.specs.declared.cause.Cause.{Cause}
 use Rattle.span_io.specs.declared.cause.Cause.TheVariants as causes
-use Rattle.thrift_core.specs.Protocols.{last_size}
 use Rattle.thrift_binary.specs.Reading.{why_first, why_later, size_at}
 
 -- the number at the front, the most significant byte first

@@ -1,11 +1,11 @@
 -- What stands at the front of some bytes that are read as one part, in a spelling in which bytes are judged one after the other: a
 -- word is found, it may yet come, or the last byte of a front is refused. All that a reader promises follows.
-use Rattle.std.proofs.Common.{◌≡◌, ◌≢◌, ◌++◌, ◌∷◌, ◌⊎◌, ◌↔◌, inl, inr, ℕ, List, [], Result, Ok, Err, refl, ap, sym, ◌∙◌, subst}
+use Rattle.std.proofs.Common.{◌≡◌, ◌≢◌, ◌++◌, ◌∷◌, ◌↔◌, inl, inr, ℕ, List, [], Result, Ok, Err, ap, sym, ◌∙◌, subst}
 use Rattle.std.proofs.lemmas.List.{append_assoc, append-nil}
 use Rattle.span_io.specs.declared.cause.Cause.{Cause}
 use Rattle.span_io.specs.declared.cause.Cause.TheVariants as causes
-use Rattle.span_io.specs.Frames.{Framing, IsProperFront, EndsInVarint, IsOpen, BeginsWhole, IsRefused, ShortestRefused, IsRefusedAt}
-use Rattle.span_io.specs.Cuts.{two_cuts, Longer, append_empty_right}
+use Rattle.span_io.specs.Frames.{Framing, IsOpen, IsRefused, ShortestRefused, IsRefusedAt}
+use Rattle.span_io.specs.Cuts.{two_cuts, append_empty_right}
 
 -- more bytes make a word of them
 pub record MayCome (W : Type 0) (S : W → List ℕ → Type 0) (bytes : List ℕ) : Type 0 where

@@ -1,5 +1,5 @@
 -- How parts are judged: words of so many bytes, what stands behind a byte, and sizes, of which each byte may be refused.
-use Rattle.std.proofs.Common.{◌≡◌, ◌≢◌, ◌≤◌, ◌<◌, ◌+◌, ◌-◌, ◌++◌, ◌∷◌, ◌⊎◌, inl, inr, ℕ, zero, suc, List, [], length, take, drop, replicate, Bool, true, false, cond, ltb, Option, Some, None, Result, Ok, Err, refl, ap, sym, ◌∙◌, subst, arith}
+use Rattle.std.proofs.Common.{◌≡◌, ◌≢◌, ◌≤◌, ◌<◌, ◌+◌, ◌-◌, ◌++◌, ◌∷◌, ℕ, zero, suc, List, [], length, take, drop, replicate, Bool, true, false, cond, ltb, Option, Some, None, Result, Ok, Err, refl, ap, sym, ◌∙◌, subst, arith}
 use Rattle.std.proofs.lemmas.Bool.{ltb-true, ltb-false}
 use Rattle.std.proofs.lemmas.List.{length-append, length-take, length-replicate, take-append-drop, take_at, drop_at}
 use Rattle.std.specs.Int.{w32, from_be_bytes}
@@ -8,7 +8,7 @@ use Rattle.span_io.specs.declared.cause.Cause.TheVariants as causes
 use Rattle.span_io.specs.Cuts.{append_empty_right}
 use Rattle.thrift_binary.specs.Spelling.{IsFixed, IsSize, SaysSome, IsSizeRefused}
 use Rattle.thrift_binary.specs.Reading.{◌>>=◌, fixed_at, judged_at, why_first, why_later, size_at}
-use Rattle.thrift_binary.specs.Judged.{MayCome, Clashes, Refusal, Judged, found, may_come, refused, Judges}
+use Rattle.thrift_binary.specs.Judged.{MayCome, Clashes, Judged, found, may_come, refused, Judges}
 
 -- ---- a word of so many bytes
 
@@ -230,33 +230,33 @@ module _ (why : Option Cause) (proper : IsProperWhy why) where
 
   judged_3 : (a b c : ℕ) → a < 128 → (1 ≤ a + b + c → why ≡ None) → (bytes : List ℕ) → Judged ℕ (λ n text. Sized why n (a ∷ b ∷ c ∷ text)) (λ cause text. Refused cause (a ∷ b ∷ c ∷ text)) bytes (at_3 a b c bytes)
   judged_3 a b c small quiet bytes = later_byte why proper (λ n text. Sized why n (a ∷ b ∷ c ∷ text)) (λ cause text. Refused cause (a ∷ b ∷ c ∷ text))
-    (λ d rest. Ok (from_be_bytes w32 (a ∷ b ∷ c ∷ d ∷ []), rest))
-    (record { word = from_be_bytes w32 (a ∷ b ∷ c ∷ 0 ∷ []); more = zeros 1; some = λ e. cc; spelled = sized a b c 0 small (λ some. quiet (omega (arith, some))) })
-    (λ n h. h.0)
-    (λ d other cause e n text h. none_some why cause e (h.1 (fourth_some n a b c d text h.0 other)))
-    (λ d other cause e. (let none = quiet_zero why cause (a + b + c) quiet e in refused_some why cause (a ∷ b ∷ c ∷ d ∷ []) e (omega (arith, none), omega (arith, none), omega (arith, none), other)))
-    (λ d also rest. found (from_be_bytes w32 (a ∷ b ∷ c ∷ d ∷ [])) [] rest (sized a b c d small (either_some why (a + b + c) d quiet also)) refl refl)
-    bytes
+      (λ d rest. Ok (from_be_bytes w32 (a ∷ b ∷ c ∷ d ∷ []), rest))
+      (record { word = from_be_bytes w32 (a ∷ b ∷ c ∷ 0 ∷ []); more = zeros 1; some = λ e. cc; spelled = sized a b c 0 small (λ some. quiet (omega (arith, some))) })
+      (λ n h. h.0)
+      (λ d other cause e n text h. none_some why cause e (h.1 (fourth_some n a b c d text h.0 other)))
+      (λ d other cause e. (let none = quiet_zero why cause (a + b + c) quiet e in refused_some why cause (a ∷ b ∷ c ∷ d ∷ []) e (omega (arith, none), omega (arith, none), omega (arith, none), other)))
+      (λ d also rest. found (from_be_bytes w32 (a ∷ b ∷ c ∷ d ∷ [])) [] rest (sized a b c d small (either_some why (a + b + c) d quiet also)) refl refl)
+      bytes
 
   judged_2 : (a b : ℕ) → a < 128 → (1 ≤ a + b → why ≡ None) → (bytes : List ℕ) → Judged ℕ (λ n text. Sized why n (a ∷ b ∷ text)) (λ cause text. Refused cause (a ∷ b ∷ text)) bytes (at_2 a b bytes)
   judged_2 a b small quiet bytes = later_byte why proper (λ n text. Sized why n (a ∷ b ∷ text)) (λ cause text. Refused cause (a ∷ b ∷ text))
-    (at_3 a b)
-    (record { word = from_be_bytes w32 (a ∷ b ∷ 0 ∷ 0 ∷ []); more = zeros 2; some = λ e. cc; spelled = sized a b 0 0 small (λ some. quiet (omega (arith, some))) })
-    (λ n h. h.0)
-    (λ c other cause e n text h. none_some why cause e (h.1 (third_some n a b c text h.0 other)))
-    (λ c other cause e. (let none = quiet_zero why cause (a + b) quiet e in refused_some why cause (a ∷ b ∷ c ∷ []) e (omega (arith, none), omega (arith, none), other)))
-    (λ c also rest. judged_3 a b c small (either_some why (a + b) c quiet also) rest)
-    bytes
+      (at_3 a b)
+      (record { word = from_be_bytes w32 (a ∷ b ∷ 0 ∷ 0 ∷ []); more = zeros 2; some = λ e. cc; spelled = sized a b 0 0 small (λ some. quiet (omega (arith, some))) })
+      (λ n h. h.0)
+      (λ c other cause e n text h. none_some why cause e (h.1 (third_some n a b c text h.0 other)))
+      (λ c other cause e. (let none = quiet_zero why cause (a + b) quiet e in refused_some why cause (a ∷ b ∷ c ∷ []) e (omega (arith, none), omega (arith, none), other)))
+      (λ c also rest. judged_3 a b c small (either_some why (a + b) c quiet also) rest)
+      bytes
 
   judged_1 : (a : ℕ) → a < 128 → (1 ≤ a → why ≡ None) → (bytes : List ℕ) → Judged ℕ (λ n text. Sized why n (a ∷ text)) (λ cause text. Refused cause (a ∷ text)) bytes (at_1 a bytes)
   judged_1 a small quiet bytes = later_byte why proper (λ n text. Sized why n (a ∷ text)) (λ cause text. Refused cause (a ∷ text))
-    (at_2 a)
-    (record { word = from_be_bytes w32 (a ∷ 0 ∷ 0 ∷ 0 ∷ []); more = zeros 3; some = λ e. cc; spelled = sized a 0 0 0 small (λ some. quiet (omega (arith, some))) })
-    (λ n h. h.0)
-    (λ b other cause e n text h. none_some why cause e (h.1 (second_some n a b text h.0 other)))
-    (λ b other cause e. (let none = quiet_zero why cause a quiet e in refused_some why cause (a ∷ b ∷ []) e (none, other)))
-    (λ b also rest. judged_2 a b small (either_some why a b quiet also) rest)
-    bytes
+      (at_2 a)
+      (record { word = from_be_bytes w32 (a ∷ 0 ∷ 0 ∷ 0 ∷ []); more = zeros 3; some = λ e. cc; spelled = sized a 0 0 0 small (λ some. quiet (omega (arith, some))) })
+      (λ n h. h.0)
+      (λ b other cause e n text h. none_some why cause e (h.1 (second_some n a b text h.0 other)))
+      (λ b other cause e. (let none = quiet_zero why cause a quiet e in refused_some why cause (a ∷ b ∷ []) e (none, other)))
+      (λ b also rest. judged_2 a b small (either_some why a b quiet also) rest)
+      bytes
 
   open_size : MayCome ℕ (Sized why) []
   open_size = record { word = from_be_bytes w32 (0 ∷ 0 ∷ 0 ∷ 0 ∷ []); more = zeros 4; some = λ e. cc; spelled = sized 0 0 0 0 (omega arith) (λ some. absurd (omega (arith, some))) }
@@ -268,12 +268,12 @@ module _ (why : Option Cause) (proper : IsProperWhy why) where
   judged_by : (w : Option Cause) → why ≡ w → (b : ℕ) (bytes : List ℕ) (small : Bool) → ltb (suc b) 128 ≡ small → Judged ℕ (Sized why) Refused (suc b ∷ bytes) (judged_at (why_first w) (suc b ∷ bytes) >>= λ x. at_1 x.0 x.1)
   judged_by None e b bytes true f = rw f (judged_behind ℕ (Sized why) Refused (suc b) open_size none_size bytes (at_1 (suc b) bytes) (judged_1 (suc b) (ltb-true (suc b) 128 f) (λ some. e) bytes))
   judged_by None e b bytes false f = rw f (refused_here ℕ (Sized why) Refused (suc b) open_size none_size bytes causes.BadSize
-    (subst (λ w. IsSizeRefused w causes.BadSize (suc b ∷ [])) (sym e) (refl, ltb-false (suc b) 128 f))
-    (λ n text h. omega (arith, first_small n (suc b) text h.0, ltb-false (suc b) 128 f)) (λ z. cc) (λ z. cc))
+      (subst (λ w. IsSizeRefused w causes.BadSize (suc b ∷ [])) (sym e) (refl, ltb-false (suc b) 128 f))
+      (λ n text h. omega (arith, first_small n (suc b) text h.0, ltb-false (suc b) 128 f)) (λ z. cc) (λ z. cc))
   judged_by (Some cause) e b bytes small f =
       let known = proper cause e in
       refused_here ℕ (Sized why) Refused (suc b) open_size none_size bytes cause (refused_some why cause (suc b ∷ []) e (λ z. omega (arith, z)))
-        (λ n text h. none_some why cause e (h.1 (first_some n (suc b) text h.0 (λ z. omega (arith, z))))) known.0 known.1
+      (λ n text h. none_some why cause e (h.1 (first_some n (suc b) text h.0 (λ z. omega (arith, z))))) known.0 known.1
 
   judged_size : (bytes : List ℕ) → Judged ℕ (Sized why) Refused bytes (size_at why bytes)
   unfolding size_at

@@ -1,6 +1,6 @@
 -- How the heads of fields, lists and maps are judged.
-use Rattle.std.proofs.Common.{◌≡◌, ◌≢◌, ◌≤◌, ◌++◌, ◌∷◌, ◌⊎◌, inl, inr, ℕ, zero, suc, ℤ, Bool, List, [], length, Option, Some, None, Result, Ok, Err, refl, ap, sym, ◌∙◌, subst, arith}
-use Rattle.std.specs.Int.{w16, w32, from_be_bytes}
+use Rattle.std.proofs.Common.{◌≡◌, ◌≢◌, ◌++◌, ◌∷◌, ◌⊎◌, inl, inr, ℕ, zero, suc, ℤ, Bool, List, [], Option, Some, None, Result, Ok, Err, refl, ap, sym, ◌∙◌, subst, arith}
+use Rattle.std.specs.Int.{w16}
 use Rattle.span_io.specs.declared.cause.Cause.{Cause}
 use Rattle.span_io.specs.declared.cause.Cause.TheVariants as causes
 use Rattle.thrift_core.specs.declared.field.Field.{Field}
@@ -9,10 +9,10 @@ use Rattle.thrift_core.specs.declared.field.MapHead.{MapHead}
 use Rattle.thrift_core.specs.declared.type_code.TypeCode.{TypeCode}
 use Rattle.thrift_core.specs.declared.type_code.TypeCode.TheVariants as kinds
 use Rattle.thrift_core.specs.Parts.{HasLevel}
-use Rattle.thrift_binary.specs.TypeCodes.{kind_of_code, why_none, deeper, why_no_pair}
-use Rattle.thrift_binary.specs.Spelling.{signed, IsFixed, IsSize, IsHeader, MayStand, IsListHead, IsMapHead, IsSizeRefused, IsHeaderRefused, IsListRefused, IsMapRefused}
+use Rattle.thrift_binary.specs.TypeCodes.{kind_among, kind_of_code, why_none, deeper, why_no_pair}
+use Rattle.thrift_binary.specs.Spelling.{signed, IsFixed, IsHeader, MayStand, IsListHead, IsMapHead, IsSizeRefused, IsHeaderRefused, IsListRefused, IsMapRefused}
 use Rattle.thrift_binary.specs.Reading.{◌>>=◌, fixed_at, unless, known, size_at, header_at, list_at, map_at}
-use Rattle.thrift_binary.specs.Judged.{MayCome, Judged, found, may_come, refused, Judges}
+use Rattle.thrift_binary.specs.Judged.{MayCome, Judged, found, may_come, Judges}
 use Rattle.thrift_binary.specs.JudgedBytes.{zeros, one_fixed, fixed_judges, judged_behind, open_behind, refused_here, judged_as, IsProperWhy, Sized, size_judges, one_size}
 
 -- ---- why no value may stand
@@ -105,12 +105,12 @@ module _ (left : ℕ) where
       let why = why_none left (kind_of_code code) in
       let laws = size_judges why (proper_none left (kind_of_code code)) in
       judged_behind ListHead (IsListHead left) (IsListRefused left) code open_list none_list bytes (list_at left (code ∷ bytes))
-        (judged_as ℕ ListHead (Sized why) (λ head text. IsListHead left head (code ∷ text)) (IsSizeRefused why) (λ cause text. IsListRefused left cause (code ∷ text))
-          (λ n. record { element = kind_of_code code; size = n })
-          (λ n text h. (refl, h.0, λ some. may_stand left (kind_of_code code) (h.1 some)))
-          (λ head text h. (head.size, (h.1, λ some. rw (sym h.0) (stands_none left head.element (h.2 some)))))
-          (λ cause front h. h)
-          bytes (size_at why bytes) (laws.judged bytes))
+      (judged_as ℕ ListHead (Sized why) (λ head text. IsListHead left head (code ∷ text)) (IsSizeRefused why) (λ cause text. IsListRefused left cause (code ∷ text))
+      (λ n. record { element = kind_of_code code; size = n })
+      (λ n text h. (refl, h.0, λ some. may_stand left (kind_of_code code) (h.1 some)))
+      (λ head text h. (head.size, (h.1, λ some. rw (sym h.0) (stands_none left head.element (h.2 some)))))
+      (λ cause front h. h)
+      bytes (size_at why bytes) (laws.judged bytes))
 
   judged_list : (bytes : List ℕ) → Judged ListHead (IsListHead left) (IsListRefused left) bytes (list_at left bytes)
   unfolding list_at
@@ -176,13 +176,13 @@ module _ (left : ℕ) where
       let why = why_no_pair left (kind_of_code key) (kind_of_code value) in
       let laws = size_judges why (proper_pair left (kind_of_code key) (kind_of_code value)) in
       judged_behind MapHead (IsMapHead left) (IsMapRefused left) key open_key none_key (value ∷ bytes) (map_at left (key ∷ value ∷ bytes))
-        (judged_behind MapHead (λ head text. IsMapHead left head (key ∷ text)) (λ cause text. IsMapRefused left cause (key ∷ text)) value (open_value key) (none_value key) bytes (map_at left (key ∷ value ∷ bytes))
-          (judged_as ℕ MapHead (Sized why) (λ head text. IsMapHead left head (key ∷ value ∷ text)) (IsSizeRefused why) (λ cause text. IsMapRefused left cause (key ∷ value ∷ text))
-            (λ n. record { key = kind_of_code key; value = kind_of_code value; size = n })
-            (λ n text h. (refl, refl, h.0, λ some. pair_stands (kind_of_code key) (kind_of_code value) (h.1 some)))
-            (λ head text h. (head.size, (h.2, λ some. rw (sym h.0, sym h.1) (no_why head.key head.value (h.3 some)))))
-            (λ cause front h. h)
-            bytes (size_at why bytes) (laws.judged bytes)))
+      (judged_behind MapHead (λ head text. IsMapHead left head (key ∷ text)) (λ cause text. IsMapRefused left cause (key ∷ text)) value (open_value key) (none_value key) bytes (map_at left (key ∷ value ∷ bytes))
+      (judged_as ℕ MapHead (Sized why) (λ head text. IsMapHead left head (key ∷ value ∷ text)) (IsSizeRefused why) (λ cause text. IsMapRefused left cause (key ∷ value ∷ text))
+      (λ n. record { key = kind_of_code key; value = kind_of_code value; size = n })
+      (λ n text h. (refl, refl, h.0, λ some. pair_stands (kind_of_code key) (kind_of_code value) (h.1 some)))
+      (λ head text h. (head.size, (h.2, λ some. rw (sym h.0, sym h.1) (no_why head.key head.value (h.3 some)))))
+      (λ cause front h. h)
+      bytes (size_at why bytes) (laws.judged bytes)))
 
   judged_map : (bytes : List ℕ) → Judged MapHead (IsMapHead left) (IsMapRefused left) bytes (map_at left bytes)
   unfolding map_at
@@ -246,19 +246,19 @@ module _ (left : ℕ) where
   field_refused n bytes cause e =
       let known = proper_none left (kind_of_code (suc n)) cause e in
       refused_here (Option Field) Headed Unheaded (suc n) open_header none_header bytes cause ((λ z. omega (arith, z)), e)
-        (λ word text h. none_is cause (sym (field_stands n word text h) ∙ e)) known.0 known.1
+      (λ word text h. none_is cause (sym (field_stands n word text h) ∙ e)) known.0 known.1
 
   field_found : (n : ℕ) (bytes : List ℕ) (kind : TypeCode) → kind_of_code (suc n) ≡ Some kind → why_none left (Some kind) ≡ None
       → Judged (Option Field) Headed Unheaded (suc n ∷ bytes) (fixed_at ℤ 2 (signed w16) bytes >>= λ id. Ok (Some (field_with id.0 kind None), id.1))
   field_found n bytes kind e f =
       let laws = fixed_judges ℤ 2 (signed w16) (omega arith) in
       judged_behind (Option Field) Headed Unheaded (suc n) open_header none_header bytes (fixed_at ℤ 2 (signed w16) bytes >>= λ id. Ok (Some (field_with id.0 kind None), id.1))
-        (judged_as ℤ (Option Field) (λ id text. IsFixed ℤ 2 (signed w16) id text) (λ word text. Headed word (suc n ∷ text)) (λ cause front. ⊥) (λ cause text. Unheaded cause (suc n ∷ text))
-          (λ id. Some (field_with id kind None))
-          (λ id text h. (let s = may_stand left (Some kind) f in (e, level_of kind f, h, refl)))
-          (λ word text h. (let s = field_code n word text h in (s.0.id, s.4)))
-          (λ cause front h. absurd h)
-          bytes (fixed_at ℤ 2 (signed w16) bytes) (laws.judged bytes))
+      (judged_as ℤ (Option Field) (λ id text. IsFixed ℤ 2 (signed w16) id text) (λ word text. Headed word (suc n ∷ text)) (λ cause front. ⊥) (λ cause text. Unheaded cause (suc n ∷ text))
+      (λ id. Some (field_with id kind None))
+      (λ id text h. (let s = may_stand left (Some kind) f in (e, level_of kind f, h, refl)))
+      (λ word text h. (let s = field_code n word text h in (s.0.id, s.4)))
+      (λ cause front h. absurd h)
+      bytes (fixed_at ℤ 2 (signed w16) bytes) (laws.judged bytes))
     where
       level_of : (kind : TypeCode) → why_none left (Some kind) ≡ None → HasLevel left kind
       level_of kind f = (let s = may_stand left (Some kind) f in let same : kind ≡ s.0 = cc in subst (λ k. HasLevel left k) (sym same) s.2)
@@ -275,7 +275,7 @@ module _ (left : ℕ) where
   judged_header (suc n ∷ bytes) = field_by n bytes (kind_of_code (suc n)) refl (why_none left (kind_of_code (suc n))) refl
 
   no_kind : kind_of_code 0 ≡ None
-  unfolding kind_of_code
+  unfolding kind_of_code kind_among
   no_kind = refl
 
   stop_alone : (f : Field) (text other tail more : List ℕ) → Headed None text → Headed (Some f) other → text ++ tail ≡ other ++ more → ⊥

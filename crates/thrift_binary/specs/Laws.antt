@@ -1,11 +1,10 @@
 -- What the binary protocol keeps: how its parts are read, refused, completed and written.
-use Rattle.std.proofs.Common.{◌≡◌, ◌≢◌, ◌≤◌, ◌<◌, ◌++◌, ◌∷◌, ℕ, zero, suc, ℤ, Bool, true, false, List, [], length, Option, Some, None, Result, Ok, Err, FitsSigned, refl, ap, sym, ◌∙◌, subst, arith}
+use Rattle.std.proofs.Common.{◌≡◌, ◌≢◌, ◌≤◌, ◌<◌, ◌++◌, ◌∷◌, ℕ, zero, ℤ, Bool, true, false, List, [], length, Some, None, Result, Ok, Err, FitsSigned, refl, ap, sym, ◌∙◌, subst, arith}
 use Rattle.std.specs.Int.{w8, w16, w32, w64, from_be_bytes, to_be_bytes, cast_signed, cast_unsigned}
 use Rattle.std.proofs.Math.Facts.{Fits-of_z}
 use Rattle.std.proofs.lemmas.Int.{to_z-of_z}
 use Rattle.std.proofs.lemmas.Nat.{from_be_bytes-to_be_bytes_2, from_be_bytes-to_be_bytes_4, from_be_bytes-to_be_bytes_8}
 use Rattle.span_io.specs.declared.cause.Cause.{Cause}
-use Rattle.span_io.specs.declared.cause.Cause.TheVariants as causes
 use Rattle.thrift_core.specs.declared.field.Field.{Field}
 use Rattle.thrift_core.specs.declared.field.ListHead.{ListHead}
 use Rattle.thrift_core.specs.declared.field.MapHead.{MapHead}
@@ -13,10 +12,10 @@ use Rattle.thrift_core.specs.declared.type_code.TypeCode.{TypeCode}
 use Rattle.thrift_core.specs.declared.type_code.TypeCode.TheVariants as kinds
 use Rattle.thrift_core.specs.Parts.{Part, header, truth, byte, short, int, long, eight, size, list_head, map_head, WordOf, Begins, HasLevel}
 use Rattle.thrift_core.specs.Protocols.{ReadsExactly, PartLaws, HasBytes, WritesShortest, MayWrite, last_size}
-use Rattle.thrift_binary.specs.TypeCodes.{code_of, kind_of_code}
+use Rattle.thrift_binary.specs.TypeCodes.{code_of, kind_among, kind_of_code}
 use Rattle.thrift_binary.specs.Spelling.{signed, signed_text, is_true, as_they_are, IsFixed, IsSize, IsSizeRefused, spells, then_varint, refuses, keeps, writes}
 use Rattle.thrift_binary.specs.Reading.{◌>>=◌, reads, size_at}
-use Rattle.thrift_binary.specs.Judged.{Judged, found, may_come, refused, Judges, reads_found, reads_only, reads_short, reads_bad, reads_within}
+use Rattle.thrift_binary.specs.Judged.{Judged, found, Judges, reads_found, reads_only, reads_short, reads_bad, reads_within}
 use Rattle.thrift_binary.specs.JudgedBytes.{zeros, fixed_judges, Sized, size_judges, one_size, judged_as}
 use Rattle.thrift_binary.specs.JudgedHeads.{list_judges, map_judges, header_judges}
 
@@ -146,8 +145,8 @@ part_laws = record {
 fixed_written : (A : Type 0) (many : ℕ) (value : List ℕ → A) (word : A) (text : List ℕ) → IsFixed A many value word text → length text ≡ many
 fixed_written A many value word text h = h.0
 
-code_known : (kind : TypeCode) → kind_of_code (code_of kind) ≡ Some kind
-unfolding kind_of_code
+pub code_known : (kind : TypeCode) → kind_of_code (code_of kind) ≡ Some kind
+unfolding kind_of_code kind_among
 code_known kinds.Truth = refl
 code_known kinds.I8 = refl
 code_known kinds.Eight = refl

@@ -8,7 +8,7 @@ use Rattle.thrift_core.specs.declared.field.Field.{Field}
 use Rattle.thrift_core.specs.declared.field.ListHead.{ListHead}
 use Rattle.thrift_core.specs.declared.field.MapHead.{MapHead}
 use Rattle.thrift_core.specs.declared.type_code.TypeCode.{TypeCode}
-use Rattle.thrift_core.specs.Parts.{Part, header, truth, byte, short, int, long, eight, size, list_head, map_head, WordOf}
+use Rattle.thrift_core.specs.Parts.{header, truth, byte, short, int, long, eight, size, list_head, map_head}
 use Rattle.thrift_core.specs.Reading.{ReadingOf}
 use Rattle.thrift_binary.specs.TypeCodes.{kind_of_code, why_none, why_no_pair}
 use Rattle.thrift_binary.specs.Spelling.{signed, is_true, as_they_are}

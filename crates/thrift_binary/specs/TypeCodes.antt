@@ -1,5 +1,5 @@
 -- The codes of types, and why no value of a type may stand at a place (Thrift binary protocol, "Struct").
-use Rattle.std.specs.Prelude.{◌==◌, ℕ, zero, suc, Option, Some, None, if◌then◌else◌}
+use Rattle.std.specs.Prelude.{◌≡◌, ◌==◌, ◌↔◌, ℕ, zero, List, [], ◌∷◌, Option, Some, None, if◌then◌else◌}
 use Rattle.span_io.specs.declared.cause.Cause.{Cause}
 use Rattle.span_io.specs.declared.cause.Cause.TheVariants as causes
 use Rattle.thrift_core.specs.declared.type_code.TypeCode.{TypeCode}
@@ -18,20 +18,20 @@ code_of kinds.Map = 13
 code_of kinds.Set = 14
 code_of kinds.List = 15
 
+abbrev pub all_kinds : List TypeCode
+all_kinds = kinds.Truth ∷ kinds.I8 ∷ kinds.Eight ∷ kinds.I16 ∷ kinds.I32 ∷ kinds.I64 ∷ kinds.Binary ∷ kinds.Struct ∷ kinds.Map ∷ kinds.Set ∷ kinds.List ∷ []
+
+unfoldable pub kind_among : List TypeCode → ℕ → Option TypeCode
+kind_among [] code = None
+kind_among (kind ∷ more) code = if code == code_of kind then Some kind else kind_among more code
+
 -- the type that has this code
 unfoldable pub kind_of_code : ℕ → Option TypeCode
-kind_of_code code = if code == 2 then Some kinds.Truth
-    else (if code == 3 then Some kinds.I8
-    else (if code == 4 then Some kinds.Eight
-    else (if code == 6 then Some kinds.I16
-    else (if code == 8 then Some kinds.I32
-    else (if code == 10 then Some kinds.I64
-    else (if code == 11 then Some kinds.Binary
-    else (if code == 12 then Some kinds.Struct
-    else (if code == 13 then Some kinds.Map
-    else (if code == 14 then Some kinds.Set
-    else (if code == 15 then Some kinds.List
-    else None))))))))))
+kind_of_code code = kind_among all_kinds code
+
+-- A type has its code alone.
+pub record TypeCodes : Type 0 where
+  pub one_code : (code : ℕ) (kind : TypeCode) → (kind_of_code code ≡ Some kind) ↔ (code ≡ code_of kind)
 
 -- why no value of this type, if it is one, may stand where so many levels are left
 abbrev pub why_none : ℕ → Option TypeCode → Option Cause

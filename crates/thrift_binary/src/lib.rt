@@ -2,7 +2,11 @@
 #![tactic(auto)]
 
 mod binary;
+pub mod laws;
 mod reading;
 mod type_codes;
 
 pub use binary::Binary;
+
+#[cfg(test)]
+mod tests;

@@ -6,7 +6,7 @@ use thrift_core::TypeCode;
 
 // The type that has this code.
 #[inline(always)]
-#[tactic(auto, unfolding(crate::specs::TypeCodes::kind_of_code))]
+#[tactic(auto, unfolding(crate::specs::TypeCodes::kind_of_code, crate::specs::TypeCodes::kind_among))]
 pub(crate) fn type_of(code: u8) -> Option<TypeCode>
     ensures { result ≡ kind_of_code code }
 {
