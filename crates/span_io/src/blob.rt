@@ -66,6 +66,22 @@ impl Blob {
         Ok(())
     }
 
+    /// Adds two pieces at the end, one behind the other, or none.
+    pub fn append_both(&mut self, first: &[u8], second: &[u8]) -> Result<(), OutOfMemory>
+        ensures ok { OnOk result (self.new ≡ self.old ++ (first.now ++ second.now)) }
+        ensures err { OnErr result (self.new ≡ self.old) }
+    {
+        let kept = self.bytes.len();
+        self.bytes.extend_from_slice(first)?;
+        match self.bytes.extend_from_slice(second) {
+            Ok(()) => Ok(()),
+            Err(refused) => {
+                self.bytes.truncate(kept);
+                Err(refused.into())
+            }
+        }
+    }
+
     /// Empties the list, which keeps its room.
     pub fn clear(&mut self)
         ensures { self.new ≡ [] }

@@ -1,0 +1,5 @@
+pub mod Codes
+mod Examples
+pub mod Fixed
+pub mod Heads
+pub mod Sizes

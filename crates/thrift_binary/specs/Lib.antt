@@ -1,0 +1,7 @@
+pub mod TypeCodes
+pub mod Spelling
+pub mod Reading
+pub mod Judged
+pub mod JudgedBytes
+pub mod JudgedHeads
+pub mod Laws
