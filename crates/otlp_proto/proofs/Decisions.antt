@@ -254,7 +254,7 @@ module _ (facts : WireFacts) (once : AttributesOnce) (exist : AttributesExist) (
     wire : Wire records text
     is : Is x records
 
-  module _ {X : Type 0} (table : List (Row Record)) (top : ℕ) (shape : TableShape table messages.held top) (decides : TableDecides table) (apart : Apart table) (ends : List Record → ℕ → Type 0)
+  module _ {X : Type 0} (table : List (Row Record)) (top : ℕ) (shape : TableShape messages table top) (decides : TableDecides table) (apart : Apart table) (ends : List Record → ℕ → Type 0)
       (laws : RulesLaws messages (rules_by table ends)) (ended : (seen : List Record) → DecidedHere (λ n. ends seen n)) (Is : X → List Record → Type 0) (bridge : Bridge X table ends Is) where
     found_of : (text : List ℕ) → Found Is text ⊎ ((cause : Cause) × Least (Offence messages (rules_by table ends) text) (cause_number cause))
     found_of text = ⊎_elim (λ m. inl (record { x = bridge.of m.values; records = m.items; wire = whole_wire m.items text m.whole; is = bridge.build m.items m.values m.clean_end m.mean })) (λ least. inr least)

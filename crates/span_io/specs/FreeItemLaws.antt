@@ -5,7 +5,6 @@ use Rattle.std.specs.List.{flat_map}
 use Rattle.std.proofs.lemmas.List.{append-nil}
 use Rattle.std.proofs.lemmas.List.Concat.{flat_map-append, flat_map-cons}
 use Rattle.span_io.specs.Causes.{cause_number}
-use Rattle.span_io.specs.declared.cause.Cause.{Cause}
 use Rattle.span_io.specs.Offences.{Format, Offence, Cut, Least, HereOrInside}
 use Rattle.span_io.specs.OffenceLaws.{FormatLaws, RulesLaws, Walked, walked_start, walked_step, least_here, least_inside, none_in_item, least_unread, least_end, none_at_end, least_item}
 use Rattle.span_io.specs.Tables.{Row, OfFirst, table_here, table_inside, rules_by, IsFree, Each, givens, Values, Mean}
@@ -258,7 +257,7 @@ module _ (F : Format) (L : FormatLaws F) (next : (rest : F.Rest) → Next F rest
       of (ended is_end) on = record { items = []; rest = text; cut = refl; stops = inl is_end }
       of (stopped cause unread) on = record { items = []; rest = text; cut = refl; stops = inr (cause_number cause, unread) }
       of (begun this after begins) on =
-          let more = on after (omega (arith, L.room this text after begins)) in
+          let more = on after (omega (arith, L.room this text after begins, L.some_beside)) in
           record { items = this ∷ more.items; rest = more.rest; cut = (after, begins, more.cut); stops = more.stops }
 
   pub text_self : (table : List (Row F.Item)) (padded : Paddings table) → TablePadding table padded → (text : F.Rest) → TextPadded F table padded text text

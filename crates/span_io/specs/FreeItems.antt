@@ -1,5 +1,5 @@
 -- Free items added anywhere in a message, in messages inside it too: what it means, or the number of the offence that counts, stays.
-use Rattle.std.specs.Prelude.{◌≡◌, ◌↔◌, ℕ, ◌⊎◌, List, [], ◌∷◌}
+use Rattle.std.specs.Prelude.{◌↔◌, ℕ, ◌⊎◌, List, [], ◌∷◌}
 use Rattle.std.specs.List.{flat_map}
 use Rattle.span_io.specs.Offences.{Format, Cut, Least}
 use Rattle.span_io.specs.Tables.{Row, IsFree, Each}
