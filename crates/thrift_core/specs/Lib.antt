@@ -1,3 +1,5 @@
+pub mod FieldValues
+pub mod Messages
 pub mod Parts
 pub mod Reading
 pub mod Trees
