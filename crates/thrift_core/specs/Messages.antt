@@ -35,4 +35,5 @@ structs Spells left = record {
   IsEnd = λ rest. Begins Spells (header left rest.last) None rest.bytes [];
   Unread = λ rest number. ⊥;
   held = λ item. length item.text;
+  beside = 1;
 }
