@@ -8,11 +8,15 @@ pub mod FramingLaws
 pub mod Framings
 pub mod FreeItemLaws
 pub mod FreeItems
+pub mod Gathering
+pub mod GatheringLaws
 pub mod Limits
 pub mod Memory
 pub mod OffenceLaws
 pub mod Offences
 pub mod Outside
+pub mod RowLaws
+pub mod RowsSoFar
 pub mod Steps
 pub mod TableDecisions
 pub mod TableLaws

@@ -49,7 +49,7 @@ one_of_few : {A : Type 0} (xs more : List A) (x : A) → IsFew xs → xs ≡ x �
 one_of_few xs more x (inl none) e = cc
 one_of_few xs more x (inr (y, one)) e = let same : x ≡ y = cc in one ∙ ap (λ z. z ∷ []) (sym same)
 
-flat_more : {I A : Type 0} (give : I → List A) (seen : List I) (this : I) → flat_map give (seen ++ this ∷ []) ≡ flat_map give seen ++ give this
+pub flat_more : {I A : Type 0} (give : I → List A) (seen : List I) (this : I) → flat_map give (seen ++ this ∷ []) ≡ flat_map give seen ++ give this
 flat_more give seen this = flat_map-append give seen (this ∷ []) ∙ ap (λ l. flat_map give seen ++ l) (flat_map-cons give this [] ∙ append-nil (give this))
 
 flat_split : {I A : Type 0} (give : I → List A) (items seen more : List I) (this : I) (x : A) → items ≡ seen ++ this ∷ more → give this ≡ x ∷ [] → flat_map give items ≡ flat_map give seen ++ x ∷ flat_map give more

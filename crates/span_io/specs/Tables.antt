@@ -1,6 +1,6 @@
 -- Tables of messages. A message's table has a row for each of its fields: which items belong to it, what they mean together, and how
 -- they offend. These words serve every wire format. An item of no row is free: it is passed over.
-use Rattle.std.specs.Prelude.{◌≡◌, ◌≢◌, ℕ, List, [], ◌∷◌, ◌++◌, IsUtf8}
+use Rattle.std.specs.Prelude.{◌≡◌, ◌≢◌, ℕ, ◌<◌, List, [], ◌∷◌, ◌++◌, IsUtf8}
 use Rattle.std.specs.List.{flat_map}
 use Rattle.span_io.specs.Offences.{Rules}
 
@@ -102,6 +102,14 @@ Each Is (held ∷ more) (x ∷ xs) = Is x held × Each Is more xs
 abbrev pub Twice : {A : Type 0} → List A → ℕ → Type 0
 Twice earlier number = (number ≡ 7) × (earlier ≢ [])
 
+-- bytes that are a text
+abbrev pub MeansText : List ℕ → List ℕ → Type 0
+MeansText held text = IsUtf8 held × (text ≡ held)
+
 -- NotText: the bytes are no text
 abbrev pub NotText : List ℕ → ℕ → Type 0
 NotText held number = (number ≡ 9) × ¬ IsUtf8 held
+
+-- BadEnum: the value is above the last of the enum
+abbrev pub Above : ℕ → ℕ → ℕ → Type 0
+Above last n number = (number ≡ 13) × (last < n)
