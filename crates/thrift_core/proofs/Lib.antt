@@ -1,0 +1,11 @@
+pub mod Determined
+pub mod Completed
+pub mod Ends
+pub mod Halts
+pub mod Stopping
+pub mod Meanings
+pub mod TextsFrom
+pub mod OneTree
+pub mod WalkSteps
+pub mod Answering
+pub mod FirstStruct

@@ -8,3 +8,4 @@ pub mod Trees
 pub mod Walks
 pub mod Protocols
 pub mod Stops
+pub mod Values

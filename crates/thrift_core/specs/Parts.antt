@@ -49,6 +49,10 @@ pub record Begins (Spells : Spelling) (part : Part) (word : WordOf part) (whole 
   pub spelled : Spells part word text
   pub parts : whole ≡ text ++ rest
 
+-- no word of the part stands at the front
+abbrev pub BeginsNone : Spelling → Part → List ℕ → Type 0
+BeginsNone Spells part bytes = (word : WordOf part) (rest : List ℕ) → ¬ Begins Spells part word bytes rest
+
 -- The texts of one part as items of a wire format, by a protocol's spelling, and by the first bytes of a part behind which it has
 -- a varint.
 abbrev pub texts_of : Spelling → (Part → List ℕ → Type 0) → Part → Framing

@@ -1,8 +1,10 @@
 -- Reading a part as a computation: what stands at the front, and the bytes after it, or the cause.
-use Rattle.std.specs.Prelude.{◌≡◌, ℕ, ◌+◌, List, length, Result, Ok, Err}
+use Rattle.std.specs.Prelude.{◌≡◌, ℕ, ◌+◌, List, length, take, drop, Result, Ok, Err, nat_lt, if◌then◌else◌}
+use Rattle.std.specs.Borrow.{Bor}
 use Rattle.span_io.specs.declared.cause.Cause.{Cause}
+use Rattle.span_io.specs.declared.cause.Cause.TheVariants as causes
 use Rattle.span_io.specs.Walks.{Walk}
-use Rattle.thrift_core.specs.Parts.{Part, WordOf}
+use Rattle.thrift_core.specs.Parts.{Part, size, WordOf}
 
 abbrev pub ReadingOf : Type 0
 ReadingOf = (part : Part) → List ℕ → Result (WordOf part × List ℕ) Cause
@@ -15,3 +17,20 @@ Gives (Err cause) rest read = read ≡ Err cause
 -- a cursor goes on over the same bytes
 abbrev pub Stays : Walk → Walk → Type 0
 Stays old new = new.place + length new.rest ≡ old.place + length old.rest
+
+-- so many bytes
+abbrev pub bytes_at : ℕ → List ℕ → Result (List ℕ × List ℕ) Cause
+bytes_at many text = if nat_lt (length text) many then Err causes.Truncated else Ok (take many text, drop many text)
+
+-- the bytes of a binary, behind their number
+abbrev pub binary_behind : Result (ℕ × List ℕ) Cause → Result (List ℕ × List ℕ) Cause
+binary_behind (Ok read) = bytes_at read.0 read.1
+binary_behind (Err cause) = Err cause
+
+abbrev pub binary_at : ReadingOf → List ℕ → Result (List ℕ × List ℕ) Cause
+binary_at reads text = binary_behind (reads size text)
+
+-- the same of a reader that lends bytes
+abbrev pub Lends : Result (Bor (List ℕ)) Cause → List ℕ → Result (List ℕ × List ℕ) Cause → Type 0
+Lends (Ok lent) rest read = read ≡ Ok (lent.now, rest)
+Lends (Err cause) rest read = read ≡ Err cause

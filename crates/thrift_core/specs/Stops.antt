@@ -1,5 +1,5 @@
 -- Where a walk over a text goes no further, and why.
-use Rattle.std.specs.Prelude.{◌≡◌, ◌≤◌, ℕ, ◌+◌, List, [], ◌∷◌, length, Err}
+use Rattle.std.specs.Prelude.{◌≡◌, ◌≤◌, ℕ, ◌+◌, List, [], ◌∷◌, length, Result, Ok, Err}
 use Rattle.span_io.specs.declared.cause.Cause.{Cause}
 use Rattle.span_io.specs.declared.cause.Cause.TheVariants as causes
 use Rattle.thrift_core.specs.declared.passing.Halted.{Halted}
@@ -35,3 +35,13 @@ pub record Lacks (Spells : Spelling) (start : Open) (text : List ℕ) (many : �
 abbrev pub HaltsAs : Spelling → ReadingOf → Open → List ℕ → Halted → Type 0
 HaltsAs Spells reads start text (halts.For cause) = StopsFor Spells reads start text cause
 HaltsAs Spells reads start text (halts.Lacking many) = Lacks Spells start text many
+
+-- what passing over this answers: it ends in front of the rest, or says why it halts
+abbrev pub Passed : Spelling → ReadingOf → Open → Result Unit Halted → List ℕ → List ℕ → Type 0
+Passed Spells reads start (Ok _) text rest = Passes Spells (start ∷ []) text [] rest
+Passed Spells reads start (Err halted) text rest = HaltsAs Spells reads start text halted
+
+-- the cause that callers are told: the text ends where bytes of a binary aren't there
+abbrev pub cause_of : Halted → Cause
+cause_of (halts.For cause) = cause
+cause_of (halts.Lacking many) = causes.Truncated

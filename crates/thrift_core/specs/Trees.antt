@@ -73,12 +73,15 @@ LeafThen Spells (i32 n) held whole rest = Begins Spells int n whole rest
 LeafThen Spells (i64 n) held whole rest = Begins Spells long n whole rest
 LeafThen Spells (double bytes) held whole rest = Begins Spells eight bytes whole rest
 
+-- the number of the bytes, they themselves, and then rest
+abbrev pub BinaryThen : Spelling → List ℕ → List ℕ → List ℕ → Type 0
+BinaryThen Spells bytes whole rest = (inner : List ℕ) × Begins Spells size (length bytes) whole inner × (inner ≡ bytes ++ rest)
+
 unfoldable mutual
   -- a value, and then rest
   pub ValueThen : Spelling → Tree → ℕ → Option Bool → List ℕ → List ℕ → Type 0
   ValueThen Spells (leaf x) left held whole rest = LeafThen Spells x held whole rest
-  ValueThen Spells (binary bytes) left held whole rest =
-      (inner : List ℕ) × Begins Spells size (length bytes) whole inner × (inner ≡ bytes ++ rest)
+  ValueThen Spells (binary bytes) left held whole rest = BinaryThen Spells bytes whole rest
   ValueThen Spells (structure inner) zero held whole rest = ⊥
   ValueThen Spells (structure inner) (suc left) held whole rest = FieldsThen Spells inner left (pos 0) whole rest
   ValueThen Spells (map_of pairs) zero held whole rest = ⊥

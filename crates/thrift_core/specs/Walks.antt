@@ -7,7 +7,7 @@ use Rattle.span_io.specs.Frames.{Framing}
 use Rattle.thrift_core.specs.declared.field.Field.{Field}
 use Rattle.thrift_core.specs.declared.type_code.TypeCode.{TypeCode}
 use Rattle.thrift_core.specs.declared.type_code.TypeCode.TheVariants as kinds
-use Rattle.thrift_core.specs.Parts.{Part, header, truth, byte, short, int, long, eight, size, list_head, map_head, WordOf, Spelling, Begins}
+use Rattle.thrift_core.specs.Parts.{Part, header, truth, byte, short, int, long, eight, size, list_head, map_head, WordOf, Spelling, Begins, BeginsNone}
 use Rattle.thrift_core.specs.Trees.{Tree, Fields, kind_of, ValueThen, FieldsThen, outer_levels}
 
 pub data Open : Type 0 where
@@ -53,6 +53,12 @@ opened_pairs left key value many = []
 
 -- ---- what comes first
 
+abbrev pub first_of_list : ℕ → First
+first_of_list left = a_part (list_head left) (λ head. opened_elements left head.element head.size)
+
+abbrev pub first_of_map : ℕ → First
+first_of_map left = a_part (map_head left) (λ head. opened_pairs left head.key head.value head.size)
+
 abbrev pub first_of_value : ℕ → TypeCode → Option Bool → First
 first_of_value left kinds.Truth held = a_part (truth held) nothing_more
 first_of_value left kinds.I8 held = a_part byte nothing_more
@@ -62,9 +68,9 @@ first_of_value left kinds.I64 held = a_part long nothing_more
 first_of_value left kinds.Eight held = a_part eight nothing_more
 first_of_value left kinds.Binary held = a_part size opened_by_size
 first_of_value (suc left) kinds.Struct held = made_of (in_struct left (pos 0) ∷ [])
-first_of_value (suc left) kinds.Map held = a_part (map_head left) (λ head. opened_pairs left head.key head.value head.size)
-first_of_value (suc left) kinds.Set held = a_part (list_head left) (λ head. opened_elements left head.element head.size)
-first_of_value (suc left) kinds.List held = a_part (list_head left) (λ head. opened_elements left head.element head.size)
+first_of_value (suc left) kinds.Map held = first_of_map left
+first_of_value (suc left) kinds.Set held = first_of_list left
+first_of_value (suc left) kinds.List held = first_of_list left
 first_of_value zero container held = no_level
 
 abbrev pub first_of : Open → First
@@ -144,7 +150,7 @@ texts_from Spells ThenVarint start = record {
 -- what refuses such a text, by the cause that this names
 abbrev pub RefusedFrom : Spelling → (Part → Cause → List ℕ → Type 0) → Open → Cause → List ℕ → Type 0
 RefusedFrom Spells Refuses start cause text =
-    EndsInPart Spells start (λ part rest. Refuses part cause rest) text ⊎ ((cause ≡ causes.TooDeep) × EndsAtNoLevel Spells start text)
+    EndsInPart Spells start (λ part rest. BeginsNone Spells part rest × Refuses part cause rest) text ⊎ ((cause ≡ causes.TooDeep) × EndsAtNoLevel Spells start text)
 
 -- what is open where a struct begins that no other container holds
 abbrev pub outer_struct : Open

@@ -3,10 +3,14 @@
 #![tactic(auto)]
 
 mod field;
+mod frame;
 mod passing;
 mod protocol;
+mod skipping;
 mod type_code;
 
 pub use field::{Field, ListHead, MapHead};
+pub use frame::{OUTER_LEVELS, first_frame};
 pub use protocol::Protocol;
+pub use skipping::{bytes, skip};
 pub use type_code::TypeCode;
