@@ -24,14 +24,14 @@ pub record Bridge (X : Type 0) (table : List (Row Record)) (ends : List Record �
   pub ended : (x : X) (records : List Record) → Is x records → (n : ℕ) → ends records n → ⊥
   pub ends_same : (records others : List Record) → givens table records ≡ givens table others → (n : ℕ) → ends records n → ends others n
 
-module _ (facts : WireFacts) {X : Type 0} (table : List (Row Record)) (top : ℕ) (shape : TableShape table messages.held top) (meaning : TableMeaning table) (ends : List Record → ℕ → Type 0) (Is : X → List Record → Type 0)
+module _ (facts : WireFacts) {X : Type 0} (table : List (Row Record)) (top : ℕ) (shape : TableShape messages table top) (meaning : TableMeaning table) (ends : List Record → ℕ → Type 0) (Is : X → List Record → Type 0)
     (bridge : Bridge X table ends Is) where
   pub once_of : (text : List ℕ) (x y : X) (records others : List Record) → Wire records text → Wire others text → Is x records → Is y others → x ≡ y
   once_of text x y records others wire again h k =
       let same = facts.one_reading text others records again wire in
       let other = subst (λ (l : List Record). Is y l) same k in
       bridge.again x records h
-      ∙ ap bridge.of (values_once messages.held top table meaning (givens table records) (bridge.values x records h) (bridge.values y records other) (bridge.mean x records h) (bridge.mean y records other))
+      ∙ ap bridge.of (values_once messages top table meaning (givens table records) (bridge.values x records h) (bridge.values y records other) (bridge.mean x records h) (bridge.mean y records other))
       ∙ sym (bridge.again y records other)
 
   pub fine_of : (x : X) (text : List ℕ) (records : List Record) → Wire records text → Is x records → (place n : ℕ) → Offence messages (rules_by table ends) text place n → ⊥

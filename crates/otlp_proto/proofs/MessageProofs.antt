@@ -17,7 +17,7 @@ use Rattle.otlp_proto.proofs.RowDecisions.{Chosen, message_decides, messages_dec
 use Rattle.otlp_proto.proofs.RowMeanings.{Reads, message_meaning, messages_meaning}
 use Rattle.otlp_proto.proofs.RowPaddings.{Keeps, message_padding, messages_padding}
 use Rattle.otlp_proto.proofs.RowProofs.{ReadingLaws, RowProof, TableProof, shapes, meanings, decisions, paddings, numbered, all_apart}
-use Rattle.otlp_proto.proofs.Shapes.{Bounded, higher, unread_late, message_shape, messages_shape}
+use Rattle.otlp_proto.proofs.Shapes.{Bounded, higher, unread_late, bare_end, message_shape, messages_shape}
 use Rattle.otlp_proto.proofs.ValueDecisions.{whole_wire, bytes_is}
 use Rattle.otlp_proto.proofs.ValueReadings.{wire_whole}
 use Rattle.otlp_proto.proofs.WrittenRows.{distinct, bytes_apart}
@@ -42,7 +42,7 @@ pub record MessageProof {X : Type 0} (Is : X → List Record → Type 0) (table 
 module _ (K : ReadingLaws) {X : Type 0} (table : List (Row Record)) (padded : Paddings table) (ends : List Record → ℕ → Type 0) (Is : X → List Record → Type 0) (inner top : ℕ) (less : inner ≤ top) (some : 3 ≤ top)
     (rows : TableProof table padded inner) (each : distinct (numbered inner table padded rows) ≡ true) (end : EndProof table padded ends inner top) (bridge : Bridge X table ends Is) where
   rules : RulesLaws messages (rules_by table ends)
-  rules = table_rules messages K.facts.format table inner (shapes inner table padded rows) ends end.above
+  rules = table_rules messages K.facts.format table inner (shapes inner table padded rows) ends (λ bare. end.above)
 
   -- the records of a text to which free ones were added mean the same
   of_items : (x : X) (items others : List Record) → GivenPadded table padded items others → Is x items → Is x others
@@ -64,9 +64,9 @@ module _ (K : ReadingLaws) {X : Type 0} (table : List (Row Record)) (padded : Pa
   proved = record {
     rules = rules;
     bounded = record {
-      within = λ held p n o. message_within messages K.facts.format table inner (shapes inner table padded rows) ends end.above held p n o;
+      within = λ held p n o. message_within messages K.facts.format table inner (shapes inner table padded rows) ends (λ bare. end.above) held p n o;
       late = λ held p n o behind.
-          message_late messages K.facts.format table inner (shapes inner table padded rows) ends top less (λ rest m u. omega (arith, unread_late rest m u, some)) end.below held p n o behind;
+          message_late messages K.facts.format table inner (shapes inner table padded rows) bare_end (omega arith) ends top less (λ rest m u. omega (arith, unread_late rest m u, some)) end.below held p n o behind;
     };
     reads = record {
       once = λ held x y a b. once_of K.facts table inner (shapes inner table padded rows) (meanings inner table padded rows) ends Is bridge held x y a.items b.items a.are b.are a.is b.is;

@@ -35,7 +35,7 @@ pub record RowProof (row : Row Record) (Padded : row.Given → row.Given → Typ
   pub number : ℕ
   pub own : (r : Record) (x : row.Given) → row.given r ≡ x ∷ [] → r.number ≡ number
   pub apart : (r : Record) → (r.number == number) ≡ false → row.given r ≡ []
-  pub shape : RowShape row messages.held top
+  pub shape : RowShape messages row top
   pub meaning : RowMeaning row
   pub decides : RowDecides row
   pub pads : RowPadding row Padded
@@ -47,7 +47,7 @@ TableProof [] padded top = Unit {0}
 TableProof (row ∷ table) padded top = RowProof row padded.0 top × TableProof table padded.1 top
 
 module _ (top : ℕ) where
-  pub shapes : (table : List (Row Record)) (padded : Paddings table) → TableProof table padded top → TableShape table messages.held top
+  pub shapes : (table : List (Row Record)) (padded : Paddings table) → TableProof table padded top → TableShape messages table top
   shapes [] padded rows = tt
   shapes (row ∷ table) padded rows = (rows.0.shape, shapes table padded.1 rows.1)
 

@@ -4,7 +4,7 @@ use Rattle.std.proofs.Common.{◌≡◌, ℕ, zero, suc, ◌≤◌, inl, inr, �
 use Rattle.span_io.specs.Offences.{Offence}
 use Rattle.span_io.specs.OffenceLaws.{FormatLaws, RulesLaws}
 use Rattle.span_io.specs.Tables.{Row, rules_by, no_ends}
-use Rattle.span_io.specs.TableLaws.{IsFew, RowShape, TableShape, table_rules, message_within, message_late}
+use Rattle.span_io.specs.TableLaws.{IsFew, HasBareEnd, RowShape, TableShape, table_rules, message_within, message_late}
 use Rattle.proto_wire.specs.Messages.{messages, inner_size, NoRecord}
 use Rattle.proto_wire.specs.Records.{Held, varint, fixed64, bytes, fixed32, Record}
 use Rattle.otlp_proto.specs.Attributes.{attributes, attribute_rules}
@@ -76,44 +76,44 @@ bytes_small number r x e = of r.held e
 
 module _ (top : ℕ) where
   pub bytes_shape : (number : ℕ) (B : Type 0) (Means : List (List ℕ) → B → Type 0) (Here : List (List ℕ) → List ℕ → ℕ → Type 0) (Inside : List ℕ → ℕ → ℕ → Type 0) → Bounded top Inside
-      → RowShape (bytes_row number B Means Here Inside) messages.held top
+      → RowShape messages (bytes_row number B Means Here Inside) top
   bytes_shape number B Means Here Inside bounded = record {
     few = bytes_few number;
-    within = λ r x gives place n h. omega (arith, bounded.within x place n h, bytes_small number r x gives);
-    late = λ r x gives place n h behind. bounded.late x place n h (omega (arith, bytes_small number r x gives));
+    within = λ r x gives place n h. (omega arith, omega (arith, bounded.within x place n h, bytes_small number r x gives));
+    late = λ bare r x gives place n h behind. bounded.late x place n h (omega (arith, bytes_small number r x gives));
   }
 
-  pub number_shape : (give : Record → List ℕ) (B : Type 0) (Means : List ℕ → B → Type 0) (Here : List ℕ → ℕ → ℕ → Type 0) → ((r : Record) → IsFew (give r)) → RowShape (number_row give B Means Here) messages.held top
-  number_shape give B Means Here few = record { few = few; within = λ r x gives place n h. absurd h; late = λ r x gives place n h behind. absurd h }
+  pub number_shape : (give : Record → List ℕ) (B : Type 0) (Means : List ℕ → B → Type 0) (Here : List ℕ → ℕ → ℕ → Type 0) → ((r : Record) → IsFew (give r)) → RowShape messages (number_row give B Means Here) top
+  number_shape give B Means Here few = record { few = few; within = λ r x gives place n h. absurd h; late = λ bare r x gives place n h behind. absurd h }
 
   nothing_bounded : Bounded top (λ held place n. ⊥)
   nothing_bounded = record { within = λ held place n h. absurd h; late = λ held place n h behind. absurd h }
 
-  pub text_shape : (number : ℕ) → RowShape (text number) messages.held top
+  pub text_shape : (number : ℕ) → RowShape messages (text number) top
   text_shape number = bytes_shape number _ _ _ _ nothing_bounded
 
-  pub trace_id_shape : (number : ℕ) → RowShape (trace_id number) messages.held top
+  pub trace_id_shape : (number : ℕ) → RowShape messages (trace_id number) top
   trace_id_shape number = bytes_shape number _ _ _ _ nothing_bounded
 
-  pub span_id_shape : (number : ℕ) → RowShape (span_id number) messages.held top
+  pub span_id_shape : (number : ℕ) → RowShape messages (span_id number) top
   span_id_shape number = bytes_shape number _ _ _ _ nothing_bounded
 
-  pub time_shape : (number : ℕ) → RowShape (time number) messages.held top
+  pub time_shape : (number : ℕ) → RowShape messages (time number) top
   time_shape number = number_shape (fixed64_in number) _ _ _ (fixed64_few number)
 
-  pub flags_shape : (number : ℕ) → RowShape (flags number) messages.held top
+  pub flags_shape : (number : ℕ) → RowShape messages (flags number) top
   flags_shape number = number_shape (fixed32_in number) _ _ _ (fixed32_few number)
 
-  pub count_shape : (number : ℕ) → RowShape (count number) messages.held top
+  pub count_shape : (number : ℕ) → RowShape messages (count number) top
   count_shape number = number_shape (varint_in number) _ _ _ (varint_few number)
 
-  pub enum_shape : (number last : ℕ) (E : Type 0) (number_of : E → ℕ) (default : E) → RowShape (enum number last E number_of default) messages.held top
+  pub enum_shape : (number last : ℕ) (E : Type 0) (number_of : E → ℕ) (default : E) → RowShape messages (enum number last E number_of default) top
   enum_shape number last E number_of default = number_shape (varint_in number) _ _ _ (varint_few number)
 
-  pub message_shape : (number : ℕ) (B : Type 0) (Is : List ℕ → B → Type 0) (absent : B) (Offends : List ℕ → ℕ → ℕ → Type 0) → Bounded top Offends → RowShape (message number B Is absent Offends) messages.held top
+  pub message_shape : (number : ℕ) (B : Type 0) (Is : List ℕ → B → Type 0) (absent : B) (Offends : List ℕ → ℕ → ℕ → Type 0) → Bounded top Offends → RowShape messages (message number B Is absent Offends) top
   message_shape number B Is absent Offends bounded = bytes_shape number B _ _ Offends bounded
 
-  pub messages_shape : (number : ℕ) (B : Type 0) (Is : List ℕ → B → Type 0) (Offends : List ℕ → ℕ → ℕ → Type 0) → Bounded top Offends → RowShape (messages_of number B Is Offends) messages.held top
+  pub messages_shape : (number : ℕ) (B : Type 0) (Is : List ℕ → B → Type 0) (Offends : List ℕ → ℕ → ℕ → Type 0) → Bounded top Offends → RowShape messages (messages_of number B Is Offends) top
   messages_shape number B Is Offends bounded = bytes_shape number (List B) _ _ Offends bounded
 
 -- where no record begins the number of the cause is at most 3
@@ -121,6 +121,10 @@ pub unread_late : (rest : List ℕ) (n : ℕ) → NoRecord rest n → n ≤ 3
 unread_late rest n (inl h) = omega (arith, h.0)
 unread_late rest n (inr (inl h)) = omega (arith, h.0)
 unread_late rest n (inr (inr h)) = omega (arith, h.0)
+
+-- a message's end has no bytes
+pub bare_end : HasBareEnd messages
+bare_end = ([], refl, refl)
 
 -- ---- members of a value
 
@@ -186,12 +190,12 @@ module _ (IsValue : List ℕ → NotedValue → Type 0) (IsKeyValue : List ℕ �
   in_member_late (kvlist_value held) place n h late = maps.late held place n h late
   in_member_late (bytes_value held) place n h late = absurd h
 
-  pub value_shape : TableShape (value_table IsValue IsKeyValue InList InMap) messages.held 3
+  pub value_shape : TableShape messages (value_table IsValue IsKeyValue InList InMap) 3
   value_shape = (
     record {
       few = member_few;
-      within = λ r m gives place n h. omega (arith, in_member_within m place n h, member_small r m gives);
-      late = λ r m gives place n h behind. in_member_late m place n h (omega (arith, member_small r m gives));
+      within = λ r m gives place n h. (omega arith, omega (arith, in_member_within m place n h, member_small r m gives));
+      late = λ bare r m gives place n h behind. in_member_late m place n h (omega (arith, member_small r m gives));
     },
     tt,
   )
@@ -200,35 +204,35 @@ module _ (IsValue : List ℕ → NotedValue → Type 0) (IsKeyValue : List ℕ �
 
 module _ (laws : FormatLaws messages) where
   -- of a message that doesn't offend at its end
-  endless : (table : List (Row Record)) (top : ℕ) → 3 ≤ top → TableShape table messages.held top → Bounded top (λ held place n. Offence messages (rules_by table no_ends) held place n)
+  endless : (table : List (Row Record)) (top : ℕ) → 3 ≤ top → TableShape messages table top → Bounded top (λ held place n. Offence messages (rules_by table no_ends) held place n)
   endless table top above shape = record {
-    within = λ held place n o. message_within messages laws table top shape no_ends (λ seen m e. absurd e) held place n o;
-    late = λ held place n o behind. message_late messages laws table top shape no_ends top (omega arith) (λ rest m u. omega (arith, unread_late rest m u, above)) (λ seen m e. absurd e) held place n o behind;
+    within = λ held place n o. message_within messages laws table top shape no_ends (λ bare seen m e. absurd e) held place n o;
+    late = λ held place n o behind. message_late messages laws table top shape bare_end (omega arith) no_ends top (omega arith) (λ rest m u. omega (arith, unread_late rest m u, above)) (λ seen m e. absurd e) held place n o behind;
   }
 
   -- and what it keeps
-  endless_rules : (table : List (Row Record)) (top : ℕ) → TableShape table messages.held top → RulesLaws messages (rules_by table no_ends)
-  endless_rules table top shape = table_rules messages laws table top shape no_ends (λ seen m e. absurd e)
+  endless_rules : (table : List (Row Record)) (top : ℕ) → TableShape messages table top → RulesLaws messages (rules_by table no_ends)
+  endless_rules table top shape = table_rules messages laws table top shape no_ends (λ bare seen m e. absurd e)
 
-  pub many_shape : (left : ℕ) (B : Type 0) (Is : List ℕ → B → Type 0) (Offends : List ℕ → ℕ → ℕ → Type 0) → Bounded 3 Offends → TableShape (many_table left B Is Offends) messages.held 3
+  pub many_shape : (left : ℕ) (B : Type 0) (Is : List ℕ → B → Type 0) (Offends : List ℕ → ℕ → ℕ → Type 0) → Bounded 3 Offends → TableShape messages (many_table left B Is Offends) 3
   many_shape left B Is Offends bounded = (bytes_shape 3 1 (List B) _ _ Offends bounded, tt)
 
   many_bounded : (left : ℕ) (B : Type 0) (Is : List ℕ → B → Type 0) (Offends : List ℕ → ℕ → ℕ → Type 0) → Bounded 3 Offends → Bounded 3 (λ held p n. Offence messages (many_rules left B Is Offends) held p n)
   many_bounded left B Is Offends bounded = endless (many_table left B Is Offends) 3 (omega arith) (many_shape left B Is Offends bounded)
 
-  key_value_shape : (IsValue : List ℕ → NotedValue → Type 0) (Offends : List ℕ → ℕ → ℕ → Type 0) → Bounded 3 Offends → TableShape (key_value_table IsValue Offends) messages.held 3
+  key_value_shape : (IsValue : List ℕ → NotedValue → Type 0) (Offends : List ℕ → ℕ → ℕ → Type 0) → Bounded 3 Offends → TableShape messages (key_value_table IsValue Offends) 3
   key_value_shape IsValue Offends bounded = (text_shape 3 1, (message_shape 3 2 NotedValue IsValue _ Offends bounded, tt))
 
   -- a value and a `KeyValue`, where what stands below them is bounded
   module _ (left : ℕ) (below : Bounded 3 (value_offends left)) (pairs_below : Bounded 3 (key_value_offends left)) where
-    value_shape_over : TableShape (table_of_value left) messages.held 3
+    value_shape_over : TableShape messages (table_of_value left) 3
     value_shape_over = value_shape (value_in left) (key_value_in left) (λ held p n. Offence messages (list_rules left) held p n) (λ held p n. Offence messages (map_rules left) held p n)
         (many_bounded left NotedValue (value_in left) (value_offends left) below) (many_bounded left KeyValue (key_value_in left) (key_value_offends left) pairs_below)
 
     value_over : Bounded 3 (λ held p n. Offence messages (value_rules left) held p n)
     value_over = endless (table_of_value left) 3 (omega arith) value_shape_over
 
-    key_value_shape_over : TableShape (table_of_key_value left) messages.held 3
+    key_value_shape_over : TableShape messages (table_of_key_value left) 3
     key_value_shape_over = key_value_shape _ (λ held p n. Offence messages (value_rules left) held p n) value_over
 
     key_value_over : Bounded 3 (λ held p n. Offence messages (key_value_rules left) held p n)
@@ -257,13 +261,13 @@ module _ (laws : FormatLaws messages) where
   pub map_laws : (left : ℕ) → RulesLaws messages (map_rules left)
   map_laws left = endless_rules (many_table left KeyValue (key_value_in left) (key_value_offends left)) 3 (many_shape left KeyValue (key_value_in left) (key_value_offends left) (key_value_bounded left))
 
-  pub shape_of_value : (left : ℕ) → TableShape (table_of_value left) messages.held 3
+  pub shape_of_value : (left : ℕ) → TableShape messages (table_of_value left) 3
   shape_of_value left = value_shape_over left (value_bounded left) (key_value_bounded left)
 
   pub value_laws : (left : ℕ) → RulesLaws messages (value_rules left)
   value_laws left = endless_rules (table_of_value left) 3 (shape_of_value left)
 
-  pub shape_of_key_value : (left : ℕ) → TableShape (table_of_key_value left) messages.held 3
+  pub shape_of_key_value : (left : ℕ) → TableShape messages (table_of_key_value left) 3
   shape_of_key_value left = key_value_shape_over left (value_bounded left) (key_value_bounded left)
 
   pub key_value_laws : (left : ℕ) → RulesLaws messages (key_value_rules left)
@@ -272,7 +276,7 @@ module _ (laws : FormatLaws messages) where
   pub attribute_bounded : Bounded 3 (λ held p n. Offence messages attribute_rules held p n)
   attribute_bounded = key_value_over 15 (value_bounded 15) (key_value_bounded 15)
 
-  pub attributes_shape : (number : ℕ) → RowShape (attributes number) messages.held 3
+  pub attributes_shape : (number : ℕ) → RowShape messages (attributes number) 3
   attributes_shape number = bytes_shape 3 number _ _ _ _ attribute_bounded
 
 pub higher : (low high : ℕ) (Offends : List ℕ → ℕ → ℕ → Type 0) → low ≤ high → Bounded low Offends → Bounded high Offends

@@ -129,7 +129,7 @@ module _ (facts : WireFacts) (once : AttributesOnce) (exist : AttributesExist) (
     pair_some : left ≢ 0 → (held : List ℕ) → ((p n : ℕ) → key_value_offends left held p n → ⊥) → (r : KeyValue) × key_value_in left held r
 
   module _ (left : ℕ) (B : Type 0) (Is : List ℕ → B → Type 0) (Offends : List ℕ → ℕ → ℕ → Type 0) (inside : (held : List ℕ) → Decided (λ p n. Offends held p n))
-      (some : left ≢ 0 → (held : List ℕ) → ((p n : ℕ) → Offends held p n → ⊥) → (r : B) × Is held r) (shape : TableShape (many_table left B Is Offends) messages.held 3) (laws : RulesLaws messages (rules_by (many_table left B Is Offends) no_ends)) where
+      (some : left ≢ 0 → (held : List ℕ) → ((p n : ℕ) → Offends held p n → ⊥) → (r : B) × Is held r) (shape : TableShape messages (many_table left B Is Offends) 3) (laws : RulesLaws messages (rules_by (many_table left B Is Offends) no_ends)) where
     each_below : (xs earlier : List (List ℕ)) → Clean (bytes_row 1 (List B) (λ held ys. AllZip Is held ys) (λ before held n. (n ≡ 5) × (left ≡ 0)) Offends) earlier xs → (ys : List B) × AllZip Is xs ys
     each_below [] earlier clean = ([], tt)
     each_below (x ∷ xs) earlier clean =

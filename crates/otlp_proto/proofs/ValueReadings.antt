@@ -122,7 +122,7 @@ module _ (facts : WireFacts) (once : AttributesOnce) where
   key_value_level (suc left) p held is none = omega (arith, none)
 
   module _ (left : ℕ) (below : Reads (value_in left) (value_offends left)) (pairs_below : Reads (key_value_in left) (key_value_offends left)) where
-    many_fine : (B : Type 0) (Is : List ℕ → B → Type 0) (Offends : List ℕ → ℕ → ℕ → Type 0) → Reads Is Offends → TableShape (many_table left B Is Offends) messages.held 3 → ((x : B) (held : List ℕ) → Is held x → left ≡ 0 → ⊥)
+    many_fine : (B : Type 0) (Is : List ℕ → B → Type 0) (Offends : List ℕ → ℕ → ℕ → Type 0) → Reads Is Offends → TableShape messages (many_table left B Is Offends) 3 → ((x : B) (held : List ℕ) → Is held x → left ≡ 0 → ⊥)
         → (text : List ℕ) (records : List Record) (xs : List B) → Wire records text → AllZip Is (bytes_of 1 records) xs → (place n : ℕ) → Offence messages (many_rules left B Is Offends) text place n → ⊥
     many_fine B Is Offends reads shape level text records xs wire each =
         table_fine messages facts.format (many_table left B Is Offends) 3 shape

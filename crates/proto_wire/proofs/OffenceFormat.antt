@@ -66,6 +66,8 @@ module _ (L : VarintLaws) where
   message_laws = record {
     only = one_record;
     room = record_room;
+    some_beside = omega arith;
+    end_room = λ rest e. omega arith;
     stuck = λ r rest after n h b. never n (record_at rest) (Some r, after) (read_by rest n h) (begins_read L rest after r b);
     ended = λ r rest after e b. absurd (omega (arith, ap length e, record_room r rest after b));
     unended = λ rest n e h. absurd (omega (arith, ap length e, some_left rest n h));

@@ -24,4 +24,5 @@ messages = record {
   IsEnd = λ rest. rest ≡ [];
   Unread = λ rest number. NoRecord rest number;
   held = λ r. inner_size r.held;
+  beside = 2;
 }

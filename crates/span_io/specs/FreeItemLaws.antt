@@ -237,7 +237,7 @@ module _ (F : Format) (L : FormatLaws F) (next : (rest : F.Rest) → Next F rest
       of (ended is_end) on = record { items = []; rest = text; cut = refl; stops = inl is_end }
       of (stopped cause unread) on = record { items = []; rest = text; cut = refl; stops = inr (cause_number cause, unread) }
       of (begun this after begins) on =
-          let more = on after (omega (arith, L.room this text after begins)) in
+          let more = on after (omega (arith, L.room this text after begins, L.some_beside)) in
           record { items = this ∷ more.items; rest = more.rest; cut = (after, begins, more.cut); stops = more.stops }
 
   pub text_self : (table : List (Row F.Item)) (padded : Paddings table) → TablePadding table padded → (text : F.Rest) → TextPadded F table padded text text

@@ -11,19 +11,21 @@ use Rattle.span_io.specs.Offences.{Format, Rules, Cut, Unread, Here, Inside, AtE
 -- what a wire format must keep
 pub record FormatLaws (F : Format) : Type 0 where
   pub only : (r s : F.Item) (rest after other : F.Rest) → F.Begins r rest after → F.Begins s rest other → (r ≡ s) × (after ≡ other)
-  -- an item has two bytes or more beside those of an inner message
-  pub room : (r : F.Item) (rest after : F.Rest) → F.Begins r rest after → F.size after + F.held r + 2 ≤ F.size rest
+  pub room : (r : F.Item) (rest after : F.Rest) → F.Begins r rest after → F.size after + F.held r + F.beside ≤ F.size rest
+  pub some_beside : 1 ≤ F.beside
+  -- no item begins at the place of the message's end
+  pub end_room : (rest : F.Rest) → F.IsEnd rest → 2 ≤ F.size rest + F.beside
   pub stuck : (r : F.Item) (rest after : F.Rest) (n : ℕ) → F.Unread rest n → F.Begins r rest after → ⊥
   pub ended : (r : F.Item) (rest after : F.Rest) → F.IsEnd rest → F.Begins r rest after → ⊥
   pub unended : (rest : F.Rest) (n : ℕ) → F.IsEnd rest → F.Unread rest n → ⊥
   pub one_number : (rest : F.Rest) (n m : ℕ) → F.Unread rest n → F.Unread rest m → n ≡ m
   pub some_left : (rest : F.Rest) (n : ℕ) → F.Unread rest n → 0 < F.size rest
 
--- what the rules of a message must keep: an inner message offends at its end at the latest, and there by no larger number than the
--- end of the message around it, since the two ends may share a place
+-- what the rules of a message must keep: an inner message offends behind the first byte of its item, and at its end at the latest,
+-- and there by no larger number than the end of the message around it, where the two ends share a place
 pub record RulesLaws (F : Format) (K : Rules F.Item) : Type 0 where
-  pub within : (r : F.Item) (place n : ℕ) → K.inside r place n → place ≤ F.held r
-  pub last : (r : F.Item) (place n : ℕ) → K.inside r place n → F.held r ≤ place → (seen : List F.Item) (m : ℕ) → K.ends seen m → n ≤ m
+  pub within : (r : F.Item) (place n : ℕ) → K.inside r place n → (2 ≤ place + F.beside) × (place ≤ F.held r)
+  pub last : (r : F.Item) (end : F.Rest) → F.IsEnd end → F.size end ≡ 0 → (place n : ℕ) → K.inside r place n → F.held r ≤ place → (seen : List F.Item) (m : ℕ) → K.ends seen m → n ≤ m
 
 -- of two cuts of one text: they are the same, or an item begins at the one, and the other is behind it
 pub data TwoCuts (F : Format) (seen : List F.Item) (rest : F.Rest) (other : List F.Item) (there : F.Rest) : Type 0 where
@@ -48,7 +50,8 @@ pub data Stands (F : Format) (K : Rules F.Item) (text : F.Rest) (seen : List F.I
   in_next : (r : F.Item) (after : F.Rest) → F.Begins r rest after → (p : ℕ) → ItemOffends F.Item K seen r p n → AtItem F text rest after r p place → Stands F K text seen rest place n
   ends_here : F.IsEnd rest → K.ends seen n → place ≡ F.size text → Stands F K text seen rest place n
   behind_next : (r : F.Item) (after : F.Rest) → F.Begins r rest after → F.size text < place + F.size after → Stands F K text seen rest place n
-  ends_behind : (r : F.Item) (after : F.Rest) → F.Begins r rest after → (all : List F.Item) → K.ends all n → place ≡ F.size text → Stands F K text seen rest place n
+  ends_behind : (r : F.Item) (after : F.Rest) → F.Begins r rest after → (more : List F.Item) (end : F.Rest) → Cut F after more end → F.IsEnd end → (all : List F.Item) → K.ends all n → place ≡ F.size text
+      → Stands F K text seen rest place n
 
 -- one number counts
 pub one_cause : (Offends : ℕ → ℕ → Type 0) (n m : ℕ) → Least Offends n → Least Offends m → n ≡ m
@@ -108,6 +111,12 @@ module _ (F : Format) (L : FormatLaws F) where
   cut_size text rest [] cut = omega (arith, ap F.size cut)
   cut_size text rest (r ∷ seen) cut = omega (arith, cut_size cut.0 rest seen cut.2, L.room r text cut.0 cut.1)
 
+  -- what is behind an item, before an end
+  pub last_part : (after end : F.Rest) (more : List F.Item) → Cut F after more end → F.size after ≡ 0 → after ≡ end
+  unfolding Cut
+  last_part after end [] cut none = cut
+  last_part after end (r ∷ more) cut none = absurd (omega (arith, L.room r after cut.0 cut.1, L.some_beside))
+
   longer : (rest there : F.Rest) (seen other : List F.Item) (r s : F.Item) → r ≡ s → TwoCuts F seen rest other there → TwoCuts F (r ∷ seen) rest (s ∷ other) there
   longer rest there seen other r s e (same lists rests) = same (cc) rests
   longer rest there seen other r s e (behind q after more begins cut) = behind q after more begins cut
@@ -137,7 +146,7 @@ module _ (F : Format) (L : FormatLaws F) where
         let one = L.only r q rest after past begins b in
         absurd (omega (arith, ap F.size one.1, cut_size past there more c))
     step_fine text rest after seen r walked begins clean other there then s begun less cut (ahead q past more b c) p n offends =
-        walked.fine other there then s cut begun (omega (arith, L.room q there past b, cut_size past rest more c)) p n offends
+        walked.fine other there then s cut begun (omega (arith, L.room q there past b, L.some_beside, cut_size past rest more c)) p n offends
 
     -- one item further
     pub walked_step : (text rest after : F.Rest) (seen : List F.Item) (r : F.Item) → Walked F K text seen rest → F.Begins r rest after → ((p n : ℕ) → ItemOffends F.Item K seen r p n → ⊥)
@@ -159,20 +168,20 @@ module _ (F : Format) (L : FormatLaws F) where
         (omega (arith, ap F.size rests, o.placed))
     stands_here text seen rest place n walked o (behind r after more b c) = behind_next r after b (omega (arith, o.placed, cut_size after o.rest more c))
     stands_here text seen rest place n walked o (ahead r after more b c) =
-        absurd (walked.fine o.seen o.rest o.after o.this o.cut o.begins (omega (arith, L.room r o.rest after b, cut_size after rest more c)) zero n o.offends)
+        absurd (walked.fine o.seen o.rest o.after o.this o.cut o.begins (omega (arith, L.room r o.rest after b, L.some_beside, cut_size after rest more c)) zero n o.offends)
 
     stands_inside : (text : F.Rest) (seen : List F.Item) (rest : F.Rest) (place n : ℕ) → Walked F K text seen rest → (o : Inside F K text place n) → TwoCuts F seen rest o.seen o.rest → Stands F K text seen rest place n
     stands_inside text seen rest place n walked o (same lists rests) =
         in_next o.this o.after (subst (λ (x : F.Rest). F.Begins o.this x o.after) (sym rests) o.begins) (suc o.inner) o.offends o.placed
     stands_inside text seen rest place n walked o (behind r after more b c) =
-        behind_next r after b (omega (arith, o.placed, cut_size after o.rest more c, L.room o.this o.rest o.after o.begins))
+        behind_next r after b (omega (arith, o.placed, cut_size after o.rest more c, L.room o.this o.rest o.after o.begins, L.some_beside))
     stands_inside text seen rest place n walked o (ahead r after more b c) =
-        absurd (walked.fine o.seen o.rest o.after o.this o.cut o.begins (omega (arith, L.room r o.rest after b, cut_size after rest more c)) (suc o.inner) n o.offends)
+        absurd (walked.fine o.seen o.rest o.after o.this o.cut o.begins (omega (arith, L.room r o.rest after b, L.some_beside, cut_size after rest more c)) (suc o.inner) n o.offends)
 
     stands_end : (text : F.Rest) (seen : List F.Item) (rest : F.Rest) (place n : ℕ) → (o : AtEnd F K text place n) → TwoCuts F seen rest o.seen o.rest → Stands F K text seen rest place n
     stands_end text seen rest place n o (same lists rests) =
         ends_here (subst (λ (x : F.Rest). F.IsEnd x) (sym rests) o.is_end) (subst (λ (l : List F.Item). K.ends l n) (sym lists) o.offends) o.placed
-    stands_end text seen rest place n o (behind r after more b c) = ends_behind r after b o.seen o.offends o.placed
+    stands_end text seen rest place n o (behind r after more b c) = ends_behind r after b more o.rest c o.is_end o.seen o.offends o.placed
     stands_end text seen rest place n o (ahead r after more b c) = absurd (L.ended r o.rest after o.is_end b)
 
     pub stands : (text : F.Rest) (seen : List F.Item) (rest : F.Rest) (place n : ℕ) → Walked F K text seen rest → Offence F K text place n → Stands F K text seen rest place n
@@ -196,7 +205,7 @@ module _ (F : Format) (L : FormatLaws F) where
         first p m (in_next r after begins q o placed) = absurd (L.stuck r rest after n offends begins)
         first p m (ends_here e o placed) = absurd (L.unended rest n e offends)
         first p m (behind_next r after begins less) = absurd (L.stuck r rest after n offends begins)
-        first p m (ends_behind r after begins all o placed) = absurd (L.stuck r rest after n offends begins)
+        first p m (ends_behind r after begins more end cut e all o placed) = absurd (L.stuck r rest after n offends begins)
 
     -- the end
     pub least_end : (text : F.Rest) (seen : List F.Item) (rest : F.Rest) (n : ℕ) → Walked F K text seen rest → F.IsEnd rest → K.ends seen n → ((m : ℕ) → K.ends seen m → n ≤ m)
@@ -212,7 +221,7 @@ module _ (F : Format) (L : FormatLaws F) where
         first p m (in_next r after begins q o placed) = absurd (L.ended r rest after is_end begins)
         first p m (ends_here e o placed) = inr (sym placed, least m o)
         first p m (behind_next r after begins less) = absurd (L.ended r rest after is_end begins)
-        first p m (ends_behind r after begins all o placed) = absurd (L.ended r rest after is_end begins)
+        first p m (ends_behind r after begins more end cut e all o placed) = absurd (L.ended r rest after is_end begins)
 
     pub none_at_end : (text : F.Rest) (seen : List F.Item) (rest : F.Rest) → Walked F K text seen rest → F.IsEnd rest → ((m : ℕ) → K.ends seen m → ⊥) → (p m : ℕ) → Offence F K text p m → ⊥
     none_at_end text seen rest walked is_end none p m o = first p m (stands text seen rest p m walked o)
@@ -222,11 +231,11 @@ module _ (F : Format) (L : FormatLaws F) where
         first p m (in_next r after begins q o placed) = L.ended r rest after is_end begins
         first p m (ends_here e o placed) = none m o
         first p m (behind_next r after begins less) = L.ended r rest after is_end begins
-        first p m (ends_behind r after begins all o placed) = L.ended r rest after is_end begins
+        first p m (ends_behind r after begins more end cut e all o placed) = L.ended r rest after is_end begins
 
     -- the item that begins here
     module _ (O : RulesLaws F K) (text : F.Rest) (seen : List F.Item) (rest after : F.Rest) (r : F.Item) (walked : Walked F K text seen rest) (begins : F.Begins r rest after) where
-      fits : F.size after + F.held r + 2 ≤ F.size rest
+      fits : F.size after + F.held r + F.beside ≤ F.size rest
       fits = L.room r rest after begins
 
       shorter : F.size rest ≤ F.size text
@@ -241,30 +250,32 @@ module _ (F : Format) (L : FormatLaws F) where
       offence_of (suc inner) place n placed o =
           inside (record { seen = seen; rest = rest; cut = walked.cut; this = r; after = after; begins = begins; inner = inner; offends = o; placed = placed })
 
-      in_order : (p q place other n m : ℕ) → AtItem F text rest after r p place → AtItem F text rest after r q other → (p < q) ⊎ ((p ≡ q) × (n ≤ m)) → (place < other) ⊎ ((place ≡ other) × (n ≤ m))
-      in_order zero zero place other n m a b (inl h) = absurd (omega arith)
-      in_order zero zero place other n m a b (inr h) = inr (omega arith, h.1)
-      in_order zero (suc q) place other n m a b h = let k = fits in inl (omega arith)
-      in_order (suc p) zero place other n m a b (inl h) = absurd (omega arith)
-      in_order (suc p) zero place other n m a b (inr h) = absurd (omega arith)
-      in_order (suc p) (suc q) place other n m a b (inl h) = inl (omega arith)
-      in_order (suc p) (suc q) place other n m a b (inr h) = inr (omega arith, h.1)
+      in_order : (p q place other n m : ℕ) → AtItem F text rest after r p place → AtItem F text rest after r q other → ItemOffends F.Item K seen r q m → (p < q) ⊎ ((p ≡ q) × (n ≤ m))
+          → (place < other) ⊎ ((place ≡ other) × (n ≤ m))
+      in_order zero zero place other n m a b o (inl h) = absurd (omega arith)
+      in_order zero zero place other n m a b o (inr h) = inr (omega arith, h.1)
+      in_order zero (suc q) place other n m a b o h = inl (omega (arith, fits, (O.within r q m o).0))
+      in_order (suc p) zero place other n m a b o (inl h) = absurd (omega arith)
+      in_order (suc p) zero place other n m a b o (inr h) = absurd (omega arith)
+      in_order (suc p) (suc q) place other n m a b o (inl h) = inl (omega arith)
+      in_order (suc p) (suc q) place other n m a b o (inr h) = inr (omega arith, h.1)
 
       before_end : (p place n : ℕ) → AtItem F text rest after r p place → ItemOffends F.Item K seen r p n → place + F.size after ≤ F.size text
-      before_end zero place n placed o = let k = fits in omega arith
-      before_end (suc inner) place n placed o = omega (arith, O.within r inner n o)
+      before_end zero place n placed o = omega (arith, fits, L.some_beside)
+      before_end (suc inner) place n placed o = omega (arith, (O.within r inner n o).1)
 
-      to_end : (p place n : ℕ) (all : List F.Item) (m : ℕ) → AtItem F text rest after r p place → ItemOffends F.Item K seen r p n → K.ends all m → (place < F.size text) ⊎ ((place ≡ F.size text) × (n ≤ m))
-      to_end zero place n all m placed o e = let k = fits in inl (omega arith)
-      to_end (suc inner) place n all m placed o e = at_last (cases_lt inner (F.held r))
+      to_end : (more : List F.Item) (end : F.Rest) → Cut F after more end → F.IsEnd end → (p place n : ℕ) (all : List F.Item) (m : ℕ) → AtItem F text rest after r p place → ItemOffends F.Item K seen r p n
+          → K.ends all m → (place < F.size text) ⊎ ((place ≡ F.size text) × (n ≤ m))
+      to_end more end cut is_end zero place n all m placed o e = inl (omega (arith, fits, cut_size after end more cut, L.end_room end is_end))
+      to_end more end cut is_end (suc inner) place n all m placed o e = late (cases_lt place (F.size text))
         where
-          at_last : (inner < F.held r) ⊎ (F.held r ≤ inner) → (place < F.size text) ⊎ ((place ≡ F.size text) × (n ≤ m))
-          at_last (inl h) = inl (omega arith)
-          at_last (inr h) = late (cases_lt place (F.size text))
-            where
-              late : (place < F.size text) ⊎ (F.size text ≤ place) → (place < F.size text) ⊎ ((place ≡ F.size text) × (n ≤ m))
-              late (inl k) = inl k
-              late (inr k) = inr (omega (arith, O.within r inner n o), O.last r inner n o h all m e)
+          late : (place < F.size text) ⊎ (F.size text ≤ place) → (place < F.size text) ⊎ ((place ≡ F.size text) × (n ≤ m))
+          late (inl k) = inl k
+          late (inr k) =
+              let inside = (O.within r inner n o).1 in
+              let none : F.size after ≡ 0 = omega arith in
+              let same = last_part after end more cut none in
+              inr (omega arith, O.last r end is_end (omega (arith, ap F.size same)) inner n o (omega arith) all m e)
 
       pub least_item : (n : ℕ) → Least (ItemOffends F.Item K seen r) n → Least (Offence F K text) n
       least_item n inner = record {
@@ -279,12 +290,14 @@ module _ (F : Format) (L : FormatLaws F) where
               let one = L.only r s rest after next begins begun in
               let same_item = subst (λ (x : F.Item). ItemOffends F.Item K seen x q m) (sym one.0) o in
               let at_item = subst (λ (x : F.Rest). AtItem F text rest x r q p) (sym one.1) (subst (λ (x : F.Item). AtItem F text rest next x q p) (sym one.0) placed) in
-              in_order inner.place q (place_of inner.place).0 p n m (place_of inner.place).1 at_item (inner.least q m same_item)
+              in_order inner.place q (place_of inner.place).0 p n m (place_of inner.place).1 at_item same_item (inner.least q m same_item)
           first p m (ends_here e o placed) = absurd (L.ended r rest after e begins)
           first p m (behind_next s next begun less) =
               let one = L.only r s rest after next begins begun in
               inl (omega (arith, ap F.size one.1, before_end inner.place (place_of inner.place).0 n (place_of inner.place).1 inner.offence))
-          first p m (ends_behind s next begun all o placed) = by_end (to_end inner.place (place_of inner.place).0 n all m (place_of inner.place).1 inner.offence o)
+          first p m (ends_behind s next begun more end cut e all o placed) =
+              let one = L.only r s rest after next begins begun in
+              by_end (to_end more end (subst (λ (x : F.Rest). Cut F x more end) (sym one.1) cut) e inner.place (place_of inner.place).0 n all m (place_of inner.place).1 inner.offence o)
             where
               by_end : ((place_of inner.place).0 < F.size text) ⊎ (((place_of inner.place).0 ≡ F.size text) × (n ≤ m)) → ((place_of inner.place).0 < p) ⊎ (((place_of inner.place).0 ≡ p) × (n ≤ m))
               by_end (inl h) = inl (omega arith)
@@ -299,15 +312,15 @@ module _ (F : Format) (L : FormatLaws F) where
 
     pub offence_within : RulesLaws F K → (text : F.Rest) (place n : ℕ) → Offence F K text place n → place ≤ F.size text
     offence_within O text place n (unread o) = omega (arith, o.placed, L.some_left o.rest n o.offends)
-    offence_within O text place n (here o) = omega (arith, o.placed, L.room o.this o.rest o.after o.begins)
+    offence_within O text place n (here o) = omega (arith, o.placed, L.room o.this o.rest o.after o.begins, L.some_beside)
     offence_within O text place n (inside o) =
-        omega (arith, o.placed, O.within o.this o.inner n o.offends, cut_size text o.rest o.seen o.cut, L.room o.this o.rest o.after o.begins)
+        omega (arith, o.placed, (O.within o.this o.inner n o.offends).1, cut_size text o.rest o.seen o.cut, L.room o.this o.rest o.after o.begins)
     offence_within O text place n (at_end o) = omega (arith, o.placed)
 
-    -- the largest number that may stand at a message's end
-    pub late_number : (top : ℕ) → ((rest : F.Rest) (n : ℕ) → F.Unread rest n → n ≤ top) → ((r : F.Item) (p n : ℕ) → K.inside r p n → F.held r ≤ p → n ≤ top)
+    -- the largest number that may stand at a message's end, where no item can begin there
+    pub late_number : (top : ℕ) → 2 ≤ F.beside → ((rest : F.Rest) (n : ℕ) → F.Unread rest n → n ≤ top) → ((r : F.Item) (p n : ℕ) → K.inside r p n → F.held r ≤ p → n ≤ top)
         → ((seen : List F.Item) (n : ℕ) → K.ends seen n → n ≤ top) → (text : F.Rest) (place n : ℕ) → Offence F K text place n → F.size text ≤ place → n ≤ top
-    late_number top unreads insides ends text place n (unread o) late = unreads o.rest n o.offends
-    late_number top unreads insides ends text place n (here o) late = absurd (omega (arith, o.placed, L.room o.this o.rest o.after o.begins))
-    late_number top unreads insides ends text place n (inside o) late = insides o.this o.inner n o.offends (omega (arith, o.placed))
-    late_number top unreads insides ends text place n (at_end o) late = ends o.seen n o.offends
+    late_number top wide unreads insides ends text place n (unread o) late = unreads o.rest n o.offends
+    late_number top wide unreads insides ends text place n (here o) late = absurd (omega (arith, o.placed, L.room o.this o.rest o.after o.begins))
+    late_number top wide unreads insides ends text place n (inside o) late = insides o.this o.inner n o.offends (omega (arith, o.placed))
+    late_number top wide unreads insides ends text place n (at_end o) late = ends o.seen n o.offends

@@ -23,6 +23,8 @@ pub record Format : Type 1 where
   pub Unread : Rest → ℕ → Type 0
   -- how many bytes of an inner message the item ends with, if it can hold one
   pub held : Item → ℕ
+  -- how many bytes an item has at least beside those of an inner message
+  pub beside : ℕ
 
 -- The rules of one message.
 pub record Rules (Item : Type 0) : Type 1 where

@@ -56,15 +56,16 @@ module _ {Item : Type 0} where
       at_here (inl none) = at_inside none (decides.inside x)
       at_here (inr (cause, offends, first)) = inr (cause, least_here (λ n. row.here earlier x n) (λ p n. row.inside x p n) (cause_number cause) offends first)
 
-  pub decide_item : (held : Item → ℕ) (top : ℕ) (table : List (Row Item)) → TableShape table held top → TableDecides table → (seen : List Item) (this : Item)
-      → Decided (HereOrInside (λ n. table_here table seen this n) (λ p n. table_inside table this p n))
-  decide_item held top [] shape decides seen this = inl (none_in_item (λ n. ⊥) (λ p n. ⊥) (λ n h. h) (λ p n h. h))
-  decide_item held top (row ∷ table) shape decides seen this =
-      by_few (row.given this) (λ (xs : List row.Given). Decided (HereOrInside (λ n. OfFirst xs (λ x. row.here (flat_map row.given seen) x n) (table_here table seen this n)) (λ p n. OfFirst xs (λ x. row.inside x p n) (table_inside table this p n))))
-      (shape.0.few this) (λ e. decide_item held top table shape.1 decides.1 seen this) (λ x e. decided_row row decides.0 (flat_map row.given seen) x)
+pub decide_item : (F : Format) (top : ℕ) (table : List (Row F.Item)) → TableShape F table top → TableDecides table → (seen : List F.Item) (this : F.Item)
+    → Decided (HereOrInside (λ n. table_here table seen this n) (λ p n. table_inside table this p n))
+decide_item F top [] shape decides seen this = inl (none_in_item (λ n. ⊥) (λ p n. ⊥) (λ n h. h) (λ p n h. h))
+decide_item F top (row ∷ table) shape decides seen this =
+    by_few (row.given this) (λ (xs : List row.Given). Decided (HereOrInside (λ n. OfFirst xs (λ x. row.here (flat_map row.given seen) x n) (table_here table seen this n)) (λ p n. OfFirst xs (λ x. row.inside x p n) (table_inside table this p n))))
+    (shape.0.few this) (λ e. decide_item F top table shape.1 decides.1 seen this) (λ x e. decided_row row decides.0 (flat_map row.given seen) x)
 
-  -- ---- what doesn't offend means something
+-- ---- what doesn't offend means something
 
+module _ {Item : Type 0} where
   -- no item of these offends behind those before it
   abbrev pub AllClean : List (Row Item) → List Item → Type 0
   AllClean table items = (seen more : List Item) (this : Item) → items ≡ seen ++ this ∷ more → ((n : ℕ) → table_here table seen this n → ⊥) × ((p n : ℕ) → table_inside table this p n → ⊥)
@@ -104,12 +105,12 @@ module _ {Item : Type 0} where
       (λ x e. let both = clean seen more this parts x e in
       (both.0, both.1, subst (λ (l : List row.Given). Clean row l (flat_map row.given more)) (grown ∙ ap (λ l. flat_map row.given seen ++ l) e) rest)))
 
-  pub values_exist : (held : Item → ℕ) (top : ℕ) (table : List (Row Item)) → TableShape table held top → TableDecides table → Apart table → (items : List Item) → AllClean table items → (v : Values table) × Mean table (givens table items) v
-  values_exist held top [] shape decides apart items clean = (tt, tt)
-  values_exist held top (row ∷ table) shape decides apart items clean =
-      let first = decides.0.exists (flat_map row.given items) (clean_from row shape.0.few items [] items refl (first_row row table items clean)) in
-      let others = values_exist held top table shape.1 decides.1 apart.1 items (other_rows row table shape.0.few apart.0 items clean) in
-      ((first.0, others.0), (first.1, others.1))
+pub values_exist : (F : Format) (top : ℕ) (table : List (Row F.Item)) → TableShape F table top → TableDecides table → Apart table → (items : List F.Item) → AllClean table items → (v : Values table) × Mean table (givens table items) v
+values_exist F top [] shape decides apart items clean = (tt, tt)
+values_exist F top (row ∷ table) shape decides apart items clean =
+    let first = decides.0.exists (flat_map row.given items) (clean_from row shape.0.few items [] items refl (first_row row table items clean)) in
+    let others = values_exist F top table shape.1 decides.1 apart.1 items (other_rows row table shape.0.few apart.0 items clean) in
+    ((first.0, others.0), (first.1, others.1))
 
 -- ---- a message, item by item
 
@@ -119,7 +120,7 @@ pub data Next (F : Format) (rest : F.Rest) : Type 0 where
   stopped : (cause : Cause) → F.Unread rest (cause_number cause) → Next F rest
   begun : (this : F.Item) (after : F.Rest) → F.Begins this rest after → Next F rest
 
-module _ (F : Format) (L : FormatLaws F) (next : (rest : F.Rest) → Next F rest) (table : List (Row F.Item)) (top : ℕ) (shape : TableShape table F.held top) (decides : TableDecides table) (apart : Apart table)
+module _ (F : Format) (L : FormatLaws F) (next : (rest : F.Rest) → Next F rest) (table : List (Row F.Item)) (top : ℕ) (shape : TableShape F table top) (decides : TableDecides table) (apart : Apart table)
     (ends : List F.Item → ℕ → Type 0) (last : RulesLaws F (rules_by table ends)) (ends_decided : (seen : List F.Item) → DecidedHere (λ n. ends seen n)) where
   -- the message's items, of which none offends, with the values of its rows
   pub record Means (text : F.Rest) : Type 0 where
@@ -132,7 +133,7 @@ module _ (F : Format) (L : FormatLaws F) (next : (rest : F.Rest) → Next F rest
   -- where a cut stands before one of the items
   cut_before : (text rest : F.Rest) (seen more : List F.Item) (this : F.Item) → Cut F text (seen ++ this ∷ more) rest → (there : F.Rest) × (after : F.Rest) × Cut F text seen there × F.Begins this there after × (F.size rest < F.size there)
   unfolding Cut
-  cut_before text rest [] more this cut = (text, cut.0, refl, cut.1, omega (arith, L.room this text cut.0 cut.1, smaller cut.0 rest more cut.2))
+  cut_before text rest [] more this cut = (text, cut.0, refl, cut.1, omega (arith, L.room this text cut.0 cut.1, L.some_beside, smaller cut.0 rest more cut.2))
     where
       smaller : (text rest : F.Rest) (seen : List F.Item) → Cut F text seen rest → F.size rest ≤ F.size text
       smaller text rest [] cut = omega (arith, ap F.size cut)
@@ -150,7 +151,7 @@ module _ (F : Format) (L : FormatLaws F) (next : (rest : F.Rest) → Next F rest
 
   at_end : (text rest : F.Rest) (items : List F.Item) → Walked F (rules_by table ends) text items rest → F.IsEnd rest → DecidedHere (λ n. ends items n) → Means text ⊎ ((cause : Cause) × Least (Offence F (rules_by table ends) text) (cause_number cause))
   at_end text rest items walked is_end (inl none) =
-      let found = values_exist F.held top table shape decides apart items (all_clean text rest items walked) in
+      let found = values_exist F top table shape decides apart items (all_clean text rest items walked) in
       inl (record { items = items; whole = cut_whole F text rest items walked.cut is_end; values = found.0; mean = found.1; clean_end = none })
   at_end text rest items walked is_end (inr (cause, offends, first)) = inr (cause, least_end F L (rules_by table ends) text items rest (cause_number cause) walked is_end offends first)
 
@@ -160,14 +161,14 @@ module _ (F : Format) (L : FormatLaws F) (next : (rest : F.Rest) → Next F rest
     where
       go : (this : F.Item) (after : F.Rest) → F.Begins this rest after → ((after : F.Rest) (items : List F.Item) → F.size after < fuel → Walked F (rules_by table ends) text items after → Means text ⊎ ((cause : Cause) × Least (Offence F (rules_by table ends) text) (cause_number cause)))
           → Decided (HereOrInside (λ n. table_here table seen this n) (λ p n. table_inside table this p n)) → Means text ⊎ ((cause : Cause) × Least (Offence F (rules_by table ends) text) (cause_number cause))
-      go this after begins on (inl none) = on after (seen ++ this ∷ []) (omega (arith, L.room this rest after begins)) (walked_step F L (rules_by table ends) text rest after seen this walked begins none)
+      go this after begins on (inl none) = on after (seen ++ this ∷ []) (omega (arith, L.room this rest after begins, L.some_beside)) (walked_step F L (rules_by table ends) text rest after seen this walked begins none)
       go this after begins on (inr (cause, least)) = inr (cause, least_item F L (rules_by table ends) last text seen rest after this walked begins (cause_number cause) least)
 
       of : Next F rest → ((after : F.Rest) (items : List F.Item) → F.size after < fuel → Walked F (rules_by table ends) text items after → Means text ⊎ ((cause : Cause) × Least (Offence F (rules_by table ends) text) (cause_number cause)))
           → Means text ⊎ ((cause : Cause) × Least (Offence F (rules_by table ends) text) (cause_number cause))
       of (ended is_end) on = at_end text rest seen walked is_end (ends_decided seen)
       of (stopped cause offends) on = inr (cause, least_unread F L (rules_by table ends) text seen rest (cause_number cause) walked offends)
-      of (begun this after begins) on = go this after begins on (decide_item F.held top table shape decides seen this)
+      of (begun this after begins) on = go this after begins on (decide_item F top table shape decides seen this)
 
   pub decide_message : (text : F.Rest) → Means text ⊎ ((cause : Cause) × Least (Offence F (rules_by table ends) text) (cause_number cause))
   decide_message text = walk (suc (F.size text)) text text [] (omega arith) (walked_start F L (rules_by table ends) text)

@@ -1,5 +1,5 @@
 -- What follows from a message's table for every message, by one induction over its rows each. Readers of every wire format cite these.
-use Rattle.std.proofs.Common.{◌≡◌, ℕ, ◌≤◌, ◌⊎◌, inl, inr, List, [], ◌∷◌, ◌++◌, refl, sym, ap, subst, ◌∙◌, arith}
+use Rattle.std.proofs.Common.{◌≡◌, ℕ, ◌+◌, ◌≤◌, ◌⊎◌, inl, inr, List, [], ◌∷◌, ◌++◌, refl, sym, ap, subst, ◌∙◌, arith}
 use Rattle.std.specs.List.{flat_map}
 use Rattle.std.proofs.lemmas.List.{append-nil}
 use Rattle.std.proofs.lemmas.List.Concat.{flat_map-append, flat_map-cons}
@@ -11,12 +11,16 @@ use Rattle.span_io.specs.Tables.{Row, OfFirst, table_here, table_inside, rules_b
 abbrev pub IsFew : {A : Type 0} → List A → Type 0
 IsFew {A} xs = (xs ≡ []) ⊎ ((x : A) × (xs ≡ x ∷ []))
 
--- What a row keeps: an item gives one thing at most; the message in an item is as large as `held` says at the most, and at its end it
--- offends with no number above `top`.
-pub record RowShape {Item : Type 0} (row : Row Item) (held : Item → ℕ) (top : ℕ) : Type 0 where
-  pub few : (this : Item) → IsFew (row.given this)
-  pub within : (this : Item) (x : row.Given) → row.given this ≡ x ∷ [] → (place n : ℕ) → row.inside x place n → place ≤ held this
-  pub late : (this : Item) (x : row.Given) → row.given this ≡ x ∷ [] → (place n : ℕ) → row.inside x place n → held this ≤ place → n ≤ top
+-- an end has no bytes: the end of an inner message may share its place
+abbrev pub HasBareEnd : Format → Type 0
+HasBareEnd F = (rest : F.Rest) × F.IsEnd rest × (F.size rest ≡ 0)
+
+-- What a row keeps: an item gives one thing at most; the message in an item offends behind the item's first byte, and within what the
+-- item holds; and at its end it offends with no number above `top`, where ends may share a place.
+pub record RowShape (F : Format) (row : Row F.Item) (top : ℕ) : Type 0 where
+  pub few : (this : F.Item) → IsFew (row.given this)
+  pub within : (this : F.Item) (x : row.Given) → row.given this ≡ x ∷ [] → (place n : ℕ) → row.inside x place n → (2 ≤ place + F.beside) × (place ≤ F.held this)
+  pub late : HasBareEnd F → (this : F.Item) (x : row.Given) → row.given this ≡ x ∷ [] → (place n : ℕ) → row.inside x place n → F.held this ≤ place → n ≤ top
 
 -- What was given to a row means one value at most, and nothing in it offends where it means one.
 pub record RowMeaning {Item : Type 0} (row : Row Item) : Type 0 where
@@ -25,9 +29,9 @@ pub record RowMeaning {Item : Type 0} (row : Row Item) : Type 0 where
   pub fine_inside : (front back : List row.Given) (x : row.Given) (value : row.Value) → row.Means (front ++ x ∷ back) value → (place n : ℕ) → row.inside x place n → ⊥
 
 -- each row of a table keeps them
-abbrev pub TableShape : {Item : Type 0} → List (Row Item) → (Item → ℕ) → ℕ → Type 0
-TableShape [] held top = Unit {0}
-TableShape (row ∷ table) held top = RowShape row held top × TableShape table held top
+abbrev pub TableShape : (F : Format) → List (Row F.Item) → ℕ → Type 0
+TableShape F [] top = Unit {0}
+TableShape F (row ∷ table) top = RowShape F row top × TableShape F table top
 
 abbrev pub TableMeaning : {Item : Type 0} → List (Row Item) → Type 0
 TableMeaning [] = Unit {0}
@@ -64,8 +68,8 @@ on_first : {A : Type 0} (G : Type 0) (xs : List A) (Says : A → Type 0) (Else :
 on_first G [] Says Else one other h = other h
 on_first G (x ∷ more) Says Else one other h = one x more refl h
 
-module _ {Item : Type 0} (held : Item → ℕ) (top : ℕ) where
-  pub givens_more : (table : List (Row Item)) → TableShape table held top → (seen : List Item) (this : Item) → givens table (seen ++ this ∷ []) ≡ givens_with table (givens table seen) this
+module _ (F : Format) (top : ℕ) where
+  pub givens_more : (table : List (Row F.Item)) → TableShape F table top → (seen : List F.Item) (this : F.Item) → givens table (seen ++ this ∷ []) ≡ givens_with table (givens table seen) this
   givens_more [] laws seen this = refl
   givens_more (row ∷ table) laws seen this =
       let first = flat_more row.given seen this ∙ push_few (flat_map row.given seen) (row.given this) (laws.0.few this) in
@@ -74,7 +78,7 @@ module _ {Item : Type 0} (held : Item → ℕ) (top : ℕ) where
 
   -- ---- a message means one value at most
 
-  pub values_once : (table : List (Row Item)) → TableMeaning table → (given : Givens table) (a b : Values table) → Mean table given a → Mean table given b → a ≡ b
+  pub values_once : (table : List (Row F.Item)) → TableMeaning table → (given : Givens table) (a b : Values table) → Mean table given a → Mean table given b → a ≡ b
   values_once [] laws given a b h k = refl
   values_once (row ∷ table) laws given a b h k =
       let first = laws.0.once given.0 a.0 b.0 h.0 k.0 in
@@ -83,7 +87,7 @@ module _ {Item : Type 0} (held : Item → ℕ) (top : ℕ) where
 
   -- ---- nothing offends in a message that means something
 
-  pub here_fine : (table : List (Row Item)) → TableShape table held top → TableMeaning table → (items seen more : List Item) (this : Item) → items ≡ seen ++ this ∷ more
+  pub here_fine : (table : List (Row F.Item)) → TableShape F table top → TableMeaning table → (items seen more : List F.Item) (this : F.Item) → items ≡ seen ++ this ∷ more
       → (values : Values table) → Mean table (givens table items) values → (n : ℕ) → table_here table seen this n → ⊥
   here_fine [] shape laws items seen more this parts values means n offends = offends
   here_fine (row ∷ table) shape laws items seen more this parts values means n offends =
@@ -93,7 +97,7 @@ module _ {Item : Type 0} (held : Item → ℕ) (top : ℕ) where
       laws.0.fine_here (flat_map row.given seen) (flat_map row.given more) x values.0 (subst (λ (l : List row.Given). row.Means l values.0) split means.0) n wrong)
       (λ wrong. here_fine table shape.1 laws.1 items seen more this parts values.1 means.1 n wrong) offends
 
-  pub inside_fine : (table : List (Row Item)) → TableShape table held top → TableMeaning table → (items seen more : List Item) (this : Item) → items ≡ seen ++ this ∷ more
+  pub inside_fine : (table : List (Row F.Item)) → TableShape F table top → TableMeaning table → (items seen more : List F.Item) (this : F.Item) → items ≡ seen ++ this ∷ more
       → (values : Values table) → Mean table (givens table items) values → (place n : ℕ) → table_inside table this place n → ⊥
   inside_fine [] shape laws items seen more this parts values means place n offends = offends
   inside_fine (row ∷ table) shape laws items seen more this parts values means place n offends =
@@ -105,19 +109,19 @@ module _ {Item : Type 0} (held : Item → ℕ) (top : ℕ) where
 
   -- ---- the rules keep what the search for the offence that counts asks
 
-  pub inside_within : (table : List (Row Item)) → TableShape table held top → (this : Item) (place n : ℕ) → table_inside table this place n → place ≤ held this
+  pub inside_within : (table : List (Row F.Item)) → TableShape F table top → (this : F.Item) (place n : ℕ) → table_inside table this place n → (2 ≤ place + F.beside) × (place ≤ F.held this)
   inside_within [] laws this place n offends = absurd offends
   inside_within (row ∷ table) laws this place n offends =
-      on_first (place ≤ held this) (row.given this) (λ x. row.inside x place n) (table_inside table this place n)
+      on_first ((2 ≤ place + F.beside) × (place ≤ F.held this)) (row.given this) (λ x. row.inside x place n) (table_inside table this place n)
       (λ x others gives inner. laws.0.within this x (one_of_few (row.given this) others x (laws.0.few this) gives) place n inner)
       (λ inner. inside_within table laws.1 this place n inner) offends
 
-  pub inside_late : (table : List (Row Item)) → TableShape table held top → (this : Item) (place n : ℕ) → table_inside table this place n → held this ≤ place → n ≤ top
-  inside_late [] laws this place n offends late = absurd offends
-  inside_late (row ∷ table) laws this place n offends late =
+  pub inside_late : HasBareEnd F → (table : List (Row F.Item)) → TableShape F table top → (this : F.Item) (place n : ℕ) → table_inside table this place n → F.held this ≤ place → n ≤ top
+  inside_late bare [] laws this place n offends late = absurd offends
+  inside_late bare (row ∷ table) laws this place n offends late =
       on_first (n ≤ top) (row.given this) (λ x. row.inside x place n) (table_inside table this place n)
-      (λ x others gives inner. laws.0.late this x (one_of_few (row.given this) others x (laws.0.few this) gives) place n inner late)
-      (λ inner. inside_late table laws.1 this place n inner late) offends
+      (λ x others gives inner. laws.0.late bare this x (one_of_few (row.given this) others x (laws.0.few this) gives) place n inner late)
+      (λ inner. inside_late bare table laws.1 this place n inner late) offends
 
 -- ---- free items change nothing
 
@@ -150,22 +154,23 @@ module _ {Item : Type 0} where
 
 -- ---- a message with a table, in a wire format
 
-module _ (F : Format) (L : FormatLaws F) (table : List (Row F.Item)) (top : ℕ) (laws : TableShape table F.held top) where
+module _ (F : Format) (L : FormatLaws F) (table : List (Row F.Item)) (top : ℕ) (laws : TableShape F table top) where
   -- whose end offends with no lower number than what may stand inside it there
-  pub table_rules : (ends : List F.Item → ℕ → Type 0) → ((seen : List F.Item) (n : ℕ) → ends seen n → top ≤ n) → RulesLaws F (rules_by table ends)
+  pub table_rules : (ends : List F.Item → ℕ → Type 0) → (HasBareEnd F → (seen : List F.Item) (n : ℕ) → ends seen n → top ≤ n) → RulesLaws F (rules_by table ends)
   table_rules ends last = record {
-    within = λ this place n offends. inside_within F.held top table laws this place n offends;
-    last = λ this place n offends late seen m ended. omega (arith, inside_late F.held top table laws this place n offends late, last seen m ended);
+    within = λ this place n offends. inside_within F top table laws this place n offends;
+    last = λ this end is_end none place n offends late seen m ended.
+        let bare : HasBareEnd F = (end, is_end, none) in omega (arith, inside_late F top bare table laws this place n offends late, last bare seen m ended);
   }
 
   -- what offends in it stands within its bytes, and at its end has no number above this one
-  pub message_within : (ends : List F.Item → ℕ → Type 0) → ((seen : List F.Item) (n : ℕ) → ends seen n → top ≤ n) → (text : F.Rest) (place n : ℕ) → Offence F (rules_by table ends) text place n → place ≤ F.size text
+  pub message_within : (ends : List F.Item → ℕ → Type 0) → (HasBareEnd F → (seen : List F.Item) (n : ℕ) → ends seen n → top ≤ n) → (text : F.Rest) (place n : ℕ) → Offence F (rules_by table ends) text place n → place ≤ F.size text
   message_within ends last text place n offence = offence_within F L (rules_by table ends) (table_rules ends last) text place n offence
 
-  pub message_late : (ends : List F.Item → ℕ → Type 0) (most : ℕ) → top ≤ most → ((rest : F.Rest) (n : ℕ) → F.Unread rest n → n ≤ most) → ((seen : List F.Item) (n : ℕ) → ends seen n → n ≤ most)
-      → (text : F.Rest) (place n : ℕ) → Offence F (rules_by table ends) text place n → F.size text ≤ place → n ≤ most
-  message_late ends most above unreads ended text place n offence late =
-      late_number F L (rules_by table ends) most unreads (λ this p m offends behind. omega (arith, above, inside_late F.held top table laws this p m offends behind)) ended text place n offence late
+  pub message_late : HasBareEnd F → 2 ≤ F.beside → (ends : List F.Item → ℕ → Type 0) (most : ℕ) → top ≤ most → ((rest : F.Rest) (n : ℕ) → F.Unread rest n → n ≤ most)
+      → ((seen : List F.Item) (n : ℕ) → ends seen n → n ≤ most) → (text : F.Rest) (place n : ℕ) → Offence F (rules_by table ends) text place n → F.size text ≤ place → n ≤ most
+  message_late bare wide ends most above unreads ended text place n offence late =
+      late_number F L (rules_by table ends) most wide unreads (λ this p m offends behind. omega (arith, above, inside_late F top bare table laws this p m offends behind)) ended text place n offence late
 
 -- ---- nothing offends in a message of which each item keeps the rules
 
@@ -225,8 +230,8 @@ module _ (F : Format) (L : FormatLaws F) where
     none_offends place n (at_end o) = none_ended o.seen o.rest n o.is_end o.offends (cut_at text o.rest items o.seen whole o.cut)
 
   -- so of a message with a table, where its rows have values and its end doesn't offend
-  pub table_fine : (table : List (Row F.Item)) (top : ℕ) → TableShape table F.held top → TableMeaning table → (ends : List F.Item → ℕ → Type 0) (text : F.Rest) (items : List F.Item) → Whole F items text
+  pub table_fine : (table : List (Row F.Item)) (top : ℕ) → TableShape F table top → TableMeaning table → (ends : List F.Item → ℕ → Type 0) (text : F.Rest) (items : List F.Item) → Whole F items text
       → (values : Values table) → Mean table (givens table items) values → ((n : ℕ) → ends items n → ⊥) → (place n : ℕ) → Offence F (rules_by table ends) text place n → ⊥
   table_fine table top shape laws ends text items whole values means clean_end =
-      none_offends (rules_by table ends) text items whole (λ seen more this parts n. here_fine F.held top table shape laws items seen more this parts values means n)
-      (λ seen more this parts place n. inside_fine F.held top table shape laws items seen more this parts values means place n) clean_end
+      none_offends (rules_by table ends) text items whole (λ seen more this parts n. here_fine F top table shape laws items seen more this parts values means n)
+      (λ seen more this parts place n. inside_fine F top table shape laws items seen more this parts values means place n) clean_end

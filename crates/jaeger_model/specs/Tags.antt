@@ -1,0 +1,48 @@
+-- `Tag` (jaeger.thrift): key 1, a text, vType 2, an enum of 0 to 4; both are required. vStr 3, a text, vDouble 4, vBool 5, vLong 6 and
+-- vBinary 7: the value is the one that vType names, or zero or empty where it is absent.
+use Rattle.std.specs.Prelude.{◌≡◌, ℕ, ℤ, pos, Bool, false, List, [], ◌∷◌}
+use Rattle.span_io.specs.Tables.{Singular}
+use Rattle.thrift_core.specs.Trees.{Fields}
+use Rattle.thrift_core.specs.FieldValues.{values_of, truth_in, i32_in, i64_in, double_in, binary_in}
+use Rattle.jaeger_model.specs.declared.tag.Tag.{Tag}
+use Rattle.jaeger_model.specs.declared.tag.TagValue.{TagValue}
+use Rattle.jaeger_model.specs.declared.tag.TagValue.TheVariants as values
+use Rattle.jaeger_model.specs.Meanings.{Required, Means, MeansText}
+
+-- `TagType`, in the order of its numbers
+abbrev pub type_of : TagValue → ℕ
+type_of (values.Text text) = 0
+type_of (values.Eight bytes) = 1
+type_of (values.Truth truth) = 2
+type_of (values.Number number) = 3
+type_of (values.Bytes bytes) = 4
+
+abbrev pub no_double : List ℕ
+no_double = 0 ∷ 0 ∷ 0 ∷ 0 ∷ 0 ∷ 0 ∷ 0 ∷ 0 ∷ []
+
+-- the values that the fields hold, of which vType names one
+pub record Held : Type 0 where
+  pub text : List ℕ
+  pub double : List ℕ
+  pub truth : Bool
+  pub number : ℤ
+  pub bytes : List ℕ
+
+abbrev pub IsNamed : TagValue → Held → Type 0
+IsNamed (values.Text text) held = text ≡ held.text
+IsNamed (values.Eight bytes) held = bytes ≡ held.double
+IsNamed (values.Truth truth) held = truth ≡ held.truth
+IsNamed (values.Number number) held = number ≡ held.number
+IsNamed (values.Bytes bytes) held = bytes ≡ held.bytes
+
+-- the fields, in any order, are those of this tag
+pub record IsTag (tag : Tag) (fields : Fields) : Type 0 where
+  pub key : Required MeansText (values_of binary_in 1 fields) tag.key
+  pub kind : Required (λ n k. n ≡ pos k) (values_of i32_in 2 fields) (type_of tag.value)
+  pub held : Held
+  pub text : Singular MeansText (λ t. t ≡ []) (values_of binary_in 3 fields) held.text
+  pub double : Singular Means (λ d. d ≡ no_double) (values_of double_in 4 fields) held.double
+  pub truth : Singular Means (λ b. b ≡ false) (values_of truth_in 5 fields) held.truth
+  pub number : Singular Means (λ n. n ≡ pos 0) (values_of i64_in 6 fields) held.number
+  pub bytes : Singular Means (λ b. b ≡ []) (values_of binary_in 7 fields) held.bytes
+  pub value : IsNamed tag.value held
