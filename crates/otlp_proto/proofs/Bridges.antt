@@ -8,9 +8,10 @@ use Rattle.span_io.specs.TableLaws.{TableShape, TableMeaning, values_once, table
 use Rattle.proto_wire.specs.Messages.{messages}
 use Rattle.proto_wire.specs.Records.{Record}
 use Rattle.proto_wire.specs.Wire.{Wire}
+use Rattle.otlp_proto.specs.Laws.{WireFacts}
 use Rattle.otlp_proto.specs.Rows.{MeansMessage}
 use Rattle.otlp_proto.proofs.FieldLemmas.{Fits}
-use Rattle.otlp_proto.proofs.ValueReadings.{WireFacts, wire_whole}
+use Rattle.otlp_proto.proofs.ValueReadings.{wire_whole}
 use Rattle.otlp_proto.proofs.WrittenRows.{AllWritten, values_of, numbers_of, text_of, distinct, read_as}
 
 -- what the records of a message mean, row by row, and the message of these values

@@ -6,6 +6,7 @@ use Rattle.trace_model.specs.Proper.{AreProper, IsProperEvent}
 use Rattle.trace_model.specs.Soundness.{IsSoundEvent}
 use Rattle.trace_model.specs.declared.span.Event.{Event}
 use Rattle.trace_model.specs.declared.value.Value.{Value}
+use Rattle.otlp_proto.specs.Laws.{ReadingLaws}
 use Rattle.otlp_proto.specs.Attributes.{AttributesOf}
 use Rattle.otlp_proto.specs.Event.{IsEvent, event_table, event_padded}
 use Rattle.otlp_proto.specs.Notes.{Keys, Noted}
@@ -18,7 +19,7 @@ use Rattle.otlp_proto.proofs.MessageProofs.{MessageProof, never_ends, proved}
 use Rattle.otlp_proto.proofs.ProperLemmas.{text_proper, number_proper, count_proper}
 use Rattle.otlp_proto.proofs.QuietRemarks.{quiet}
 use Rattle.otlp_proto.proofs.Ranges.{AreBytes, AllInRange, wire_in_range, all_bytes, all_times}
-use Rattle.otlp_proto.proofs.RowProofs.{ReadingLaws, TableProof, text_proof, time_proof, count_proof, attributes_proof}
+use Rattle.otlp_proto.proofs.RowProofs.{TableProof, text_proof, time_proof, count_proof, attributes_proof}
 use Rattle.otlp_proto.proofs.WrittenAttributes.{attributes_written}
 use Rattle.otlp_proto.proofs.WrittenFields.{text_written, time_written, count_written}
 use Rattle.otlp_proto.proofs.WrittenRows.{AllWritten, ◌and◌}

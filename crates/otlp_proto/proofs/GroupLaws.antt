@@ -10,13 +10,12 @@ use Rattle.proto_wire.specs.Messages.{messages}
 use Rattle.trace_model.specs.declared.remark.Remark.{Remark}
 use Rattle.trace_model.specs.declared.trace.Group.{Group}
 use Rattle.otlp_proto.specs.Group.{NotedGroup, IsGroup, IsGroupText, group_rules, GroupPadded}
-use Rattle.otlp_proto.specs.Laws.{MessageRules, SomeGroup, FreeAnywhere}
+use Rattle.otlp_proto.specs.Laws.{ReadingLaws, MessageRules, SomeGroup, FreeAnywhere}
 use Rattle.otlp_proto.specs.Rows.{MeansMessage}
 use Rattle.otlp_proto.proofs.EventMessage.{event_proof}
 use Rattle.otlp_proto.proofs.GroupMessages.{resource_proof, group_proof}
 use Rattle.otlp_proto.proofs.LinkMessage.{link_proof}
 use Rattle.otlp_proto.proofs.RowDecisions.{Chosen}
-use Rattle.otlp_proto.proofs.RowProofs.{ReadingLaws}
 use Rattle.otlp_proto.proofs.ScopeMessages.{instrumentation_scope_proof, scope_proof}
 use Rattle.otlp_proto.proofs.SpanMessage.{span_proof}
 use Rattle.otlp_proto.proofs.StatusMessage.{status_proof}

@@ -9,6 +9,7 @@ use Rattle.trace_model.specs.declared.remark.Remark.{Remark}
 use Rattle.trace_model.specs.declared.trace.Group.{Group}
 use Rattle.trace_model.specs.declared.trace.Scope.{Scope}
 use Rattle.trace_model.specs.declared.value.Value.{Value}
+use Rattle.otlp_proto.specs.Laws.{ReadingLaws}
 use Rattle.otlp_proto.specs.Attributes.{AttributesOf}
 use Rattle.otlp_proto.specs.Group.{Resource, IsResource, no_resource, resource_table, resource_padded, NotedGroup, IsGroup, IsGroupText, group_table, group_padded}
 use Rattle.otlp_proto.specs.Notes.{Keys, Noted, ScopeNotes}
@@ -24,7 +25,7 @@ use Rattle.otlp_proto.proofs.MessageProofs.{MessageProof, message_proof, message
 use Rattle.otlp_proto.proofs.ProperLemmas.{singular_in_range, each_in_range, text_proper, count_proper}
 use Rattle.otlp_proto.proofs.QuietRemarks.{quiet, quiet_scope, quiet_scopes, mapped, all_back}
 use Rattle.otlp_proto.proofs.Ranges.{AreBytes, AllInRange, wire_in_range, all_bytes}
-use Rattle.otlp_proto.proofs.RowProofs.{ReadingLaws, TableProof, text_proof, count_proof, attributes_proof}
+use Rattle.otlp_proto.proofs.RowProofs.{TableProof, text_proof, count_proof, attributes_proof}
 use Rattle.otlp_proto.proofs.ScopeMessages.{scope_proof, scope_again, scope_proper}
 use Rattle.otlp_proto.proofs.WrittenAttributes.{attributes_written}
 use Rattle.otlp_proto.proofs.WrittenFields.{text_written, count_written, message_written, messages_written}

@@ -8,6 +8,7 @@ use Rattle.trace_model.specs.Proper.{AreProper, IsProperParent, IsProperLink}
 use Rattle.trace_model.specs.Soundness.{IsSoundLink}
 use Rattle.trace_model.specs.declared.span.Link.{Link}
 use Rattle.trace_model.specs.declared.value.Value.{Value}
+use Rattle.otlp_proto.specs.Laws.{ReadingLaws}
 use Rattle.otlp_proto.specs.Attributes.{AttributesOf}
 use Rattle.otlp_proto.specs.Link.{LinkParts, link_of, IsLink, link_table, link_padded}
 use Rattle.otlp_proto.specs.Notes.{Keys, Noted}
@@ -21,7 +22,7 @@ use Rattle.otlp_proto.proofs.MessageProofs.{MessageProof, never_ends, proved}
 use Rattle.otlp_proto.proofs.ProperLemmas.{text_proper, number_proper, count_proper, ProperTrace, trace_proper, span_id_proper}
 use Rattle.otlp_proto.proofs.QuietRemarks.{quiet_link}
 use Rattle.otlp_proto.proofs.Ranges.{AreBytes, AllInRange, wire_in_range, all_bytes, all_flags}
-use Rattle.otlp_proto.proofs.RowProofs.{ReadingLaws, TableProof, text_proof, flags_proof, count_proof, trace_id_proof, span_id_proof, attributes_proof}
+use Rattle.otlp_proto.proofs.RowProofs.{TableProof, text_proof, flags_proof, count_proof, trace_id_proof, span_id_proof, attributes_proof}
 use Rattle.otlp_proto.proofs.WrittenAttributes.{attributes_written}
 use Rattle.otlp_proto.proofs.WrittenFields.{text_written, flags_written, count_written, trace_id_written, span_id_written}
 use Rattle.otlp_proto.proofs.WrittenRows.{AllWritten, ◌and◌}

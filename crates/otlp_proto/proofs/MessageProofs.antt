@@ -1,6 +1,6 @@
 -- What is proved of a message of OTLP, by what is proved of its rows: what offends in it does so within its bytes, bytes mean one such
 -- message at most, they mean one or an offence counts, and free records added anywhere in it change nothing.
-use Rattle.std.proofs.Common.{◌≡◌, ◌≤◌, ℕ, inl, inr, true, List, sym, ap, subst, ⊎_elim, arith}
+use Rattle.std.proofs.Common.{◌≡◌, ◌≤◌, ℕ, inl, inr, true, List, sym, subst, ⊎_elim, arith}
 use Rattle.std.specs.Prelude.{◌↔◌}
 use Rattle.span_io.specs.FreeItemLaws.{means_padded, items_given, padded_whole, same_offence, text_self}
 use Rattle.span_io.specs.FreeItems.{Paddings, GivenPadded, TextPadded}
@@ -11,14 +11,15 @@ use Rattle.span_io.specs.TableLaws.{table_rules, message_within, message_late}
 use Rattle.span_io.specs.Tables.{Row, rules_by, no_ends}
 use Rattle.proto_wire.specs.Messages.{messages}
 use Rattle.proto_wire.specs.Records.{Record}
+use Rattle.otlp_proto.specs.Laws.{ReadingLaws}
 use Rattle.otlp_proto.specs.Rows.{message, messages_of, MeansMessage}
 use Rattle.otlp_proto.proofs.Bridges.{Bridge, once_of, fine_of}
 use Rattle.otlp_proto.proofs.RowDecisions.{Chosen, message_decides, messages_decides}
 use Rattle.otlp_proto.proofs.RowMeanings.{Reads, message_meaning, messages_meaning}
 use Rattle.otlp_proto.proofs.RowPaddings.{Keeps, message_padding, messages_padding}
-use Rattle.otlp_proto.proofs.RowProofs.{ReadingLaws, RowProof, TableProof, shapes, meanings, decisions, paddings, numbered, all_apart}
+use Rattle.otlp_proto.proofs.RowProofs.{RowProof, bytes_own, TableProof, shapes, meanings, decisions, paddings, numbered, all_apart}
 use Rattle.otlp_proto.proofs.Shapes.{Bounded, higher, unread_late, bare_end, message_shape, messages_shape}
-use Rattle.otlp_proto.proofs.ValueDecisions.{whole_wire, bytes_is}
+use Rattle.otlp_proto.proofs.ValueDecisions.{whole_wire}
 use Rattle.otlp_proto.proofs.ValueReadings.{wire_whole}
 use Rattle.otlp_proto.proofs.WrittenRows.{distinct, bytes_apart}
 
@@ -93,7 +94,7 @@ module _ {X : Type 0} {Is : X → List Record → Type 0} {table : List (Row Rec
   abbrev pub message_proof : (absent : X) → RowProof (message number X (MeansMessage Is) absent Offends) Padded top
   message_proof absent = record {
     number = number;
-    own = λ r x gives. ap (λ (s : Record). s.number) (bytes_is number r x gives);
+    own = bytes_own number;
     apart = bytes_apart number;
     shape = message_shape top number X (MeansMessage Is) absent Offends (higher low top Offends less proof.bounded);
     meaning = message_meaning number X (MeansMessage Is) absent Offends proof.reads;
@@ -104,7 +105,7 @@ module _ {X : Type 0} {Is : X → List Record → Type 0} {table : List (Row Rec
   abbrev pub messages_proof : RowProof (messages_of number X (MeansMessage Is) Offends) Padded top
   messages_proof = record {
     number = number;
-    own = λ r x gives. ap (λ (s : Record). s.number) (bytes_is number r x gives);
+    own = bytes_own number;
     apart = bytes_apart number;
     shape = messages_shape top number X (MeansMessage Is) Offends (higher low top Offends less proof.bounded);
     meaning = messages_meaning number X (MeansMessage Is) Offends proof.reads;

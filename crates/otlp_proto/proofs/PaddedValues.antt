@@ -9,6 +9,7 @@ use Rattle.span_io.specs.TableDecisions.{Next}
 use Rattle.proto_wire.specs.Messages.{messages}
 use Rattle.trace_model.specs.Laws.{AttributesOnce, AttributesExist}
 use Rattle.trace_model.specs.declared.value.Value.TheVariants as values
+use Rattle.otlp_proto.specs.Laws.{WireFacts}
 use Rattle.otlp_proto.specs.Attributes.{attribute_at, attribute_rules, attributes, levels_below}
 use Rattle.otlp_proto.specs.PaddedValues.{MemberPadded, table_of_list, table_of_map, value_padded, key_value_padded, ListPadded, MapPadded, ValuePadded, KeyValuePadded, value_paddings, key_value_paddings, AttributePadded}
 use Rattle.otlp_proto.specs.Rows.{text}
@@ -18,7 +19,6 @@ use Rattle.otlp_proto.proofs.RowDecisions.{text_decides}
 use Rattle.otlp_proto.proofs.RowPaddings.{Keeps, message_padding, moved, endless_same}
 use Rattle.span_io.specs.RowLaws.{same_twice, singular_moves, all_zip_moves}
 use Rattle.otlp_proto.proofs.ValueDecisions.{list_table_decides, map_table_decides, value_table_decides, key_value_table_decides}
-use Rattle.otlp_proto.proofs.ValueReadings.{WireFacts}
 
 -- ---- members of a value
 

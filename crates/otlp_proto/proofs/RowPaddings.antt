@@ -10,9 +10,10 @@ use Rattle.span_io.specs.Tables.{Row, Values, Mean, givens, rules_by, no_ends}
 use Rattle.proto_wire.specs.Messages.{messages}
 use Rattle.proto_wire.specs.Records.{Record}
 use Rattle.proto_wire.specs.Wire.{Wire}
+use Rattle.otlp_proto.specs.Laws.{WireFacts}
 use Rattle.otlp_proto.specs.Rows.{message, messages_of}
 use Rattle.otlp_proto.proofs.ValueDecisions.{whole_wire}
-use Rattle.otlp_proto.proofs.ValueReadings.{WireFacts, wire_whole}
+use Rattle.otlp_proto.proofs.ValueReadings.{wire_whole}
 
 -- ---- rows of messages
 

@@ -4,31 +4,22 @@ use Rattle.std.proofs.Common.{◌≡◌, ◌≤◌, ℕ, ◌==◌, true, false, 
 use Rattle.span_io.specs.FreeItemLaws.{equal_padding}
 use Rattle.span_io.specs.FreeItems.{Paddings, Same, RowPadding, TablePadding}
 use Rattle.span_io.specs.RowLaws.{EnumLaws}
-use Rattle.span_io.specs.TableDecisions.{RowDecides, TableDecides, Apart, Next}
+use Rattle.span_io.specs.TableDecisions.{RowDecides, TableDecides, Apart}
 use Rattle.span_io.specs.TableLaws.{RowShape, TableShape, RowMeaning, TableMeaning}
 use Rattle.span_io.specs.Tables.{Row, IsFree}
-use Rattle.span_ids.specs.Laws.{IdentifiersReadBack}
 use Rattle.proto_wire.specs.Messages.{messages}
 use Rattle.proto_wire.specs.Records.{Record}
-use Rattle.trace_model.specs.Laws.{AttributesOnce, AttributesExist}
 use Rattle.otlp_proto.specs.Attributes.{attributes}
+use Rattle.otlp_proto.specs.Laws.{ReadingLaws}
 use Rattle.otlp_proto.specs.PaddedValues.{AttributePadded}
-use Rattle.otlp_proto.specs.Rows.{text, time, flags, count, enum, trace_id, span_id}
+use Rattle.otlp_proto.specs.Rows.{bytes_in, varint_in, fixed64_in, fixed32_in, text, time, flags, count, enum, trace_id, span_id}
 use Rattle.otlp_proto.proofs.PaddedValues.{attributes_padding}
 use Rattle.otlp_proto.proofs.RowDecisions.{text_decides, time_decides, flags_decides, count_decides, enum_decides, trace_id_decides, span_id_decides}
 use Rattle.otlp_proto.proofs.RowMeanings.{text_meaning, time_meaning, flags_meaning, count_meaning, enum_meaning, trace_id_meaning, span_id_meaning}
 use Rattle.otlp_proto.proofs.Shapes.{text_shape, time_shape, flags_shape, count_shape, enum_shape, trace_id_shape, span_id_shape, attributes_shape}
 use Rattle.otlp_proto.proofs.ValueDecisions.{attributes_decides, bytes_is, varint_is, fixed64_is, fixed32_is}
-use Rattle.otlp_proto.proofs.ValueReadings.{WireFacts, attributes_meaning}
+use Rattle.otlp_proto.proofs.ValueReadings.{attributes_meaning}
 use Rattle.otlp_proto.proofs.WrittenRows.{differs, distinct, if_both, if_neither, bytes_apart, varint_apart, fixed64_apart, fixed32_apart}
-
--- what the proofs rest on
-pub record ReadingLaws : Type 0 where
-  pub facts : WireFacts
-  pub once : AttributesOnce
-  pub exist : AttributesExist
-  pub ids : IdentifiersReadBack
-  pub next : (rest : List ℕ) → Next messages rest
 
 -- Of a row to which records of one number alone give something.
 pub record RowProof (row : Row Record) (Padded : row.Given → row.Given → Type 0) (top : ℕ) : Type 0 where
@@ -84,88 +75,51 @@ module _ (top : ℕ) where
 
 -- ---- rows
 
+pub bytes_own : (number : ℕ) (r : Record) (x : List ℕ) → bytes_in number r ≡ x ∷ [] → r.number ≡ number
+bytes_own number r x gives = ap (λ (s : Record). s.number) (bytes_is number r x gives)
+
+pub varint_own : (number : ℕ) (r : Record) (x : ℕ) → varint_in number r ≡ x ∷ [] → r.number ≡ number
+varint_own number r x gives = ap (λ (s : Record). s.number) (varint_is number r x gives)
+
+pub fixed64_own : (number : ℕ) (r : Record) (x : ℕ) → fixed64_in number r ≡ x ∷ [] → r.number ≡ number
+fixed64_own number r x gives = ap (λ (s : Record). s.number) (fixed64_is number r x gives)
+
+pub fixed32_own : (number : ℕ) (r : Record) (x : ℕ) → fixed32_in number r ≡ x ∷ [] → r.number ≡ number
+fixed32_own number r x gives = ap (λ (s : Record). s.number) (fixed32_is number r x gives)
+
+-- of a row that holds no message
+abbrev pub plain_proof : (row : Row Record) (top number : ℕ) → ((r : Record) (x : row.Given) → row.given r ≡ x ∷ [] → r.number ≡ number) → ((r : Record) → (r.number == number) ≡ false → row.given r ≡ [])
+    → RowShape row messages.held top → RowMeaning row → RowDecides row → RowProof row Same top
+plain_proof row top number own apart shape meaning decides =
+    record { number = number; own = own; apart = apart; shape = shape; meaning = meaning; decides = decides; pads = equal_padding row decides }
+
 module _ (K : ReadingLaws) (top number : ℕ) where
   abbrev pub text_proof : RowProof (text number) Same top
-  text_proof = record {
-    number = number;
-    own = λ r x gives. ap (λ (s : Record). s.number) (bytes_is number r x gives);
-    apart = bytes_apart number;
-    shape = text_shape top number;
-    meaning = text_meaning number;
-    decides = text_decides number;
-    pads = equal_padding (text number) (text_decides number);
-  }
+  text_proof = plain_proof (text number) top number (bytes_own number) (bytes_apart number) (text_shape top number) (text_meaning number) (text_decides number)
 
   abbrev pub time_proof : RowProof (time number) Same top
-  time_proof = record {
-    number = number;
-    own = λ r x gives. ap (λ (s : Record). s.number) (fixed64_is number r x gives);
-    apart = fixed64_apart number;
-    shape = time_shape top number;
-    meaning = time_meaning number;
-    decides = time_decides number;
-    pads = equal_padding (time number) (time_decides number);
-  }
+  time_proof = plain_proof (time number) top number (fixed64_own number) (fixed64_apart number) (time_shape top number) (time_meaning number) (time_decides number)
 
   abbrev pub flags_proof : RowProof (flags number) Same top
-  flags_proof = record {
-    number = number;
-    own = λ r x gives. ap (λ (s : Record). s.number) (fixed32_is number r x gives);
-    apart = fixed32_apart number;
-    shape = flags_shape top number;
-    meaning = flags_meaning number;
-    decides = flags_decides number;
-    pads = equal_padding (flags number) (flags_decides number);
-  }
+  flags_proof = plain_proof (flags number) top number (fixed32_own number) (fixed32_apart number) (flags_shape top number) (flags_meaning number) (flags_decides number)
 
   abbrev pub count_proof : RowProof (count number) Same top
-  count_proof = record {
-    number = number;
-    own = λ r x gives. ap (λ (s : Record). s.number) (varint_is number r x gives);
-    apart = varint_apart number;
-    shape = count_shape top number;
-    meaning = count_meaning number;
-    decides = count_decides number;
-    pads = equal_padding (count number) (count_decides number);
-  }
+  count_proof = plain_proof (count number) top number (varint_own number) (varint_apart number) (count_shape top number) (count_meaning number) (count_decides number)
 
   abbrev pub enum_proof : (last : ℕ) (E : Type 0) (number_of : E → ℕ) (default : E) → EnumLaws E number_of last → ((k : ℕ) → k ≤ last → (e : E) × (k ≡ number_of e)) → RowProof (enum number last E number_of default) Same top
-  enum_proof last E number_of default laws named = record {
-    number = number;
-    own = λ r x gives. ap (λ (s : Record). s.number) (varint_is number r x gives);
-    apart = varint_apart number;
-    shape = enum_shape top number last E number_of default;
-    meaning = enum_meaning number last E number_of default laws;
-    decides = enum_decides number last E number_of default named;
-    pads = equal_padding (enum number last E number_of default) (enum_decides number last E number_of default named);
-  }
+  enum_proof last E number_of default laws named = plain_proof (enum number last E number_of default) top number (varint_own number) (varint_apart number)
+      (enum_shape top number last E number_of default) (enum_meaning number last E number_of default laws) (enum_decides number last E number_of default named)
 
   abbrev pub trace_id_proof : RowProof (trace_id number) Same top
-  trace_id_proof = record {
-    number = number;
-    own = λ r x gives. ap (λ (s : Record). s.number) (bytes_is number r x gives);
-    apart = bytes_apart number;
-    shape = trace_id_shape top number;
-    meaning = trace_id_meaning K.ids.trace_once number;
-    decides = trace_id_decides number;
-    pads = equal_padding (trace_id number) (trace_id_decides number);
-  }
+  trace_id_proof = plain_proof (trace_id number) top number (bytes_own number) (bytes_apart number) (trace_id_shape top number) (trace_id_meaning K.ids.trace_once number) (trace_id_decides number)
 
   abbrev pub span_id_proof : RowProof (span_id number) Same top
-  span_id_proof = record {
-    number = number;
-    own = λ r x gives. ap (λ (s : Record). s.number) (bytes_is number r x gives);
-    apart = bytes_apart number;
-    shape = span_id_shape top number;
-    meaning = span_id_meaning K.ids.span_once number;
-    decides = span_id_decides number;
-    pads = equal_padding (span_id number) (span_id_decides number);
-  }
+  span_id_proof = plain_proof (span_id number) top number (bytes_own number) (bytes_apart number) (span_id_shape top number) (span_id_meaning K.ids.span_once number) (span_id_decides number)
 
 abbrev pub attributes_proof : ReadingLaws → (number : ℕ) → RowProof (attributes number) AttributePadded 3
 attributes_proof K number = record {
   number = number;
-  own = λ r x gives. ap (λ (s : Record). s.number) (bytes_is number r x gives);
+  own = bytes_own number;
   apart = bytes_apart number;
   shape = attributes_shape K.facts.format number;
   meaning = attributes_meaning K.facts K.once number;

@@ -10,6 +10,7 @@ use Rattle.trace_model.specs.Soundness.{IsSoundScope}
 use Rattle.trace_model.specs.declared.span.Span.{Span}
 use Rattle.trace_model.specs.declared.trace.Scope.{Scope}
 use Rattle.trace_model.specs.declared.value.Value.{Value}
+use Rattle.otlp_proto.specs.Laws.{ReadingLaws}
 use Rattle.otlp_proto.specs.Attributes.{AttributesOf}
 use Rattle.otlp_proto.specs.Notes.{Keys, Noted, SpanNotes, ScopeNotes}
 use Rattle.otlp_proto.specs.Rows.{bytes_of, varints_of, MeansMessage}
@@ -24,7 +25,7 @@ use Rattle.otlp_proto.proofs.MessageProofs.{MessageProof, message_proof, message
 use Rattle.otlp_proto.proofs.ProperLemmas.{singular_in_range, each_in_range, text_proper, count_proper}
 use Rattle.otlp_proto.proofs.QuietRemarks.{quiet, quiet_span, quiet_scope, mapped, all_back}
 use Rattle.otlp_proto.proofs.Ranges.{AreBytes, AllInRange, wire_in_range, all_bytes}
-use Rattle.otlp_proto.proofs.RowProofs.{ReadingLaws, TableProof, text_proof, count_proof, attributes_proof}
+use Rattle.otlp_proto.proofs.RowProofs.{TableProof, text_proof, count_proof, attributes_proof}
 use Rattle.otlp_proto.proofs.SpanMessage.{span_proof, span_again, span_proper}
 use Rattle.otlp_proto.proofs.WrittenAttributes.{attributes_written}
 use Rattle.otlp_proto.proofs.WrittenFields.{text_written, count_written, message_written, messages_written}

@@ -14,6 +14,7 @@ use Rattle.trace_model.specs.declared.span.Kind.{Kind}
 use Rattle.trace_model.specs.declared.span.Link.{Link}
 use Rattle.trace_model.specs.declared.span.Span.{Span}
 use Rattle.trace_model.specs.declared.value.Value.{Value}
+use Rattle.otlp_proto.specs.Laws.{ReadingLaws}
 use Rattle.otlp_proto.specs.Attributes.{AttributesOf}
 use Rattle.otlp_proto.specs.Event.{IsEvent}
 use Rattle.otlp_proto.specs.Identifiers.{MeansTraceId, MeansSpanId}
@@ -33,7 +34,7 @@ use Rattle.otlp_proto.proofs.MessageProofs.{MessageProof, message_proof, message
 use Rattle.otlp_proto.proofs.ProperLemmas.{singular_in_range, each_in_range, text_proper, number_proper, count_proper, trace_proper, span_id_proper}
 use Rattle.otlp_proto.proofs.QuietRemarks.{quiet, quiet_link, quiet_span, mapped, all_back, links_back, links_noted, none_dropped}
 use Rattle.otlp_proto.proofs.Ranges.{AreBytes, AllInRange, wire_in_range, all_bytes, all_times, all_flags}
-use Rattle.otlp_proto.proofs.RowProofs.{ReadingLaws, TableProof, text_proof, time_proof, flags_proof, count_proof, enum_proof, trace_id_proof, span_id_proof, attributes_proof}
+use Rattle.otlp_proto.proofs.RowProofs.{TableProof, text_proof, time_proof, flags_proof, count_proof, enum_proof, trace_id_proof, span_id_proof, attributes_proof}
 use Rattle.otlp_proto.proofs.SpanEnds.{span_end, known, known_trace, known_span, ends_moved, span_ends_well}
 use Rattle.otlp_proto.proofs.StatusMessage.{status_proof, status_none, status_again, status_proper}
 use Rattle.otlp_proto.proofs.WrittenAttributes.{attributes_written}

@@ -6,6 +6,7 @@ use Rattle.trace_model.specs.Proper.{IsProperStatus}
 use Rattle.trace_model.specs.declared.span.Code.TheVariants as codes
 use Rattle.trace_model.specs.declared.span.Code.{Code}
 use Rattle.trace_model.specs.declared.span.Status.{Status}
+use Rattle.otlp_proto.specs.Laws.{ReadingLaws}
 use Rattle.otlp_proto.specs.Rows.{bytes_of, MeansMessage}
 use Rattle.otlp_proto.specs.Status.{IsStatus, status_table, status_padded, no_status}
 use Rattle.otlp_proto.specs.Texts.{filled_field, count_field, code_number, status_text}
@@ -17,7 +18,7 @@ use Rattle.otlp_proto.proofs.Fronts.{front_none, rest_none, record_some, no_fill
 use Rattle.otlp_proto.proofs.MessageProofs.{MessageProof, never_ends, proved}
 use Rattle.otlp_proto.proofs.ProperLemmas.{text_proper}
 use Rattle.otlp_proto.proofs.Ranges.{AreBytes, wire_in_range, all_bytes}
-use Rattle.otlp_proto.proofs.RowProofs.{ReadingLaws, TableProof, text_proof, enum_proof}
+use Rattle.otlp_proto.proofs.RowProofs.{TableProof, text_proof, enum_proof}
 use Rattle.otlp_proto.proofs.WrittenFields.{text_written, enum_written}
 use Rattle.otlp_proto.proofs.WrittenRows.{AllWritten, ◌and◌}
 

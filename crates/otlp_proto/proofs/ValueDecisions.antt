@@ -20,6 +20,7 @@ use Rattle.trace_model.specs.Attributes.{AreRepeated, StandsTwice}
 use Rattle.trace_model.specs.Laws.{AttributesOnce, AttributesExist}
 use Rattle.trace_model.specs.declared.value.Value.{Value}
 use Rattle.trace_model.specs.declared.value.Value.TheVariants as values
+use Rattle.otlp_proto.specs.Laws.{WireFacts}
 use Rattle.otlp_proto.specs.Attributes.{attribute_at, attribute_rules, AttributesOf, NotedIn, attributes}
 use Rattle.otlp_proto.specs.Notes.{Keys, Noted}
 use Rattle.otlp_proto.specs.Rows.{bytes_in, varint_in, fixed64_in, fixed32_in, bytes_of, bytes_row}
@@ -27,7 +28,7 @@ use Rattle.otlp_proto.proofs.Shapes.{shape_of_value, shape_of_key_value, many_sh
 use Rattle.otlp_proto.specs.Values.{Member, string_value, bool_value, int_value, double_value, array_value, kvlist_value, bytes_value, member_in, NotedValue, KeyValue, leaf, entry, keys_inside, IsListText, IsMapText, MeansMember, value_in, key_value_in, value_at, key_value_at, BadMember, InMember, many_table, value_offends, key_value_offends, table_of_value, value_rules, table_of_key_value, key_value_rules, list_rules, map_rules}
 use Rattle.otlp_proto.proofs.RowDecisions.{Chosen, chosen_decided, text_decides, message_decides, all_of}
 use Rattle.span_io.specs.RowLaws.{twice_or, one_number, not_text, utf8_or, singular_exists}
-use Rattle.otlp_proto.proofs.ValueReadings.{WireFacts, list_reads, map_reads, value_at_reads, key_value_at_reads, attribute_reads}
+use Rattle.otlp_proto.proofs.ValueReadings.{list_reads, map_reads, value_at_reads, key_value_at_reads, attribute_reads}
 
 -- a message's records, to its end
 pub whole_wire : (records : List Record) (text : List ℕ) → Whole messages records text → Wire records text

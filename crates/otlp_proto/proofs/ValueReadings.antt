@@ -3,7 +3,6 @@ use Rattle.std.proofs.Common.{◌≡◌, ◌≢◌, ℕ, zero, suc, ◌⊎◌, i
 use Rattle.std.specs.Prelude.{◌↔◌, Contains, IsTrue}
 use Rattle.std.specs.List.{AllZip, flat_map}
 use Rattle.span_io.specs.Offences.{Offence}
-use Rattle.span_io.specs.OffenceLaws.{FormatLaws}
 use Rattle.span_io.specs.Tables.{Singular, Twice, no_ends, MeansText}
 use Rattle.span_io.specs.TableLaws.{RowMeaning, TableShape, TableMeaning, Whole, table_fine}
 use Rattle.proto_wire.specs.Messages.{messages}
@@ -13,6 +12,7 @@ use Rattle.trace_model.specs.Attributes.{AreAttributes, AreRepeated, StandsTwice
 use Rattle.trace_model.specs.Laws.{AttributesOnce}
 use Rattle.trace_model.specs.declared.value.Value.{Value}
 use Rattle.trace_model.specs.declared.value.Value.TheVariants as values
+use Rattle.otlp_proto.specs.Laws.{WireFacts}
 use Rattle.otlp_proto.specs.Attributes.{attribute_at, attribute_rules, AttributesOf, NotedIn, attributes}
 use Rattle.otlp_proto.specs.Notes.{Keys, Noted}
 use Rattle.otlp_proto.specs.Rows.{bytes_of}
@@ -26,11 +26,6 @@ pub wire_whole : (records : List Record) (text : List ℕ) → Wire records text
 unfolding Wire Whole
 wire_whole [] text wire = wire
 wire_whole (r ∷ more) text wire = (wire.0, wire.1, wire_whole more wire.0 wire.2)
-
--- what the laws rest on
-pub record WireFacts : Type 0 where
-  pub format : FormatLaws messages
-  pub one_reading : (text : List ℕ) (first second : List Record) → Wire first text → Wire second text → first ≡ second
 
 -- ---- values
 

@@ -3,11 +3,14 @@ use Rattle.std.specs.Prelude.{◌≡◌, ◌↔◌, ◌⊎◌, ℕ, List, ◌∷
 use Rattle.span_io.specs.Causes.{cause_number}
 use Rattle.span_io.specs.declared.cause.Cause.{Cause}
 use Rattle.span_io.specs.Offences.{Offence, Least}
-use Rattle.span_io.specs.OffenceLaws.{RulesLaws}
+use Rattle.span_io.specs.OffenceLaws.{FormatLaws, RulesLaws}
+use Rattle.span_io.specs.TableDecisions.{Next}
 use Rattle.span_io.specs.Tables.{Row, IsFree}
+use Rattle.span_ids.specs.Laws.{IdentifiersReadBack}
 use Rattle.proto_wire.specs.Messages.{messages}
 use Rattle.proto_wire.specs.Records.{Record}
 use Rattle.proto_wire.specs.Wire.{Wire}
+use Rattle.trace_model.specs.Laws.{AttributesOnce, AttributesExist}
 use Rattle.trace_model.specs.Soundness.{IsSoundGroup}
 use Rattle.trace_model.specs.declared.remark.Remark.{Remark}
 use Rattle.trace_model.specs.declared.trace.Group.{Group}
@@ -28,6 +31,18 @@ pub record OneGroup : Type 0 where
 -- any bytes are a text of a group, or an offence in them counts, and it has a cause
 abbrev pub SomeGroup : Type 0
 SomeGroup = (text : List ℕ) → ((g : Group) × (r : List Remark) × IsGroupText g r text) ⊎ ((cause : Cause) × Least (Offence messages group_rules text) (cause_number cause))
+
+-- What is known of records, attributes and identifiers, and what stands at the front of what is left of a message. The other laws rest on it.
+pub record WireFacts : Type 0 where
+  pub format : FormatLaws messages
+  pub one_reading : (text : List ℕ) (first second : List Record) → Wire first text → Wire second text → first ≡ second
+
+pub record ReadingLaws : Type 0 where
+  pub facts : WireFacts
+  pub once : AttributesOnce
+  pub exist : AttributesExist
+  pub ids : IdentifiersReadBack
+  pub next : (rest : List ℕ) → Next messages rest
 
 -- What the search for the offence that counts asks of each message.
 pub record MessageRules : Type 0 where

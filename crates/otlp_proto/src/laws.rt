@@ -5,7 +5,7 @@ ghost use Rattle.trace_model.specs.Soundness.{IsSoundGroup};
 ghost use Rattle.trace_model.specs.declared.remark.Remark.{Remark};
 ghost use Rattle.trace_model.specs.declared.trace.Group.{Group};
 ghost use Rattle.otlp_proto.specs.Group.{IsGroupText};
-ghost use Rattle.otlp_proto.specs.Laws.{MessageRules, OneGroup, SomeGroup, FreeRecords, FreeAnywhere};
+ghost use Rattle.otlp_proto.specs.Laws.{ReadingLaws, MessageRules, OneGroup, SomeGroup, FreeRecords, FreeAnywhere};
 ghost use Rattle.otlp_proto.specs.Texts.{bytes_field, list_text, value_text, attributes_text, group_text, group_record};
 
 use trace_model::Value;
@@ -37,10 +37,9 @@ pub fn read_proper()
     trace_model::laws::members_of_proper_values();
 }
 
-/// What the search for the offence that counts asks of each message: what stands inside a record
-/// offends within its bytes, and at their end with no number above that of the message around it.
-pub fn message_rules()
-    ensures { MessageRules }
+/// What is known of records, attributes and identifiers, on which the other laws rest.
+pub fn reading_laws()
+    ensures { ReadingLaws }
 {
     proto_wire::laws::message_cuts();
     proto_wire::laws::one_reading();
@@ -48,6 +47,14 @@ pub fn message_rules()
     span_ids::laws::identifiers_read_back();
     trace_model::laws::attributes_once();
     trace_model::laws::attributes_exist();
+}
+
+/// What the search for the offence that counts asks of each message: what stands inside a record
+/// offends within its bytes, and at their end with no number above that of the message around it.
+pub fn message_rules()
+    ensures { MessageRules }
+{
+    reading_laws();
 }
 
 /// Bytes are a text of one group at most, with one list of remarks; nothing offends in such a text,
@@ -55,12 +62,7 @@ pub fn message_rules()
 pub fn one_group()
     ensures { OneGroup }
 {
-    proto_wire::laws::message_cuts();
-    proto_wire::laws::one_reading();
-    proto_wire::laws::open_fronts();
-    span_ids::laws::identifiers_read_back();
-    trace_model::laws::attributes_once();
-    trace_model::laws::attributes_exist();
+    reading_laws();
     trace_model::laws::members_of_values();
 }
 
@@ -68,12 +70,7 @@ pub fn one_group()
 pub fn some_group()
     ensures { SomeGroup }
 {
-    proto_wire::laws::message_cuts();
-    proto_wire::laws::one_reading();
-    proto_wire::laws::open_fronts();
-    span_ids::laws::identifiers_read_back();
-    trace_model::laws::attributes_once();
-    trace_model::laws::attributes_exist();
+    reading_laws();
 }
 
 /// Records of numbers or wire types outside the table of their message change no reading.
@@ -90,10 +87,5 @@ pub fn free_records()
 pub fn free_anywhere()
     ensures { FreeAnywhere }
 {
-    proto_wire::laws::message_cuts();
-    proto_wire::laws::one_reading();
-    proto_wire::laws::open_fronts();
-    span_ids::laws::identifiers_read_back();
-    trace_model::laws::attributes_once();
-    trace_model::laws::attributes_exist();
+    reading_laws();
 }

@@ -1,4 +1,5 @@
 use Rattle.span_io.specs.Tables.{no_ends}
+use Rattle.otlp_proto.specs.Laws.{WireFacts}
 use Rattle.otlp_proto.specs.Event.{IsEvent, event_table}
 use Rattle.otlp_proto.specs.Group.{IsResource, resource_table, IsGroup, group_table}
 use Rattle.otlp_proto.specs.Link.{IsLink, link_table}
@@ -13,7 +14,6 @@ use Rattle.otlp_proto.proofs.LinkMessage.{link_bridge}
 use Rattle.otlp_proto.proofs.ScopeMessages.{instrumentation_scope_bridge, scope_bridge}
 use Rattle.otlp_proto.proofs.SpanMessage.{span_bridge}
 use Rattle.otlp_proto.proofs.StatusMessage.{status_bridge}
-use Rattle.otlp_proto.proofs.ValueReadings.{WireFacts}
 use Rattle.otlp_proto.proofs.laws.free_records.Goals as goal
 
 pub returns : goal.returns
