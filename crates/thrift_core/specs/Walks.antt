@@ -150,7 +150,7 @@ texts_from Spells ThenVarint start = record {
   EndsPast = λ limit text. EndsPast Spells start limit text;
 }
 
--- what refuses such a text, by the cause that this names
+-- what refuses such a text, by the cause that this names: it ends in a part that no word of it begins, or at a container without a level
 abbrev pub RefusedFrom : Spelling → (Part → Cause → List ℕ → Type 0) → Open → Cause → List ℕ → Type 0
 RefusedFrom Spells Refuses start cause text =
     EndsInPart Spells start (λ part rest. BeginsNone Spells part rest × Refuses part cause rest) text ⊎ ((cause ≡ causes.TooDeep) × EndsAtNoLevel Spells start text)
