@@ -1,21 +1,21 @@
 -- What callers are told of a value follows from what a walk over it answers.
-use Rattle.std.proofs.Common.{◌≡◌, ◌≢◌, ◌<◌, ◌++◌, ◌∷◌, ◌↔◌, ◌⊎◌, inl, inr, ℕ, Bool, Option, List, [], length, take, drop, Result, Ok, Err, refl, ap, sym, ◌∙◌, subst, arith}
+use Rattle.std.proofs.Common.{◌≡◌, ◌≢◌, ◌<◌, ◌++◌, ◌∷◌, inl, inr, ℕ, Bool, Option, List, [], length, take, drop, Result, Ok, Err, ap, sym, ◌∙◌, subst, arith}
 use Rattle.std.proofs.lemmas.List.{append-nil, length-append}
 use Rattle.std.proofs.Math.Seq.{take-append_seam, drop-append_seam}
 use Rattle.span_io.specs.declared.cause.Cause.{Cause}
 use Rattle.span_io.specs.declared.cause.Cause.TheVariants as causes
 use Rattle.span_io.specs.Cuts.{two_cuts}
-use Rattle.span_io.specs.Frames.{Framing, IsProperFront, IsOpen, BeginsWhole, IsRefused, IsRefusedAt}
+use Rattle.span_io.specs.Frames.{Framing, IsOpen, IsRefused, IsRefusedAt}
 use Rattle.span_io.specs.FramingLaws.{open_front}
 use Rattle.thrift_core.specs.declared.passing.Halted.{Halted}
 use Rattle.thrift_core.specs.declared.passing.Halted.TheVariants as halts
 use Rattle.thrift_core.specs.declared.type_code.TypeCode.{TypeCode}
-use Rattle.thrift_core.specs.Parts.{Part, size, WordOf, Spelling, Begins}
+use Rattle.thrift_core.specs.Parts.{Part, size, Spelling}
 use Rattle.thrift_core.specs.Reading.{ReadingOf}
 use Rattle.thrift_core.specs.Protocols.{ReadsExactly, PartLaws}
-use Rattle.thrift_core.specs.Trees.{Tree, kind_of, ValueThen, BinaryThen}
-use Rattle.thrift_core.specs.Walks.{Open, in_value, Passes, WholeOf, texts_from, RefusedFrom}
-use Rattle.thrift_core.specs.Stops.{StopsFor, Lacks, HaltsAs, cause_of}
+use Rattle.thrift_core.specs.Trees.{BinaryThen}
+use Rattle.thrift_core.specs.Walks.{Open, in_value, Passes, texts_from, RefusedFrom}
+use Rattle.thrift_core.specs.Stops.{StopsFor, HaltsAs, cause_of}
 use Rattle.thrift_core.specs.Values.{AnswersRefusals, BeginsValue}
 use Rattle.thrift_core.proofs.Determined.{one_word, one_end}
 use Rattle.thrift_core.proofs.Halts.{is_truncated, stop_not_whole, lack_not_whole}
@@ -108,10 +108,10 @@ module _ (Spells : Spelling) (reads : ReadingOf) (ThenVarint : Part → List ℕ
         → AnswersRefusals {A = A} (texts_from Spells ThenVarint start) (RefusedFrom Spells Refuses start) (Err cause) text
     halted_answers (halts.For why) cause text h is = elim (is_truncated why) [
       | inl e ↦ open_answers (texts_from Spells ThenVarint start) (RefusedFrom Spells Refuses start) one_cause cause text (is ∙ e)
-        (truncated_is Spells reads ThenVarint Refuses R L start text sound (subst (λ c. StopsFor Spells reads start text c) e h))
+          (truncated_is Spells reads ThenVarint Refuses R L start text sound (subst (λ c. StopsFor Spells reads start text c) e h))
       | inr other ↦ refused_answers (texts_from Spells ThenVarint start) (RefusedFrom Spells Refuses start) one_cause cause text (λ e. other (sym is ∙ e))
-        (λ e. never_long Spells reads ThenVarint Refuses R L start text why h (sym is ∙ e))
-        (subst (λ c. IsRefusedAt (texts_from Spells ThenVarint start) (RefusedFrom Spells Refuses start c) text) (sym is) (stop_is Spells reads ThenVarint Refuses R L start text why sound other h))
+          (λ e. never_long Spells reads ThenVarint Refuses R L start text why h (sym is ∙ e))
+          (subst (λ c. IsRefusedAt (texts_from Spells ThenVarint start) (RefusedFrom Spells Refuses start c) text) (sym is) (stop_is Spells reads ThenVarint Refuses R L start text why sound other h))
     ]
     halted_answers (halts.Lacking many) cause text h is =
         open_answers (texts_from Spells ThenVarint start) (RefusedFrom Spells Refuses start) one_cause cause text is (lacks_is Spells reads ThenVarint Refuses R L start text many sound h)
@@ -141,8 +141,7 @@ module _ (Spells : Spelling) (reads : ReadingOf) (ThenVarint : Part → List ℕ
 
     pub one_binary : (take n behind ≡ held) × (drop n behind ≡ rest)
     one_binary =
-        let parts : behind ≡ held ++ rest = same_size.1 ∙ h.2 in
-        (
+        let parts : behind ≡ held ++ rest = same_size.1 ∙ h.2 in (
           ap (λ k. take k behind) same_size.0 ∙ ap (λ l. take (length held) l) parts ∙ take-append_seam held rest,
           ap (λ k. drop k behind) same_size.0 ∙ ap (λ l. drop (length held) l) parts ∙ drop-append_seam held rest,
         )

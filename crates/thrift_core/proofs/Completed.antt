@@ -54,7 +54,7 @@ module _ (Spells : Spelling) where
     text = text ++ f.text;
     fills = λ below rest. subst (λ l. Passes Spells (top ∷ below) l below rest) (sym (append_assoc text f.text rest)) (passes_on Spells (top ∷ below) (text ++ (f.text ++ rest)) (inner ∷ below) (f.text ++ rest) below rest
         (one_turn Spells top below (text ++ (f.text ++ rest)) (inner ∷ []) (f.text ++ rest)
-            (subst (λ g. Turn Spells g (text ++ (f.text ++ rest)) (inner ∷ []) (f.text ++ rest)) (sym first) (word, record { text = text; spelled = spelled; parts = refl }, sym one)))
+        (subst (λ g. Turn Spells g (text ++ (f.text ++ rest)) (inner ∷ []) (f.text ++ rest)) (sym first) (word, record { text = text; spelled = spelled; parts = refl }, sym one)))
         (f.fills below rest));
   }
 
@@ -99,9 +99,9 @@ module _ (Spells : Spelling) where
         let whole : List ℕ = f.text ++ (g.text ++ (h.text ++ rest)) in
         let parts : (f.text ++ (g.text ++ h.text)) ++ rest ≡ whole = append_assoc f.text (g.text ++ h.text) rest ∙ ap (λ l. f.text ++ l) (append_assoc g.text h.text rest) in
         subst (λ l. Passes Spells (top ∷ below) l below rest) (sym parts) (passes_on Spells (top ∷ below) whole (a ∷ b ∷ c ∷ below) whole below rest
-            (one_turn Spells top below whole (a ∷ b ∷ c ∷ []) whole (subst (λ x. Turn Spells x whole (a ∷ b ∷ c ∷ []) whole) (sym first) (refl, refl)))
-            (passes_on Spells (a ∷ b ∷ c ∷ below) whole (b ∷ c ∷ below) (g.text ++ (h.text ++ rest)) below rest (f.fills (b ∷ c ∷ below) (g.text ++ (h.text ++ rest)))
-                (passes_on Spells (b ∷ c ∷ below) (g.text ++ (h.text ++ rest)) (c ∷ below) (h.text ++ rest) below rest (g.fills (c ∷ below) (h.text ++ rest)) (h.fills below rest))));
+        (one_turn Spells top below whole (a ∷ b ∷ c ∷ []) whole (subst (λ x. Turn Spells x whole (a ∷ b ∷ c ∷ []) whole) (sym first) (refl, refl)))
+        (passes_on Spells (a ∷ b ∷ c ∷ below) whole (b ∷ c ∷ below) (g.text ++ (h.text ++ rest)) below rest (f.fills (b ∷ c ∷ below) (g.text ++ (h.text ++ rest)))
+        (passes_on Spells (b ∷ c ∷ below) (g.text ++ (h.text ++ rest)) (c ∷ below) (h.text ++ rest) below rest (g.fills (c ∷ below) (h.text ++ rest)) (h.fills below rest))));
   }
 
 no_pairs_opened : (left : ℕ) (key value : Option TypeCode) → (opened_pairs left key value 0 ≡ []) ⊎ ((inner : Open) × (opened_pairs left key value 0 ≡ inner ∷ []) × (first_of inner ≡ made_of []))
@@ -168,7 +168,7 @@ module _ (Spells : Spelling) (ThenVarint : Part → List ℕ → Type 0) (Refuse
   pairs_filled left key value (suc many) h =
       let levels : HasLevel left key × HasLevel left value = h (omega arith) in
       made_of_three Spells (in_pairs left key value (suc many)) (in_value left key None) (in_value left value None) (in_pairs left key value many) refl
-          (value_filled left key None levels.0) (value_filled left value None levels.1) (pairs_filled left key value many (λ some. levels))
+      (value_filled left key None levels.0) (value_filled left value None levels.1) (pairs_filled left key value many (λ some. levels))
 
   pub filled : (top : Open) → Suits top → Filled Spells top
   filled (in_struct left last) h = struct_filled left last
@@ -196,11 +196,11 @@ module _ (Spells : Spelling) (ThenVarint : Part → List ℕ → Type 0) (Refuse
   pairs_suit left head text h (Some key) None e f = tt
   pairs_suit left head text h (Some key) (Some value) e f = (
     λ some. (
-      let w = L.map_level left head text h some in
-      let same : w.0 ≡ key = cc in
-      let alike : w.1 ≡ value = cc in
-      (subst (HasLevel left) same w.4, subst (HasLevel left) alike w.5)
-    ),
+        let w = L.map_level left head text h some in
+        let same : w.0 ≡ key = cc in
+        let alike : w.1 ≡ value = cc in
+        (subst (HasLevel left) same w.4, subst (HasLevel left) alike w.5)
+        ),
     tt,
   )
 

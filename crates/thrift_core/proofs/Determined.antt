@@ -158,7 +158,7 @@ module _ (Spells : Spelling) (reads : ReadingOf) (ThenVarint : Part → List ℕ
       → Passes Spells b left (top ∷ below) rest
   goes_on before whole top below rest b left stuck h g = elim (walks_meet before whole (top ∷ below) b rest left h g) as (λ x. Passes Spells b left (top ∷ below) rest) [
     | inl w ↦ (let same : (top ∷ below ≡ b) × (rest ≡ left) = stuck_there top below rest b left stuck w in
-      subst (λ s. Passes Spells s left (top ∷ below) rest) same.0 (subst (λ l. Passes Spells (top ∷ below) l (top ∷ below) rest) same.1 (no_turns Spells (top ∷ below) rest)))
+        subst (λ s. Passes Spells s left (top ∷ below) rest) same.0 (subst (λ l. Passes Spells (top ∷ below) l (top ∷ below) rest) same.1 (no_turns Spells (top ∷ below) rest)))
     | inr w ↦ w
   ]
 

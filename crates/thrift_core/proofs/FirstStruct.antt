@@ -1,6 +1,6 @@
 -- What a walk over a struct at the front of a stream comes to, as the first step.
-use Rattle.std.proofs.Common.{◌≡◌, ◌≢◌, ◌+◌, ◌-◌, ◌≤◌, ◌<◌, ◌++◌, ◌∷◌, ◌↔◌, inl, inr, ℕ, pos, List, [], length, min, take, refl, ap, sym, ◌∙◌, subst, arith}
-use Rattle.std.proofs.lemmas.List.{length-append, length-take, take_min}
+use Rattle.std.proofs.Common.{◌≡◌, ◌≢◌, ◌+◌, ◌-◌, ◌≤◌, ◌<◌, ◌∷◌, ◌↔◌, inl, inr, ℕ, pos, List, [], length, min, take, refl, ap, ◌∙◌, subst, arith}
+use Rattle.std.proofs.lemmas.List.{length-append, take_min}
 use Rattle.span_io.specs.declared.cause.Cause.{Cause}
 use Rattle.span_io.specs.declared.cause.Cause.TheVariants as causes
 use Rattle.span_io.specs.declared.step.Step.{Step}
@@ -8,11 +8,11 @@ use Rattle.span_io.specs.declared.step.Step.TheVariants as steps
 use Rattle.span_io.specs.Frames.{BeginsFrame}
 use Rattle.span_io.specs.Steps.{StepIs, IfUnit}
 use Rattle.span_io.specs.FramingLaws.{FramingLaws, exact, item_first, first_item, item_size, refused_first, refused_step, needs_more, too_long_first, of_front}
-use Rattle.thrift_core.specs.Parts.{Part, WordOf, Spelling}
+use Rattle.thrift_core.specs.Parts.{Part, Spelling}
 use Rattle.thrift_core.specs.Reading.{ReadingOf}
 use Rattle.thrift_core.specs.Protocols.{ReadsExactly, PartLaws}
 use Rattle.thrift_core.specs.Trees.{outer_levels}
-use Rattle.thrift_core.specs.Walks.{Open, Passes, outer_struct}
+use Rattle.thrift_core.specs.Walks.{Passes, outer_struct}
 use Rattle.thrift_core.specs.Stops.{StopsFor, Lacks}
 use Rattle.thrift_core.specs.Values.{structs, RefusedStruct}
 use Rattle.thrift_core.proofs.TextsFrom.{end_is, truncated_is, stop_is, stop_not_past, never_long, lacks_is, lacks_exactly, struct_laws}

@@ -110,7 +110,7 @@ module _ (Spells : Spelling) (reads : ReadingOf) (ThenVarint : Part → List ℕ
     pub lack_once : (text : List ℕ) (many others : ℕ) → Lacks Spells start text many → Lacks Spells start text others → many ≡ others
     lack_once text many others h g =
         let same = one_place Spells reads ThenVarint Refuses R (start ∷ []) text (in_bytes h.held) h.below h.rest (in_bytes g.held) g.below g.rest
-            (lacks_stuck Spells h.held many h.rest h.missing h.some) (lacks_stuck Spells g.held others g.rest g.missing g.some) h.passes g.passes in
+        (lacks_stuck Spells h.held many h.rest h.missing h.some) (lacks_stuck Spells g.held others g.rest g.missing g.some) h.passes g.passes in
         let is : in_bytes h.held ≡ in_bytes g.held = same.0 in
         let held : h.held ≡ g.held = cc in
         omega (arith, held, ap length same.1, h.missing, g.missing)

@@ -7,5 +7,6 @@ pub mod Meanings
 pub mod TextsFrom
 pub mod OneTree
 pub mod WalkSteps
+pub mod OpenStructs
 pub mod Answering
 pub mod FirstStruct

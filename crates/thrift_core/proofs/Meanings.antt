@@ -40,6 +40,7 @@ module _ (Spells : Spelling) where
 
   mutual
     unfolding ValueThen FieldsThen ElementsThen PairsThen tree_count pair_count
+
     pub value_on : (tree : Tree) (left : ℕ) (held : Option Bool) (whole rest : List ℕ) (below : List Open) → ValueThen Spells tree left held whole rest → Passes Spells (in_value left (kind_of tree) held ∷ below) whole below rest
     value_on (leaf x) left held whole rest below h = leaf_on x left held whole rest below h
     value_on (binary bytes) left held whole rest below h =
@@ -50,34 +51,34 @@ module _ (Spells : Spelling) where
     value_on (map_of pairs) zero held whole rest below h = absurd h
     value_on (map_of pairs) (suc left) held whole rest below h =
         turn_and (in_value (suc left) kinds.Map held) below whole (opened_pairs left h.0.key h.0.value h.0.size) h.1 below rest (h.0, h.2, refl)
-            (subst (λ many. Passes Spells (opened_pairs left h.0.key h.0.value many ++ below) h.1 below rest) (sym h.3) (pairs_on pairs h.0.key h.0.value left h.1 rest below h.4))
+        (subst (λ many. Passes Spells (opened_pairs left h.0.key h.0.value many ++ below) h.1 below rest) (sym h.3) (pairs_on pairs h.0.key h.0.value left h.1 rest below h.4))
     value_on (set_of trees) zero held whole rest below h = absurd h
     value_on (set_of trees) (suc left) held whole rest below h =
         turn_and (in_value (suc left) kinds.Set held) below whole (opened_elements left h.0.element h.0.size) h.1 below rest (h.0, h.2, refl)
-            (subst (λ many. Passes Spells (opened_elements left h.0.element many ++ below) h.1 below rest) (sym h.3) (elements_on trees h.0.element left h.1 rest below h.4))
+        (subst (λ many. Passes Spells (opened_elements left h.0.element many ++ below) h.1 below rest) (sym h.3) (elements_on trees h.0.element left h.1 rest below h.4))
     value_on (list_of trees) zero held whole rest below h = absurd h
     value_on (list_of trees) (suc left) held whole rest below h =
         turn_and (in_value (suc left) kinds.List held) below whole (opened_elements left h.0.element h.0.size) h.1 below rest (h.0, h.2, refl)
-            (subst (λ many. Passes Spells (opened_elements left h.0.element many ++ below) h.1 below rest) (sym h.3) (elements_on trees h.0.element left h.1 rest below h.4))
+        (subst (λ many. Passes Spells (opened_elements left h.0.element many ++ below) h.1 below rest) (sym h.3) (elements_on trees h.0.element left h.1 rest below h.4))
 
     pub fields_on : (fields : Fields) (left : ℕ) (last : ℤ) (whole rest : List ℕ) (below : List Open) → FieldsThen Spells fields left last whole rest → Passes Spells (in_struct left last ∷ below) whole below rest
     fields_on no_fields left last whole rest below h = one_turn Spells (in_struct left last) below whole [] rest (None, h, refl)
     fields_on (field_then id tree more) left last whole rest below h =
         turn_and (in_struct left last) below whole (in_value left (kind_of tree) h.0 ∷ in_struct left id ∷ []) h.1 below rest (Some (record { id = id; kind = kind_of tree; held = h.0 }), h.3, refl)
-            (passes_on Spells (in_value left (kind_of tree) h.0 ∷ in_struct left id ∷ below) h.1 (in_struct left id ∷ below) h.2 below rest
-                (value_on tree left h.0 h.1 h.2 (in_struct left id ∷ below) h.4)
-                (fields_on more left id h.2 rest below h.5))
+        (passes_on Spells (in_value left (kind_of tree) h.0 ∷ in_struct left id ∷ below) h.1 (in_struct left id ∷ below) h.2 below rest
+        (value_on tree left h.0 h.1 h.2 (in_struct left id ∷ below) h.4)
+        (fields_on more left id h.2 rest below h.5))
 
     pub elements_on : (trees : Trees) (kind : Option TypeCode) (left : ℕ) (whole rest : List ℕ) (below : List Open) → ElementsThen Spells trees kind left whole rest → Passes Spells (opened_elements left kind (tree_count trees) ++ below) whole below rest
     elements_on no_trees kind left whole rest below h = no_elements_on kind left whole rest below h
     elements_on (tree_then tree more) kind left whole rest below h =
         let inner : Passes Spells (in_elements left (kind_of tree) (tree_count more) ∷ below) h.1 below rest =
-          subst (λ k. Passes Spells (opened_elements left k (tree_count more) ++ below) h.1 below rest) h.0 (elements_on more kind left h.1 rest below h.3) in
+        subst (λ k. Passes Spells (opened_elements left k (tree_count more) ++ below) h.1 below rest) h.0 (elements_on more kind left h.1 rest below h.3) in
         let all : Passes Spells (in_elements left (kind_of tree) (suc (tree_count more)) ∷ below) whole below rest =
-          turn_and (in_elements left (kind_of tree) (suc (tree_count more))) below whole (in_value left (kind_of tree) None ∷ in_elements left (kind_of tree) (tree_count more) ∷ []) whole below rest (refl, refl)
-            (passes_on Spells (in_value left (kind_of tree) None ∷ in_elements left (kind_of tree) (tree_count more) ∷ below) whole (in_elements left (kind_of tree) (tree_count more) ∷ below) h.1 below rest
-                (value_on tree left None whole h.1 (in_elements left (kind_of tree) (tree_count more) ∷ below) h.2)
-                inner) in
+        turn_and (in_elements left (kind_of tree) (suc (tree_count more))) below whole (in_value left (kind_of tree) None ∷ in_elements left (kind_of tree) (tree_count more) ∷ []) whole below rest (refl, refl)
+        (passes_on Spells (in_value left (kind_of tree) None ∷ in_elements left (kind_of tree) (tree_count more) ∷ below) whole (in_elements left (kind_of tree) (tree_count more) ∷ below) h.1 below rest
+        (value_on tree left None whole h.1 (in_elements left (kind_of tree) (tree_count more) ∷ below) h.2)
+        inner) in
         subst (λ k. Passes Spells (opened_elements left k (suc (tree_count more)) ++ below) whole below rest) (sym h.0) all
 
     pub pairs_on : (pairs : Pairs) (key value : Option TypeCode) (left : ℕ) (whole rest : List ℕ) (below : List Open) → PairsThen Spells pairs key value left whole rest → Passes Spells (opened_pairs left key value (pair_count pairs) ++ below) whole below rest
@@ -86,17 +87,17 @@ module _ (Spells : Spelling) where
         let a : TypeCode = kind_of first in
         let b : TypeCode = kind_of second in
         let inner : Passes Spells (in_pairs left a b (pair_count more) ∷ below) h.3 below rest =
-          subst (λ v. Passes Spells (opened_pairs left (Some a) v (pair_count more) ++ below) h.3 below rest) h.1
-            (subst (λ k. Passes Spells (opened_pairs left k value (pair_count more) ++ below) h.3 below rest) h.0 (pairs_on more key value left h.3 rest below h.6)) in
+        subst (λ v. Passes Spells (opened_pairs left (Some a) v (pair_count more) ++ below) h.3 below rest) h.1
+        (subst (λ k. Passes Spells (opened_pairs left k value (pair_count more) ++ below) h.3 below rest) h.0 (pairs_on more key value left h.3 rest below h.6)) in
         let all : Passes Spells (in_pairs left a b (suc (pair_count more)) ∷ below) whole below rest =
-          turn_and (in_pairs left a b (suc (pair_count more))) below whole (in_value left a None ∷ in_value left b None ∷ in_pairs left a b (pair_count more) ∷ []) whole below rest (refl, refl)
-            (passes_on Spells (in_value left a None ∷ in_value left b None ∷ in_pairs left a b (pair_count more) ∷ below) whole (in_value left b None ∷ in_pairs left a b (pair_count more) ∷ below) h.2 below rest
-                (value_on first left None whole h.2 (in_value left b None ∷ in_pairs left a b (pair_count more) ∷ below) h.4)
-                (passes_on Spells (in_value left b None ∷ in_pairs left a b (pair_count more) ∷ below) h.2 (in_pairs left a b (pair_count more) ∷ below) h.3 below rest
-                    (value_on second left None h.2 h.3 (in_pairs left a b (pair_count more) ∷ below) h.5)
-                    inner)) in
+        turn_and (in_pairs left a b (suc (pair_count more))) below whole (in_value left a None ∷ in_value left b None ∷ in_pairs left a b (pair_count more) ∷ []) whole below rest (refl, refl)
+        (passes_on Spells (in_value left a None ∷ in_value left b None ∷ in_pairs left a b (pair_count more) ∷ below) whole (in_value left b None ∷ in_pairs left a b (pair_count more) ∷ below) h.2 below rest
+        (value_on first left None whole h.2 (in_value left b None ∷ in_pairs left a b (pair_count more) ∷ below) h.4)
+        (passes_on Spells (in_value left b None ∷ in_pairs left a b (pair_count more) ∷ below) h.2 (in_pairs left a b (pair_count more) ∷ below) h.3 below rest
+        (value_on second left None h.2 h.3 (in_pairs left a b (pair_count more) ∷ below) h.5)
+        inner)) in
         subst (λ k. Passes Spells (opened_pairs left k value (suc (pair_count more)) ++ below) whole below rest) (sym h.0)
-            (subst (λ v. Passes Spells (opened_pairs left (Some a) v (suc (pair_count more)) ++ below) whole below rest) (sym h.1) all)
+        (subst (λ v. Passes Spells (opened_pairs left (Some a) v (suc (pair_count more)) ++ below) whole below rest) (sym h.1) all)
 
 -- ---- what is passed is the text of a tree
 

@@ -100,6 +100,7 @@ module _ (Spells : Spelling) (reads : ReadingOf) (ThenVarint : Part → List ℕ
 
   mutual
     unfolding ValueThen FieldsThen ElementsThen PairsThen tree_count pair_count
+
     pub one_value : (a b : Tree) (left : ℕ) (held : Option Bool) (whole rest other : List ℕ) → kind_of a ≡ kind_of b → ValueThen Spells a left held whole rest → ValueThen Spells b left held whole other → (a ≡ b) × (rest ≡ other)
     one_value (leaf x) (leaf y) left held whole rest other e h g = (let w = one_leaf x y held whole rest other (leaf_sames x y e) h g in (ap leaf w.0, w.1))
     one_value (binary m) (binary n) left held whole rest other e h g = (let w = one_binary m n whole rest other h.0 g.0 h.1 h.2 g.1 g.2 in (ap binary w.0, w.1))

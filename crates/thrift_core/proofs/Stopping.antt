@@ -60,8 +60,7 @@ module _ (Spells : Spelling) (reads : ReadingOf) (ThenVarint : Part → List ℕ
 
   pub begins : (text rest : List ℕ) → Passes Spells (start ∷ []) text [] rest → (front : List ℕ) × Whole front × (text ≡ front ++ rest)
   begins text rest h =
-      let front = front_of Spells h.count (start ∷ []) text [] rest h.turns in
-      (
+      let front = front_of Spells h.count (start ∷ []) text [] rest h.turns in (
         front.text,
         (same front.text).1 (subst (λ l. Passes Spells (start ∷ []) l [] []) (append-nil front.text) (record { count = h.count; turns = front.again [] })),
         front.parts,
@@ -74,7 +73,7 @@ module _ (Spells : Spelling) (reads : ReadingOf) (ThenVarint : Part → List ℕ
       let fill = stack_filled Spells ThenVarint Refuses L stack (walk_suits Spells ThenVarint Refuses L start (text ++ more) stack [] suits h) in
       let rest : Passes Spells stack fill.text [] [] = subst (λ l. Passes Spells stack l [] []) (append-nil fill.text) (fill.fills []) in
       let all : Passes Spells (start ∷ []) ((text ++ more) ++ fill.text) [] [] =
-        passes_on Spells (start ∷ []) ((text ++ more) ++ fill.text) stack fill.text [] [] (passes_more Spells (start ∷ []) (text ++ more) stack [] fill.text h) rest in
+      passes_on Spells (start ∷ []) ((text ++ more) ++ fill.text) stack fill.text [] [] (passes_more Spells (start ∷ []) (text ++ more) stack [] fill.text h) rest in
       record {
         more = more ++ fill.text;
         some = λ e. some (left_empty more fill.text e);
@@ -90,9 +89,9 @@ module _ (Spells : Spelling) (reads : ReadingOf) (ThenVarint : Part → List ℕ
   part_proper text top below rest part opens suits h first p =
       let begun : Begins Spells part p.whole.0 (rest ++ p.more) [] = record { text = rest ++ p.more; spelled = p.whole.1; parts = sym (append-nil (rest ++ p.more)) } in
       let turn : Passes Spells (top ∷ below) (rest ++ p.more) (opens p.whole.0 ++ below) [] =
-        one_turn Spells top below (rest ++ p.more) (opens p.whole.0) [] (subst (λ f. Turn Spells f (rest ++ p.more) (opens p.whole.0) []) (sym first) (p.whole.0, begun, refl)) in
+      one_turn Spells top below (rest ++ p.more) (opens p.whole.0) [] (subst (λ f. Turn Spells f (rest ++ p.more) (opens p.whole.0) []) (sym first) (p.whole.0, begun, refl)) in
       completed text p.more (opens p.whole.0 ++ below) p.some suits
-          (passes_on Spells (start ∷ []) (text ++ p.more) (top ∷ below) (rest ++ p.more) (opens p.whole.0 ++ below) [] (passes_more Spells (start ∷ []) text (top ∷ below) rest p.more h) turn)
+      (passes_on Spells (start ∷ []) (text ++ p.more) (top ∷ below) (rest ++ p.more) (opens p.whole.0 ++ below) [] (passes_more Spells (start ∷ []) text (top ∷ below) rest p.more h) turn)
 
   part_open : (text : List ℕ) (top : Open) (below : List Open) (rest : List ℕ) (part : Part) (opens : WordOf part → List Open) → Suits start → Passes Spells (start ∷ []) text (top ∷ below) rest → first_of top ≡ a_part part opens
       → IsOpen (texts_of Spells ThenVarint part) rest → IsOpen F text
@@ -124,9 +123,9 @@ module _ (Spells : Spelling) (reads : ReadingOf) (ThenVarint : Part → List ℕ
       let more : List ℕ = replicate many 0 in
       let size : length (h.rest ++ more) ≡ h.held = omega (arith, length-append h.rest more, length-replicate {A = ℕ} many 0, h.missing) in
       let turn : Passes Spells (in_bytes h.held ∷ h.below) (h.rest ++ more) h.below [] =
-        one_turn Spells (in_bytes h.held) h.below (h.rest ++ more) [] [] (h.rest ++ more, sym (append-nil (h.rest ++ more)), size, refl) in
+      one_turn Spells (in_bytes h.held) h.below (h.rest ++ more) [] [] (h.rest ++ more, sym (append-nil (h.rest ++ more)), size, refl) in
       inl (completed text more h.below (λ e. omega (arith, ap length e, length-replicate {A = ℕ} many 0, h.some)) suits
-          (passes_on Spells (start ∷ []) (text ++ more) (in_bytes h.held ∷ h.below) (h.rest ++ more) h.below [] (passes_more Spells (start ∷ []) text (in_bytes h.held ∷ h.below) h.rest more h.passes) turn))
+      (passes_on Spells (start ∷ []) (text ++ more) (in_bytes h.held ∷ h.below) (h.rest ++ more) h.below [] (passes_more Spells (start ∷ []) text (in_bytes h.held ∷ h.below) h.rest more h.passes) turn))
 
   -- ---- a start that has no level
 
@@ -227,9 +226,9 @@ module _ (Spells : Spelling) (reads : ReadingOf) (ThenVarint : Part → List ℕ
         earlier = λ shorter more b some cut another s.
             let v : IsRefusedAt (texts_of Spells ThenVarint part) (Refuses part b) shorter = (R.bad part shorter b another).0 (subst (λ f. StopsBy reads f shorter b) first s) in
             w.shortest.least v.front (v.shortest.rest ++ more)
-                (cut ∙ ap (λ l. l ++ more) v.shortest.parts ∙ append_assoc v.front v.shortest.rest more)
-                (λ empty. some (append_empty_right v.shortest.rest more empty))
-                v.shortest.refused;
+            (cut ∙ ap (λ l. l ++ more) v.shortest.parts ∙ append_assoc v.front v.shortest.rest more)
+            (λ empty. some (append_empty_right v.shortest.rest more empty))
+            v.shortest.refused;
       }
 
   short_level : (text : List ℕ) (cause : Cause) (h : StopsFor Spells reads start text cause) → first_of h.top ≡ no_level → cause ≡ causes.TooDeep → ShortStop Spells reads (K cause) start text cause
@@ -265,8 +264,8 @@ module _ (Spells : Spelling) (reads : ReadingOf) (ThenVarint : Part → List ℕ
       by_cause b h (inl e) = refused.closed (truncated_suits shorter suits (subst (λ c. StopsFor Spells reads start shorter c) e h))
       by_cause b h (inr another) =
           let at = one_place Spells reads ThenVarint Refuses R (start ∷ []) (shorter ++ more) h.top h.below (h.rest ++ more) w.stop.top w.stop.below w.stop.rest
-            (stop_stuck Spells reads ThenVarint Refuses R h.top (h.rest ++ more) b (stays_by Spells reads ThenVarint Refuses R (first_of h.top) h.rest more b another h.stops)) (stop_stuck Spells reads ThenVarint Refuses R w.stop.top w.stop.rest cause w.stop.stops)
-            (passes_more Spells (start ∷ []) shorter (h.top ∷ h.below) h.rest more h.passes) (subst (λ l. Passes Spells (start ∷ []) l (w.stop.top ∷ w.stop.below) w.stop.rest) cut w.stop.passes) in
+          (stop_stuck Spells reads ThenVarint Refuses R h.top (h.rest ++ more) b (stays_by Spells reads ThenVarint Refuses R (first_of h.top) h.rest more b another h.stops)) (stop_stuck Spells reads ThenVarint Refuses R w.stop.top w.stop.rest cause w.stop.stops)
+          (passes_more Spells (start ∷ []) shorter (h.top ∷ h.below) h.rest more h.passes) (subst (λ l. Passes Spells (start ∷ []) l (w.stop.top ∷ w.stop.below) w.stop.rest) cut w.stop.passes) in
           w.earlier h.rest more b some (sym at.1) another (subst (λ t. StopsBy reads (first_of t) h.rest b) at.0 h.stops)
 
       by_fate : Fate Spells reads start shorter → ⊥
@@ -319,6 +318,6 @@ module _ (Spells : Spelling) (reads : ReadingOf) (ThenVarint : Part → List ℕ
   pub lacks_exactly : (text : List ℕ) (many limit : ℕ) → length text ≤ limit → Lacks Spells start text many → EndsPast Spells start limit text ↔ limit < length text + many
   lacks_exactly text many limit within h = (
     λ past. (let e = lack_once Spells reads ThenVarint Refuses R start text many (past.many - length past.rest) h (past_lacks Spells start limit text within past) in
-      omega (arith, e, past.beyond, within)),
+        omega (arith, e, past.beyond, within)),
     λ beyond. lacks_past Spells start limit many text h beyond,
   )

@@ -1,5 +1,5 @@
 -- What a walk says of the texts of a struct or value, and that these keep what a wire format must.
-use Rattle.std.proofs.Common.{◌≡◌, ◌≢◌, ◌≤◌, ◌<◌, ◌+◌, ◌-◌, ◌++◌, ◌∷◌, ◌⊎◌, ◌↔◌, inl, inr, ℕ, zero, suc, ℤ, List, [], length, refl, ap, sym, ◌∙◌, subst, arith}
+use Rattle.std.proofs.Common.{◌≡◌, ◌≢◌, ◌≤◌, ◌<◌, ◌+◌, ◌-◌, ◌++◌, ◌∷◌, ◌⊎◌, ◌↔◌, inl, inr, ℕ, zero, suc, ℤ, pos, List, [], length, refl, ap, sym, ◌∙◌, subst, arith}
 use Rattle.std.proofs.lemmas.Bool.Decides.{leb_tells}
 use Rattle.std.proofs.lemmas.List.{append-nil, length-append}
 use Rattle.span_io.specs.declared.cause.Cause.{Cause}
@@ -10,6 +10,8 @@ use Rattle.thrift_core.specs.Parts.{Part, header, WordOf, Spelling, Begins, Begi
 use Rattle.thrift_core.specs.Reading.{ReadingOf}
 use Rattle.thrift_core.specs.Protocols.{ReadsExactly, PartLaws}
 use Rattle.thrift_core.specs.Walks.{Open, in_struct, in_bytes, First, a_part, no_level, first_of, Turn, Turns, Passes, EndsInPart, EndsAtNoLevel, texts_from, RefusedFrom}
+use Rattle.thrift_core.specs.Trees.{outer_levels}
+use Rattle.thrift_core.specs.Values.{structs, RefusedStruct}
 use Rattle.thrift_core.specs.Stops.{StopsBy, StopsFor, Lacks}
 use Rattle.thrift_core.proofs.Determined.{Stuck, passes_more, one_place, one_end}
 use Rattle.thrift_core.proofs.Completed.{Suits, filled}
@@ -110,14 +112,14 @@ module _ (Spells : Spelling) (reads : ReadingOf) (ThenVarint : Part → List ℕ
   two_parts : (front : List ℕ) (a b : Cause) → IsSound start → IsRefused F front → InPart a front → InPart b front → a ≡ b
   two_parts front a b sound refused h g =
       let at = one_place Spells reads ThenVarint Refuses R (start ∷ []) front h.top h.below h.rest g.top g.below g.rest
-        (none_stuck h.top h.rest h.part h.opens h.is_first h.says.0) (none_stuck g.top g.rest g.part g.opens g.is_first g.says.0) h.passes g.passes in
+      (none_stuck h.top h.rest h.part h.opens h.is_first h.says.0) (none_stuck g.top g.rest g.part g.opens g.is_first g.says.0) h.passes g.passes in
       let part : g.part ≡ h.part = same_part g.part h.part g.opens h.opens (first_of g.top) g.is_first (ap first_of (sym at.0) ∙ h.is_first) in
       L.one_cause h.part h.rest a b (part_refused front a sound refused h) h.says.1 (subst (λ l. Refuses h.part b l) (sym at.1) (subst (λ p. Refuses p b g.rest) part g.says.1))
 
   part_or_level : (front : List ℕ) (cause : Cause) → InPart cause front → EndsAtNoLevel Spells start front → ⊥
   part_or_level front cause h g =
       let at = one_place Spells reads ThenVarint Refuses R (start ∷ []) front h.top h.below h.rest g.top g.below g.rest
-        (none_stuck h.top h.rest h.part h.opens h.is_first h.says.0) (no_level_stuck g.top g.rest g.is_first) h.passes g.passes in
+      (none_stuck h.top h.rest h.part h.opens h.is_first h.says.0) (no_level_stuck g.top g.rest g.is_first) h.passes g.passes in
       let e : a_part h.part h.opens ≡ no_level = sym h.is_first ∙ ap first_of at.0 ∙ g.is_first in
       cc
 
@@ -185,7 +187,7 @@ module _ (Spells : Spelling) (reads : ReadingOf) (ThenVarint : Part → List ℕ
 -- ---- structs
 
 module _ (Spells : Spelling) (reads : ReadingOf) (ThenVarint : Part → List ℕ → Type 0) (Refuses : Part → Cause → List ℕ → Type 0) (R : ReadsExactly Spells reads ThenVarint Refuses) (L : PartLaws Spells ThenVarint Refuses) (left : ℕ) (last : ℤ) where
-  no_header : (word : WordOf (header left last)) (rest : List ℕ) → Begins Spells (header left last) word [] rest → ⊥
+  pub no_header : (word : WordOf (header left last)) (rest : List ℕ) → Begins Spells (header left last) word [] rest → ⊥
   no_header word rest h = L.some (header left last) word h.text tt h.spelled (empty_front h.text rest (sym h.parts))
     where
       empty_front : (a b : List ℕ) → a ++ b ≡ [] → a ≡ []
@@ -205,3 +207,8 @@ module _ (Spells : Spelling) (reads : ReadingOf) (ThenVarint : Part → List ℕ
   struct_laws = laws Spells reads ThenVarint Refuses R L (in_struct left last) tt
       (λ h. (let e : in_struct left last ∷ [] ≡ [] = at_start [] [] h in cc))
       (λ many below rest h. (let e : in_struct left last ∷ [] ≡ in_bytes many ∷ below = at_start (in_bytes many ∷ below) rest h in cc))
+
+module _ (Spells : Spelling) (reads : ReadingOf) (ThenVarint : Part → List ℕ → Type 0) (Refuses : Part → Cause → List ℕ → Type 0) (R : ReadsExactly Spells reads ThenVarint Refuses) (L : PartLaws Spells ThenVarint Refuses) where
+  -- the same of a struct that no other container holds
+  pub outer_laws : FramingLaws (structs Spells ThenVarint) (RefusedStruct Spells Refuses)
+  outer_laws = struct_laws Spells reads ThenVarint Refuses R L outer_levels (pos 0)

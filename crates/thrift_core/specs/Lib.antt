@@ -5,3 +5,4 @@ pub mod Walks
 pub mod Protocols
 pub mod Stops
 pub mod Values
+pub mod Laws

@@ -34,3 +34,8 @@ binary_at reads text = binary_behind (reads size text)
 abbrev pub Lends : Result (Bor (List ℕ)) Cause → List ℕ → Result (List ℕ × List ℕ) Cause → Type 0
 Lends (Ok lent) rest read = read ≡ Ok (lent.now, rest)
 Lends (Err cause) rest read = read ≡ Err cause
+
+-- these bytes are lent
+abbrev pub IsLent : Result (Bor (List ℕ)) Cause → List ℕ → Type 0
+IsLent (Ok lent) bytes = lent.now ≡ bytes
+IsLent (Err cause) bytes = ⊥

@@ -41,6 +41,10 @@ abbrev pub Passed : Spelling → ReadingOf → Open → Result Unit Halted → L
 Passed Spells reads start (Ok _) text rest = Passes Spells (start ∷ []) text [] rest
 Passed Spells reads start (Err halted) text rest = HaltsAs Spells reads start text halted
 
+-- the same of whatever begins so
+abbrev pub PassedAs : Spelling → ReadingOf → First → Result Unit Halted → List ℕ → List ℕ → Type 0
+PassedAs Spells reads first result text rest = (start : Open) → first_of start ≡ first → Passed Spells reads start result text rest
+
 -- the cause that callers are told: the text ends where bytes of a binary aren't there
 abbrev pub cause_of : Halted → Cause
 cause_of (halts.For cause) = cause

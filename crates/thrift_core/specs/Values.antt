@@ -3,6 +3,8 @@ use Rattle.std.specs.Prelude.{◌≡◌, ◌≢◌, ◌↔◌, ℕ, Bool, Option
 use Rattle.span_io.specs.declared.cause.Cause.{Cause}
 use Rattle.span_io.specs.declared.cause.Cause.TheVariants as causes
 use Rattle.span_io.specs.Frames.{Framing, IsOpen, IsRefusedAt}
+use Rattle.span_io.specs.declared.step.Step.{Step}
+use Rattle.span_io.specs.Steps.{StepIs}
 use Rattle.thrift_core.specs.declared.type_code.TypeCode.{TypeCode}
 use Rattle.thrift_core.specs.Parts.{Part, Spelling}
 use Rattle.thrift_core.specs.Trees.{Tree, kind_of, ValueThen}
@@ -37,3 +39,7 @@ structs Spells ThenVarint = texts_from Spells ThenVarint outer_struct
 -- what refuses such a text, by the cause that this names
 abbrev pub RefusedStruct : Spelling → (Part → Cause → List ℕ → Type 0) → Cause → List ℕ → Type 0
 RefusedStruct Spells Refuses = RefusedFrom Spells Refuses outer_struct
+
+-- what the answer says of the struct at the front of the bytes
+abbrev pub FirstStructIs : Spelling → (Part → List ℕ → Type 0) → (Part → Cause → List ℕ → Type 0) → ℕ → List ℕ → Step → Type 0
+FirstStructIs Spells ThenVarint Refuses limit bytes step = StepIs (structs Spells ThenVarint) (RefusedStruct Spells Refuses) limit bytes step

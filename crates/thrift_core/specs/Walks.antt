@@ -53,6 +53,9 @@ opened_pairs left key value many = []
 
 -- ---- what comes first
 
+abbrev pub first_of_binary : First
+first_of_binary = a_part size opened_by_size
+
 abbrev pub first_of_list : ℕ → First
 first_of_list left = a_part (list_head left) (λ head. opened_elements left head.element head.size)
 
@@ -66,7 +69,7 @@ first_of_value left kinds.I16 held = a_part short nothing_more
 first_of_value left kinds.I32 held = a_part int nothing_more
 first_of_value left kinds.I64 held = a_part long nothing_more
 first_of_value left kinds.Eight held = a_part eight nothing_more
-first_of_value left kinds.Binary held = a_part size opened_by_size
+first_of_value left kinds.Binary held = first_of_binary
 first_of_value (suc left) kinds.Struct held = made_of (in_struct left (pos 0) ∷ [])
 first_of_value (suc left) kinds.Map held = first_of_map left
 first_of_value (suc left) kinds.Set held = first_of_list left

@@ -1,10 +1,10 @@
 ghost use Rattle.std.specs.Prelude.{◌≡◌, ◌↔◌, ◌≤◌, ℕ, length};
 ghost use Rattle.span_io.specs.Frames.{BeginsFrame};
-ghost use Rattle.span_io.specs.Steps.{StepIs, IfUnit};
+ghost use Rattle.span_io.specs.Steps.{IfUnit};
 ghost use Rattle.span_io.specs.declared.step.Step.{Step};
 ghost use Rattle.thrift_core.specs.Walks.{outer_struct};
 ghost use Rattle.thrift_core.specs.Stops.{HaltsAs};
-ghost use Rattle.thrift_core.specs.Values.{structs, RefusedStruct};
+ghost use Rattle.thrift_core.specs.Values.{structs, FirstStructIs};
 
 use crate::passing::{Halted, pass_struct};
 use crate::protocol::Protocol;
@@ -17,7 +17,7 @@ pub const OUTER_LEVELS: u8 = 31;
 fn halted_step<P: Protocol>(halted: Halted, bytes: &[u8], limit: usize) -> Step
     requires within { length bytes.now ≤ limit }
     requires halts { HaltsAs P.spells P.reads outer_struct bytes.now halted }
-    ensures told { StepIs (structs P.spells P.then_varint) (RefusedStruct P.spells P.refuses) limit bytes.now result }
+    ensures told { FirstStructIs P.spells P.then_varint P.refuses limit bytes.now result }
 {
     match halted {
         Halted::Lacking(many) => {
@@ -41,7 +41,7 @@ fn halted_step<P: Protocol>(halted: Halted, bytes: &[u8], limit: usize) -> Step
 // The first step over at most `limit` bytes.
 fn first<P: Protocol>(bytes: &[u8], limit: usize) -> Step
     requires within { length bytes.now ≤ limit }
-    ensures told { StepIs (structs P.spells P.then_varint) (RefusedStruct P.spells P.refuses) limit bytes.now result }
+    ensures told { FirstStructIs P.spells P.then_varint P.refuses limit bytes.now result }
 {
     let mut c = Cursor::new(bytes);
     match pass_struct::<P>(&mut c, OUTER_LEVELS) {
@@ -54,7 +54,7 @@ fn first<P: Protocol>(bytes: &[u8], limit: usize) -> Step
 /// the shortest first, and the first that is a struct or is refused decides. Open bytes are refused as UnitTooLong once they
 /// are `limit` bytes, or hold the length of a binary by which the struct has more. It takes no memory.
 pub fn first_frame<P: Protocol>(bytes: &[u8], limit: usize) -> Step
-    ensures exact { (step : Step) → (result ≡ step) ↔ StepIs (structs P.spells P.then_varint) (RefusedStruct P.spells P.refuses) limit bytes.now step }
+    ensures exact { (step : Step) → (result ≡ step) ↔ FirstStructIs P.spells P.then_varint P.refuses limit bytes.now step }
     // A struct of at most `limit` bytes at the front is found, whatever follows.
     ensures frame { (n : ℕ) → (result ≡ Step.Unit n) ↔ BeginsFrame (structs P.spells P.then_varint) limit n bytes.now }
     ensures within { IfUnit result (λ n. (1 ≤ n) × (n ≤ limit) × (n ≤ length bytes.now)) }

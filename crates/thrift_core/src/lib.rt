@@ -4,6 +4,7 @@
 
 mod field;
 mod frame;
+pub mod laws;
 mod passing;
 mod protocol;
 mod skipping;

@@ -1,8 +1,8 @@
 ghost use Rattle.std.specs.Prelude.{◌≡◌, ◌+◌, ℕ, pos, Bool, Option, IfOk, IfErr};
 ghost use Rattle.thrift_core.specs.Parts.{list_head, map_head};
 ghost use Rattle.thrift_core.specs.Reading.{Stays};
-ghost use Rattle.thrift_core.specs.Walks.{Open, in_struct, in_value, in_elements, in_pairs, first_of, first_of_list, first_of_map};
-ghost use Rattle.thrift_core.specs.Stops.{Passed, cause_of};
+ghost use Rattle.thrift_core.specs.Walks.{Open, in_struct, in_value, in_elements, in_pairs, first_of, first_of_binary, first_of_list, first_of_map};
+ghost use Rattle.thrift_core.specs.Stops.{Passed, PassedAs, cause_of};
 ghost use Rattle.thrift_core.specs.declared.passing.Halted.TheVariants as halts;
 ghost use Rattle.thrift_core.specs.declared.type_code.TypeCode.TheVariants as kinds;
 
@@ -39,7 +39,7 @@ impl From<Cause> for Halted {
 
 // Passes over the length of a binary, and over its bytes.
 fn pass_bytes<P: Protocol>(c: &mut Cursor<'_>) -> Result<(), Halted>
-    ensures passed { (left : ℕ) (held : Option Bool) → Passed P.spells P.reads (in_value left kinds.Binary held) result c.old.rest c.new.rest }
+    ensures passed { PassedAs P.spells P.reads first_of_binary result c.old.rest c.new.rest }
     ensures place { Stays c.old c.new }
 {
     let size = P::length(c)? as usize;
@@ -121,7 +121,7 @@ pub(crate) fn pass_struct<P: Protocol>(c: &mut Cursor<'_>, left: u8) -> Result<(
 // Passes over a list or set in which so many levels are left.
 #[cycle(passing)]
 fn pass_list<P: Protocol>(c: &mut Cursor<'_>, left: u8) -> Result<(), Halted>
-    ensures passed { (start : Open) → first_of start ≡ first_of_list left → Passed P.spells P.reads start result c.old.rest c.new.rest }
+    ensures passed { PassedAs P.spells P.reads (first_of_list left) result c.old.rest c.new.rest }
     ensures place { Stays c.old c.new }
 {
     let head = P::list(c, left)?;
@@ -151,7 +151,7 @@ fn pass_elements<P: Protocol>(
 // Passes over a map in which so many levels are left.
 #[cycle(passing)]
 fn pass_map<P: Protocol>(c: &mut Cursor<'_>, left: u8) -> Result<(), Halted>
-    ensures passed { (start : Open) → first_of start ≡ first_of_map left → Passed P.spells P.reads start result c.old.rest c.new.rest }
+    ensures passed { PassedAs P.spells P.reads (first_of_map left) result c.old.rest c.new.rest }
     ensures place { Stays c.old c.new }
 {
     let head = P::map(c, left)?;

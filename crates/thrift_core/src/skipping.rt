@@ -1,6 +1,6 @@
-ghost use Rattle.std.specs.Prelude.{◌≡◌, ◌↔◌, ℕ, List, None, IfOk, OnErr};
-ghost use Rattle.std.specs.Result.{IsOk, IsOkAnd};
-ghost use Rattle.thrift_core.specs.Reading.{Stays, Lends, binary_at};
+ghost use Rattle.std.specs.Prelude.{◌≡◌, ◌↔◌, ◌<◌, ◌≤◌, ℕ, List, length, None, IfOk, OnErr};
+ghost use Rattle.std.specs.Result.{IsOk};
+ghost use Rattle.thrift_core.specs.Reading.{Stays, Lends, IsLent, binary_at};
 ghost use Rattle.thrift_core.specs.Trees.{BinaryThen};
 ghost use Rattle.thrift_core.specs.Values.{BeginsValue, RefusesValue};
 ghost use Rattle.thrift_core.specs.declared.type_code.TypeCode.TheVariants as kinds;
@@ -14,10 +14,12 @@ use span_io::{Cause, Cursor, Short};
 pub fn bytes<'a, P: Protocol>(c: &mut Cursor<'a>) -> Result<&'a [u8], Cause>
     // What is lent begins the bytes, and what begins the bytes is lent, whatever follows.
     ensures found { IfOk result (λ lent. BinaryThen P.spells lent.now c.old.rest c.new.rest) }
-    ensures only { (held rest : List ℕ) → BinaryThen P.spells held c.old.rest rest → IsOkAnd result (λ lent. lent.now ≡ held) × (c.new.rest ≡ rest) }
+    ensures only { (held rest : List ℕ) → BinaryThen P.spells held c.old.rest rest → IsLent result held × (c.new.rest ≡ rest) }
     ensures exact { Lends result c.new.rest (binary_at P.reads c.old.rest) }
     ensures refused { RefusesValue P.spells P.then_varint P.refuses 0 kinds.Binary None result c.old.rest }
 
+    // A binary takes bytes, and a refusal leaves the place.
+    ensures nearer { IfOk result (λ _. length c.new.rest < length c.old.rest) }
     ensures place { Stays c.old c.new }
     ensures err { OnErr result (c.new ≡ c.old) }
 {
@@ -44,6 +46,7 @@ pub fn skip<P: Protocol>(
     ensures value { (rest : List ℕ) → (IsOk result × (c.new.rest ≡ rest)) ↔ BeginsValue P.spells left kind held c.old.rest rest }
     ensures refused { RefusesValue P.spells P.then_varint P.refuses left kind held result c.old.rest }
 
+    ensures onward { length c.new.rest ≤ length c.old.rest }
     ensures place { Stays c.old c.new }
     ensures err { OnErr result (c.new ≡ c.old) }
 {

@@ -1,11 +1,11 @@
-use Rattle.std.proofs.Common.{◌≡◌, ◌+◌, ◌-◌, ◌<◌, ◌≤◌, ℕ, ℤ, zero, suc, pos, Bool, Option, Some, None, List, [], ◌∷◌, ◌++◌, length, Ok, Err, refl, ap, sym, ◌∙◌, subst, inl, inr, to_z, of_z, arith, rules}
+use Rattle.std.proofs.Common.{◌≡◌, ◌+◌, ◌-◌, ◌<◌, ◌≤◌, ℤ, pos, Some, None, [], ◌∷◌, length, refl, ap, sym, ◌∙◌, subst, inl, inr, to_z, of_z, arith, rules}
 use Rattle.std.specs.Int.{w16}
 use Rattle.std.proofs.lemmas.Int.{to_z-of_z}
 use Rattle.thrift_core.specs.Parts.{header, truth, byte, short, int, long, eight, list_head, map_head}
-use Rattle.thrift_core.specs.Walks.{Open, in_struct, in_value, in_elements, in_pairs, first_of, first_of_list, first_of_map, no_level, nothing_more, opened_by_header, opened_elements, opened_pairs, Passes}
+use Rattle.thrift_core.specs.Walks.{in_struct, in_value, in_elements, in_pairs, first_of, no_level, nothing_more, opened_elements, opened_pairs, Passes}
 use Rattle.thrift_core.specs.declared.type_code.TypeCode.TheVariants as kinds
 use Rattle.thrift_core.proofs.Determined.{no_turns}
-use Rattle.thrift_core.proofs.WalkSteps.{part_refused, first_refused, part_read, passed_in, passed_last, part_shortens, field_read, stop_read, list_read, map_read, halted_in, element_opened, no_element_left, pair_opened, no_pair_left, onward}
+use Rattle.thrift_core.proofs.WalkSteps.{first_refused, part_read, passed_in, passed_last, part_shortens, field_read, stop_read, list_read, map_read, halted_in, element_opened, no_element_left, pair_opened, no_pair_left, onward}
 use Rattle.thrift_core.proofs.WalkSteps.{value_first, value_below, value_without_level, level_refused, made_of_one}
 use Rattle.thrift_core.proofs.passing.+passing.Goals as goal
 
@@ -108,6 +108,9 @@ pass_value-returns-in_ok-level_below-in-Set-clause-passed g t c =
       | inr is ↦ value_below c.args.left c.in_ok-level_below-in-Set.field-0 c.args.kind kinds.List c.args.held c.in_ok-level_below-in-Set.ensures.value is
     ])
 
+pub pass_value-returns-in-Binary-clause-passed : goal.pass_value-returns-in-Binary-clause-passed
+pass_value-returns-in-Binary-clause-passed g t c = c.pass_bytes.ensures.passed (in_value c.args.left c.args.kind c.args.held) (value_first c.args.left c.args.kind kinds.Binary c.args.held c.in-Binary.is)
+
 -- ---- structs
 
 pub pass_struct-fields-init : goal.pass_struct-fields-init
@@ -139,10 +142,10 @@ pass_struct-fields-preserved g t c =
     let id : to_z w16 (of_z w16 c.in-Some.field.id) ≡ c.in-Some.field.id = to_z-of_z w16 c.in-Some.field.id (record { sfits = search rules }) in
     record {
       passes = subst (λ (n : ℤ). Passes g.P.Protocol.spells (in_struct c.args.left (pos 0) ∷ []) c.args.c.now.rest (in_struct c.args.left n ∷ []) c.pass_value.new.c.rest) (sym id)
-      (passed_in g.P.Protocol.spells g.P.Protocol.reads (in_struct c.args.left (pos 0)) (in_value c.args.left c.in-Some.field.kind c.in-Some.field.held) (in_struct c.args.left c.in-Some.field.id ∷ []) c.args.c.now.rest c.field.new.c.rest c.pass_value.new.c.rest
-      (field_read g.P.Protocol.spells g.P.Protocol.reads g.met.P.Protocol.reads_exactly.found (in_struct c.args.left (pos 0)) c.args.left (to_z w16 c.fields.last-bits) c.in-Some.field c.in_ok-field.field-0 c.args.c.now.rest c.fields.c.rest c.field.new.c.rest
-    c.fields.invariant.passes c.in_ok-field.ensures.exact c.in-Some.is)
-      c.in_ok-pass_value-in-Some.ensures.passed);
+          (passed_in g.P.Protocol.spells g.P.Protocol.reads (in_struct c.args.left (pos 0)) (in_value c.args.left c.in-Some.field.kind c.in-Some.field.held) (in_struct c.args.left c.in-Some.field.id ∷ []) c.args.c.now.rest c.field.new.c.rest c.pass_value.new.c.rest
+          (field_read g.P.Protocol.spells g.P.Protocol.reads g.met.P.Protocol.reads_exactly.found (in_struct c.args.left (pos 0)) c.args.left (to_z w16 c.fields.last-bits) c.in-Some.field c.in_ok-field.field-0 c.args.c.now.rest c.fields.c.rest c.field.new.c.rest
+          c.fields.invariant.passes c.in_ok-field.ensures.exact c.in-Some.is)
+          c.in_ok-pass_value-in-Some.ensures.passed);
       stays = omega (arith, c.in_ok-pass_value-in-Some.ensures.place, c.in_ok-field.ensures.place, c.fields.invariant.stays);
     }
 
@@ -165,7 +168,7 @@ pass_list-returns-in-None-clause-passed g t c = λ start first.
 pub pass_elements-elements-init : goal.pass_elements-elements-init
 pass_elements-elements-init g t c = record {
   passes = subst (λ n. Passes g.P.Protocol.spells (in_elements c.args.left c.args.kind c.args.many ∷ []) c.args.c.now.rest (in_elements c.args.left c.args.kind n ∷ []) c.args.c.now.rest) (omega arith)
-  (no_turns g.P.Protocol.spells (in_elements c.args.left c.args.kind c.args.many ∷ []) c.args.c.now.rest);
+      (no_turns g.P.Protocol.spells (in_elements c.args.left c.args.kind c.args.many ∷ []) c.args.c.now.rest);
   stays = refl;
 }
 
@@ -179,9 +182,9 @@ pass_elements-returns-in_err-pass_value-clause-passed g t c =
 pub pass_elements-elements-preserved : goal.pass_elements-elements-preserved
 pass_elements-elements-preserved g t c = record {
   passes = passed_in g.P.Protocol.spells g.P.Protocol.reads (in_elements c.args.left c.args.kind c.args.many) (in_value c.args.left c.args.kind None) (in_elements c.args.left c.args.kind (c.args.many - (c.elements._element + 1)) ∷ [])
-  c.args.c.now.rest c.elements.c.rest c.pass_value.new.c.rest
-  (element_opened g.P.Protocol.spells (in_elements c.args.left c.args.kind c.args.many) c.args.left c.args.many c.elements._element c.args.kind c.args.c.now.rest c.elements.c.rest c.elements-test.true c.elements.invariant.passes)
-  c.in_ok-pass_value.ensures.passed;
+      c.args.c.now.rest c.elements.c.rest c.pass_value.new.c.rest
+      (element_opened g.P.Protocol.spells (in_elements c.args.left c.args.kind c.args.many) c.args.left c.args.many c.elements._element c.args.kind c.args.c.now.rest c.elements.c.rest c.elements-test.true c.elements.invariant.passes)
+      c.in_ok-pass_value.ensures.passed;
   stays = omega (arith, c.in_ok-pass_value.ensures.place, c.elements.invariant.stays);
 }
 
@@ -199,7 +202,7 @@ pass_map-returns-in_err-head-clause-passed g t c = λ start first.
 pub pass_map-returns-in-Some-Some-clause-passed : goal.pass_map-returns-in-Some-Some-clause-passed
 pass_map-returns-in-Some-Some-clause-passed g t c = λ start first.
     let kinds : opened_pairs c.args.left c.in_ok-head.head.key c.in_ok-head.head.value c.in_ok-head.head.size ≡ in_pairs c.args.left c.in-Some-Some.key c.in-Some-Some.value c.in_ok-head.head.size ∷ [] =
-        ap (λ k. opened_pairs c.args.left k c.in_ok-head.head.value c.in_ok-head.head.size) c.in-Some-Some.is-0 ∙ ap (λ v. opened_pairs c.args.left (Some c.in-Some-Some.key) v c.in_ok-head.head.size) c.in-Some-Some.is-1 in
+    ap (λ k. opened_pairs c.args.left k c.in_ok-head.head.value c.in_ok-head.head.size) c.in-Some-Some.is-0 ∙ ap (λ v. opened_pairs c.args.left (Some c.in-Some-Some.key) v c.in_ok-head.head.size) c.in-Some-Some.is-1 in
     passed_last g.P.Protocol.spells g.P.Protocol.reads start (in_pairs c.args.left c.in-Some-Some.key c.in-Some-Some.value c.in_ok-head.head.size) c.args.c.now.rest c.map.new.c.rest c.pass_pairs.new.c.rest c.pass_pairs.result
     (map_read g.P.Protocol.spells g.P.Protocol.reads g.met.P.Protocol.reads_exactly.found start c.args.left c.in_ok-head.head (in_pairs c.args.left c.in-Some-Some.key c.in-Some-Some.value c.in_ok-head.head.size ∷ []) c.args.c.now.rest c.map.new.c.rest first c.in_ok-head.ensures.exact kinds)
     c.pass_pairs.ensures.passed
@@ -217,7 +220,7 @@ pass_map-returns-in_default-2-clause-passed g t c = λ start first.
 pub pass_pairs-pairs-init : goal.pass_pairs-pairs-init
 pass_pairs-pairs-init g t c = record {
   passes = subst (λ n. Passes g.P.Protocol.spells (in_pairs c.args.left c.args.key c.args.value c.args.many ∷ []) c.args.c.now.rest (in_pairs c.args.left c.args.key c.args.value n ∷ []) c.args.c.now.rest) (omega arith)
-  (no_turns g.P.Protocol.spells (in_pairs c.args.left c.args.key c.args.value c.args.many ∷ []) c.args.c.now.rest);
+      (no_turns g.P.Protocol.spells (in_pairs c.args.left c.args.key c.args.value c.args.many ∷ []) c.args.c.now.rest);
   stays = refl;
 }
 
@@ -245,12 +248,12 @@ pass_pairs-pairs-preserved g t c =
     let more = in_value c.args.left c.args.value None ∷ in_pairs c.args.left c.args.key c.args.value (c.args.many - (c.pairs._pair + 1)) ∷ [] in
     record {
       passes = passed_in g.P.Protocol.spells g.P.Protocol.reads (in_pairs c.args.left c.args.key c.args.value c.args.many) (in_value c.args.left c.args.value None)
-      (in_pairs c.args.left c.args.key c.args.value (c.args.many - (c.pairs._pair + 1)) ∷ [])
-      c.args.c.now.rest c.pass_value.new.c.rest c.pass_value-in-pairs.new.c.rest
-      (passed_in g.P.Protocol.spells g.P.Protocol.reads (in_pairs c.args.left c.args.key c.args.value c.args.many) (in_value c.args.left c.args.key None) more c.args.c.now.rest c.pairs.c.rest c.pass_value.new.c.rest
-      (pair_opened g.P.Protocol.spells (in_pairs c.args.left c.args.key c.args.value c.args.many) c.args.left c.args.many c.pairs._pair c.args.key c.args.value c.args.c.now.rest c.pairs.c.rest c.pairs-test.true c.pairs.invariant.passes)
-      c.in_ok-pass_value.ensures.passed)
-      c.in_ok-pass_value-2.ensures.passed;
+          (in_pairs c.args.left c.args.key c.args.value (c.args.many - (c.pairs._pair + 1)) ∷ [])
+          c.args.c.now.rest c.pass_value.new.c.rest c.pass_value-in-pairs.new.c.rest
+          (passed_in g.P.Protocol.spells g.P.Protocol.reads (in_pairs c.args.left c.args.key c.args.value c.args.many) (in_value c.args.left c.args.key None) more c.args.c.now.rest c.pairs.c.rest c.pass_value.new.c.rest
+          (pair_opened g.P.Protocol.spells (in_pairs c.args.left c.args.key c.args.value c.args.many) c.args.left c.args.many c.pairs._pair c.args.key c.args.value c.args.c.now.rest c.pairs.c.rest c.pairs-test.true c.pairs.invariant.passes)
+          c.in_ok-pass_value.ensures.passed)
+          c.in_ok-pass_value-2.ensures.passed;
       stays = omega (arith, c.in_ok-pass_value-2.ensures.place, c.in_ok-pass_value.ensures.place, c.pairs.invariant.stays);
     }
 

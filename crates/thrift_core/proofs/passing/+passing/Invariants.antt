@@ -1,5 +1,4 @@
-use Rattle.std.proofs.Common.{◌+◌, ◌-◌, ◌*◌, pos, List, [], ◌∷◌, length}
-use Rattle.thrift_core.specs.Reading.{Stays}
+use Rattle.std.proofs.Common.{◌+◌, ◌-◌, ◌*◌, pos, length}
 use Rattle.thrift_core.specs.Walks.{in_struct, in_elements, in_pairs}
 use Rattle.thrift_core.proofs.WalkSteps.{Within}
 use Rattle.thrift_core.proofs.passing.+passing.Given as goal
