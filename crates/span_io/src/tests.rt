@@ -96,7 +96,9 @@ fn lists(rt: HostRuntime) -> Result<(), Fail> {
     blob.append(b"abc")?;
     blob.append(b"de")?;
     assert_eq!(rt; blob.as_slice(), b"abcde".as_slice());
-    assert_eq!(rt; blob.copy()?.len(), 5);
+    blob.append_both(b"f", b"gh")?;
+    assert_eq!(rt; blob.as_slice(), b"abcdefgh".as_slice());
+    assert_eq!(rt; blob.copy()?.len(), 8);
     blob.clear();
     assert_eq!(rt; blob.as_slice(), b"".as_slice());
     let mut text = Text::new(rt.alloc());

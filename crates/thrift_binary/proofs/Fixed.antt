@@ -12,3 +12,7 @@ fixed_read A many value text fits = rw (le-ltb (length text) many fits) refl
 
 pub byte_read : (A : Type 0) (value : List ℕ → A) (text : List ℕ) (b : ℕ) (rest : List ℕ) → text ≡ b ∷ rest → fixed_at A 1 value text ≡ Ok (value (b ∷ []), rest)
 byte_read A value text b rest e = rw e (fixed_read A 1 value (b ∷ rest) (omega arith))
+
+pub ruleset of_byte = (byte_read, fixed_short)
+
+pub ruleset of_bytes = (fixed_read, fixed_short)

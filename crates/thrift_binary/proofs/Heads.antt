@@ -81,3 +81,9 @@ pub map_read : (left : ℕ) (text between rest after : List ℕ) (key value n : 
     → map_at left text ≡ Ok (record { key = kind_of_code key; value = kind_of_code value; size = n }, after)
 unfolding map_at
 map_read left text between rest after key value n e f read = rw (e, f, read) refl
+
+pub ruleset of_header = (header_empty, header_stop, header_unknown, header_refused, header_short, header_read)
+
+pub ruleset of_list = (list_empty, list_short, list_read)
+
+pub ruleset of_map = (map_empty, map_key, map_short, map_read)

@@ -101,3 +101,7 @@ quiet_short cause (suc a ∷ rest) short none = absurd (none (0, suc a, omega ar
 quiet_short cause (zero ∷ suc b ∷ rest) short none = absurd (none (1, suc b, omega arith, refl, λ e. omega (arith, e)))
 quiet_short cause (zero ∷ zero ∷ suc c ∷ []) short none = absurd (none (2, suc c, omega arith, refl, λ e. omega (arith, e)))
 quiet_short cause other short none = absurd (omega (arith, short))
+
+pub ruleset where_whole = (empty_short, size_zero, size_blamed, size_negative, size_read)
+
+pub ruleset where_short = (small_short, negative_short, blamed_short, quiet_short)

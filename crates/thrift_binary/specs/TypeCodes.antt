@@ -19,7 +19,8 @@ code_of kinds.Set = 14
 code_of kinds.List = 15
 
 abbrev pub all_kinds : List TypeCode
-all_kinds = kinds.Truth ∷ kinds.I8 ∷ kinds.Eight ∷ kinds.I16 ∷ kinds.I32 ∷ kinds.I64 ∷ kinds.Binary ∷ kinds.Struct ∷ kinds.Map ∷ kinds.Set ∷ kinds.List ∷ []
+all_kinds = kinds.Truth ∷ kinds.I8 ∷ kinds.Eight ∷ kinds.I16 ∷ kinds.I32 ∷ kinds.I64 ∷ kinds.Binary ∷
+    kinds.Struct ∷ kinds.Map ∷ kinds.Set ∷ kinds.List ∷ []
 
 unfoldable pub kind_among : List TypeCode → ℕ → Option TypeCode
 kind_among [] code = None

@@ -10,7 +10,7 @@ use thrift_core::{Field, ListHead, MapHead};
 
 // A byte.
 #[inline(always)]
-#[tactic(auto, using(crate::proofs::Fixed::byte_read, crate::proofs::Fixed::fixed_short))]
+#[tactic(auto, using(crate::proofs::Fixed::of_byte))]
 pub(crate) fn byte_of(c: &mut Cursor<'_>) -> Result<i8, Cause>
     ensures exact { Gives result c.new.rest (fixed_at ℤ 1 (signed w8) c.old.rest) }
     ensures place { Stays c.old c.new }
@@ -23,7 +23,7 @@ pub(crate) fn byte_of(c: &mut Cursor<'_>) -> Result<i8, Cause>
 }
 
 #[inline(always)]
-#[tactic(auto, using(crate::proofs::Fixed::byte_read, crate::proofs::Fixed::fixed_short))]
+#[tactic(auto, using(crate::proofs::Fixed::of_byte))]
 pub(crate) fn truth_of(c: &mut Cursor<'_>) -> Result<bool, Cause>
     ensures exact { Gives result c.new.rest (fixed_at Bool 1 is_true c.old.rest) }
     ensures place { Stays c.old c.new }
@@ -36,7 +36,7 @@ pub(crate) fn truth_of(c: &mut Cursor<'_>) -> Result<bool, Cause>
 }
 
 #[inline(always)]
-#[tactic(auto, using(crate::proofs::Fixed::fixed_read, crate::proofs::Fixed::fixed_short))]
+#[tactic(auto, using(crate::proofs::Fixed::of_bytes))]
 pub(crate) fn short_of(c: &mut Cursor<'_>) -> Result<i16, Cause>
     ensures exact { Gives result c.new.rest (fixed_at ℤ 2 (signed w16) c.old.rest) }
     ensures place { Stays c.old c.new }
@@ -49,7 +49,7 @@ pub(crate) fn short_of(c: &mut Cursor<'_>) -> Result<i16, Cause>
 }
 
 #[inline(always)]
-#[tactic(auto, using(crate::proofs::Fixed::fixed_read, crate::proofs::Fixed::fixed_short))]
+#[tactic(auto, using(crate::proofs::Fixed::of_bytes))]
 pub(crate) fn int_of(c: &mut Cursor<'_>) -> Result<i32, Cause>
     ensures exact { Gives result c.new.rest (fixed_at ℤ 4 (signed w32) c.old.rest) }
     ensures place { Stays c.old c.new }
@@ -62,7 +62,7 @@ pub(crate) fn int_of(c: &mut Cursor<'_>) -> Result<i32, Cause>
 }
 
 #[inline(always)]
-#[tactic(auto, using(crate::proofs::Fixed::fixed_read, crate::proofs::Fixed::fixed_short))]
+#[tactic(auto, using(crate::proofs::Fixed::of_bytes))]
 pub(crate) fn long_of(c: &mut Cursor<'_>) -> Result<i64, Cause>
     ensures exact { Gives result c.new.rest (fixed_at ℤ 8 (signed w64) c.old.rest) }
     ensures place { Stays c.old c.new }
@@ -75,7 +75,7 @@ pub(crate) fn long_of(c: &mut Cursor<'_>) -> Result<i64, Cause>
 }
 
 #[inline(always)]
-#[tactic(auto, using(crate::proofs::Fixed::fixed_read, crate::proofs::Fixed::fixed_short))]
+#[tactic(auto, using(crate::proofs::Fixed::of_bytes))]
 pub(crate) fn eight_of(c: &mut Cursor<'_>) -> Result<[u8; 8], Cause>
     ensures exact { Gives result c.new.rest (fixed_at (List ℕ) 8 as_they_are c.old.rest) }
     ensures place { Stays c.old c.new }
@@ -93,7 +93,7 @@ pub(crate) fn eight_of(c: &mut Cursor<'_>) -> Result<[u8; 8], Cause>
 }
 
 // Why a size of which bytes are missing isn't read: its shortest front that is refused decides.
-#[tactic(auto, using(crate::proofs::Sizes::empty_short, crate::proofs::Sizes::small_short, crate::proofs::Sizes::negative_short, crate::proofs::Sizes::blamed_short, crate::proofs::Sizes::quiet_short))]
+#[tactic(auto, using(crate::proofs::Sizes::where_short))]
 #[inline(never)]
 fn why_short(bytes: &[u8], why: Option<Cause>) -> Cause
     requires { length bytes.now < 4 }
@@ -118,7 +118,7 @@ fn has_some(bytes: &[u8]) -> bool
 }
 
 // The size that stands behind what may have no elements, for this cause.
-#[tactic(auto, using(crate::proofs::Sizes::empty_short, crate::proofs::Sizes::size_zero, crate::proofs::Sizes::size_blamed, crate::proofs::Sizes::size_negative, crate::proofs::Sizes::size_read))]
+#[tactic(auto, using(crate::proofs::Sizes::where_whole))]
 #[inline(always)]
 pub(crate) fn size_of(c: &mut Cursor<'_>, why: Option<Cause>) -> Result<u32, Cause>
     ensures exact { Gives result c.new.rest (size_at why c.old.rest) }
@@ -144,7 +144,7 @@ pub(crate) fn size_of(c: &mut Cursor<'_>, why: Option<Cause>) -> Result<u32, Cau
 }
 
 // The head of a field, or the stop.
-#[tactic(auto, using(crate::proofs::Heads::header_empty, crate::proofs::Heads::header_stop, crate::proofs::Heads::header_unknown, crate::proofs::Heads::header_refused, crate::proofs::Heads::header_short, crate::proofs::Heads::header_read))]
+#[tactic(auto, using(crate::proofs::Heads::of_header))]
 #[inline(always)]
 pub(crate) fn header_of(c: &mut Cursor<'_>, left: u8) -> Result<Option<Field>, Cause>
     ensures exact { Gives result c.new.rest (header_at left c.old.rest) }
@@ -173,7 +173,7 @@ pub(crate) fn header_of(c: &mut Cursor<'_>, left: u8) -> Result<Option<Field>, C
     }
 }
 
-#[tactic(auto, using(crate::proofs::Heads::list_empty, crate::proofs::Heads::list_short, crate::proofs::Heads::list_read))]
+#[tactic(auto, using(crate::proofs::Heads::of_list))]
 #[inline(always)]
 pub(crate) fn list_of(c: &mut Cursor<'_>, left: u8) -> Result<ListHead, Cause>
     ensures exact { Gives result c.new.rest (list_at left c.old.rest) }
@@ -189,7 +189,7 @@ pub(crate) fn list_of(c: &mut Cursor<'_>, left: u8) -> Result<ListHead, Cause>
     }
 }
 
-#[tactic(auto, using(crate::proofs::Heads::map_empty, crate::proofs::Heads::map_key, crate::proofs::Heads::map_short, crate::proofs::Heads::map_read))]
+#[tactic(auto, using(crate::proofs::Heads::of_map))]
 #[inline(always)]
 pub(crate) fn map_of(c: &mut Cursor<'_>, left: u8) -> Result<MapHead, Cause>
     ensures exact { Gives result c.new.rest (map_at left c.old.rest) }

@@ -2,6 +2,7 @@ use crate::Binary;
 use crate::laws::type_codes;
 use span_io::{Blob, Cause, Cursor, OutOfMemory, Step};
 use std::test::Fail;
+use thrift_core::laws::{one_framing, one_reading, one_step, open_fronts, reads_back};
 use thrift_core::{
     Field, ListHead, MapHead, OUTER_LEVELS, Protocol, TypeCode, bytes, first_frame, skip,
 };
@@ -146,7 +147,17 @@ fn reads_numbers(rt: HostRuntime) {
         bytes::<Binary>(&mut Cursor::new(b"\0\0\0\x02abc")),
         Ok(b"ab".as_slice())
     );
+}
+
+// The laws of Thrift hold of the protocol.
+#[test]
+fn keeps_laws() {
     type_codes();
+    one_reading::<Binary>();
+    reads_back::<Binary>();
+    one_step::<Binary>();
+    one_framing::<Binary>();
+    open_fronts::<Binary>();
 }
 
 #[test]
