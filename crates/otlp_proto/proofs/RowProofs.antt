@@ -89,7 +89,7 @@ fixed32_own number r x gives = ap (λ (s : Record). s.number) (fixed32_is number
 
 -- of a row that holds no message
 abbrev pub plain_proof : (row : Row Record) (top number : ℕ) → ((r : Record) (x : row.Given) → row.given r ≡ x ∷ [] → r.number ≡ number) → ((r : Record) → (r.number == number) ≡ false → row.given r ≡ [])
-    → RowShape row messages.held top → RowMeaning row → RowDecides row → RowProof row Same top
+    → RowShape messages row top → RowMeaning row → RowDecides row → RowProof row Same top
 plain_proof row top number own apart shape meaning decides =
     record { number = number; own = own; apart = apart; shape = shape; meaning = meaning; decides = decides; pads = equal_padding row decides }
 
