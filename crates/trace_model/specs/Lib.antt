@@ -1,4 +1,5 @@
 pub mod Attributes
+pub mod Faults
 pub mod Flat
 pub mod Gathering
 pub mod Laws

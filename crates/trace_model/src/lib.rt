@@ -2,6 +2,7 @@
 #![tactic(auto)]
 
 mod attributes;
+mod fault;
 pub mod laws;
 mod place;
 mod proper;
@@ -11,6 +12,7 @@ mod trace;
 mod value;
 
 pub use attributes::attrs_of;
+pub use fault::Fault;
 pub use place::Place;
 pub use proper::proper_group;
 pub use remark::{Remark, RemarkKind};
