@@ -1,4 +1,5 @@
 pub mod AllLemmas
+pub mod DoubleRows
 pub mod Existence
 pub mod Gathered
 pub mod Order
@@ -8,3 +9,4 @@ pub mod Rising
 pub mod RisingAttributes
 pub mod Rows
 pub mod SoundLemmas
+pub mod TokenRows

@@ -5,4 +5,6 @@ pub mod Gathering
 pub mod Laws
 pub mod Proper
 pub mod Soundness
+pub mod ValueTexts
 pub mod Values
+pub mod WrittenTokens

@@ -8,6 +8,8 @@ mod place;
 mod proper;
 mod remark;
 mod span;
+mod texts;
+mod tokens;
 mod trace;
 mod value;
 
@@ -17,6 +19,7 @@ pub use place::Place;
 pub use proper::proper_group;
 pub use remark::{Remark, RemarkKind};
 pub use span::{Code, Event, Kind, Link, Span, Status};
+pub use texts::value_text;
 pub use trace::{Group, Scope};
 pub use value::{Attrs, Value, attrs_copy};
 
