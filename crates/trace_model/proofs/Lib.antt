@@ -1,4 +1,5 @@
 pub mod AllLemmas
+pub mod AttributesOf
 pub mod DoubleRows
 pub mod Existence
 pub mod Gathered

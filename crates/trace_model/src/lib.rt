@@ -4,6 +4,7 @@
 mod attributes;
 mod fault;
 pub mod laws;
+mod lookup;
 mod place;
 mod proper;
 mod remark;
@@ -15,6 +16,7 @@ mod value;
 
 pub use attributes::attrs_of;
 pub use fault::Fault;
+pub use lookup::find;
 pub use place::Place;
 pub use proper::proper_group;
 pub use remark::{Remark, RemarkKind};
