@@ -40,9 +40,9 @@ module _ {V : Type 0} where
       at rest Greater e =
           let low : cmp y.0 x.0 ≡ Less = flipped y.0 x.0 ∙ ap ordering_reverse e in
           ⊎_elim
-              (λ (same : x.0 ≡ y.0). absurd (never_below_itself x.0 (subst (λ (k : List ℕ). cmp k x.0 ≡ Less) (sym same) low)))
-              (λ (h : Contains (keys ys) x.0). ap (λ (l : List (List ℕ × V)). y ∷ l) (rest h))
-              (contains_cases y.0 (keys ys) x.0 there)
+          (λ (same : x.0 ≡ y.0). absurd (never_below_itself x.0 (subst (λ (k : List ℕ). cmp k x.0 ≡ Less) (sym same) low)))
+          (λ (h : Contains (keys ys) x.0). ap (λ (l : List (List ℕ × V)). y ∷ l) (rest h))
+          (contains_cases y.0 (keys ys) x.0 there)
 
   -- these pairs and one more, by rising key
   record Holds (x : List ℕ × V) (xs list : List (List ℕ × V)) : Type 0 where

@@ -10,4 +10,5 @@ pub mod Rising
 pub mod RisingAttributes
 pub mod Rows
 pub mod SoundLemmas
+pub mod TextLaws
 pub mod TokenRows

@@ -1,10 +1,10 @@
 use crate::laws::{
     attributes_exist, attributes_once, members_of_proper_values, members_of_values,
-    rising_attributes,
+    rising_attributes, texts_of_values,
 };
 use crate::{
     Attrs, Code, Event, Fault, Group, Kind, Link, Place, Remark, RemarkKind, Scope, Span, Status,
-    Value, attrs_copy, attrs_of, proper_group, value_text,
+    Value, attrs_copy, attrs_of, find, proper_group, value_text,
 };
 use span_ids::{Nanos, SpanId, TraceId};
 use span_io::{Blob, Halt, Items, OutOfMemory, Text};
@@ -168,30 +168,54 @@ fn has_text(alloc: Global, value: &Value, wanted: Option<&str>) -> bool {
 }
 
 #[test]
-fn tells_values_as_texts(rt: HostRuntime) -> Result<(), Fail> {
+fn tells_leaves_as_texts(rt: HostRuntime) -> Result<(), Fail> {
     let alloc = rt.alloc();
-    let double = || Value::Eight([63, 240, 0, 0, 0, 0, 0, 0]);
-    let pair = (text_of(alloc, "k")?, Value::List(one(alloc, double())?));
+    let text = text_of(alloc, "a\"é")?;
+    let bytes = blob_of(alloc, &[251, 255])?;
     for (value, wanted) in [
-        (Value::Text(text_of(alloc, "a\"é")?), Some("a\"é")),
+        (Value::Text(text), Some("a\"é")),
         (Value::Truth(true), Some("true")),
         (Value::Truth(false), Some("false")),
         (Value::Number(-5), Some("-5")),
-        (Value::Bytes(Blob::new(alloc)), Some("")),
-        (Value::Bytes(blob_of(alloc, &[251, 255])?), Some("+/8=")),
+        (Value::Bytes(bytes), Some("+/8=")),
         (Value::Nothing, Some("")),
-        (Value::List(Items::new(alloc)), Some("[]")),
-        (
-            Value::Map(numbers(alloc, &[("b", 2), ("c", -1)])?),
-            Some("{\"b\":2,\"c\":-1}"),
-        ),
-        (nested(alloc)?, Some(NESTED)),
-        (double(), None),
-        (Value::List(one(alloc, double())?), None),
-        (Value::Map(one(alloc, pair)?), None),
+        (Value::Eight([63, 240, 0, 0, 0, 0, 0, 0]), None),
     ] {
         assert!(rt; has_text(alloc, &value, wanted));
         assert_eq!(rt; value.holds_double(), wanted.is_none());
+    }
+    Ok(())
+}
+
+#[test]
+fn tells_lists_and_maps_as_texts(rt: HostRuntime) -> Result<(), Fail> {
+    let alloc = rt.alloc();
+    let several = nested(alloc)?;
+    let pairs = numbers(alloc, &[("b", 2), ("c", -1)])?;
+    let inner = one(alloc, Value::Eight([63, 240, 0, 0, 0, 0, 0, 0]))?;
+    let outer = one(alloc, (text_of(alloc, "k")?, Value::List(inner)))?;
+    for (value, wanted) in [
+        (Value::List(Items::new(alloc)), Some("[]")),
+        (Value::Map(pairs), Some("{\"b\":2,\"c\":-1}")),
+        (several, Some(NESTED)),
+        (Value::Map(outer), None),
+    ] {
+        assert!(rt; has_text(alloc, &value, wanted));
+        assert_eq!(rt; value.holds_double(), wanted.is_none());
+    }
+    texts_of_values();
+    Ok(())
+}
+
+#[test]
+fn finds_values_under_keys(rt: HostRuntime) -> Result<(), Fail> {
+    let pairs = numbers(rt.alloc(), &[("b", 2), ("c", -1), ("c", 3)])?;
+    for (key, wanted) in [("b", Some(2)), ("c", Some(-1)), ("", None), ("cc", None)] {
+        let found = match find(&pairs, key) {
+            Some(Value::Number(n)) => Some(*n),
+            _ => None,
+        };
+        assert_eq!(rt; found, wanted);
     }
     Ok(())
 }
