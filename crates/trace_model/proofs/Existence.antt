@@ -11,9 +11,9 @@ use Rattle.std.proofs.lemmas.Cmp.{nat_list_cmp_total}
 use Rattle.std.proofs.lemmas.List.{map-id}
 use Rattle.std.proofs.lemmas.List.Elements.{All-map, recursion_from_All}
 use Rattle.std.proofs.lemmas.Map.Keys.{sorted_tail}
-use Rattle.trace_model.specs.Attributes.{Rise, keys, IsLast, StandsTwice, AreKeysInOrder, AreAttributes, AreRepeated}
+use Rattle.trace_model.specs.Attributes.{Rise, keys, StandsTwice, AreKeysInOrder, AreRepeated}
 use Rattle.trace_model.proofs.Order.{same_key, other_key, same_from_Equal, flipped}
-use Rattle.trace_model.proofs.Places.{contains_here, contains_cons, contains_cases, contains_none, All-from_contains, key_in, absent, not_in, pair_of_key, last_cons, last_here, last_cases, last_is_in, twice_cons, twice_here, twice_cases, twice_is_in}
+use Rattle.trace_model.proofs.Places.{contains_here, contains_cons, contains_cases, contains_none, All-from_contains, twice_cons, twice_here, twice_cases, twice_is_in}
 use Rattle.trace_model.proofs.Rising.{above}
 use Rattle.trace_model.proofs.RisingAttributes.{none_rise}
 

@@ -3,6 +3,7 @@ pub mod AttributesOf
 pub mod DoubleRows
 pub mod Existence
 pub mod Gathered
+pub mod LeastOf
 pub mod Order
 pub mod Places
 pub mod ProperRows

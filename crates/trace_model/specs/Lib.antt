@@ -3,6 +3,7 @@ pub mod Faults
 pub mod Flat
 pub mod Gathering
 pub mod Laws
+pub mod LeastOf
 pub mod Proper
 pub mod Soundness
 pub mod ValueTexts
