@@ -1,4 +1,4 @@
-ghost use Rattle.std.specs.Prelude.{◌≡◌, [], ◌++◌, length, IfOk, OnOk, OnErr, IsUtf8};
+ghost use Rattle.std.specs.Prelude.{◌≡◌, [], ◌++◌, length, IfOk, OnOk, OnErr, IsUtf8, string_bytes};
 
 use crate::halt::OutOfMemory;
 use std::alloc::Global;
@@ -28,6 +28,13 @@ impl Text {
         Text {
             text: String::new(alloc),
         }
+    }
+
+    /// The text of a string, which is taken over.
+    pub fn from_string(text: String) -> Text
+        ensures { result ≡ string_bytes text }
+    {
+        Text { text }
     }
 
     /// The number of bytes.

@@ -1,4 +1,4 @@
--- Each list of pairs has attributes and repeated keys, and each list of keys has its order: element by element, put in its place.
+-- Each list of pairs has repeated keys, and each list of keys has its order: element by element, put in its place.
 use Rattle.std.proofs.Common.{◌≡◌, ℕ, Bool, true, false, List, [], ◌∷◌, refl, sym, ap, ◌∙◌, subst, ⊎_elim, inl, inr}
 use Rattle.std.specs.Prelude.{◌↔◌, ◌⊎◌, Contains, map}
 use Rattle.std.specs.Ordering.{nat_cmp, ordering_reverse}
@@ -11,22 +11,22 @@ use Rattle.std.proofs.lemmas.Cmp.{nat_list_cmp_total}
 use Rattle.std.proofs.lemmas.List.{map-id}
 use Rattle.std.proofs.lemmas.List.Elements.{All-map, recursion_from_All}
 use Rattle.std.proofs.lemmas.Map.Keys.{sorted_tail}
-use Rattle.trace_model.specs.Attributes.{Rise, keys, IsLast, StandsTwice, AreKeysInOrder, AreAttributes, AreRepeated}
+use Rattle.trace_model.specs.Attributes.{Rise, keys, StandsTwice, AreKeysInOrder, AreRepeated}
 use Rattle.trace_model.proofs.Order.{same_key, other_key, same_from_Equal, flipped}
-use Rattle.trace_model.proofs.Places.{contains_here, contains_cons, contains_cases, contains_none, All-from_contains, key_in, absent, not_in, pair_of_key, last_cons, last_here, last_cases, last_is_in, twice_cons, twice_here, twice_cases, twice_is_in}
+use Rattle.trace_model.proofs.Places.{contains_here, contains_cons, contains_cases, contains_none, All-from_contains, twice_cons, twice_here, twice_cases, twice_is_in}
 use Rattle.trace_model.proofs.Rising.{above}
 use Rattle.trace_model.proofs.RisingAttributes.{none_rise}
 
 abbrev cmp : List ℕ → List ℕ → Ordering
 cmp = slice_cmp nat_cmp
 
-contains_from : {X : Type 0} (x : X) (xs : List X) (z : X) → (z ≡ x) ⊎ Contains xs z → Contains (x ∷ xs) z
+pub contains_from : {X : Type 0} (x : X) (xs : List X) (z : X) → (z ≡ x) ⊎ Contains xs z → Contains (x ∷ xs) z
 contains_from x xs z h = ⊎_elim
     (λ (same : z ≡ x). subst (Contains (x ∷ xs)) (sym same) (contains_here x xs))
     (λ (there : Contains xs z). contains_cons x xs z there)
     h
 
-has : (names : List (List ℕ)) (key : List ℕ) → Contains names key ⊎ (Contains names key → ⊥)
+pub has : (names : List (List ℕ)) (key : List ℕ) → Contains names key ⊎ (Contains names key → ⊥)
 has [] key = inr (contains_none key)
 has (name ∷ names) key = at (has names key) (bytes_eq key name) refl
   where
@@ -37,12 +37,12 @@ has (name ∷ names) key = at (has names key) (bytes_eq key name) refl
 
 module _ {X : Type 0} (key : X → List ℕ) where
   -- these elements and one more, by rising key
-  record With (x : X) (xs : List X) : Type 0 where
-    list : List X
-    rising : Rise (map key list)
-    holds : (z : X) → Contains list z ↔ ((z ≡ x) ⊎ Contains xs z)
+  pub record With (x : X) (xs : List X) : Type 0 where
+    pub list : List X
+    pub rising : Rise (map key list)
+    pub holds : (z : X) → Contains list z ↔ ((z ≡ x) ⊎ Contains xs z)
 
-  rise_cons : (x : X) (xs : List X) → ((z : X) → Contains xs z → cmp (key x) (key z) ≡ Less) → Rise (map key xs) → Rise (map key (x ∷ xs))
+  pub rise_cons : (x : X) (xs : List X) → ((z : X) → Contains xs z → cmp (key x) (key z) ≡ Less) → Rise (map key xs) → Rise (map key (x ∷ xs))
   unfolding IsStrictlySortedBy
   rise_cons x xs each up = (
     recursion_from_All (λ q. cmp (key x) q ≡ Less) (map key xs)
@@ -50,11 +50,11 @@ module _ {X : Type 0} (key : X → List ℕ) where
     up,
   )
 
-  in_front : (x : X) (xs : List X) → Rise (map key xs) → ((z : X) → Contains xs z → cmp (key x) (key z) ≡ Less) → With x xs
+  abbrev pub in_front : (x : X) (xs : List X) → Rise (map key xs) → ((z : X) → Contains xs z → cmp (key x) (key z) ≡ Less) → With x xs
   in_front x xs up each = record { list = x ∷ xs; rising = rise_cons x xs each up; holds = λ z. (contains_cases x xs z, contains_from x xs z) }
 
   -- behind y
-  behind : (x y : X) (ys : List X) → Rise (map key (y ∷ ys)) → cmp (key y) (key x) ≡ Less → With x ys → With x (y ∷ ys)
+  abbrev pub behind : (x y : X) (ys : List X) → Rise (map key (y ∷ ys)) → cmp (key y) (key x) ≡ Less → With x ys → With x (y ∷ ys)
   behind x y ys up low rest = record {
     list = y ∷ rest.list;
     rising = rise_cons y rest.list
@@ -132,44 +132,6 @@ in_order (name ∷ all) = more (in_order all).0 (in_order all).1
         )
 
 module _ {V : Type 0} where
-  pub attributes_of : (pairs : List (List ℕ × V)) → (kept : List (List ℕ × V)) × AreAttributes kept pairs
-  attributes_of [] = ([], record { rising = none_rise; last = λ pair. (λ there. absurd (contains_none pair there), λ is. last_is_in pair [] is) })
-  attributes_of (p ∷ pairs) = more (attributes_of pairs).0 (attributes_of pairs).1 (has (keys pairs) p.0)
-    where
-      more : (kept : List (List ℕ × V)) → AreAttributes kept pairs → Contains (keys pairs) p.0 ⊎ (Contains (keys pairs) p.0 → ⊥) →
-          (kept : List (List ℕ × V)) × AreAttributes kept (p ∷ pairs)
-      more kept are (inl known) = (
-        kept,
-        record {
-          rising = are.rising;
-          last = λ pair. (
-            λ there. last_cons p pair pairs ((are.last pair).0 there),
-            λ is. ⊎_elim
-                (λ (h : IsLast pair pairs). (are.last pair).1 h)
-                (λ h. absurd (not_in pairs p.0 h.1 known))
-                (last_cases p pair pairs is),
-          );
-        },
-      )
-      more kept are (inr new) =
-          let one = insert (λ (pair : List ℕ × V). pair.0) p kept are.rising
-          (λ there. let held = pair_of_key p.0 kept there in new (key_in pairs (p.0, held.0) (last_is_in (p.0, held.0) pairs ((are.last (p.0, held.0)).0 held.1)))) in (
-            one.list,
-            record {
-              rising = one.rising;
-              last = λ pair. (
-                λ there. ⊎_elim
-                    (λ (same : pair ≡ p). subst (λ (q : List ℕ × V). IsLast q (p ∷ pairs)) (sym same) (last_here p pairs (absent pairs p.0 new)))
-                    (λ (h : Contains kept pair). last_cons p pair pairs ((are.last pair).0 h))
-                    ((one.holds pair).0 there),
-                λ is. (one.holds pair).1 (⊎_elim
-                    (λ (h : IsLast pair pairs). inr ((are.last pair).1 h))
-                    (λ h. inl h.0)
-                    (last_cases p pair pairs is)),
-              );
-            },
-          )
-
   pub repeated_keys : (pairs : List (List ℕ × V)) → (names : List (List ℕ)) × AreRepeated names pairs
   repeated_keys [] = ([], record { rising = none_rise; twice = λ key. (λ there. absurd (contains_none key there), λ is. twice_is_in key [] is) })
   repeated_keys (p ∷ pairs) = more (repeated_keys pairs).0 (repeated_keys pairs).1 (has (keys pairs) p.0)

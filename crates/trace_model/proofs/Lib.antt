@@ -1,6 +1,9 @@
 pub mod AllLemmas
+pub mod AttributesOf
+pub mod DoubleRows
 pub mod Existence
 pub mod Gathered
+pub mod LeastOf
 pub mod Order
 pub mod Places
 pub mod ProperRows
@@ -8,3 +11,5 @@ pub mod Rising
 pub mod RisingAttributes
 pub mod Rows
 pub mod SoundLemmas
+pub mod TextLaws
+pub mod TokenRows

@@ -1,7 +1,10 @@
 -- What the laws of attributes and values say.
-use Rattle.std.specs.Prelude.{◌≡◌, ◌↔◌, ℕ, ◌+◌, ◌≤◌, List, [], All, Contains}
+use Rattle.std.specs.Prelude.{◌≡◌, ◌↔◌, ℕ, ◌+◌, ◌≤◌, List, [], All, Contains, Some, IsUtf8}
+use Rattle.std.specs.List.{list_any}
+use Rattle.json.specs.Json.{document}
 use Rattle.trace_model.specs.Attributes.{Rise, keys, AreKeysInOrder, AreAttributes, AreRepeated}
 use Rattle.trace_model.specs.Proper.{IsProperValue, AreProper}
+use Rattle.trace_model.specs.ValueTexts.{has_double, json_of, json_text, value_text}
 use Rattle.trace_model.specs.Values.{depth, MapsRise}
 use Rattle.trace_model.specs.declared.value.Value.{Value}
 use Rattle.trace_model.specs.declared.value.Value.TheVariants as values
@@ -36,3 +39,10 @@ pub record MembersOfProperValues : Type 0 where
 pub record RisingAttributes : Type 0 where
   pub themselves : (pairs : List (List ℕ × Value)) → Rise (keys pairs) → AreAttributes pairs pairs
   pub unrepeated : (pairs : List (List ℕ × Value)) → Rise (keys pairs) → AreRepeated [] pairs
+
+-- doubles in a list or map by its members; the text of a proper value is UTF-8, and its JSON is read back
+pub record TextsOfValues : Type 0 where
+  pub list_double : (members : List Value) → has_double (values.List members) ≡ list_any has_double members
+  pub map_double : (pairs : List (List ℕ × Value)) → has_double (values.Map pairs) ≡ list_any (λ pair. has_double pair.1) pairs
+  pub utf8 : (value : Value) → IsProperValue value → IsUtf8 (value_text value)
+  pub read_back : (value : Value) → IsProperValue value → depth value ≤ 16 → document (json_text value) ≡ Some (json_of value)

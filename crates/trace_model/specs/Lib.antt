@@ -1,7 +1,11 @@
 pub mod Attributes
+pub mod Faults
 pub mod Flat
 pub mod Gathering
 pub mod Laws
+pub mod LeastOf
 pub mod Proper
 pub mod Soundness
+pub mod ValueTexts
 pub mod Values
+pub mod WrittenTokens

@@ -1,6 +1,6 @@
 ghost use Rattle.std.specs.Prelude.{◌≡◌, All, IfOk, OnOk, IsSortedBy};
 ghost use Rattle.std.specs.List.Sorted.{IsStableBy};
-ghost use Rattle.trace_model.specs.Attributes.{AreAttributes, AreRepeated, keys};
+ghost use Rattle.trace_model.specs.Attributes.{AreAttributes, AreRepeated, attrs, keys};
 ghost use Rattle.trace_model.specs.Gathering.{key_above, ends_with, kept_with, repeated_with};
 ghost use Rattle.trace_model.specs.Values.{IsSound, AreSound};
 
@@ -15,6 +15,7 @@ pub fn attrs_of(
     list: Items<(Text, Value)>,
 ) -> Result<(Attrs, Items<Text>), OutOfMemory>
     ensures attributes { IfOk result (λ parts. AreAttributes parts.0 list) }
+    ensures same { IfOk result (λ parts. parts.0 ≡ attrs list) }
     ensures repeated { IfOk result (λ parts. AreRepeated parts.1 list) }
     ensures sound { All (λ pair. IsSound pair.1) list → IfOk result (λ parts. AreSound parts.0) }
 {

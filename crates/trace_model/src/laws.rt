@@ -1,5 +1,6 @@
 //! Laws of attributes and values, as contracts of functions that do nothing.
-ghost use Rattle.trace_model.specs.Laws.{AttributesOnce, AttributesExist, MembersOfValues, MembersOfProperValues, RisingAttributes};
+ghost use Rattle.trace_model.specs.LeastOf.{LeastOfEither};
+ghost use Rattle.trace_model.specs.Laws.{AttributesOnce, AttributesExist, MembersOfValues, MembersOfProperValues, RisingAttributes, TextsOfValues};
 
 /// A list of pairs makes one list of attributes at most, and one list of repeated keys.
 pub fn attributes_once()
@@ -33,6 +34,22 @@ pub fn members_of_proper_values()
 /// Pairs whose keys rise are their own attributes, and none of their keys is repeated.
 pub fn rising_attributes()
     ensures { RisingAttributes }
+{
+    // The clause is the law.
+}
+
+/// Where doubles stand in a list or map, by its members; the text of a proper value is UTF-8, and
+/// the JSON of a proper one that is shallow is read as that JSON (RFC 8259).
+pub fn texts_of_values()
+    ensures { TextsOfValues }
+{
+    // The clause is the law.
+}
+
+/// Of two kinds of things, of which the first comes before the second, the least is the least of the
+/// first kind where there is one.
+pub fn least_of_either<T>()
+    ensures { LeastOfEither T }
 {
     // The clause is the law.
 }

@@ -2,19 +2,26 @@
 #![tactic(auto)]
 
 mod attributes;
+mod fault;
 pub mod laws;
+mod lookup;
 mod place;
 mod proper;
 mod remark;
 mod span;
+mod texts;
+mod tokens;
 mod trace;
 mod value;
 
 pub use attributes::attrs_of;
+pub use fault::Fault;
+pub use lookup::find;
 pub use place::Place;
 pub use proper::proper_group;
 pub use remark::{Remark, RemarkKind};
 pub use span::{Code, Event, Kind, Link, Span, Status};
+pub use texts::value_text;
 pub use trace::{Group, Scope};
 pub use value::{Attrs, Value, attrs_copy};
 

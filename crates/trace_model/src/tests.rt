@@ -1,15 +1,19 @@
 use crate::laws::{
     attributes_exist, attributes_once, members_of_proper_values, members_of_values,
-    rising_attributes,
+    rising_attributes, texts_of_values,
 };
 use crate::{
-    Attrs, Code, Event, Group, Kind, Link, Place, Remark, RemarkKind, Scope, Span, Status, Value,
-    attrs_copy, attrs_of, proper_group,
+    Attrs, Code, Event, Fault, Group, Kind, Link, Place, Remark, RemarkKind, Scope, Span, Status,
+    Value, attrs_copy, attrs_of, find, proper_group, value_text,
 };
 use span_ids::{Nanos, SpanId, TraceId};
-use span_io::{Blob, Items, OutOfMemory, Text};
+use span_io::{Blob, Halt, Items, OutOfMemory, Text};
 use std::alloc::Global;
 use std::test::Fail;
+
+/// What [`nested`] is as a text.
+const NESTED: &str =
+    "[\"a\\\"\\\\/\\n\\u0001é\",-9223372036854775808,null,\"AP8QIA==\",[],{\"\":true,\"k\\\"\":{}}]";
 
 fn text_of(alloc: Global, piece: &str) -> Result<Text, OutOfMemory> {
     let mut text = Text::new(alloc);
@@ -131,6 +135,106 @@ fn prints_and_copies_values(rt: HostRuntime) -> Result<(), Fail> {
     }
     members_of_values();
     members_of_proper_values();
+    Ok(())
+}
+
+fn blob_of(alloc: Global, bytes: &[u8]) -> Result<Blob, OutOfMemory> {
+    let mut blob = Blob::new(alloc);
+    blob.append(bytes)?;
+    Ok(blob)
+}
+
+/// A list with a text to escape, a number, nothing, bytes, an empty list and a map of two keys.
+fn nested(alloc: Global) -> Result<Value, OutOfMemory> {
+    let mut pairs = Items::new(alloc);
+    pairs.push((text_of(alloc, "")?, Value::Truth(true)))?;
+    pairs.push((text_of(alloc, "k\"")?, Value::Map(Items::new(alloc))))?;
+    let mut members = Items::new(alloc);
+    members.push(Value::Text(text_of(alloc, "a\"\\/\n\u{1}é")?))?;
+    members.push(Value::Number(i64::MIN))?;
+    members.push(Value::Nothing)?;
+    members.push(Value::Bytes(blob_of(alloc, &[0, 255, 16, 32])?))?;
+    members.push(Value::List(Items::new(alloc)))?;
+    members.push(Value::Map(pairs))?;
+    Ok(Value::List(members))
+}
+
+fn has_text(alloc: Global, value: &Value, wanted: Option<&str>) -> bool {
+    match value_text(alloc, value) {
+        Ok(text) => wanted == Some(text.as_str()),
+        Err(Halt::Why(())) => wanted.is_none(),
+        Err(Halt::OutOfMemory) => false,
+    }
+}
+
+#[test]
+fn tells_leaves_as_texts(rt: HostRuntime) -> Result<(), Fail> {
+    let alloc = rt.alloc();
+    let text = text_of(alloc, "a\"é")?;
+    let bytes = blob_of(alloc, &[251, 255])?;
+    for (value, wanted) in [
+        (Value::Text(text), Some("a\"é")),
+        (Value::Truth(true), Some("true")),
+        (Value::Truth(false), Some("false")),
+        (Value::Number(-5), Some("-5")),
+        (Value::Bytes(bytes), Some("+/8=")),
+        (Value::Nothing, Some("")),
+        (Value::Eight([63, 240, 0, 0, 0, 0, 0, 0]), None),
+    ] {
+        assert!(rt; has_text(alloc, &value, wanted));
+        assert_eq!(rt; value.holds_double(), wanted.is_none());
+    }
+    Ok(())
+}
+
+#[test]
+fn tells_lists_and_maps_as_texts(rt: HostRuntime) -> Result<(), Fail> {
+    let alloc = rt.alloc();
+    let several = nested(alloc)?;
+    let pairs = numbers(alloc, &[("b", 2), ("c", -1)])?;
+    let inner = one(alloc, Value::Eight([63, 240, 0, 0, 0, 0, 0, 0]))?;
+    let outer = one(alloc, (text_of(alloc, "k")?, Value::List(inner)))?;
+    for (value, wanted) in [
+        (Value::List(Items::new(alloc)), Some("[]")),
+        (Value::Map(pairs), Some("{\"b\":2,\"c\":-1}")),
+        (several, Some(NESTED)),
+        (Value::Map(outer), None),
+    ] {
+        assert!(rt; has_text(alloc, &value, wanted));
+        assert_eq!(rt; value.holds_double(), wanted.is_none());
+    }
+    texts_of_values();
+    Ok(())
+}
+
+#[test]
+fn finds_values_under_keys(rt: HostRuntime) -> Result<(), Fail> {
+    let pairs = numbers(rt.alloc(), &[("b", 2), ("c", -1), ("c", 3)])?;
+    for (key, wanted) in [("b", Some(2)), ("c", Some(-1)), ("", None), ("cc", None)] {
+        let found = match find(&pairs, key) {
+            Some(Value::Number(n)) => Some(*n),
+            _ => None,
+        };
+        assert_eq!(rt; found, wanted);
+    }
+    Ok(())
+}
+
+#[test]
+fn numbers_and_names_faults(rt: HostRuntime) -> Result<(), Fail> {
+    let alloc = rt.alloc();
+    for (fault, number, name) in [
+        (Fault::EndBeforeStart, 20, "EndBeforeStart"),
+        (Fault::Reserved(text_of(alloc, "error")?), 21, "Reserved"),
+        (Fault::OwnKey(text_of(alloc, "jaeger.flags")?), 22, "OwnKey"),
+        (Fault::EventText, 23, "EventText"),
+        (Fault::ChildOfLink, 24, "ChildOfLink"),
+        (Fault::DoubleInText, 25, "DoubleInText"),
+    ] {
+        assert_eq!(rt; (fault.number(), fault.name()), (number, name));
+    }
+    let shown = format!(in alloc; "{:?}", Fault::OwnKey(text_of(alloc, "k")?))?;
+    assert_eq!(rt; shown.as_str(), "OwnKey(Text { text: \"k\" })");
     Ok(())
 }
 

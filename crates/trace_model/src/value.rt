@@ -1,4 +1,6 @@
 ghost use Rattle.std.specs.Prelude.{◌≡◌, IfOk};
+ghost use Rattle.std.specs.List.{list_any};
+ghost use Rattle.trace_model.specs.ValueTexts.{has_double};
 
 use span_io::{Blob, Items, OutOfMemory, Text};
 use std::alloc::Global;
@@ -38,6 +40,43 @@ impl Value {
         };
         Ok(copy)
     }
+
+    /// Whether a double stands in the value, at any depth.
+    #[cycle(doubles)]
+    pub fn holds_double(&self) -> bool
+        ensures { result ≡ has_double self.now }
+    {
+        match self {
+            Value::Eight(_) => true,
+            Value::List(members) => holds_double_in(members.as_slice()),
+            Value::Map(pairs) => holds_double_under(pairs.as_slice()),
+            _ => false,
+        }
+    }
+}
+
+#[cycle(doubles)]
+fn holds_double_in(members: &[Value]) -> bool
+    ensures { result ≡ list_any has_double members.now }
+{
+    'members: for member in members {
+        if member.holds_double() {
+            return true;
+        }
+    }
+    false
+}
+
+#[cycle(doubles)]
+fn holds_double_under(pairs: &[(Text, Value)]) -> bool
+    ensures { result ≡ list_any (λ pair. has_double pair.1) pairs.now }
+{
+    'pairs: for pair in pairs {
+        if pair.1.holds_double() {
+            return true;
+        }
+    }
+    false
 }
 
 #[cycle(copies)]

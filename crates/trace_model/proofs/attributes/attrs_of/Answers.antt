@@ -1,6 +1,7 @@
 use Rattle.std.proofs.Common.{◌≡◌, [], ◌++◌, sym, ap, ◌∙◌, subst, arith}
 use Rattle.std.proofs.lemmas.Grind.{common_steps}
 use Rattle.trace_model.specs.Attributes.{AreAttributes, AreRepeated}
+use Rattle.trace_model.proofs.AttributesOf.{same_attrs}
 use Rattle.trace_model.proofs.Gathered.{kept_of, repeated_of, attributes_from, repeated_from}
 use Rattle.trace_model.proofs.SoundLemmas.{sound_from}
 use Rattle.trace_model.proofs.attributes.attrs_of.Goals as goal
@@ -11,6 +12,9 @@ returns-clause-attributes c =
     let all : c.in_ok-pairs.pairs.items ≡ c.pairs.invariant.behind = c.pairs.invariant.whole ∙ ap (λ l. l ++ c.pairs.invariant.behind) none in
     subst (λ kept. AreAttributes kept c.args.list) (ap kept_of all ∙ sym c.pairs.invariant.pairs)
     (attributes_from c.args.list c.in_ok-pairs.pairs.items c.in_ok-pairs.ensures.sorted c.in_ok-pairs.ensures.stable)
+
+pub returns-clause-same : goal.returns-clause-same
+returns-clause-same c = same_attrs c.pairs.kept c.args.list (returns-clause-attributes c)
 
 pub returns-clause-repeated : goal.returns-clause-repeated
 returns-clause-repeated c =
