@@ -12,7 +12,7 @@ use Rattle.thrift_core.specs.declared.type_code.TypeCode.TheVariants as kinds
 use Rattle.thrift_core.specs.Parts.{Part, header, truth, byte, short, int, long, eight, size, list_head, map_head, WordOf, Spelling, Begins}
 use Rattle.thrift_core.specs.Protocols.{ReadsExactly}
 use Rattle.thrift_core.specs.Reading.{ReadingOf}
-use Rattle.thrift_core.specs.Trees.{Leaf, truth_value, i8, i16, i32, i64, double, leaf_kind, Tree, leaf, binary, structure, map_of, set_of, list_of, Fields, no_fields, field_then, Trees, no_trees, tree_then, Pairs, no_pairs, pair_then, kind_of, tree_count, pair_count, LeafThen, ValueThen, FieldsThen, ElementsThen, PairsThen}
+use Rattle.thrift_core.specs.Trees.{Leaf, truth_value, i8, i16, i32, i64, double, Tree, leaf, binary, structure, map_of, set_of, list_of, Fields, no_fields, field_then, Trees, no_trees, tree_then, Pairs, no_pairs, pair_then, kind_of, tree_count, pair_count, LeafThen, ValueThen, FieldsThen, ElementsThen, PairsThen}
 
 -- ---- what values of a type hold
 
@@ -304,7 +304,7 @@ module _ (Spells : Spelling) (reads : ReadingOf) (ThenVarint : Part → List ℕ
         let heads : Some head ≡ Some there = n.0 in
         let same : head ≡ there = cc in
         let v = one_value tree that left h.0 h.1 h.2 k.2 (ap (λ (f : Field). f.kind) same) h.4
-            (subst (λ (x : Option Bool). ValueThen Spells that left x h.1 k.2) (sym (ap (λ (f : Field). f.held) same)) (subst (λ l. ValueThen Spells that left k.0 l k.2) (sym n.1) k.4)) in
+        (subst (λ (x : Option Bool). ValueThen Spells that left x h.1 k.2) (sym (ap (λ (f : Field). f.held) same)) (subst (λ l. ValueThen Spells that left k.0 l k.2) (sym n.1) k.4)) in
         let ids : id ≡ it = ap (λ (f : Field). f.id) same in
         let m = one_struct more others left id h.2 rest other h.5 (subst (λ (x : ℤ). FieldsThen Spells others left x h.2 other) (sym ids) (subst (λ l. FieldsThen Spells others left it l other) (sym v.1) k.5)) in
         (λ i. field_then (ids i) (v.0 i) (m.0 i), m.1)

@@ -1,5 +1,5 @@
 -- Structs keep what the laws of offences ask of a wire format.
-use Rattle.std.proofs.Common.{◌≡◌, ◌≤◌, ◌+◌, ◌++◌, ℕ, ℤ, Bool, Some, None, Option, List, [], ◌∷◌, length, refl, sym, ap, subst, ◌∙◌, arith}
+use Rattle.std.proofs.Common.{◌≡◌, ◌≤◌, ◌+◌, ◌++◌, ℕ, Bool, Some, None, Option, List, [], length, sym, ap, subst, ◌∙◌, arith}
 use Rattle.std.proofs.lemmas.List.{length-append, append_cancel_right}
 use Rattle.span_io.specs.declared.cause.Cause.{Cause}
 use Rattle.span_io.specs.Cuts.{some_length}
@@ -10,7 +10,7 @@ use Rattle.thrift_core.specs.OneReading.{own_text, one_part, one_value}
 use Rattle.thrift_core.specs.Parts.{Part, header, Spelling, Begins}
 use Rattle.thrift_core.specs.Protocols.{ReadsExactly, PartLaws}
 use Rattle.thrift_core.specs.Reading.{ReadingOf}
-use Rattle.thrift_core.specs.Trees.{Tree, kind_of, ValueThen}
+use Rattle.thrift_core.specs.Trees.{kind_of, ValueThen}
 
 module _ (Spells : Spelling) (reads : ReadingOf) (ThenVarint : Part → List ℕ → Type 0) (Refuses : Part → Cause → List ℕ → Type 0) (R : ReadsExactly Spells reads ThenVarint Refuses) (P : PartLaws Spells ThenVarint Refuses) (left : ℕ) where
   one_field : (r s : FieldItem) (rest after other : StructRest) → BeginsField Spells left r rest after → BeginsField Spells left s rest other → (r ≡ s) × (after ≡ other)
@@ -30,8 +30,13 @@ module _ (Spells : Spelling) (reads : ReadingOf) (ThenVarint : Part → List ℕ
 
   field_room : (r : FieldItem) (rest after : StructRest) → BeginsField Spells left r rest after → length after.bytes + length r.text + 1 ≤ length rest.bytes
   field_room r rest after h =
-      omega (arith, some_length h.head.text (P.some (header left rest.last) (Some (record { id = r.id; kind = kind_of r.tree; held = h.held })) h.head.text tt h.head.spelled),
-      ap length h.head.parts, length-append h.head.text (r.text ++ after.bytes), length-append r.text after.bytes)
+      omega (
+        arith,
+        some_length h.head.text (P.some (header left rest.last) (Some (record { id = r.id; kind = kind_of r.tree; held = h.held })) h.head.text tt h.head.spelled),
+        ap length h.head.parts,
+        length-append h.head.text (r.text ++ after.bytes),
+        length-append r.text after.bytes,
+      )
 
   end_some : (rest : StructRest) → Begins Spells (header left rest.last) None rest.bytes [] → 1 ≤ length rest.bytes
   end_some rest h = omega (arith, some_length h.text (P.some (header left rest.last) None h.text tt h.spelled), ap length h.parts, length-append h.text [])
