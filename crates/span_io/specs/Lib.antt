@@ -13,6 +13,8 @@ pub mod Memory
 pub mod OffenceLaws
 pub mod Offences
 pub mod Outside
+pub mod Paths
+pub mod PathLaws
 pub mod Steps
 pub mod TableDecisions
 pub mod TableLaws
