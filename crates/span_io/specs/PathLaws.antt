@@ -1,12 +1,13 @@
 -- How the offence that counts is found where members and elements are looked at in their order: what was looked at has none, and the
 -- first that is met is the least.
-use Rattle.std.proofs.Common.{◌≡◌, ℕ, zero, suc, ◌+◌, ◌<◌, ◌≤◌, ◌⊎◌, inl, inr, List, [], ◌∷◌, ◌++◌, length, Option, Some, None, Result, Ok, Err, refl, sym, ap, subst, ◌∙◌, arith}
+use Rattle.std.proofs.Common.{◌≡◌, ℕ, zero, suc, ◌+◌, ◌<◌, ◌≤◌, ◌⊎◌, inl, inr, List, [], ◌∷◌, ◌++◌, length, Option, Some, None, is_some, true, Result, Ok, Err, refl, sym, ap, subst, ◌∙◌, arith}
 use Rattle.std.proofs.lemmas.Bool.{cases_lt}
 use Rattle.span_io.specs.Causes.{cause_number}
 use Rattle.span_io.specs.declared.cause.Cause.{Cause}
 use Rattle.span_io.specs.declared.halt.Halt.{Halt}
 use Rattle.span_io.specs.declared.halt.Halt.TheVariants as halts
-use Rattle.span_io.specs.Paths.{Faults, nothing, here, ◌▹◌, required, optional, each, valued, ComesBefore, IsLeast, Clean, Quiet, Counts, Halts, unit_of}
+use Rattle.span_io.specs.declared.refusal.Refusal.{Refusal}
+use Rattle.span_io.specs.Paths.{Faults, nothing, here, ◌▹◌, required, optional, each, valued, ComesBefore, IsLeast, Clean, Quiet, Counts, Halts, JudgesValue, HaltsInput, JudgesInput, in_unit}
 
 -- ---- one value
 
@@ -32,6 +33,15 @@ least_here Numbers number offence first = record { offence = offence; least = le
 
 pub counts_here : (Numbers : ℕ → Type 0) (number : ℕ) → Numbers number → ((n : ℕ) → Numbers n → number ≤ n) → Counts (here Numbers) number
 counts_here Numbers number offence first = record { path = []; is_least = least_here Numbers number offence first }
+
+-- of a value of a kind, and of one that isn't
+pub clean_valued : {A : Type 0} (Offends : Faults) (o : Option A) → is_some o ≡ true → Clean Offends → Clean (valued (λ x. Offends) o)
+clean_valued Offends (Some x) shape clean = clean
+clean_valued {A} Offends None shape clean = cc
+
+pub halts_valued : {A : Type 0} (halt : Halt Cause) (Offends : Faults) (o : Option A) → is_some o ≡ true → Halts halt Offends → Halts halt (valued (λ x. Offends) o)
+halts_valued halt Offends (Some x) shape h = h
+halts_valued {A} halt Offends None shape h = cc
 
 -- one number alone
 pub counts_only : (number : ℕ) → Counts (here (λ n. n ≡ number)) number
@@ -106,7 +116,11 @@ halts_later (halts.Why cause) First Others clean h =
     record { path = one_on First Others h.path; is_least = later_of_parts First Others clean h.path (cause_number cause) h.is_least }
 halts_later halts.OutOfMemory First Others clean h = tt
 
-pub ruleset in_order = (clean_nothing, clean_parts, quiet_nothing, quiet_parts, halts_first, halts_later)
+-- what a call answers that hands a halt on
+pub exits : {T : Type 0} (halt : Halt Cause) (answer : Result T (Halt Cause)) (Offends : Faults) → answer ≡ Err halt → Halts halt Offends → JudgesValue answer Offends
+exits {T} halt answer Offends e h = subst (λ (r : Result T (Halt Cause)). JudgesValue r Offends) (sym e) h
+
+pub ruleset in_order = (clean_nothing, clean_parts, quiet_nothing, quiet_parts, halts_first, halts_later, clean_valued, halts_valued)
 
 -- ---- a list of elements
 
@@ -143,6 +157,16 @@ module _ {A : Type 0} (Offends : A → Faults) where
   halts_at (halts.Why cause) seen x more clean h =
       record { path = length seen ∷ h.path; is_least = least_at seen x more clean h.path (cause_number cause) h.is_least }
   halts_at halts.OutOfMemory seen x more clean h = tt
+
+  -- the same, as a refusal with the element's number
+  pub halts_input_at : (halt : Halt Cause) (seen : List A) (x : A) (more : List A) → Clean (each Offends seen) → Halts halt (Offends x)
+      → HaltsInput (in_unit (suc (length seen)) halt) (each Offends (seen ++ x ∷ more))
+  halts_input_at (halts.Why cause) seen x more clean h =
+      record { path = length seen ∷ h.path; is_least = least_at seen x more clean h.path (cause_number cause) h.is_least; unit = refl }
+  halts_input_at halts.OutOfMemory seen x more clean h = tt
+
+pub exits_input : {T : Type 0} (halt : Halt Refusal) (answer : Result T (Halt Refusal)) (Offends : Faults) → answer ≡ Err halt → HaltsInput halt Offends → JudgesInput answer Offends
+exits_input {T} halt answer Offends e h = subst (λ (r : Result T (Halt Refusal)). JudgesInput r Offends) (sym e) h
 
 -- ---- one offence counts
 

@@ -97,8 +97,16 @@ pub record Refuses (Offends : Faults) (refusal : Refusal) : Type 0 where
   pub is_least : IsLeast Offends path (cause_number refusal.cause)
   pub unit : refusal.unit ≡ unit_of path
 
+abbrev pub HaltsInput : Halt Refusal → Faults → Type 0
+HaltsInput (halts.Why refusal) Offends = Refuses Offends refusal
+HaltsInput halts.OutOfMemory Offends = Unit {0}
+
 -- The same of an input, which is a list of units.
 abbrev pub JudgesInput : {T : Type 0} → Result T (Halt Refusal) → Faults → Type 0
 JudgesInput (Ok x) Offends = Clean Offends
-JudgesInput (Err (halts.Why refusal)) Offends = Refuses Offends refusal
-JudgesInput (Err halts.OutOfMemory) Offends = Unit {0}
+JudgesInput (Err halt) Offends = HaltsInput halt Offends
+
+-- a halt in the unit of this number
+abbrev pub in_unit : ℕ → Halt Cause → Halt Refusal
+in_unit unit (halts.Why cause) = halts.Why (record { unit = unit; cause = cause })
+in_unit unit halts.OutOfMemory = halts.OutOfMemory

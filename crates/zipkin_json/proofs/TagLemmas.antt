@@ -1,0 +1,114 @@
+-- Tags, as a loop goes through the members of their object.
+use Rattle.std.proofs.Common.{◌≡◌, ℕ, List, [], ◌∷◌, ◌++◌, Option, Some, None, option_map, Bool, true, false, is_some, String, Global, string_bytes, refl, sym, ap, subst, ◌∙◌}
+use Rattle.serde_json.specs.Data.{Data, null, boolean, number, string, array, object, Members, no_members, member as has}
+use Rattle.serde_json.specs.Find.{as_null, as_str}
+use Rattle.serde_json.specs.View.{view, members_view}
+use Rattle.serde_json.proofs.Views.{Entry}
+use Rattle.span_io.specs.declared.cause.Cause.{Cause}
+use Rattle.span_io.specs.declared.halt.Halt.{Halt}
+use Rattle.span_io.specs.Paths.{Faults, nothing, here, optional, valued, each, Clean, Counts}
+use Rattle.span_io.specs.PathLaws.{clean_nothing, counts_only, clean_one_more, least_at}
+use Rattle.zipkin_json.specs.Members.{unless_null, values}
+use Rattle.zipkin_json.specs.Span.{texts_in, tag_faults}
+
+-- ---- one tag
+
+pub clean_null : (d : Data) → is_some (as_null d) ≡ true → Clean (tag_faults d)
+clean_null null h = clean_nothing
+clean_null (boolean b) h = cc
+clean_null (number n) h = cc
+clean_null (string s) h = cc
+clean_null (array ds) h = cc
+clean_null (object ms) h = cc
+
+pub clean_text : (d : Data) (text : List ℕ) → Some text ≡ as_str d → Clean (tag_faults d)
+clean_text null text h = cc
+clean_text (boolean b) text h = cc
+clean_text (number n) text h = cc
+clean_text (string s) text h = clean_nothing
+clean_text (array ds) text h = cc
+clean_text (object ms) text h = cc
+
+pub no_text : (d : Data) → is_some (as_null d) ≡ false → None ≡ as_str d → Counts (tag_faults d) 11
+no_text null h k = cc
+no_text (boolean b) h k = counts_only 11
+no_text (number n) h k = counts_only 11
+no_text (string s) h k = cc
+no_text (array ds) h k = counts_only 11
+no_text (object ms) h k = counts_only 11
+
+-- ---- the members
+
+values_all : (es : List Entry) (e : Entry) (more : List Entry) → values (members_view (es ++ e ∷ more)) ≡ values (members_view es) ++ view e.1 ∷ values (members_view more)
+values_all [] e more = refl
+values_all (x ∷ es) e more = ap (λ ds. view x.1 ∷ ds) (values_all es e more)
+
+pub clean_member : (es : List Entry) (e : Entry) → Clean (each tag_faults (values (members_view es))) → Clean (tag_faults (view e.1)) → Clean (each tag_faults (values (members_view (es ++ e ∷ []))))
+clean_member es e all last = subst (λ ds. Clean (each tag_faults ds)) (sym (values_all es e [])) (clean_one_more tag_faults _ (view e.1) all last)
+
+counts_at : (ds : List Data) (d : Data) (more : List Data) (cause : ℕ) → Clean (each tag_faults ds) → Counts (tag_faults d) cause → Counts (each tag_faults (ds ++ d ∷ more)) cause
+counts_at ds d more cause all h = record { path = _; is_least = least_at tag_faults ds d more all h.path cause h.is_least }
+
+pub counts_member : (entries es : List Entry) (e : Entry) (more : List Entry) (cause : ℕ) → entries ≡ es ++ e ∷ more → Clean (each tag_faults (values (members_view es)))
+    → Counts (tag_faults (view e.1)) cause → Counts (each tag_faults (values (members_view entries))) cause
+counts_member entries es e more cause all clean h =
+    subst (λ ds. Counts (each tag_faults ds) cause) (sym (ap (λ l. values (members_view l)) all ∙ values_all es e more)) (counts_at _ (view e.1) _ cause clean h)
+
+null_read : (key : List ℕ) (d : Data) (ms : Members) → is_some (as_null d) ≡ true → texts_in (has key d ms) ≡ texts_in ms
+null_read key null ms h = refl
+null_read key (boolean b) ms h = cc
+null_read key (number n) ms h = cc
+null_read key (string s) ms h = cc
+null_read key (array ds) ms h = cc
+null_read key (object os) ms h = cc
+
+text_read : (key : List ℕ) (d : Data) (text : List ℕ) (ms : Members) → Some text ≡ as_str d → texts_in (has key d ms) ≡ option_map (λ texts. (key, text) ∷ texts) (texts_in ms)
+text_read key null text ms h = cc
+text_read key (boolean b) text ms h = cc
+text_read key (number n) text ms h = cc
+text_read key (string s) text ms h = let e : text ≡ s = cc in rw e
+text_read key (array ds) text ms h = cc
+text_read key (object os) text ms h = cc
+
+-- what a member behind others adds to what they gave
+module _ (last : List (List ℕ × List ℕ)) where
+  then : Option (List (List ℕ × List ℕ)) → Option (List (List ℕ × List ℕ))
+  then None = None
+  then (Some texts) = Some (texts ++ last)
+
+  then_text : (key text : List ℕ) (o p : Option (List (List ℕ × List ℕ))) → o ≡ then p → option_map (λ texts. (key, text) ∷ texts) o ≡ then (option_map (λ texts. (key, text) ∷ texts) p)
+  unfolding then
+  then_text key text o None h = rw h refl
+  then_text key text o (Some texts) h = rw h refl
+
+  then_more : (key : List ℕ) (d : Data) (ms all : Members) → texts_in all ≡ then (texts_in ms) → texts_in (has key d all) ≡ then (texts_in (has key d ms))
+  unfolding then
+  then_more key null ms all h = h
+  then_more key (boolean b) ms all h = refl
+  then_more key (number n) ms all h = refl
+  then_more key (string s) ms all h = then_text key s (texts_in all) (texts_in ms) h
+  then_more key (array ds) ms all h = refl
+  then_more key (object os) ms all h = refl
+
+  -- the last member gives these texts
+  then_last : (es : List Entry) (e : Entry) → texts_in (members_view (e ∷ [])) ≡ Some last → texts_in (members_view (es ++ e ∷ [])) ≡ then (texts_in (members_view es))
+  unfolding then
+  then_last [] e h = h
+  then_last (x ∷ es) e h = then_more (string_bytes x.0) (view x.1) (members_view es) (members_view (es ++ e ∷ [])) (then_last es e h)
+
+  texts_more : (es : List Entry) (e : Entry) (texts : List (List ℕ × List ℕ)) → texts_in (members_view es) ≡ Some texts → texts_in (members_view (e ∷ [])) ≡ Some last
+      → texts_in (members_view (es ++ e ∷ [])) ≡ Some (texts ++ last)
+  unfolding then
+  texts_more es e texts before h = then_last es e h ∙ ap then before
+
+append_none : (texts : List (List ℕ × List ℕ)) → texts ++ [] ≡ texts
+append_none [] = refl
+append_none (t ∷ texts) = ap (λ l. t ∷ l) (append_none texts)
+
+pub texts_null : (es : List Entry) (e : Entry) (texts : List (List ℕ × List ℕ)) → texts_in (members_view es) ≡ Some texts → is_some (as_null (view e.1)) ≡ true
+    → texts_in (members_view (es ++ e ∷ [])) ≡ Some texts
+texts_null es e texts before h = texts_more [] es e texts before (null_read (string_bytes e.0) (view e.1) _ h) ∙ ap Some (append_none texts)
+
+pub texts_text : (es : List Entry) (e : Entry) (texts : List (List ℕ × List ℕ)) (text : List ℕ) → texts_in (members_view es) ≡ Some texts → Some text ≡ as_str (view e.1)
+    → texts_in (members_view (es ++ e ∷ [])) ≡ Some (texts ++ (string_bytes e.0, text) ∷ [])
+texts_text es e texts text before h = texts_more ((string_bytes e.0, text) ∷ []) es e texts before (text_read (string_bytes e.0) (view e.1) text _ h)

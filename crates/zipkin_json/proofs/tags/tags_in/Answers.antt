@@ -1,0 +1,20 @@
+use Rattle.std.proofs.Common.{◌≡◌, List, Option, Some, sym, subst, ap, ◌∙◌, option_and_then, rules}
+use Rattle.serde_json.specs.Data.{Data, Members}
+use Rattle.serde_json.specs.View.{members_view}
+use Rattle.span_io.specs.Paths.{each, valued, Clean, Halts}
+use Rattle.span_io.specs.PathLaws.{exits}
+use Rattle.zipkin_json.specs.Members.{values}
+use Rattle.zipkin_json.specs.Span.{texts_in, tag_faults, tags_faults}
+use Rattle.zipkin_json.proofs.tags.tags_in.Goals as goal
+
+pub returns-in_err-tags-clause-judged : goal.returns-in_err-tags-clause-judged
+returns-in_err-tags-clause-judged c =
+    exits c.in_err-tags.field-0.0 _ _ (search rules)
+      (subst (λ (o : Option Members). Halts c.in_err-tags.field-0.0 (valued (λ members. each tag_faults (values members)) o)) c.in-Some.ensures c.in_err-tags.ensures.judged)
+
+pub returns-clause-value : goal.returns-clause-value
+returns-clause-value c = subst (λ (o : Option Members). option_and_then texts_in o ≡ Some c.in_ok-tags.tags) c.in-Some.ensures c.in_ok-tags.ensures.value
+
+pub returns-clause-judged : goal.returns-clause-judged
+returns-clause-judged c =
+    subst (λ (o : Option Members). Clean (valued (λ members. each tag_faults (values members)) o)) c.in-Some.ensures c.in_ok-tags.ensures.judged

@@ -1,0 +1,13 @@
+//! Spans of Zipkin v2 as JSON: reading them, with the cause of the first offence, and writing them.
+#![tactic(auto)]
+
+mod annotation;
+mod endpoint;
+mod identifiers;
+mod members;
+mod reading;
+mod span;
+mod tags;
+
+pub use reading::read_spans;
+pub use span::{Endpoint, ZKind, ZSpan};
