@@ -374,19 +374,25 @@ module _ (L : Laws) where
     ]
 
     cause_with : ℕ → Cause
-    cause_with n = if n == 1 then causes.Truncated else (if n == 2 then causes.BadVarint else (if n == 3 then causes.BadWire else (if n == 5 then causes.TooDeep else (if n == 6 then causes.UnitTooLong else (if n == 7 then causes.FieldTwice else (if n == 9 then causes.NotText else (if n == 12 then causes.BadId else (if n == 13 then causes.BadEnum else causes.InputTooLong))))))))
+    cause_with n = if n == 1 then causes.Truncated else (if n == 2 then causes.BadVarint else (if n == 3 then causes.BadWire else (if n == 4 then causes.BadSize else (if n == 5 then causes.TooDeep else (if n == 6 then causes.UnitTooLong else (if n == 7 then causes.FieldTwice else (if n == 8 then causes.Missing else (if n == 9 then causes.NotText else (if n == 10 then causes.BadJson else (if n == 11 then causes.BadShape else (if n == 12 then causes.BadId else (if n == 13 then causes.BadEnum else (if n == 14 then causes.BadElement else (if n == 16 then causes.BadTime else causes.InputTooLong))))))))))))))
 
     cause_is : (cause : Cause) → cause_with (cause_number cause) ≡ cause
     unfolding cause_with
     cause_is causes.Truncated = refl
     cause_is causes.BadVarint = refl
     cause_is causes.BadWire = refl
+    cause_is causes.BadSize = refl
     cause_is causes.TooDeep = refl
     cause_is causes.UnitTooLong = refl
     cause_is causes.FieldTwice = refl
+    cause_is causes.Missing = refl
     cause_is causes.NotText = refl
+    cause_is causes.BadJson = refl
+    cause_is causes.BadShape = refl
     cause_is causes.BadId = refl
     cause_is causes.BadEnum = refl
+    cause_is causes.BadElement = refl
+    cause_is causes.BadTime = refl
     cause_is causes.InputTooLong = refl
 
     same_cause : (a b : Cause) → cause_number a ≡ cause_number b → a ≡ b

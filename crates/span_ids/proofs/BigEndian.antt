@@ -51,7 +51,7 @@ low_bytes : (n k : ℕ) → sum_through (λ i. byte_worth i (byte_at i n)) k + n
 low_bytes n zero = omega arith
 low_bytes n (suc k) = rw (nat.pow-suc 256 (suc k)) (carried _ _ _ _ _ n (low_bytes n k) (byte_and_rest n (256 ^ suc k)))
 
-all_bytes : (n k : ℕ) → n < 256 ^ suc k → sum_through (λ i. byte_worth i (byte_at i n)) k ≡ n
+pub all_bytes : (n k : ℕ) → n < 256 ^ suc k → sum_through (λ i. byte_worth i (byte_at i n)) k ≡ n
 all_bytes n k fits =
     let none_left : n / 256 ^ suc k * 256 ^ suc k ≡ 0 = rw (nat.div-eq_of_lt fits) (nat.zero-mul (256 ^ suc k)) in
     omega (arith, low_bytes n k)

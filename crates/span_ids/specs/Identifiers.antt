@@ -1,5 +1,5 @@
 -- Identifiers of traces and spans in binary (OTLP `trace_id`, `span_id`: 16 and 8 bytes, and all zeros are no identifier).
-use Rattle.std.specs.Prelude.{◌≡◌, ◌≢◌, ℕ, List, length, Any}
+use Rattle.std.specs.Prelude.{◌≡◌, ◌≢◌, ◌+◌, ◌*◌, ◌<◌, ◌^◌, ℕ, List, length, Any}
 use Rattle.std.specs.Int.{w64, w128, from_be_bytes}
 
 -- so many bytes, not all zero
@@ -18,3 +18,7 @@ SpellsTraceId bytes id = IsTraceIdText bytes × (id ≡ from_be_bytes w128 bytes
 
 abbrev pub SpellsSpanId : List ℕ → ℕ → Type 0
 SpellsSpanId bytes id = IsSpanIdText bytes × (id ≡ from_be_bytes w64 bytes)
+
+-- the halves of a trace identifier (jaeger.thrift `traceIdHigh`, `traceIdLow`): numbers of 64 bits, the high one worth 2 ^ 64 times itself
+abbrev pub HasHalves : ℕ → ℕ → ℕ → Type 0
+HasHalves id high low = (high < 2 ^ 64) × (low < 2 ^ 64) × (id ≡ high * 2 ^ 64 + low)

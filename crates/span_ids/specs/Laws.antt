@@ -1,6 +1,8 @@
 -- What the laws of identifiers say.
 use Rattle.std.specs.Prelude.{◌≡◌, ℕ, ◌<◌, ◌^◌, List}
 use Rattle.std.specs.Int.{w64, w128, to_be_bytes}
+use Rattle.span_ids.specs.HexTexts.{SpellsInHex}
+use Rattle.span_ids.specs.declared.hex_text.IdRule.{IdRule}
 use Rattle.span_ids.specs.Identifiers.{SpellsTraceId, SpellsSpanId}
 
 -- the bytes of an identifier spell it, and bytes spell at most one identifier
@@ -9,3 +11,5 @@ pub record IdentifiersReadBack : Type 0 where
   pub trace_once : (bytes : List ℕ) (a b : ℕ) → SpellsTraceId bytes a → SpellsTraceId bytes b → a ≡ b
   pub span_written : (id : ℕ) → 0 < id → id < 2 ^ 64 → SpellsSpanId (to_be_bytes w64 id) id
   pub span_once : (bytes : List ℕ) (a b : ℕ) → SpellsSpanId bytes a → SpellsSpanId bytes b → a ≡ b
+  -- so do hexadecimal digits, whatever rules the text is of
+  pub hex_once : (rule other : IdRule) (full : ℕ) (text : List ℕ) (a b : ℕ) → SpellsInHex rule full text a → SpellsInHex other full text b → a ≡ b

@@ -1,2 +1,4 @@
+pub mod HexTexts
 pub mod Identifiers
 pub mod Laws
+pub mod Times

@@ -1,0 +1,11 @@
+use Rattle.span_ids.specs.declared.hex_text.IdRule.TheVariants as rules
+use Rattle.span_ids.proofs.HexLemmas.{trace_text, one_text}
+use Rattle.span_ids.proofs.trace_id.TraceId.write_hex.Goals as goal
+
+pub returns-clause-again : goal.returns-clause-again
+returns-clause-again c =
+    let text = rw c.unwrap.ensures at c.encode_to_slice.ensures.written in
+    rw (text, c.to_bytes.ensures.written) (trace_text _ c.known.ensures.positive c.known.ensures.fits)
+
+pub returns-clause-only : goal.returns-clause-only
+returns-clause-only c = λ text spells. one_text 32 c.args.self.now text c.encode_to_slice.new.output spells (returns-clause-again c rules.ExactLower)
