@@ -1,7 +1,7 @@
 -- Elements of an array, as a loop goes through them.
-use Rattle.std.proofs.Common.{◌≡◌, ℕ, suc, ◌+◌, ◌<◌, List, [], ◌∷◌, ◌++◌, length, get_or, take, drop, map, Option, Some, None, option_map, refl, sym, ap, subst, ◌∙◌, arith}
+use Rattle.std.proofs.Common.{◌≡◌, ℕ, suc, ◌+◌, ◌<◌, List, [], ◌∷◌, ◌++◌, length, get_or, take, drop, map, Option, Some, refl, sym, ap, subst, ◌∙◌, arith}
 use Rattle.std.proofs.lemmas.List.{take_more, take-append-drop, drop_more, length-map, length-take-le}
-use Rattle.serde_json.specs.Data.{Data, Items, no_items, item}
+use Rattle.serde_json.specs.Data.{Data, Items}
 use Rattle.serde_json.specs.View.{view, items_view}
 use Rattle.serde_json.specs.declared.value.Value.{Value}
 use Rattle.span_io.specs.declared.cause.Cause.{Cause}
@@ -32,7 +32,7 @@ module _ (vs : List Value) (i : ℕ) (v : Value) (within : i < length vs) (here 
   next_seen = ap (λ l. map view l) (take_more vs i v within ∙ ap (λ w. take i vs ++ w ∷ []) (sym here)) ∙ map_all (take i vs) v []
 
   seen_length : length (map view (take i vs)) ≡ i
-  seen_length = length-map view (take i vs) ∙ length-take-le i vs (omega arith)
+  seen_length = length-map (take i vs) view ∙ length-take-le i vs (omega arith)
 
   pub all_seen : map view vs ≡ map view (take i vs) ++ view v ∷ map view (drop (i + 1) vs)
   all_seen = ap (λ l. map view l) (sym (take-append-drop i vs) ∙ ap (λ l. take i vs ++ l) (drop_more vs i v within ∙ ap (λ w. w ∷ drop (i + 1) vs) (sym here)))

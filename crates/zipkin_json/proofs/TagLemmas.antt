@@ -1,14 +1,12 @@
 -- Tags, as a loop goes through the members of their object.
-use Rattle.std.proofs.Common.{◌≡◌, ℕ, List, [], ◌∷◌, ◌++◌, Option, Some, None, option_map, Bool, true, false, is_some, String, Global, string_bytes, refl, sym, ap, subst, ◌∙◌}
-use Rattle.serde_json.specs.Data.{Data, null, boolean, number, string, array, object, Members, no_members, member as has}
+use Rattle.std.proofs.Common.{◌≡◌, ℕ, List, [], ◌∷◌, ◌++◌, Option, Some, None, option_map, true, false, is_some, string_bytes, refl, sym, ap, subst, ◌∙◌}
+use Rattle.serde_json.specs.Data.{Data, null, boolean, number, string, array, object, Members, member as has}
 use Rattle.serde_json.specs.Find.{as_null, as_str}
 use Rattle.serde_json.specs.View.{view, members_view}
 use Rattle.serde_json.proofs.Views.{Entry}
-use Rattle.span_io.specs.declared.cause.Cause.{Cause}
-use Rattle.span_io.specs.declared.halt.Halt.{Halt}
-use Rattle.span_io.specs.Paths.{Faults, nothing, here, optional, valued, each, Clean, Counts}
+use Rattle.span_io.specs.Paths.{each, Clean, Counts}
 use Rattle.span_io.specs.PathLaws.{clean_nothing, counts_only, clean_one_more, least_at}
-use Rattle.zipkin_json.specs.Members.{unless_null, values}
+use Rattle.zipkin_json.specs.Members.{values}
 use Rattle.zipkin_json.specs.Span.{texts_in, tag_faults}
 
 -- ---- one tag

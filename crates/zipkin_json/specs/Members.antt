@@ -1,8 +1,9 @@
 -- Looking into a JSON value (RFC 8259) as the Zipkin v2 API lays it out. Of equal members the last counts, and one that is null counts as
 -- absent. Each kind of member is told as what it means, and as how it offends.
-use Rattle.std.specs.Prelude.{◌≡◌, ℕ, ◌+◌, ◌*◌, ◌<◌, ◌≤◌, List, [], ◌∷◌, Bool, Option, Some, None, option_and_then, unwrap_or}
+use Rattle.std.specs.Prelude.{◌≡◌, ℕ, ◌+◌, ◌<◌, ◌≤◌, List, [], ◌∷◌, Bool, Option, Some, None, option_and_then, unwrap_or}
 use Rattle.serde_json.specs.Data.{Num, unsigned, negative, float, Data, null, Items, no_items, item, Members, no_members, member as has}
 use Rattle.serde_json.specs.Find.{get, as_bool, as_number, as_str, as_u64}
+use Rattle.span_ids.specs.Times.{last_micros}
 use Rattle.span_io.specs.Paths.{Faults, nothing, here, valued}
 
 abbrev pub unless_null : Option Data → Option Data
@@ -56,14 +57,6 @@ IsPort port d = IsCount port d × (port ≤ 65535)
 -- BadShape: no whole number from 0 to 65535
 abbrev pub port_faults : Data → Faults
 port_faults d = valued (λ port. here (λ number. (number ≡ 11) × (65535 < port))) (option_and_then as_u64 (as_number d))
-
--- the last count of microseconds whose nanoseconds are below 2 ^ 64
-abbrev pub last_micros : ℕ
-last_micros = 18446744073709551
-
--- the nanoseconds in u microseconds
-abbrev pub nanos : ℕ → ℕ
-nanos u = u * 1000
 
 -- BadTime: a whole number that is negative, or comes behind the last microsecond where it is counted from `start`; BadShape: another
 abbrev pub micros_faults : ℕ → Num → Faults

@@ -1,8 +1,9 @@
 -- A span of the Zipkin v2 API (`Span`, `Endpoint`, `Annotation`): what each object means, member by member, and how it offends, its
 -- members in the order in which their offences count. Members that the tables don't have are passed over.
-use Rattle.std.specs.Prelude.{◌≡◌, ℕ, ◌+◌, ◌≤◌, List, [], ◌∷◌, Bool, true, false, Option, Some, None, option_map, option_and_then, is_some, codes}
+use Rattle.std.specs.Prelude.{◌≡◌, ℕ, ◌+◌, ◌≤◌, List, [], ◌∷◌, true, false, Option, Some, None, option_map, option_and_then, is_some, codes}
 use Rattle.serde_json.specs.Data.{Data, null, string, Items, Members, no_members, member as has}
 use Rattle.serde_json.specs.Find.{as_str, as_array, as_object}
+use Rattle.span_ids.specs.Times.{last_micros, nanos}
 use Rattle.span_io.specs.Paths.{Faults, nothing, here, ◌▹◌, required, optional, each, valued}
 use Rattle.span_io.specs.Tables.{Each}
 use Rattle.zipkin_json.specs.declared.span.Endpoint.{Endpoint}
@@ -10,7 +11,7 @@ use Rattle.zipkin_json.specs.declared.span.ZKind.{ZKind}
 use Rattle.zipkin_json.specs.declared.span.ZKind.TheVariants as kinds
 use Rattle.zipkin_json.specs.declared.span.ZSpan.{ZSpan}
 use Rattle.zipkin_json.specs.Identifiers.{SpellsTrace, SpellsSpan, SpellsParent}
-use Rattle.zipkin_json.specs.Members.{unless_null, member, elements, values, Given, Never, IsText, text_faults, IsTruth, truth_faults, IsCount, IsPort, port_faults, last_micros, nanos, count_faults, count_in}
+use Rattle.zipkin_json.specs.Members.{unless_null, member, elements, values, Given, Never, IsText, text_faults, IsTruth, truth_faults, IsCount, IsPort, port_faults, count_faults, count_in}
 
 -- ---- identifiers and the kind, which are texts
 

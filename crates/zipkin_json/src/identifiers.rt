@@ -1,8 +1,8 @@
 //! Identifiers and the kind, which are texts.
-ghost use Rattle.std.specs.Prelude.{◌≡◌, IfSome, IfOk, OnErr, IfNone};
+ghost use Rattle.std.specs.Prelude.{◌≡◌, ◌↔◌, ℕ, Option, IfSome, IfOk, OnErr, IfNone, IsTrue};
 ghost use Rattle.serde_json.specs.View.{view};
 ghost use Rattle.span_io.specs.Paths.{required, optional, JudgesValue};
-ghost use Rattle.zipkin_json.specs.Identifiers.{SpellsTrace, SpellsSpan, SpellsParent};
+ghost use Rattle.zipkin_json.specs.Identifiers.{AreZeros, SpellsTrace, SpellsSpan, SpellsParent};
 ghost use Rattle.zipkin_json.specs.Members.{member, Given, Never};
 ghost use Rattle.zipkin_json.specs.Span.{Spelled, SpellsKind, trace_faults, id_faults, parent_faults, kind_faults};
 ghost use Rattle.zipkin_json.specs.declared.span.ZKind.TheVariants as kinds;
@@ -11,37 +11,42 @@ ghost use Rattle.zipkin_json.specs.declared.span.ZKind.{ZKind};
 use crate::members::member_of;
 use crate::span::ZKind;
 use serde_json::Value;
-use span_ids::{BadId, SpanId, TraceId};
+use span_ids::{BadId, IdRule, SpanId, TraceId};
 use span_io::{Cause, Halt};
 
-#[tactic(auto, unfolding(crate::specs::Identifiers::SpellsTrace))]
 fn trace_of(text: &str) -> Result<TraceId, BadId>
     ensures ok { IfOk result (λ id. SpellsTrace text.now id) }
-    ensures err { OnErr result ((id : _) → ¬ SpellsTrace text.now id) }
+    ensures err { OnErr result ((id : ℕ) → ¬ SpellsTrace text.now id) }
 {
-    let _text = text;
-    Err(BadId)
+    TraceId::read_hex(text.as_bytes(), IdRule::Padded)
 }
 
-#[tactic(auto, unfolding(crate::specs::Identifiers::SpellsSpan))]
 fn span_of(text: &str) -> Result<SpanId, BadId>
     ensures ok { IfOk result (λ id. SpellsSpan text.now id) }
-    ensures err { OnErr result ((id : _) → ¬ SpellsSpan text.now id) }
+    ensures err { OnErr result ((id : ℕ) → ¬ SpellsSpan text.now id) }
 {
-    let _text = text;
-    Err(BadId)
+    SpanId::read_hex(text.as_bytes(), IdRule::Padded)
 }
 
-// So many zeros are no parent.
+fn are_zeros(text: &str) -> bool
+    ensures { IsTrue result ↔ AreZeros text.now }
+{
+    let digits = text.as_bytes();
+    1 <= digits.len() && digits.len() <= 16 && digits.iter().all(|digit| *digit == b'0')
+}
+
+#[tactic(auto, using(crate::proofs::MemberLemmas::no_parent))]
 fn parent_of(text: &str) -> Result<Option<SpanId>, BadId>
     ensures ok { IfOk result (λ parent. SpellsParent text.now parent) }
-    ensures err { OnErr result ((parent : _) → ¬ SpellsParent text.now parent) }
+    ensures err { OnErr result ((parent : Option ℕ) → ¬ SpellsParent text.now parent) }
 {
-    if (1..=16).contains(&text.len()) && text.bytes().all(|digit| digit == b'0') {
+    if are_zeros(text) {
         return Ok(None);
     }
-    let id = span_of(text)?;
-    Ok(Some(id))
+    match span_of(text) {
+        Ok(id) => Ok(Some(id)),
+        Err(_) => Err(BadId),
+    }
 }
 
 fn kind_of(text: &str) -> Option<ZKind>

@@ -1,11 +1,8 @@
-use Rattle.std.proofs.Common.{◌≡◌, List, Option, Some, sym, subst, rules}
-use Rattle.serde_json.specs.Data.{Data, Items}
+use Rattle.std.proofs.Common.{sym, rules}
 use Rattle.serde_json.specs.View.{items_view}
-use Rattle.span_io.specs.Paths.{each, valued, Clean, Halts}
 use Rattle.span_io.specs.PathLaws.{exits}
-use Rattle.span_io.specs.Tables.{Each}
 use Rattle.zipkin_json.proofs.ElementLemmas.{elements-items_view, clean_array, halts_array}
-use Rattle.zipkin_json.specs.Span.{IsAnnotation, annotation_faults}
+use Rattle.zipkin_json.specs.Span.{annotation_faults}
 use Rattle.zipkin_json.proofs.annotation.annotations_in.Goals as goal
 
 pub returns-in_err-list-clause-judged : goal.returns-in_err-list-clause-judged

@@ -1,5 +1,4 @@
-use Rattle.std.proofs.Common.{◌≡◌, ◌<◌, length, sym, ◌∙◌, subst, List, rules, arith}
-use Rattle.serde_json.specs.declared.value.Value.{Value}
+use Rattle.std.proofs.Common.{rules}
 use Rattle.span_io.specs.PathLaws.{exits}
 use Rattle.zipkin_json.proofs.ElementLemmas.{reads_on, clean_on, halts_here}
 use Rattle.zipkin_json.specs.Span.{IsAnnotation, annotation_faults}

@@ -1,7 +1,7 @@
 use Rattle.std.proofs.Common.{◌≡◌, true, is_some}
 use Rattle.serde_json.specs.Find.{as_object}
 use Rattle.serde_json.specs.View.{view}
-use Rattle.span_io.specs.PathLaws.{in_order, clean_valued, clean_parts, clean_nothing}
+use Rattle.span_io.specs.PathLaws.{clean_valued, clean_parts, clean_nothing}
 use Rattle.zipkin_json.specs.Span.{endpoint_members}
 use Rattle.zipkin_json.proofs.endpoint.read_endpoint.Goals as goal
 

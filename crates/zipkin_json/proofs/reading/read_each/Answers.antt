@@ -1,4 +1,4 @@
-use Rattle.std.proofs.Common.{◌≡◌, ◌+◌, arith, rules}
+use Rattle.std.proofs.Common.{◌+◌, arith, rules}
 use Rattle.zipkin_json.proofs.ElementLemmas.{reads_on, clean_on, refuses_here}
 use Rattle.zipkin_json.specs.Span.{IsSpan, span_faults}
 use Rattle.zipkin_json.proofs.reading.read_each.Goals as goal

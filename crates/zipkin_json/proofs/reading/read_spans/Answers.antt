@@ -1,4 +1,4 @@
-use Rattle.std.proofs.Common.{◌≡◌, sym, rules}
+use Rattle.std.proofs.Common.{sym, rules}
 use Rattle.serde_json.specs.View.{items_view}
 use Rattle.span_io.specs.PathLaws.{exits_input}
 use Rattle.zipkin_json.proofs.ElementLemmas.{elements-items_view, clean_array, refuses_array}

@@ -1,4 +1,4 @@
-use Rattle.std.proofs.Common.{◌≡◌, List, [], ◌∷◌, ◌++◌, string_bytes, sym, ap, ◌∙◌, append_assoc, rules}
+use Rattle.std.proofs.Common.{◌≡◌, [], ◌∷◌, ◌++◌, sym, ap, ◌∙◌, append_assoc, rules}
 use Rattle.serde_json.proofs.Views.{Entry}
 use Rattle.zipkin_json.proofs.TagLemmas.{clean_null, clean_text, no_text, clean_member, counts_member, texts_null, texts_text}
 use Rattle.zipkin_json.proofs.tags.read_tags.Goals as goal

@@ -1,10 +1,9 @@
-use Rattle.std.proofs.Common.{◌≡◌, List, Option, Some, sym, subst, ap, ◌∙◌, option_and_then, rules}
-use Rattle.serde_json.specs.Data.{Data, Members}
-use Rattle.serde_json.specs.View.{members_view}
+use Rattle.std.proofs.Common.{◌≡◌, Option, Some, subst, option_and_then, rules}
+use Rattle.serde_json.specs.Data.{Members}
 use Rattle.span_io.specs.Paths.{each, valued, Clean, Halts}
 use Rattle.span_io.specs.PathLaws.{exits}
 use Rattle.zipkin_json.specs.Members.{values}
-use Rattle.zipkin_json.specs.Span.{texts_in, tag_faults, tags_faults}
+use Rattle.zipkin_json.specs.Span.{texts_in, tag_faults}
 use Rattle.zipkin_json.proofs.tags.tags_in.Goals as goal
 
 pub returns-in_err-tags-clause-judged : goal.returns-in_err-tags-clause-judged
