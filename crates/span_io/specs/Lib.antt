@@ -14,6 +14,7 @@ pub mod OffenceLaws
 pub mod Offences
 pub mod Outside
 pub mod Paths
+pub mod PathDecisions
 pub mod PathLaws
 pub mod Steps
 pub mod TableDecisions

@@ -48,6 +48,21 @@ module _ {A : Type 0} where
   valued Offends None = here (λ number. number ≡ 11)
   valued Offends (Some x) = Offends x
 
+-- what a member means, or what its absence does
+abbrev pub Given : {A D : Type 0} → (A → D → Type 0) → (A → Type 0) → A → Option D → Type 0
+Given Means IsDefault x None = IsDefault x
+Given Means IsDefault x (Some d) = Means x d
+
+-- a required member is never absent
+abbrev pub Never : {A : Type 0} → A → Type 0
+Never x = ⊥
+
+-- a value that must be of a kind, and means this by what it holds
+pub record OfKind {A K : Type 0} (M : A → K → Type 0) (x : A) (o : Option K) : Type 0 where
+  pub held : K
+  pub shape : o ≡ Some held
+  pub means : M x held
+
 -- ---- the order of paths, and the offence that counts
 
 -- number by number, a path before its extensions

@@ -1,3 +1,5 @@
+pub mod Choices
+pub mod Decisions
 pub mod ElementLemmas
 pub mod MemberLemmas
 pub mod TagLemmas

@@ -1,3 +1,4 @@
 pub mod Identifiers
 pub mod Members
 pub mod Span
+pub mod Laws

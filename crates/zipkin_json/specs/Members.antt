@@ -23,15 +23,6 @@ abbrev pub values : Members → List Data
 values no_members = []
 values (has key d more) = d ∷ values more
 
--- what a member means, or what its absence does
-abbrev pub Given : {A : Type 0} → (A → Data → Type 0) → (A → Type 0) → A → Option Data → Type 0
-Given Means IsDefault x None = IsDefault x
-Given Means IsDefault x (Some d) = Means x d
-
--- a required member is never absent
-abbrev pub Never : {A : Type 0} → A → Type 0
-Never x = ⊥
-
 -- ---- texts and truth values
 
 abbrev pub IsText : List ℕ → Data → Type 0

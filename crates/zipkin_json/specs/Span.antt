@@ -1,25 +1,23 @@
 -- A span of the Zipkin v2 API (`Span`, `Endpoint`, `Annotation`): what each object means, member by member, and how it offends, its
 -- members in the order in which their offences count. Members that the tables don't have are passed over.
-use Rattle.std.specs.Prelude.{◌≡◌, ℕ, ◌+◌, ◌≤◌, List, [], ◌∷◌, true, false, Option, Some, None, option_map, option_and_then, is_some, codes}
+use Rattle.std.specs.Prelude.{◌≡◌, ℕ, ◌+◌, ◌≤◌, List, [], ◌∷◌, true, false, Option, Some, None, option_map, is_some, codes}
 use Rattle.serde_json.specs.Data.{Data, null, string, Items, Members, no_members, member as has}
 use Rattle.serde_json.specs.Find.{as_str, as_array, as_object}
 use Rattle.span_ids.specs.Times.{last_micros, nanos}
-use Rattle.span_io.specs.Paths.{Faults, nothing, here, ◌▹◌, required, optional, each, valued}
+use Rattle.span_io.specs.Paths.{Faults, nothing, here, ◌▹◌, required, optional, each, valued, Given, Never, OfKind}
 use Rattle.span_io.specs.Tables.{Each}
 use Rattle.zipkin_json.specs.declared.span.Endpoint.{Endpoint}
 use Rattle.zipkin_json.specs.declared.span.ZKind.{ZKind}
 use Rattle.zipkin_json.specs.declared.span.ZKind.TheVariants as kinds
 use Rattle.zipkin_json.specs.declared.span.ZSpan.{ZSpan}
 use Rattle.zipkin_json.specs.Identifiers.{SpellsTrace, SpellsSpan, SpellsParent}
-use Rattle.zipkin_json.specs.Members.{unless_null, member, elements, values, Given, Never, IsText, text_faults, IsTruth, truth_faults, IsCount, IsPort, port_faults, count_faults, count_in}
+use Rattle.zipkin_json.specs.Members.{unless_null, member, elements, values, IsText, text_faults, IsTruth, truth_faults, IsCount, IsPort, port_faults, count_faults, count_in}
 
 -- ---- identifiers and the kind, which are texts
 
 -- the text spells this
-pub record Spelled {A : Type 0} (Spells : List ℕ → A → Type 0) (x : A) (d : Data) : Type 0 where
-  pub text : List ℕ
-  pub its_text : IsText text d
-  pub spelled : Spells text x
+abbrev pub Spelled : {A : Type 0} → (List ℕ → A → Type 0) → A → Data → Type 0
+Spelled Spells x d = OfKind (λ y text. Spells text y) x (as_str d)
 
 -- with this number, the text spells nothing
 abbrev pub unspelled : {A : Type 0} → (List ℕ → A → Type 0) → ℕ → Data → Faults
@@ -81,10 +79,8 @@ annotation_members d = required (count_faults 0) (member (codes "timestamp") d) 
 abbrev pub annotation_faults : Data → Faults
 annotation_faults d = valued (λ members. annotation_members d) (as_object d)
 
-pub record AreAnnotations (list : List (ℕ × List ℕ)) (d : Data) : Type 0 where
-  pub held : Items
-  pub shape : as_array d ≡ Some held
-  pub each_annotation : Each IsAnnotation (elements held) list
+abbrev pub AreAnnotations : List (ℕ × List ℕ) → Data → Type 0
+AreAnnotations list d = OfKind (λ l held. Each IsAnnotation (elements held) l) list (as_array d)
 
 abbrev pub annotations_faults : Data → Faults
 annotations_faults d = valued (λ held. each annotation_faults (elements held)) (as_array d)
@@ -98,7 +94,7 @@ texts_in (has key (string text) more) = option_map (λ texts. (key, text) ∷ te
 texts_in (has key d more) = None
 
 abbrev pub AreTags : List (List ℕ × List ℕ) → Data → Type 0
-AreTags tags d = option_and_then texts_in (as_object d) ≡ Some tags
+AreTags tags d = OfKind (λ texts members. texts_in members ≡ Some texts) tags (as_object d)
 
 abbrev pub tag_faults : Data → Faults
 tag_faults d = optional text_faults (unless_null (Some d))
@@ -145,10 +141,8 @@ span_faults d = valued (λ members. span_members d) (as_object d)
 
 -- ---- the whole text: an array of spans
 
-pub record AreSpans (spans : List ZSpan) (d : Data) : Type 0 where
-  pub held : Items
-  pub shape : as_array d ≡ Some held
-  pub each_span : Each IsSpan (elements held) spans
+abbrev pub AreSpans : List ZSpan → Data → Type 0
+AreSpans spans d = OfKind (λ list held. Each IsSpan (elements held) list) spans (as_array d)
 
 abbrev pub spans_faults : Data → Faults
 spans_faults d = valued (λ held. each span_faults (elements held)) (as_array d)

@@ -1,9 +1,9 @@
 //! `Annotation` of Zipkin v2.
 ghost use Rattle.std.specs.Prelude.{◌≡◌, [], map, IfOk};
 ghost use Rattle.serde_json.specs.View.{view};
-ghost use Rattle.span_io.specs.Paths.{optional, each, JudgesValue};
+ghost use Rattle.span_io.specs.Paths.{optional, each, JudgesValue, Given};
 ghost use Rattle.span_io.specs.Tables.{Each};
-ghost use Rattle.zipkin_json.specs.Members.{member, Given};
+ghost use Rattle.zipkin_json.specs.Members.{member};
 ghost use Rattle.zipkin_json.specs.Span.{IsAnnotation, annotation_members, annotation_faults, AreAnnotations, annotations_faults};
 
 use crate::members::{member_of, required_micros, required_text};

@@ -1,8 +1,8 @@
 //! `Endpoint` of Zipkin v2.
 ghost use Rattle.std.specs.Prelude.{◌≡◌, IfOk};
 ghost use Rattle.serde_json.specs.View.{view};
-ghost use Rattle.span_io.specs.Paths.{optional, JudgesValue};
-ghost use Rattle.zipkin_json.specs.Members.{member, Given};
+ghost use Rattle.span_io.specs.Paths.{optional, JudgesValue, Given};
+ghost use Rattle.zipkin_json.specs.Members.{member};
 ghost use Rattle.zipkin_json.specs.Span.{IsEndpoint, endpoint_members, endpoint_faults, no_endpoint};
 
 use crate::members::{member_of, port, text};

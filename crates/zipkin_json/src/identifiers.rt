@@ -1,9 +1,9 @@
 //! Identifiers and the kind, which are texts.
 ghost use Rattle.std.specs.Prelude.{◌≡◌, ◌↔◌, ℕ, Option, IfSome, IfOk, OnErr, IfNone, IsTrue};
 ghost use Rattle.serde_json.specs.View.{view};
-ghost use Rattle.span_io.specs.Paths.{required, optional, JudgesValue};
+ghost use Rattle.span_io.specs.Paths.{required, optional, JudgesValue, Given, Never};
 ghost use Rattle.zipkin_json.specs.Identifiers.{AreZeros, SpellsTrace, SpellsSpan, SpellsParent};
-ghost use Rattle.zipkin_json.specs.Members.{member, Given, Never};
+ghost use Rattle.zipkin_json.specs.Members.{member};
 ghost use Rattle.zipkin_json.specs.Span.{Spelled, SpellsKind, trace_faults, id_faults, parent_faults, kind_faults};
 ghost use Rattle.zipkin_json.specs.declared.span.ZKind.TheVariants as kinds;
 ghost use Rattle.zipkin_json.specs.declared.span.ZKind.{ZKind};

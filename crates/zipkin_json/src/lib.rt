@@ -4,6 +4,7 @@
 mod annotation;
 mod endpoint;
 mod identifiers;
+pub mod laws;
 mod members;
 mod reading;
 mod span;

@@ -1,10 +1,10 @@
 //! Reading spans.
 ghost use Rattle.std.specs.Prelude.{◌≡◌, ◌+◌, ◌*◌, ◌≤◌, map, IfOk, codes};
 ghost use Rattle.serde_json.specs.View.{view};
-ghost use Rattle.span_io.specs.Paths.{each, optional, JudgesValue, JudgesInput};
+ghost use Rattle.span_io.specs.Paths.{each, optional, JudgesValue, JudgesInput, Given};
 ghost use Rattle.span_io.specs.Tables.{Each};
 ghost use Rattle.span_ids.specs.Times.{last_micros};
-ghost use Rattle.zipkin_json.specs.Members.{member, Given, IsCount, count_in, count_faults};
+ghost use Rattle.zipkin_json.specs.Members.{member, IsCount, count_in, count_faults};
 ghost use Rattle.zipkin_json.specs.Span.{IsSpan, span_members, span_faults, AreSpans, spans_faults};
 
 use crate::annotation::annotations;

@@ -1,8 +1,8 @@
 //! The tags of a span.
 ghost use Rattle.std.specs.Prelude.{◌≡◌, [], Some, IfOk};
 ghost use Rattle.serde_json.specs.View.{view, members_view};
-ghost use Rattle.span_io.specs.Paths.{optional, each, JudgesValue};
-ghost use Rattle.zipkin_json.specs.Members.{member, values, Given};
+ghost use Rattle.span_io.specs.Paths.{optional, each, JudgesValue, Given};
+ghost use Rattle.zipkin_json.specs.Members.{member, values};
 ghost use Rattle.zipkin_json.specs.Span.{texts_in, AreTags, tag_faults, tags_faults};
 
 use crate::members::{copy_of, member_of};

@@ -13,7 +13,7 @@ pub returns-clause-value : goal.returns-clause-value
 returns-clause-value c = record {
   held = items_view c.in-Some.elements.now.items;
   shape = sym c.in-Some.ensures;
-  each_span = rw elements-items_view c.in_ok-spans.ensures.value;
+  means = rw elements-items_view c.in_ok-spans.ensures.value;
 }
 
 pub returns-clause-judged : goal.returns-clause-judged
