@@ -121,6 +121,12 @@ abbrev pub JudgesInput : {T : Type 0} → Result T (Halt Refusal) → Faults →
 JudgesInput (Ok x) Offends = Clean Offends
 JudgesInput (Err halt) Offends = HaltsInput halt Offends
 
+-- this value, or want of memory
+abbrev pub ReadsOnly : {T : Type 0} → Result T (Halt Refusal) → T → Type 0
+ReadsOnly (Ok read) value = read ≡ value
+ReadsOnly (Err (halts.Why refusal)) value = ⊥
+ReadsOnly (Err halts.OutOfMemory) value = Unit {0}
+
 -- a halt in the unit of this number
 abbrev pub in_unit : ℕ → Halt Cause → Halt Refusal
 in_unit unit (halts.Why cause) = halts.Why (record { unit = unit; cause = cause })

@@ -3,3 +3,4 @@ pub mod Decisions
 pub mod ElementLemmas
 pub mod MemberLemmas
 pub mod TagLemmas
+pub mod ReadingLemmas

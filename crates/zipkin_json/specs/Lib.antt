@@ -2,3 +2,6 @@ pub mod Identifiers
 pub mod Members
 pub mod Span
 pub mod Laws
+pub mod Texts
+pub mod Canonical
+pub mod Writing

@@ -10,5 +10,8 @@ mod reading;
 mod span;
 mod tags;
 
-pub use reading::read_spans;
+pub use reading::{read_spans, read_text};
 pub use span::{Endpoint, ZKind, ZSpan};
+
+#[cfg(test)]
+mod tests;

@@ -1,19 +1,22 @@
 //! Reading spans.
-ghost use Rattle.std.specs.Prelude.{◌≡◌, ◌+◌, ◌*◌, ◌≤◌, map, IfOk, codes};
+ghost use Rattle.std.specs.Prelude.{◌≡◌, ◌+◌, ◌*◌, ◌≤◌, List, map, IfOk, codes};
 ghost use Rattle.serde_json.specs.View.{view};
-ghost use Rattle.span_io.specs.Paths.{each, optional, JudgesValue, JudgesInput, Given};
+ghost use Rattle.span_io.specs.Paths.{each, optional, JudgesValue, JudgesInput, ReadsOnly, Given};
 ghost use Rattle.span_io.specs.Tables.{Each};
 ghost use Rattle.span_ids.specs.Times.{last_micros};
 ghost use Rattle.zipkin_json.specs.Members.{member, IsCount, count_in, count_faults};
+ghost use Rattle.zipkin_json.specs.Texts.{AreSpansText, IsUnread, text_faults};
+ghost use Rattle.zipkin_json.specs.declared.span.ZSpan.{ZSpan};
 ghost use Rattle.zipkin_json.specs.Span.{IsSpan, span_members, span_faults, AreSpans, spans_faults};
 
 use crate::annotation::annotations;
 use crate::endpoint::endpoint_of;
+use crate::laws::one_list;
 use crate::identifiers::{kind, parent, required_span, required_trace};
 use crate::members::{micros, text, truth};
 use crate::span::ZSpan;
 use crate::tags::tags_of;
-use serde_json::Value;
+use serde_json::{Error, Value};
 use span_ids::Nanos;
 use span_io::{Cause, Halt, Items, Refusal};
 use std::alloc::Global;
@@ -86,9 +89,7 @@ fn read_each(alloc: Global, elements: &Vec<Value>) -> Result<Items<ZSpan>, Halt<
     Ok(spans)
 }
 
-/// Reads the spans of a text of Zipkin v2, which is an array of them, or refuses it by its least
-/// offence.
-pub fn read_spans(alloc: Global, v: &Value) -> Result<Items<ZSpan>, Halt<Refusal>>
+fn read_root(alloc: Global, v: &Value) -> Result<Items<ZSpan>, Halt<Refusal>>
     ensures value { IfOk result (λ spans. AreSpans spans (view v.now)) }
     ensures judged { JudgesInput result (spans_faults (view v.now)) }
 {
@@ -100,4 +101,41 @@ pub fn read_spans(alloc: Global, v: &Value) -> Result<Items<ZSpan>, Halt<Refusal
     };
     let spans = read_each(alloc, elements)?;
     Ok(spans)
+}
+
+/// Reads the spans of a JSON value, which is an array of them, or refuses it by its least offence.
+pub fn read_spans(alloc: Global, v: &Value) -> Result<Items<ZSpan>, Halt<Refusal>>
+    ensures value { IfOk result (λ spans. AreSpans spans (view v.now)) }
+    ensures judged { JudgesInput result (spans_faults (view v.now)) }
+    // Whatever spans the value stands for are the answer.
+    ensures only { (spans : List ZSpan) → AreSpans spans (view v.now) → ReadsOnly result spans }
+{
+    one_list();
+    read_root(alloc, v)
+}
+
+/// Reads the spans of a text of Zipkin v2. One that is no JSON value is `BadJson`.
+pub fn read_text(alloc: Global, bytes: &[u8]) -> Result<Items<ZSpan>, Halt<Refusal>>
+    ensures value { IfOk result (λ spans. AreSpansText spans bytes.now) }
+    ensures judged { JudgesInput result (text_faults bytes.now) }
+    // Whatever spans the bytes are a text of are the answer.
+    ensures only { (spans : List ZSpan) → AreSpansText spans bytes.now → ReadsOnly result spans }
+{
+    match Value::from_slice(alloc, bytes) {
+        Ok(v) => read_spans(alloc, &v),
+        Err(error) => Err(unread(&error)),
+    }
+}
+
+// What is answered of bytes that gave no value.
+fn unread(error: &Error) -> Halt<Refusal>
+    ensures { IsUnread error.now result }
+{
+    if error.is_memory() {
+        return Halt::OutOfMemory;
+    }
+    Halt::Why(Refusal {
+        unit: 0,
+        cause: Cause::BadJson,
+    })
 }

@@ -1,4 +1,4 @@
-use Rattle.std.proofs.Common.{◌≡◌, Option, Some, subst, option_and_then, rules}
+use Rattle.std.proofs.Common.{sym, ◌≡◌, Option, Some, subst, option_and_then, rules}
 use Rattle.serde_json.specs.Data.{Members}
 use Rattle.span_io.specs.Paths.{each, valued, Clean, Halts}
 use Rattle.span_io.specs.PathLaws.{exits}
