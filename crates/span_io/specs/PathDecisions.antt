@@ -1,10 +1,10 @@
 -- A value means one thing and nothing in it offends, or it means nothing and one offence in it counts. It is decided member by member.
-use Rattle.std.proofs.Common.{◌≡◌, ℕ, ◌≤◌, List, [], ◌∷◌, Option, Some, None, refl, sym, ap, subst, ◌∙◌}
+use Rattle.std.proofs.Common.{◌≡◌, List, [], ◌∷◌, Option, Some, None, refl, sym, ap, subst, ◌∙◌}
 use Rattle.span_io.specs.Causes.{cause_number}
 use Rattle.span_io.specs.declared.cause.Cause.{Cause}
 use Rattle.span_io.specs.declared.cause.Cause.TheVariants as causes
-use Rattle.span_io.specs.Paths.{Faults, nothing, here, ◌▹◌, required, optional, each, valued, Given, Never, OfKind, IsLeast, Clean, Quiet, Counts}
-use Rattle.span_io.specs.PathLaws.{clean_nothing, clean_parts, counts_only, counts_here, clean_here, first_of_parts, later_of_parts, one_on, quiet_each}
+use Rattle.span_io.specs.Paths.{Faults, nothing, ◌▹◌, required, optional, each, valued, Given, Never, OfKind, Clean, Quiet, Counts}
+use Rattle.span_io.specs.PathLaws.{clean_nothing, clean_parts, counts_only, first_of_parts, later_of_parts, one_on, quiet_each}
 use Rattle.span_io.specs.Tables.{Each}
 
 pub data Decided {A : Type 0} (Means : A → Type 0) (Offends : Faults) : Type 0 where

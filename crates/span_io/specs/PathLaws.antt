@@ -1,13 +1,12 @@
 -- How the offence that counts is found where members and elements are looked at in their order: what was looked at has none, and the
 -- first that is met is the least.
-use Rattle.std.proofs.Common.{◌≡◌, ℕ, zero, suc, ◌+◌, ◌<◌, ◌≤◌, ◌⊎◌, inl, inr, List, [], ◌∷◌, ◌++◌, length, Option, Some, None, is_some, true, Result, Ok, Err, refl, sym, ap, subst, ◌∙◌, arith}
-use Rattle.std.proofs.lemmas.Bool.{cases_lt}
+use Rattle.std.proofs.Common.{◌≡◌, ℕ, zero, suc, ◌≤◌, ◌⊎◌, inl, inr, List, [], ◌∷◌, ◌++◌, length, Option, Some, None, is_some, true, Result, Err, refl, sym, ap, subst, arith}
 use Rattle.span_io.specs.Causes.{cause_number}
 use Rattle.span_io.specs.declared.cause.Cause.{Cause}
 use Rattle.span_io.specs.declared.halt.Halt.{Halt}
 use Rattle.span_io.specs.declared.halt.Halt.TheVariants as halts
 use Rattle.span_io.specs.declared.refusal.Refusal.{Refusal}
-use Rattle.span_io.specs.Paths.{Faults, nothing, here, ◌▹◌, required, optional, each, valued, ComesBefore, IsLeast, Clean, Quiet, Counts, Halts, JudgesValue, HaltsInput, JudgesInput, in_unit}
+use Rattle.span_io.specs.Paths.{Faults, nothing, here, ◌▹◌, each, valued, ComesBefore, IsLeast, Clean, Quiet, Counts, Halts, JudgesValue, HaltsInput, JudgesInput, in_unit}
 
 -- ---- one value
 

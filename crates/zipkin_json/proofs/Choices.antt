@@ -1,12 +1,12 @@
 -- A text spells one identifier, parent or kind, or none.
-use Rattle.std.proofs.Common.{◌≡◌, ℕ, zero, suc, ◌<◌, ◌≤◌, ◌⊎◌, inl, inr, List, [], ◌∷◌, Bool, true, false, Option, Some, None, length, codes, bytes_eq, true≢false, refl, sym, ap, subst, ◌∙◌, arith}
+use Rattle.std.proofs.Common.{◌≡◌, ℕ, zero, suc, ◌<◌, ◌≤◌, ◌⊎◌, inl, inr, List, [], ◌∷◌, Bool, true, false, Option, Some, None, length, codes, bytes_eq, true≢false, refl, sym, ap, ◌∙◌, arith}
 use Rattle.std.specs.List.{All}
 use Rattle.std.specs.Char.{IsAsciiHexdigit}
 use Rattle.std.specs.Int.{IsInRange}
 use Rattle.std.specs.Str.Parse.{digits_value}
 use Rattle.std.proofs.lemmas.List.Elements.{All-cons, All-head, All-tail}
 use Rattle.std.proofs.lemmas.Slice.Eq.{bytes_eq-Decides}
-use Rattle.span_ids.specs.HexTexts.{SpellsInHex, IsOfRule}
+use Rattle.span_ids.specs.HexTexts.{SpellsInHex}
 use Rattle.span_ids.specs.declared.hex_text.IdRule.TheVariants.{Padded}
 use Rattle.zipkin_json.specs.Identifiers.{SpellsTrace, SpellsSpan, AreZeros, SpellsParent}
 use Rattle.zipkin_json.specs.Span.{SpellsKind}

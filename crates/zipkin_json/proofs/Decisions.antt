@@ -1,16 +1,15 @@
 -- A JSON value means one list of spans and nothing in it offends, or it means none and one offence counts.
-use Rattle.std.proofs.Common.{◌≡◌, ℕ, zero, suc, ◌+◌, ◌<◌, ◌≤◌, ◌⊎◌, inl, inr, List, [], ◌∷◌, Bool, true, false, Option, Some, None, option_map, is_some, unwrap_or, codes, refl, sym, ap, subst, ◌∙◌, All, length, arith}
-use Rattle.serde_json.specs.Data.{Data, null, boolean, number, string, array, object, Num, unsigned, negative, float, Items, Members, no_members, member as has}
-use Rattle.serde_json.specs.Find.{as_str, as_bool, as_number, as_array, as_object, as_u64}
+use Rattle.std.proofs.Common.{◌≡◌, ℕ, ◌+◌, ◌<◌, ◌≤◌, ◌⊎◌, inl, inr, List, [], ◌∷◌, Bool, true, false, Option, Some, None, option_map, is_some, unwrap_or, codes, refl, sym, ap, arith}
+use Rattle.serde_json.specs.Data.{Data, null, boolean, number, string, array, object, unsigned, negative, float, Members, no_members, member as has}
+use Rattle.serde_json.specs.Find.{as_str, as_bool, as_array, as_object}
 use Rattle.span_ids.specs.Times.{last_micros, nanos}
 use Rattle.span_io.specs.declared.cause.Cause.{Cause}
 use Rattle.span_io.specs.declared.cause.Cause.TheVariants as causes
 use Rattle.span_io.specs.Causes.{cause_number}
-use Rattle.span_io.specs.Paths.{Faults, nothing, here, ◌▹◌, required, optional, each, valued, Given, Never, OfKind, Clean, Quiet, Counts}
+use Rattle.span_io.specs.Paths.{Faults, here, ◌▹◌, optional, each, valued, Given, Never, OfKind, Quiet}
 use Rattle.span_io.specs.PathLaws.{clean_nothing, clean_here, counts_here, counts_only, least_here, first_of_parts, quiet_nothing, quiet_parts, quiet_each}
 use Rattle.span_io.specs.PathDecisions.{Decided, one, none, decided_as, also, no_more, decided_required, decided_optional, decided_each, decided_valued, decided_plain, pair}
-use Rattle.span_io.specs.Tables.{Each}
-use Rattle.zipkin_json.specs.Members.{unless_null, member, elements, values, IsText, text_faults, IsTruth, truth_faults, IsCount, IsPort, port_faults, count_faults, micros_faults, count_in}
+use Rattle.zipkin_json.specs.Members.{member, elements, values, IsText, text_faults, IsTruth, truth_faults, IsCount, IsPort, port_faults, count_faults, count_in}
 use Rattle.zipkin_json.specs.Identifiers.{SpellsTrace, SpellsSpan, SpellsParent}
 use Rattle.zipkin_json.specs.declared.span.ZKind.{ZKind}
 use Rattle.zipkin_json.specs.declared.span.ZKind.TheVariants as kinds
@@ -105,7 +104,7 @@ endpoint_parts d =
     also (search (quiet_parts, quiet_nothing) depth 24) (decided_optional IsText text_faults text_decided [] (member (codes "serviceName") d)) (λ x h0.
     also (search (quiet_parts, quiet_nothing) depth 24) (decided_optional IsText text_faults text_decided [] (member (codes "ipv4") d)) (λ x h1.
     also (search (quiet_parts, quiet_nothing) depth 24) (decided_optional IsText text_faults text_decided [] (member (codes "ipv6") d)) (λ x h2.
-    also (search (quiet_parts, quiet_nothing) depth 24) (decided_optional IsPort port_faults port_decided 0 (member (codes "port") d)) (λ x h3.
+    also quiet_nothing (decided_optional IsPort port_faults port_decided 0 (member (codes "port") d)) (λ x h3.
     no_more))))
 
 pub endpoint_decided : (d : Data) → Decided (λ e. IsEndpoint e d) (endpoint_faults d)
@@ -132,7 +131,7 @@ annotation_parts : (d : Data) → Decided (AreAnnotationParts d) (annotation_mem
 unfolding annotation_members
 annotation_parts d =
     also (search (quiet_parts, quiet_nothing) depth 24) (decided_required (Fits 0) (count_faults 0) (count_decided 0) (member (codes "timestamp") d)) (λ x h0.
-    also (search (quiet_parts, quiet_nothing) depth 24) (decided_required IsText text_faults text_decided (member (codes "value") d)) (λ x h1.
+    also quiet_nothing (decided_required IsText text_faults text_decided (member (codes "value") d)) (λ x h1.
     no_more))
 
 -- what a count that is given adds up to, and the same where it may be absent
@@ -159,9 +158,11 @@ annotation_decided d = decided_as (λ a. IsAnnotation a d) made there back (obje
 
     back : (z : ℕ × List ℕ) → IsAnnotation z d → (p : AnnotationParts) × OfKind (λ y members. AreAnnotationParts d y) p (as_object d) × (made p ≡ z)
     back z h =
-        let fits = h.fits in
-        ((h.timestamp, (z.1, tt)), object_of {M = AreAnnotationParts d} _ (as_object d) h.shape (given_sum 0 h.timestamp _ h.its_timestamp (omega arith), (h.value, tt)),
-          pair (nanos h.timestamp) z.0 z.1 z.1 (sym h.time) refl)
+        let fits = h.fits in (
+          (h.timestamp, (z.1, tt)),
+          object_of {M = AreAnnotationParts d} _ (as_object d) h.shape (given_sum 0 h.timestamp _ h.its_timestamp (omega arith), (h.value, tt)),
+          pair (nanos h.timestamp) z.0 z.1 z.1 (sym h.time) refl,
+        )
 
 annotations_decided : (d : Data) → Decided (λ list. AreAnnotations list d) (annotations_faults d)
 annotations_decided d = decided_valued _ (λ held. each annotation_faults (elements held)) (λ held. decided_each IsAnnotation annotation_faults annotation_decided (elements held)) (as_array d)
@@ -237,7 +238,7 @@ span_parts d =
     also (search (quiet_parts, quiet_nothing) depth 24) (decided_optional IsEndpoint endpoint_faults endpoint_decided no_endpoint (member (codes "localEndpoint") d)) (λ x h9.
     also (search (quiet_parts, quiet_nothing) depth 24) (decided_optional IsEndpoint endpoint_faults endpoint_decided no_endpoint (member (codes "remoteEndpoint") d)) (λ x h10.
     also (search (quiet_parts, quiet_nothing) depth 24) (decided_optional AreAnnotations annotations_faults annotations_decided [] (member (codes "annotations") d)) (λ x h11.
-    also (search (quiet_parts, quiet_nothing) depth 24) (decided_optional AreTags tags_faults tags_decided [] (member (codes "tags") d)) (λ x h12.
+    also quiet_nothing (decided_optional AreTags tags_faults tags_decided [] (member (codes "tags") d)) (λ x h12.
     no_more)))))))))))))
 
 ends : (z : ZSpan) (start end : ℕ) → start ≡ z.start → end ≡ z.end → record z { start = start; end = end } ≡ z
@@ -259,10 +260,11 @@ span_decided d = decided_as (λ s. IsSpan s d) made there back (objects_decided 
     back : (z : ZSpan) → IsSpan z d → (p : SpanParts) × OfKind (λ y members. AreSpanParts d y) p (as_object d) × (made p ≡ z)
     back z h =
         let e = count_given h.timestamp _ h.its_timestamp in
-        let fits = h.sum in
-        ((z.trace, (z.id, (z.parent, (z.name, (z.kind, (h.timestamp, (h.duration, (z.debug, (z.shared, (z.local, (z.remote, (z.annotations, (z.tags, tt))))))))))))),
+        let fits = h.sum in (
+          (z.trace, (z.id, (z.parent, (z.name, (z.kind, (h.timestamp, (h.duration, (z.debug, (z.shared, (z.local, (z.remote, (z.annotations, (z.tags, tt))))))))))))),
           object_of {M = AreSpanParts d} _ (as_object d) h.shape (h.trace, (h.id, (h.parent, (h.name, (h.kind, ((h.its_timestamp, omega arith), ((h.its_duration, omega arith), (h.debug, (h.shared, (h.local, (h.remote, (h.annotations, (h.tags, tt))))))))))))),
-          ends z (nanos h.timestamp) (nanos (h.timestamp + h.duration)) (sym h.start) (sym h.end))
+          ends z (nanos h.timestamp) (nanos (h.timestamp + h.duration)) (sym h.start) (sym h.end),
+        )
 
 pub spans_decided : (d : Data) → Decided (λ spans. AreSpans spans d) (spans_faults d)
 spans_decided d = decided_valued _ (λ held. each span_faults (elements held)) (λ held. decided_each IsSpan span_faults span_decided (elements held)) (as_array d)

@@ -53,7 +53,7 @@ module _ (vs : List Value) (i : ℕ) (v : Value) (within : i < length vs) (here 
       let seen : length (map view (take i vs)) ≡ i = seen_length in
       let e : suc (length (map view (take i vs))) ≡ unit = omega arith in
       subst (λ ds. HaltsInput (in_unit unit halt) (each Offends ds)) (sym all_seen)
-        (subst (λ (u : ℕ). HaltsInput (in_unit u halt) (each Offends (map view (take i vs) ++ view v ∷ map view (drop (i + 1) vs)))) e (halts_input_at Offends halt _ (view v) _ all h))
+      (subst (λ (u : ℕ). HaltsInput (in_unit u halt) (each Offends (map view (take i vs) ++ view v ∷ map view (drop (i + 1) vs)))) e (halts_input_at Offends halt _ (view v) _ all h))
 
 -- ---- what was answered of the elements, of the array
 

@@ -1,5 +1,5 @@
 -- What is answered of a value, of its bytes.
-use Rattle.std.proofs.Common.{◌≡◌, ◌≤◌, ◌⊎◌, inl, inr, ℕ, List, [], Option, Some, None, Result, Ok, Err, refl, sym, ap, subst, ◌∙◌, arith, IfOk, IsUtf8}
+use Rattle.std.proofs.Common.{◌≡◌, ◌≤◌, ◌⊎◌, inl, inr, ℕ, List, [], None, Result, Ok, Err, refl, sym, subst, arith, IfOk, IsUtf8}
 use Rattle.serde_json.specs.Data.{Data}
 use Rattle.serde_json.specs.Errors.{IsMemory}
 use Rattle.serde_json.specs.Read.{read}
@@ -9,10 +9,10 @@ use Rattle.span_io.specs.Causes.{cause_number}
 use Rattle.span_io.specs.declared.halt.Halt.{Halt}
 use Rattle.span_io.specs.declared.halt.Halt.TheVariants as halts
 use Rattle.span_io.specs.declared.refusal.Refusal.{Refusal}
-use Rattle.span_io.specs.Paths.{Faults, Clean, Refuses, IsLeast, ComesBefore, JudgesInput, HaltsInput, ReadsOnly}
+use Rattle.span_io.specs.Paths.{Refuses, ComesBefore, JudgesInput, HaltsInput, ReadsOnly}
 use Rattle.zipkin_json.specs.Laws.{OneList}
 use Rattle.zipkin_json.specs.Span.{AreSpans, spans_faults}
-use Rattle.zipkin_json.specs.Texts.{IsValueText, AreSpansText, BadJson, InValue, text_faults, IsUnread}
+use Rattle.zipkin_json.specs.Texts.{IsValueText, AreSpansText, text_faults, IsUnread}
 use Rattle.zipkin_json.specs.declared.span.ZSpan.{ZSpan}
 
 abbrev Answer : Type 0

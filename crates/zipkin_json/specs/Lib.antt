@@ -3,5 +3,3 @@ pub mod Members
 pub mod Span
 pub mod Laws
 pub mod Texts
-pub mod Canonical
-pub mod Writing

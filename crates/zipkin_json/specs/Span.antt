@@ -1,7 +1,7 @@
 -- A span of the Zipkin v2 API (`Span`, `Endpoint`, `Annotation`): what each object means, member by member, and how it offends, its
 -- members in the order in which their offences count. Members that the tables don't have are passed over.
 use Rattle.std.specs.Prelude.{◌≡◌, ℕ, ◌+◌, ◌≤◌, List, [], ◌∷◌, true, false, Option, Some, None, option_map, is_some, codes}
-use Rattle.serde_json.specs.Data.{Data, null, string, Items, Members, no_members, member as has}
+use Rattle.serde_json.specs.Data.{Data, null, string, Members, no_members, member as has}
 use Rattle.serde_json.specs.Find.{as_str, as_array, as_object}
 use Rattle.span_ids.specs.Times.{last_micros, nanos}
 use Rattle.span_io.specs.Paths.{Faults, nothing, here, ◌▹◌, required, optional, each, valued, Given, Never, OfKind}

@@ -11,8 +11,8 @@ ghost use Rattle.zipkin_json.specs.Span.{IsSpan, span_members, span_faults, AreS
 
 use crate::annotation::annotations;
 use crate::endpoint::endpoint_of;
-use crate::laws::one_list;
 use crate::identifiers::{kind, parent, required_span, required_trace};
+use crate::laws::one_list;
 use crate::members::{micros, text, truth};
 use crate::span::ZSpan;
 use crate::tags::tags_of;

@@ -17,16 +17,48 @@ fn refuses_by_the_least_offence(rt: HostRuntime) {
         (r#"[{"traceId":null,"id":"1"}]"#, 1, Cause::Missing),
         (r#"[{"traceId":"0","id":"1"}]"#, 1, Cause::BadId),
         (r#"[{"traceId":"1","id":"+1"}]"#, 1, Cause::BadId),
-        (r#"[{"traceId":"1","id":"00000000000000001"}]"#, 1, Cause::BadId),
+        (
+            r#"[{"traceId":"1","id":"00000000000000001"}]"#,
+            1,
+            Cause::BadId,
+        ),
         (r#"[{"traceId":"1","id":1}]"#, 1, Cause::BadShape),
-        (r#"[{"traceId":"1","id":"1","parentId":""}]"#, 1, Cause::BadId),
-        (r#"[{"traceId":"1","id":"1","kind":"client"}]"#, 1, Cause::BadEnum),
+        (
+            r#"[{"traceId":"1","id":"1","parentId":""}]"#,
+            1,
+            Cause::BadId,
+        ),
+        (
+            r#"[{"traceId":"1","id":"1","kind":"client"}]"#,
+            1,
+            Cause::BadEnum,
+        ),
         (r#"[{"traceId":"1","id":"1","kind":""}]"#, 1, Cause::BadEnum),
-        (r#"[{"traceId":"1","id":"1","timestamp":-1}]"#, 1, Cause::BadTime),
-        (r#"[{"traceId":"1","id":"1","timestamp":-0}]"#, 1, Cause::BadShape),
-        (r#"[{"traceId":"1","id":"1","timestamp":1.0}]"#, 1, Cause::BadShape),
-        (r#"[{"traceId":"1","id":"1","timestamp":1e3}]"#, 1, Cause::BadShape),
-        (r#"[{"traceId":"1","id":"1","timestamp":"1"}]"#, 1, Cause::BadShape),
+        (
+            r#"[{"traceId":"1","id":"1","timestamp":-1}]"#,
+            1,
+            Cause::BadTime,
+        ),
+        (
+            r#"[{"traceId":"1","id":"1","timestamp":-0}]"#,
+            1,
+            Cause::BadShape,
+        ),
+        (
+            r#"[{"traceId":"1","id":"1","timestamp":1.0}]"#,
+            1,
+            Cause::BadShape,
+        ),
+        (
+            r#"[{"traceId":"1","id":"1","timestamp":1e3}]"#,
+            1,
+            Cause::BadShape,
+        ),
+        (
+            r#"[{"traceId":"1","id":"1","timestamp":"1"}]"#,
+            1,
+            Cause::BadShape,
+        ),
         (
             r#"[{"traceId":"1","id":"1","timestamp":18446744073709552}]"#,
             1,
@@ -89,7 +121,8 @@ fn refuses_by_the_least_offence(rt: HostRuntime) {
 
 #[test]
 fn reads_two_spans(rt: HostRuntime) {
-    let text = r#"[{"traceId":"463ac35c9f6413ad","id":"a2fb4a1d1a96d312","kind":"CLIENT"},{"traceId":"463ac35c9f6413ad","id":"a2fb4a1d1a96d312","kind":"SERVER","shared":true}]"#;
+    let text =
+        r#"[{"traceId":"463ac35c9f6413ad","id":"a2fb4a1d1a96d312","kind":"CLIENT"},{"traceId":"463ac35c9f6413ad","id":"a2fb4a1d1a96d312","kind":"SERVER","shared":true}]"#;
     let Ok(v) = Value::from_str(rt.alloc(), text) else {
         panic!(rt; "no value");
     };
@@ -111,7 +144,8 @@ fn reads_two_spans(rt: HostRuntime) {
 // What py_zipkin wrote, with members that are null and one that Zipkin doesn't know.
 #[test]
 fn reads_what_a_library_wrote(rt: HostRuntime) {
-    let text = r#"[{"traceId": "6553f100269e0d37f2a74de452e6b438", "id": "892f902bd23f0824", "name": "redis.get", "parentId": "0000", "timestamp": 1700000000001000, "duration": 1, "kind": null, "localEndpoint": {"serviceName": "b\u00fccher-shop", "port": 8080, "ipv4": "10.0.0.7"}, "remoteEndpoint": {"serviceName": "redis", "port": 6379, "ipv6": "2001:db8::c001"}, "annotations": [{"timestamp": 2, "value": "wire"}], "tags": {"nul\u0000": "tab\t", "absent": null, "peer.service": "redis"}, "other": 1.5}]"#;
+    let text =
+        r#"[{"traceId": "6553f100269e0d37f2a74de452e6b438", "id": "892f902bd23f0824", "name": "redis.get", "parentId": "0000", "timestamp": 1700000000001000, "duration": 1, "kind": null, "localEndpoint": {"serviceName": "b\u00fccher-shop", "port": 8080, "ipv4": "10.0.0.7"}, "remoteEndpoint": {"serviceName": "redis", "port": 6379, "ipv6": "2001:db8::c001"}, "annotations": [{"timestamp": 2, "value": "wire"}], "tags": {"nul\u0000": "tab\t", "absent": null, "peer.service": "redis"}, "other": 1.5}]"#;
     let Ok(spans) = read_text(rt.alloc(), text.as_bytes()) else {
         panic!(rt; "refused");
     };

@@ -10,4 +10,4 @@ unfolding annotation_members
 returns-clause-judged c =
     let shape : is_some (as_object (view c.args.v.now)) ≡ true = cc in
     clean_valued (annotation_members (view c.args.v.now)) (as_object (view c.args.v.now)) shape
-      (clean_parts _ _ c.in_ok-timestamp.ensures.judged (clean_parts _ _ c.in_ok-value.ensures.judged clean_nothing))
+    (clean_parts _ _ c.in_ok-timestamp.ensures.judged (clean_parts _ _ c.in_ok-value.ensures.judged clean_nothing))

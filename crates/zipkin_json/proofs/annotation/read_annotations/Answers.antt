@@ -7,8 +7,8 @@ use Rattle.zipkin_json.proofs.annotation.read_annotations.Goals as goal
 pub returns-in_err-annotation-clause-judged : goal.returns-in_err-annotation-clause-judged
 returns-in_err-annotation-clause-judged c =
     exits c.in_err-annotation.field-0.0 _ _ (search rules)
-      (halts_here c.args.elements.now.items c.elements.element-index c.element-item.result (search rules) (search rules)
-        annotation_faults c.in_err-annotation.field-0.0 (search rules) c.in_err-annotation.ensures.judged)
+    (halts_here c.args.elements.now.items c.elements.element-index c.element-item.result (search rules) (search rules)
+    annotation_faults c.in_err-annotation.field-0.0 (search rules) c.in_err-annotation.ensures.judged)
 
 pub elements-preserved : goal.elements-preserved
 elements-preserved c = record {

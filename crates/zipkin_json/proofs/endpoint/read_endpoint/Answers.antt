@@ -10,4 +10,4 @@ unfolding endpoint_members
 returns-clause-judged c =
     let shape : is_some (as_object (view c.args.v.now)) ≡ true = cc in
     clean_valued (endpoint_members (view c.args.v.now)) (as_object (view c.args.v.now)) shape
-      (clean_parts _ _ c.in_ok-service.ensures.judged (clean_parts _ _ c.in_ok-ipv4.ensures.judged (clean_parts _ _ c.in_ok-ipv6.ensures.judged (clean_parts _ _ c.in_ok-port.ensures.judged clean_nothing))))
+    (clean_parts _ _ c.in_ok-service.ensures.judged (clean_parts _ _ c.in_ok-ipv4.ensures.judged (clean_parts _ _ c.in_ok-ipv6.ensures.judged (clean_parts _ _ c.in_ok-port.ensures.judged clean_nothing))))

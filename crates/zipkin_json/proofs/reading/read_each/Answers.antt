@@ -6,7 +6,7 @@ use Rattle.zipkin_json.proofs.reading.read_each.Goals as goal
 pub returns-in-Err-clause-judged : goal.returns-in-Err-clause-judged
 returns-in-Err-clause-judged c =
     rw c.in_unit.ensures (refuses_here c.args.elements.now.items c.elements.element-index c.element-item.result (search rules) (search rules)
-        span_faults c.in-Err.halt (c.elements.unit + 1) (omega arith) (search rules) c.in-Err.ensures.judged)
+    span_faults c.in-Err.halt (c.elements.unit + 1) (omega arith) (search rules) c.in-Err.ensures.judged)
 
 pub elements-preserved : goal.elements-preserved
 elements-preserved c = record {
