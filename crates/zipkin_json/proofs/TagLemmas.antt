@@ -1,5 +1,9 @@
 -- Tags, as a loop goes through the members of their object.
-use Rattle.std.proofs.Common.{◌≡◌, ℕ, List, [], ◌∷◌, ◌++◌, Option, Some, None, option_map, true, false, is_some, string_bytes, refl, sym, ap, subst, ◌∙◌}
+use Rattle.std.proofs.Common.{◌≡◌, ℕ, List, [], ◌∷◌, ◌++◌, Option, Some, None, option_map, true, false, is_some, string_bytes, refl, sym, ap, subst, ◌∙◌, map, string_cmp, nat_cmp, Less}
+use Rattle.std.specs.Cmp.Lexicographic.{slice_cmp}
+use Rattle.std.specs.List.{AllByRecursion}
+use Rattle.std.specs.List.Sorted.{IsStrictlySortedBy}
+use Rattle.std.specs.Map.{keys_of}
 use Rattle.serde_json.specs.Data.{Data, null, boolean, number, string, array, object, Members, member as has}
 use Rattle.serde_json.specs.Find.{as_null, as_str}
 use Rattle.serde_json.specs.View.{view, members_view}
@@ -7,7 +11,7 @@ use Rattle.serde_json.proofs.Views.{Entry}
 use Rattle.span_io.specs.Paths.{each, Clean, Counts}
 use Rattle.span_io.specs.PathLaws.{clean_nothing, counts_only, clean_one_more, least_at}
 use Rattle.zipkin_json.specs.Members.{values}
-use Rattle.zipkin_json.specs.Span.{texts_in, tag_faults}
+use Rattle.zipkin_json.specs.Span.{texts_in, tag_faults, Rise}
 
 -- ---- one tag
 
@@ -110,3 +114,54 @@ texts_null es e texts before h = texts_more [] es e texts before (null_read (str
 pub texts_text : (es : List Entry) (e : Entry) (texts : List (List ℕ × List ℕ)) (text : List ℕ) → texts_in (members_view es) ≡ Some texts → Some text ≡ as_str (view e.1)
     → texts_in (members_view (es ++ e ∷ [])) ≡ Some (texts ++ (string_bytes e.0, text) ∷ [])
 texts_text es e texts text before h = texts_more ((string_bytes e.0, text) ∷ []) es e texts before (text_read (string_bytes e.0) (view e.1) text _ h)
+
+-- ---- the keys of tags rise as those of the members do
+
+below : (k : List ℕ) (es : List Entry) (tags : List (List ℕ × List ℕ)) → AllByRecursion (λ y. slice_cmp nat_cmp k (string_bytes y) ≡ Less) (keys_of es)
+    → texts_in (members_view es) ≡ Some tags → AllByRecursion (λ y. slice_cmp nat_cmp k y ≡ Less) (map (λ tag. tag.0) tags)
+below k [] [] h is = tt
+below k [] (t ∷ tags) h is = cc
+below k (e ∷ es) tags h is = on (view e.1) is (λ more rest. below k es more h.1 rest)
+  where
+    first : (text : List ℕ) (o : Option (List (List ℕ × List ℕ))) → texts_in (members_view es) ≡ o → option_map (λ texts. (string_bytes e.0, text) ∷ texts) o ≡ Some tags
+        → ((more : List (List ℕ × List ℕ)) → texts_in (members_view es) ≡ Some more → AllByRecursion (λ y. slice_cmp nat_cmp k y ≡ Less) (map (λ tag. tag.0) more))
+        → AllByRecursion (λ y. slice_cmp nat_cmp k y ≡ Less) (map (λ tag. tag.0) tags)
+    first text None rest made later = cc
+    first text (Some more) rest made later =
+        let all : (string_bytes e.0, text) ∷ more ≡ tags = cc in
+        subst (λ (l : List (List ℕ × List ℕ)). AllByRecursion (λ y. slice_cmp nat_cmp k y ≡ Less) (map (λ tag. tag.0) l)) all (h.0, later more rest)
+
+    on : (d : Data) → texts_in (has (string_bytes e.0) d (members_view es)) ≡ Some tags
+        → ((more : List (List ℕ × List ℕ)) → texts_in (members_view es) ≡ Some more → AllByRecursion (λ y. slice_cmp nat_cmp k y ≡ Less) (map (λ tag. tag.0) more))
+        → AllByRecursion (λ y. slice_cmp nat_cmp k y ≡ Less) (map (λ tag. tag.0) tags)
+    on null made later = later tags made
+    on (string text) made later = first text (texts_in (members_view es)) refl made later
+    on (boolean b) made later = cc
+    on (number n) made later = cc
+    on (array ds) made later = cc
+    on (object ms) made later = cc
+
+pub tags_rise : (es : List Entry) (tags : List (List ℕ × List ℕ)) → IsStrictlySortedBy string_cmp (keys_of es) → texts_in (members_view es) ≡ Some tags → Rise tags
+unfolding IsStrictlySortedBy
+tags_rise [] [] h is = tt
+tags_rise [] (t ∷ tags) h is = cc
+tags_rise (e ∷ es) tags h is = on (view e.1) is (λ more rest. tags_rise es more h.1 rest)
+  where
+    first : (text : List ℕ) (o : Option (List (List ℕ × List ℕ))) → texts_in (members_view es) ≡ o → option_map (λ texts. (string_bytes e.0, text) ∷ texts) o ≡ Some tags
+        → ((more : List (List ℕ × List ℕ)) → texts_in (members_view es) ≡ Some more → Rise more) → Rise tags
+    first text None rest made later = cc
+    first text (Some more) rest made later =
+        let all : (string_bytes e.0, text) ∷ more ≡ tags = cc in
+        subst Rise all (below (string_bytes e.0) es more h.0 rest, later more rest)
+
+    on : (d : Data) → texts_in (has (string_bytes e.0) d (members_view es)) ≡ Some tags → ((more : List (List ℕ × List ℕ)) → texts_in (members_view es) ≡ Some more → Rise more) → Rise tags
+    on null made later = later tags made
+    on (string text) made later = first text (texts_in (members_view es)) refl made later
+    on (boolean b) made later = cc
+    on (number n) made later = cc
+    on (array ds) made later = cc
+    on (object ms) made later = cc
+
+pub none_rise : Rise []
+unfolding IsStrictlySortedBy
+none_rise = tt

@@ -1,6 +1,9 @@
 -- A span of the Zipkin v2 API (`Span`, `Endpoint`, `Annotation`): what each object means, member by member, and how it offends, its
 -- members in the order in which their offences count. Members that the tables don't have are passed over.
-use Rattle.std.specs.Prelude.{◌≡◌, ℕ, ◌+◌, ◌≤◌, List, [], ◌∷◌, true, false, Option, Some, None, option_map, is_some, codes}
+use Rattle.std.specs.Prelude.{◌≡◌, ℕ, ◌+◌, ◌≤◌, List, [], ◌∷◌, true, false, Option, Some, None, option_map, is_some, codes, map}
+use Rattle.std.specs.Cmp.Lexicographic.{slice_cmp}
+use Rattle.std.specs.List.Sorted.{IsStrictlySortedBy}
+use Rattle.std.specs.Ordering.{nat_cmp}
 use Rattle.serde_json.specs.Data.{Data, null, string, Members, no_members, member as has}
 use Rattle.serde_json.specs.Find.{as_str, as_array, as_object}
 use Rattle.span_ids.specs.Times.{last_micros, nanos}
@@ -138,6 +141,13 @@ span_members d = required trace_faults (member (codes "traceId") d) ▹ required
 
 abbrev pub span_faults : Data → Faults
 span_faults d = valued (λ members. span_members d) (as_object d)
+
+-- what is read has rising keys, since an object has each name once, in their order
+abbrev pub Rise : List (List ℕ × List ℕ) → Type 0
+Rise tags = IsStrictlySortedBy (slice_cmp nat_cmp) (map (λ tag. tag.0) tags)
+
+abbrev pub HasRisingTags : ZSpan → Type 0
+HasRisingTags s = Rise s.tags
 
 -- ---- the whole text: an array of spans
 

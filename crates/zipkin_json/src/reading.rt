@@ -1,5 +1,5 @@
 //! Reading spans.
-ghost use Rattle.std.specs.Prelude.{◌≡◌, ◌+◌, ◌*◌, ◌≤◌, List, map, IfOk, codes};
+ghost use Rattle.std.specs.Prelude.{◌≡◌, ◌+◌, ◌*◌, ◌≤◌, List, All, map, IfOk, codes};
 ghost use Rattle.serde_json.specs.View.{view};
 ghost use Rattle.span_io.specs.Paths.{each, optional, JudgesValue, JudgesInput, ReadsOnly, Given};
 ghost use Rattle.span_io.specs.Tables.{Each};
@@ -7,7 +7,7 @@ ghost use Rattle.span_ids.specs.Times.{last_micros};
 ghost use Rattle.zipkin_json.specs.Members.{member, IsCount, count_in, count_faults};
 ghost use Rattle.zipkin_json.specs.Texts.{AreSpansText, IsUnread, text_faults};
 ghost use Rattle.zipkin_json.specs.declared.span.ZSpan.{ZSpan};
-ghost use Rattle.zipkin_json.specs.Span.{IsSpan, span_members, span_faults, AreSpans, spans_faults};
+ghost use Rattle.zipkin_json.specs.Span.{IsSpan, HasRisingTags, span_members, span_faults, AreSpans, spans_faults};
 
 use crate::annotation::annotations;
 use crate::endpoint::endpoint_of;
@@ -38,6 +38,7 @@ fn duration(v: &Value, timestamp: u64) -> Result<u64, Halt<Cause>>
 #[tactic(auto, using(span_io::specs::PathLaws::in_order), unfolding(crate::specs::Span::span_members))]
 fn read_span(alloc: Global, v: &Value) -> Result<ZSpan, Halt<Cause>>
     ensures value { IfOk result (λ s. IsSpan s (view v.now)) }
+    ensures rising { IfOk result HasRisingTags }
     ensures judged { JudgesValue result (span_faults (view v.now)) }
 {
     if !v.is_object() {
@@ -75,6 +76,7 @@ fn read_span(alloc: Global, v: &Value) -> Result<ZSpan, Halt<Cause>>
 
 fn read_each(alloc: Global, elements: &Vec<Value>) -> Result<Items<ZSpan>, Halt<Refusal>>
     ensures value { IfOk result (λ spans. Each IsSpan (map view elements.now.items) spans) }
+    ensures rising { IfOk result (All HasRisingTags) }
     ensures judged { JudgesInput result (each span_faults (map view elements.now.items)) }
 {
     let mut spans = Items::new(alloc);
@@ -91,6 +93,7 @@ fn read_each(alloc: Global, elements: &Vec<Value>) -> Result<Items<ZSpan>, Halt<
 
 fn read_root(alloc: Global, v: &Value) -> Result<Items<ZSpan>, Halt<Refusal>>
     ensures value { IfOk result (λ spans. AreSpans spans (view v.now)) }
+    ensures rising { IfOk result (All HasRisingTags) }
     ensures judged { JudgesInput result (spans_faults (view v.now)) }
 {
     let Some(elements) = v.as_array() else {
@@ -106,6 +109,7 @@ fn read_root(alloc: Global, v: &Value) -> Result<Items<ZSpan>, Halt<Refusal>>
 /// Reads the spans of a JSON value, which is an array of them, or refuses it by its least offence.
 pub fn read_spans(alloc: Global, v: &Value) -> Result<Items<ZSpan>, Halt<Refusal>>
     ensures value { IfOk result (λ spans. AreSpans spans (view v.now)) }
+    ensures rising { IfOk result (All HasRisingTags) }
     ensures judged { JudgesInput result (spans_faults (view v.now)) }
     // Whatever spans the value stands for are the answer.
     ensures only { (spans : List ZSpan) → AreSpans spans (view v.now) → ReadsOnly result spans }
@@ -117,6 +121,7 @@ pub fn read_spans(alloc: Global, v: &Value) -> Result<Items<ZSpan>, Halt<Refusal
 /// Reads the spans of a text of Zipkin v2. One that is no JSON value is `BadJson`.
 pub fn read_text(alloc: Global, bytes: &[u8]) -> Result<Items<ZSpan>, Halt<Refusal>>
     ensures value { IfOk result (λ spans. AreSpansText spans bytes.now) }
+    ensures rising { IfOk result (All HasRisingTags) }
     ensures judged { JudgesInput result (text_faults bytes.now) }
     // Whatever spans the bytes are a text of are the answer.
     ensures only { (spans : List ZSpan) → AreSpansText spans bytes.now → ReadsOnly result spans }

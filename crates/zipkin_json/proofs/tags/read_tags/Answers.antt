@@ -1,6 +1,6 @@
 use Rattle.std.proofs.Common.{◌≡◌, [], ◌∷◌, ◌++◌, sym, ap, ◌∙◌, append_assoc, rules}
 use Rattle.serde_json.proofs.Views.{Entry}
-use Rattle.zipkin_json.proofs.TagLemmas.{clean_null, clean_text, no_text, clean_member, counts_member, texts_null, texts_text}
+use Rattle.zipkin_json.proofs.TagLemmas.{clean_null, clean_text, no_text, clean_member, counts_member, texts_null, texts_text, tags_rise}
 use Rattle.zipkin_json.proofs.tags.read_tags.Goals as goal
 
 pub tags-preserved-then-is_null : goal.tags-preserved-then-is_null
@@ -36,3 +36,6 @@ tags-preserved c =
       read = texts_text done e _ c.in-Some-as_str.text.now c.tags.invariant.read c.in-Some-as_str.ensures ∙ cc (c.in_ok-push.ensures.ok, c.in_ok-key.ensures, c.as_str-in-tags.ensures.value, c.in_ok-text.ensures);
       clean = clean_member done e c.tags.invariant.clean (clean_text _ c.in-Some-as_str.text.now c.in-Some-as_str.ensures);
     }
+
+pub returns-clause-rising : goal.returns-clause-rising
+returns-clause-rising c = tags_rise c.args.members.now.entries c.tags.tags c.iter-key-items.ensures.ordered (search rules)
