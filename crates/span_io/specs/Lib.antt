@@ -15,6 +15,9 @@ pub mod Memory
 pub mod OffenceLaws
 pub mod Offences
 pub mod Outside
+pub mod PathDecisions
+pub mod PathLaws
+pub mod Paths
 pub mod RowLaws
 pub mod RowsSoFar
 pub mod Steps

@@ -1,7 +1,9 @@
 ghost use Rattle.std.specs.Prelude.{◌≡◌};
+ghost use Rattle.span_io.specs.Paths.{in_unit};
 ghost use Rattle.span_io.specs.declared.halt.Halt.TheVariants as halts;
 
 use crate::cause::Cause;
+use crate::refusal::Refusal;
 use std::alloc::{AllocError, AllocFailed};
 
 /// No memory was found for a growth.
@@ -25,6 +27,18 @@ impl<T: Drop> From<AllocFailed<T>> for OutOfMemory {
 pub enum Halt<E> {
     Why(E),
     OutOfMemory,
+}
+
+impl Halt<Cause> {
+    /// The same halt, told of the unit of this number.
+    pub fn in_unit(self, unit: u64) -> Halt<Refusal>
+        ensures { result ≡ in_unit unit self }
+    {
+        match self {
+            Halt::Why(cause) => Halt::Why(Refusal { unit, cause }),
+            Halt::OutOfMemory => Halt::OutOfMemory,
+        }
+    }
 }
 
 impl<E> From<OutOfMemory> for Halt<E> {

@@ -1,3 +1,5 @@
+use Rattle.std.proofs.Common.{ap, ◌∙◌}
+use Rattle.hex.specs.Hex.{encode_lower}
 use Rattle.span_ids.specs.declared.hex_text.IdRule.TheVariants as rules
 use Rattle.span_ids.proofs.HexLemmas.{span_text, one_text}
 use Rattle.span_ids.proofs.span_id.SpanId.write_hex.Goals as goal
@@ -9,3 +11,8 @@ returns-clause-again c =
 
 pub returns-clause-only : goal.returns-clause-only
 returns-clause-only c = λ text spells. one_text 16 c.args.self.now text c.encode_to_slice.new.output spells (returns-clause-again c rules.ExactLower)
+
+pub returns-clause-written : goal.returns-clause-written
+returns-clause-written c =
+    let text = rw c.unwrap.ensures at c.encode_to_slice.ensures.written in
+    text ∙ ap encode_lower c.to_bytes.ensures.written

@@ -1,0 +1,6 @@
+pub mod Choices
+pub mod Decisions
+pub mod ElementLemmas
+pub mod MemberLemmas
+pub mod TagLemmas
+pub mod ReadingLemmas

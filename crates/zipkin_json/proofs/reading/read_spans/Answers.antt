@@ -1,0 +1,5 @@
+use Rattle.zipkin_json.proofs.ReadingLemmas.{only_spans}
+use Rattle.zipkin_json.proofs.reading.read_spans.Goals as goal
+
+pub returns-clause-only : goal.returns-clause-only
+returns-clause-only c = only_spans c.one_list.ensures _ c.read_root.result c.read_root.ensures.value c.read_root.ensures.judged

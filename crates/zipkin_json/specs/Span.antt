@@ -1,0 +1,158 @@
+-- A span of the Zipkin v2 API (`Span`, `Endpoint`, `Annotation`): what each object means, member by member, and how it offends, its
+-- members in the order in which their offences count. Members that the tables don't have are passed over.
+use Rattle.std.specs.Prelude.{◌≡◌, ℕ, ◌+◌, ◌≤◌, List, [], ◌∷◌, true, false, Option, Some, None, option_map, is_some, codes, map}
+use Rattle.std.specs.Cmp.Lexicographic.{slice_cmp}
+use Rattle.std.specs.List.Sorted.{IsStrictlySortedBy}
+use Rattle.std.specs.Ordering.{nat_cmp}
+use Rattle.serde_json.specs.Data.{Data, null, string, Members, no_members, member as has}
+use Rattle.serde_json.specs.Find.{as_str, as_array, as_object}
+use Rattle.span_ids.specs.Times.{last_micros, nanos}
+use Rattle.span_io.specs.Paths.{Faults, nothing, here, ◌▹◌, required, optional, each, valued, Given, Never, OfKind}
+use Rattle.span_io.specs.Tables.{Each}
+use Rattle.zipkin_json.specs.declared.span.Endpoint.{Endpoint}
+use Rattle.zipkin_json.specs.declared.span.ZKind.{ZKind}
+use Rattle.zipkin_json.specs.declared.span.ZKind.TheVariants as kinds
+use Rattle.zipkin_json.specs.declared.span.ZSpan.{ZSpan}
+use Rattle.zipkin_json.specs.Identifiers.{SpellsTrace, SpellsSpan, SpellsParent}
+use Rattle.zipkin_json.specs.Members.{unless_null, member, elements, values, IsText, text_faults, IsTruth, truth_faults, IsCount, IsPort, port_faults, count_faults, count_in}
+
+-- ---- identifiers and the kind, which are texts
+
+-- the text spells this
+abbrev pub Spelled : {A : Type 0} → (List ℕ → A → Type 0) → A → Data → Type 0
+Spelled Spells x d = OfKind (λ y text. Spells text y) x (as_str d)
+
+-- with this number, the text spells nothing
+abbrev pub unspelled : {A : Type 0} → (List ℕ → A → Type 0) → ℕ → Data → Faults
+unspelled Spells number d = valued (λ text. here (λ n. (n ≡ number) × ((x : _) → ¬ Spells text x))) (as_str d)
+
+abbrev pub SpellsKind : List ℕ → ZKind → Type 0
+SpellsKind text kinds.Absent = ⊥
+SpellsKind text kinds.Client = text ≡ codes "CLIENT"
+SpellsKind text kinds.Server = text ≡ codes "SERVER"
+SpellsKind text kinds.Producer = text ≡ codes "PRODUCER"
+SpellsKind text kinds.Consumer = text ≡ codes "CONSUMER"
+
+-- BadId, BadEnum
+abbrev pub trace_faults : Data → Faults
+trace_faults d = unspelled SpellsTrace 12 d
+
+abbrev pub id_faults : Data → Faults
+id_faults d = unspelled SpellsSpan 12 d
+
+abbrev pub parent_faults : Data → Faults
+parent_faults d = unspelled SpellsParent 12 d
+
+abbrev pub kind_faults : Data → Faults
+kind_faults d = unspelled SpellsKind 13 d
+
+-- ---- `Endpoint`
+
+pub record IsEndpoint (e : Endpoint) (d : Data) : Type 0 where
+  pub shape : is_some (as_object d) ≡ true
+  pub service : Given IsText (λ text. text ≡ []) e.service (member (codes "serviceName") d)
+  pub ipv4 : Given IsText (λ text. text ≡ []) e.ipv4 (member (codes "ipv4") d)
+  pub ipv6 : Given IsText (λ text. text ≡ []) e.ipv6 (member (codes "ipv6") d)
+  pub port : Given IsPort (λ port. port ≡ 0) e.port (member (codes "port") d)
+
+-- what stands for one that is absent
+abbrev pub no_endpoint : Endpoint
+no_endpoint = record { service = []; ipv4 = []; ipv6 = []; port = 0 }
+
+unfoldable pub endpoint_members : Data → Faults
+endpoint_members d = optional text_faults (member (codes "serviceName") d) ▹ optional text_faults (member (codes "ipv4") d)
+    ▹ optional text_faults (member (codes "ipv6") d) ▹ optional port_faults (member (codes "port") d) ▹ nothing
+
+abbrev pub endpoint_faults : Data → Faults
+endpoint_faults d = valued (λ members. endpoint_members d) (as_object d)
+
+-- ---- `Annotation`
+
+pub record IsAnnotation (a : ℕ × List ℕ) (d : Data) : Type 0 where
+  pub shape : is_some (as_object d) ≡ true
+  pub timestamp : ℕ
+  pub its_timestamp : Given IsCount Never timestamp (member (codes "timestamp") d)
+  pub fits : timestamp ≤ last_micros
+  pub time : a.0 ≡ nanos timestamp
+  pub value : Given IsText Never a.1 (member (codes "value") d)
+
+unfoldable pub annotation_members : Data → Faults
+annotation_members d = required (count_faults 0) (member (codes "timestamp") d) ▹ required text_faults (member (codes "value") d) ▹ nothing
+
+abbrev pub annotation_faults : Data → Faults
+annotation_faults d = valued (λ members. annotation_members d) (as_object d)
+
+abbrev pub AreAnnotations : List (ℕ × List ℕ) → Data → Type 0
+AreAnnotations list d = OfKind (λ l held. Each IsAnnotation (elements held) l) list (as_array d)
+
+abbrev pub annotations_faults : Data → Faults
+annotations_faults d = valued (λ held. each annotation_faults (elements held)) (as_array d)
+
+-- ---- `tags`, whose keys name texts; a tag that is null is absent too
+
+abbrev pub texts_in : Members → Option (List (List ℕ × List ℕ))
+texts_in no_members = Some []
+texts_in (has key null more) = texts_in more
+texts_in (has key (string text) more) = option_map (λ texts. (key, text) ∷ texts) (texts_in more)
+texts_in (has key d more) = None
+
+abbrev pub AreTags : List (List ℕ × List ℕ) → Data → Type 0
+AreTags tags d = OfKind (λ texts members. texts_in members ≡ Some texts) tags (as_object d)
+
+abbrev pub tag_faults : Data → Faults
+tag_faults d = optional text_faults (unless_null (Some d))
+
+abbrev pub tags_faults : Data → Faults
+tags_faults d = valued (λ members. each tag_faults (values members)) (as_object d)
+
+-- ---- `Span`
+
+-- the members of this span
+pub record IsSpan (s : ZSpan) (d : Data) : Type 0 where
+  pub shape : is_some (as_object d) ≡ true
+  pub trace : Given (Spelled SpellsTrace) Never s.trace (member (codes "traceId") d)
+  pub id : Given (Spelled SpellsSpan) Never s.id (member (codes "id") d)
+  pub parent : Given (Spelled SpellsParent) (λ parent. parent ≡ None) s.parent (member (codes "parentId") d)
+  pub name : Given IsText (λ text. text ≡ []) s.name (member (codes "name") d)
+  pub kind : Given (Spelled SpellsKind) (λ kind. kind ≡ kinds.Absent) s.kind (member (codes "kind") d)
+  pub timestamp : ℕ
+  pub its_timestamp : Given IsCount (λ count. count ≡ 0) timestamp (member (codes "timestamp") d)
+  pub start : s.start ≡ nanos timestamp
+  pub duration : ℕ
+  pub its_duration : Given IsCount (λ count. count ≡ 0) duration (member (codes "duration") d)
+  pub sum : timestamp + duration ≤ last_micros
+  pub end : s.end ≡ nanos (timestamp + duration)
+  pub debug : Given IsTruth (λ truth. truth ≡ false) s.debug (member (codes "debug") d)
+  pub shared : Given IsTruth (λ truth. truth ≡ false) s.shared (member (codes "shared") d)
+  pub local : Given IsEndpoint (λ e. e ≡ no_endpoint) s.local (member (codes "localEndpoint") d)
+  pub remote : Given IsEndpoint (λ e. e ≡ no_endpoint) s.remote (member (codes "remoteEndpoint") d)
+  pub annotations : Given AreAnnotations (λ list. list ≡ []) s.annotations (member (codes "annotations") d)
+  pub tags : Given AreTags (λ tags. tags ≡ []) s.tags (member (codes "tags") d)
+
+-- the start and the duration are added at `duration`
+unfoldable pub span_members : Data → Faults
+span_members d = required trace_faults (member (codes "traceId") d) ▹ required id_faults (member (codes "id") d)
+    ▹ optional parent_faults (member (codes "parentId") d) ▹ optional text_faults (member (codes "name") d)
+    ▹ optional kind_faults (member (codes "kind") d) ▹ optional (count_faults 0) (member (codes "timestamp") d)
+    ▹ optional (count_faults (count_in (member (codes "timestamp") d))) (member (codes "duration") d)
+    ▹ optional truth_faults (member (codes "debug") d) ▹ optional truth_faults (member (codes "shared") d)
+    ▹ optional endpoint_faults (member (codes "localEndpoint") d) ▹ optional endpoint_faults (member (codes "remoteEndpoint") d)
+    ▹ optional annotations_faults (member (codes "annotations") d) ▹ optional tags_faults (member (codes "tags") d) ▹ nothing
+
+abbrev pub span_faults : Data → Faults
+span_faults d = valued (λ members. span_members d) (as_object d)
+
+-- what is read has rising keys, since an object has each name once, in their order
+abbrev pub Rise : List (List ℕ × List ℕ) → Type 0
+Rise tags = IsStrictlySortedBy (slice_cmp nat_cmp) (map (λ tag. tag.0) tags)
+
+abbrev pub HasRisingTags : ZSpan → Type 0
+HasRisingTags s = Rise s.tags
+
+-- ---- the whole text: an array of spans
+
+abbrev pub AreSpans : List ZSpan → Data → Type 0
+AreSpans spans d = OfKind (λ list held. Each IsSpan (elements held) list) spans (as_array d)
+
+abbrev pub spans_faults : Data → Faults
+spans_faults d = valued (λ held. each span_faults (elements held)) (as_array d)

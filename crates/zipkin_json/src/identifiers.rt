@@ -1,0 +1,161 @@
+//! Identifiers and the kind, which are texts.
+ghost use Rattle.std.specs.Prelude.{◌≡◌, ◌↔◌, ℕ, Option, IfSome, IfOk, OnErr, IfNone, IsTrue};
+ghost use Rattle.serde_json.specs.View.{view};
+ghost use Rattle.span_io.specs.Paths.{required, optional, JudgesValue, Given, Never};
+ghost use Rattle.zipkin_json.specs.Identifiers.{AreZeros, SpellsTrace, SpellsSpan, SpellsParent};
+ghost use Rattle.zipkin_json.specs.Members.{member};
+ghost use Rattle.zipkin_json.specs.Span.{Spelled, SpellsKind, trace_faults, id_faults, parent_faults, kind_faults};
+ghost use Rattle.zipkin_json.specs.declared.span.ZKind.TheVariants as kinds;
+ghost use Rattle.zipkin_json.specs.declared.span.ZKind.{ZKind};
+
+use crate::members::member_of;
+use crate::span::ZKind;
+use serde_json::Value;
+use span_ids::{BadId, IdRule, SpanId, TraceId};
+use span_io::{Cause, Halt};
+
+fn trace_of(text: &str) -> Result<TraceId, BadId>
+    ensures ok { IfOk result (λ id. SpellsTrace text.now id) }
+    ensures err { OnErr result ((id : ℕ) → ¬ SpellsTrace text.now id) }
+{
+    TraceId::read_hex(text.as_bytes(), IdRule::Padded)
+}
+
+fn span_of(text: &str) -> Result<SpanId, BadId>
+    ensures ok { IfOk result (λ id. SpellsSpan text.now id) }
+    ensures err { OnErr result ((id : ℕ) → ¬ SpellsSpan text.now id) }
+{
+    SpanId::read_hex(text.as_bytes(), IdRule::Padded)
+}
+
+fn are_zeros(text: &str) -> bool
+    ensures { IsTrue result ↔ AreZeros text.now }
+{
+    let digits = text.as_bytes();
+    1 <= digits.len() && digits.len() <= 16 && digits.iter().all(|digit| *digit == b'0')
+}
+
+#[tactic(auto, using(crate::proofs::MemberLemmas::no_parent))]
+fn parent_of(text: &str) -> Result<Option<SpanId>, BadId>
+    ensures ok { IfOk result (λ parent. SpellsParent text.now parent) }
+    ensures err { OnErr result ((parent : Option ℕ) → ¬ SpellsParent text.now parent) }
+{
+    if are_zeros(text) {
+        return Ok(None);
+    }
+    match span_of(text) {
+        Ok(id) => Ok(Some(id)),
+        Err(_) => Err(BadId),
+    }
+}
+
+fn kind_of(text: &str) -> Option<ZKind>
+    ensures some { IfSome result (λ kind. SpellsKind text.now kind) }
+    ensures none { IfNone result ((kind : ZKind) → ¬ SpellsKind text.now kind) }
+{
+    match text {
+        "CLIENT" => Some(ZKind::Client),
+        "SERVER" => Some(ZKind::Server),
+        "PRODUCER" => Some(ZKind::Producer),
+        "CONSUMER" => Some(ZKind::Consumer),
+        _ => None,
+    }
+}
+
+fn trace_in(v: &Value) -> Result<TraceId, Halt<Cause>>
+    ensures value { IfOk result (λ id. Spelled SpellsTrace id (view v.now)) }
+    ensures judged { JudgesValue result (trace_faults (view v.now)) }
+{
+    let Some(text) = v.as_str() else {
+        return Err(Halt::Why(Cause::BadShape));
+    };
+    match trace_of(text) {
+        Ok(id) => Ok(id),
+        Err(_) => Err(Halt::Why(Cause::BadId)),
+    }
+}
+
+fn span_in(v: &Value) -> Result<SpanId, Halt<Cause>>
+    ensures value { IfOk result (λ id. Spelled SpellsSpan id (view v.now)) }
+    ensures judged { JudgesValue result (id_faults (view v.now)) }
+{
+    let Some(text) = v.as_str() else {
+        return Err(Halt::Why(Cause::BadShape));
+    };
+    match span_of(text) {
+        Ok(id) => Ok(id),
+        Err(_) => Err(Halt::Why(Cause::BadId)),
+    }
+}
+
+fn parent_in(v: &Value) -> Result<Option<SpanId>, Halt<Cause>>
+    ensures value { IfOk result (λ id. Spelled SpellsParent id (view v.now)) }
+    ensures judged { JudgesValue result (parent_faults (view v.now)) }
+{
+    let Some(text) = v.as_str() else {
+        return Err(Halt::Why(Cause::BadShape));
+    };
+    match parent_of(text) {
+        Ok(parent) => Ok(parent),
+        Err(_) => Err(Halt::Why(Cause::BadId)),
+    }
+}
+
+fn kind_in(v: &Value) -> Result<ZKind, Halt<Cause>>
+    ensures value { IfOk result (λ kind. Spelled SpellsKind kind (view v.now)) }
+    ensures judged { JudgesValue result (kind_faults (view v.now)) }
+{
+    let Some(text) = v.as_str() else {
+        return Err(Halt::Why(Cause::BadShape));
+    };
+    match kind_of(text) {
+        Some(kind) => Ok(kind),
+        None => Err(Halt::Why(Cause::BadEnum)),
+    }
+}
+
+pub fn required_trace(v: &Value, name: &str) -> Result<TraceId, Halt<Cause>>
+    ensures value { IfOk result (λ id. Given (Spelled SpellsTrace) Never id
+        (member name.now (view v.now))) }
+    ensures judged { JudgesValue result (required trace_faults (member name.now (view v.now))) }
+{
+    match member_of(v, name) {
+        None => Err(Halt::Why(Cause::Missing)),
+        Some(found) => trace_in(found),
+    }
+}
+
+pub fn required_span(v: &Value, name: &str) -> Result<SpanId, Halt<Cause>>
+    ensures value { IfOk result (λ id. Given (Spelled SpellsSpan) Never id
+        (member name.now (view v.now))) }
+    ensures judged { JudgesValue result (required id_faults (member name.now (view v.now))) }
+{
+    match member_of(v, name) {
+        None => Err(Halt::Why(Cause::Missing)),
+        Some(found) => span_in(found),
+    }
+}
+
+// A parent that may be absent.
+pub fn parent(v: &Value, name: &str) -> Result<Option<SpanId>, Halt<Cause>>
+    ensures value { IfOk result (λ id. Given (Spelled SpellsParent) (λ p. p ≡ None) id
+        (member name.now (view v.now))) }
+    ensures judged { JudgesValue result (optional parent_faults (member name.now (view v.now))) }
+{
+    match member_of(v, name) {
+        None => Ok(None),
+        Some(found) => parent_in(found),
+    }
+}
+
+// A kind that may be absent.
+pub fn kind(v: &Value, name: &str) -> Result<ZKind, Halt<Cause>>
+    ensures value { IfOk result (λ kind. Given (Spelled SpellsKind) (λ k. k ≡ kinds.Absent) kind
+        (member name.now (view v.now))) }
+    ensures judged { JudgesValue result (optional kind_faults (member name.now (view v.now))) }
+{
+    match member_of(v, name) {
+        None => Ok(ZKind::Absent),
+        Some(found) => kind_in(found),
+    }
+}

@@ -1,0 +1,17 @@
+//! Spans of Zipkin v2 as JSON: reading them, with the cause of the first offence, and writing them.
+#![tactic(auto)]
+
+mod annotation;
+mod endpoint;
+mod identifiers;
+pub mod laws;
+mod members;
+mod reading;
+mod span;
+mod tags;
+
+pub use reading::{read_spans, read_text};
+pub use span::{Endpoint, ZKind, ZSpan};
+
+#[cfg(test)]
+mod tests;

@@ -1,0 +1,150 @@
+//! Members of an object, by their kinds.
+ghost use Rattle.std.specs.Prelude.{◌≡◌, ◌+◌, ◌≤◌, [], false, IfOk, IfSome, option_map, option_and_then};
+ghost use Rattle.serde_json.specs.Find.{as_number, as_u64};
+ghost use Rattle.serde_json.specs.View.{view};
+ghost use Rattle.span_io.specs.Paths.{required, optional, JudgesValue, Given, Never};
+ghost use Rattle.span_ids.specs.Times.{last_micros};
+ghost use Rattle.zipkin_json.specs.Members.{member, IsText, text_faults, IsTruth, truth_faults, IsCount};
+ghost use Rattle.zipkin_json.specs.Members.{IsPort, port_faults, count_faults};
+
+use serde_json::Value;
+use span_io::{Cause, Halt, OutOfMemory, Text};
+use std::alloc::Global;
+
+/// The last count of microseconds whose nanoseconds fit 64 bits.
+pub const LAST_MICROS: u64 = u64::MAX / 1000;
+
+// A member of an object, where it is there and not null.
+#[tactic(auto, using(crate::proofs::MemberLemmas::finds))]
+pub fn member_of<'v>(v: &'v Value, name: &str) -> Option<&'v Value>
+    ensures { option_map (λ m. view m.now) result ≡ member name.now (view v.now) }
+{
+    let Some(found) = v.get(name) else {
+        return None;
+    };
+    if found.is_null() {
+        return None;
+    }
+    Some(found)
+}
+
+// A text of its own.
+pub fn copy_of(alloc: Global, given: &str) -> Result<Text, OutOfMemory>
+    ensures { IfOk result (λ text. text ≡ given.now) }
+{
+    let mut text = Text::new(alloc);
+    text.append(given)?;
+    Ok(text)
+}
+
+fn text_of(alloc: Global, v: &Value) -> Result<Text, Halt<Cause>>
+    ensures value { IfOk result (λ text. IsText text (view v.now)) }
+    ensures judged { JudgesValue result (text_faults (view v.now)) }
+{
+    let Some(given) = v.as_str() else {
+        return Err(Halt::Why(Cause::BadShape));
+    };
+    Ok(copy_of(alloc, given)?)
+}
+
+// A text that may be absent, which is empty then.
+pub fn text(alloc: Global, v: &Value, name: &str) -> Result<Text, Halt<Cause>>
+    ensures value { IfOk result (λ text. Given IsText (λ t. t ≡ []) text
+        (member name.now (view v.now))) }
+    ensures judged { JudgesValue result (optional text_faults (member name.now (view v.now))) }
+{
+    match member_of(v, name) {
+        None => Ok(Text::new(alloc)),
+        Some(found) => text_of(alloc, found),
+    }
+}
+
+pub fn required_text(alloc: Global, v: &Value, name: &str) -> Result<Text, Halt<Cause>>
+    ensures value { IfOk result (λ text. Given IsText Never text (member name.now (view v.now))) }
+    ensures judged { JudgesValue result (required text_faults (member name.now (view v.now))) }
+{
+    match member_of(v, name) {
+        None => Err(Halt::Why(Cause::Missing)),
+        Some(found) => text_of(alloc, found),
+    }
+}
+
+// A truth value that may be absent, which is false then.
+pub fn truth(v: &Value, name: &str) -> Result<bool, Halt<Cause>>
+    ensures value { IfOk result (λ truth. Given IsTruth (λ t. t ≡ false) truth
+        (member name.now (view v.now))) }
+    ensures judged { JudgesValue result (optional truth_faults (member name.now (view v.now))) }
+{
+    match member_of(v, name) {
+        None => Ok(false),
+        Some(found) => match found.as_bool() {
+            Some(truth) => Ok(truth),
+            None => Err(Halt::Why(Cause::BadShape)),
+        },
+    }
+}
+
+// A port that may be absent, which is 0 then.
+pub fn port(v: &Value, name: &str) -> Result<u16, Halt<Cause>>
+    ensures value { IfOk result (λ port. Given IsPort (λ p. p ≡ 0) port
+        (member name.now (view v.now))) }
+    ensures judged { JudgesValue result (optional port_faults (member name.now (view v.now))) }
+{
+    let Some(found) = member_of(v, name) else {
+        return Ok(0);
+    };
+    let Some(number) = found.as_u64() else {
+        return Err(Halt::Why(Cause::BadShape));
+    };
+    match u16::try_from(number) {
+        Ok(port) => Ok(port),
+        Err(_) => Err(Halt::Why(Cause::BadShape)),
+    }
+}
+
+// A count of microseconds that come behind `start`.
+fn micros_of(v: &Value, start: u64) -> Result<u64, Halt<Cause>>
+    requires { start ≤ last_micros }
+    ensures value { IfOk result (λ count. IsCount count (view v.now)) }
+    ensures sum { IfOk result (λ count. start + count ≤ last_micros) }
+    ensures judged { JudgesValue result (count_faults start (view v.now)) }
+{
+    let Some(count) = v.as_u64() else {
+        if v.is_i64() {
+            return Err(Halt::Why(Cause::BadTime));
+        }
+        return Err(Halt::Why(Cause::BadShape));
+    };
+    if count > LAST_MICROS - start {
+        return Err(Halt::Why(Cause::BadTime));
+    }
+    Ok(count)
+}
+
+// A count that may be absent, which is 0 then.
+pub fn micros(v: &Value, name: &str, start: u64) -> Result<u64, Halt<Cause>>
+    requires { start ≤ last_micros }
+    ensures value { IfOk result (λ count. Given IsCount (λ c. c ≡ 0) count
+        (member name.now (view v.now))) }
+    ensures sum { IfOk result (λ count. start + count ≤ last_micros) }
+    ensures judged { JudgesValue result
+        (optional (count_faults start) (member name.now (view v.now))) }
+{
+    match member_of(v, name) {
+        None => Ok(0),
+        Some(found) => micros_of(found, start),
+    }
+}
+
+pub fn required_micros(v: &Value, name: &str) -> Result<u64, Halt<Cause>>
+    ensures value { IfOk result (λ count. Given IsCount Never count
+        (member name.now (view v.now))) }
+    ensures sum { IfOk result (λ count. count ≤ last_micros) }
+    ensures judged { JudgesValue result
+        (required (count_faults 0) (member name.now (view v.now))) }
+{
+    match member_of(v, name) {
+        None => Err(Halt::Why(Cause::Missing)),
+        Some(found) => micros_of(found, 0),
+    }
+}
