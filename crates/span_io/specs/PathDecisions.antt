@@ -5,7 +5,7 @@ use Rattle.span_io.specs.declared.cause.Cause.{Cause}
 use Rattle.span_io.specs.declared.cause.Cause.TheVariants as causes
 use Rattle.span_io.specs.Paths.{Faults, nothing, ◌▹◌, required, optional, each, valued, Given, Never, OfKind, Clean, Quiet, Counts}
 use Rattle.span_io.specs.PathLaws.{clean_nothing, clean_parts, counts_only, first_of_parts, later_of_parts, one_on, quiet_each}
-use Rattle.span_io.specs.Tables.{Each}
+use Rattle.std.specs.List.{AllZip}
 
 pub data Decided {A : Type 0} (Means : A → Type 0) (Offends : Faults) : Type 0 where
   one : (x : A) → Means x → ((y : A) → Means y → x ≡ y) → Clean Offends → Decided Means Offends
@@ -50,19 +50,19 @@ module _ {A D : Type 0} (M : A → D → Type 0) (Offends : D → Faults) (decid
   decided_optional default None = one default refl (λ y h. sym h) clean_nothing
   decided_optional default (Some d) = decide d
 
-  pub decided_each : (ds : List D) → Decided (λ xs. Each M ds xs) (each Offends ds)
+  pub decided_each : (ds : List D) → Decided (λ xs. AllZip (λ d x. M x d) ds xs) (each Offends ds)
   decided_each [] = one [] tt only clean_nothing
     where
-      only : (ys : List A) → Each M [] ys → [] ≡ ys
+      only : (ys : List A) → AllZip (λ d x. M x d) [] ys → [] ≡ ys
       only [] h = refl
       only (y ∷ ys) h = absurd h
   decided_each (d ∷ ds) =
-      decided_as (λ xs. Each M (d ∷ ds) xs) made (λ p h. h) back (also (quiet_each Offends ds) (decide d) (λ x means. decided_each ds))
+      decided_as (λ xs. AllZip (λ d x. M x d) (d ∷ ds) xs) made (λ p h. h) back (also (quiet_each Offends ds) (decide d) (λ x means. decided_each ds))
     where
       made : A × List A → List A
       made p = p.0 ∷ p.1
 
-      back : (zs : List A) → Each M (d ∷ ds) zs → (p : A × List A) × (M p.0 d × Each M ds p.1) × (made p ≡ zs)
+      back : (zs : List A) → AllZip (λ d x. M x d) (d ∷ ds) zs → (p : A × List A) × (M p.0 d × AllZip (λ d x. M x d) ds p.1) × (made p ≡ zs)
       back [] h = absurd h
       back (z ∷ zs) h = ((z, zs), (h.0, h.1), refl)
 

@@ -9,7 +9,7 @@ use Rattle.span_io.specs.declared.halt.Halt.{Halt}
 use Rattle.span_io.specs.declared.refusal.Refusal.{Refusal}
 use Rattle.span_io.specs.Paths.{Faults, each, valued, Clean, Halts, HaltsInput, in_unit}
 use Rattle.span_io.specs.PathLaws.{clean_one_more, halts_at, halts_input_at}
-use Rattle.span_io.specs.Tables.{Each}
+use Rattle.std.specs.List.{AllZip}
 use Rattle.zipkin_json.specs.Members.{elements}
 
 pub elements-items_view : (vs : List Value) → elements (items_view vs) ≡ map view vs
@@ -21,7 +21,7 @@ map_all [] v more = refl
 map_all (w ∷ vs) v more = ap (λ ds. view w ∷ ds) (map_all vs v more)
 
 -- one more of each
-pub each_more : {A B : Type 0} (Is : B → A → Type 0) (ds : List A) (xs : List B) (d : A) (x : B) → Each Is ds xs → Is x d → Each Is (ds ++ d ∷ []) (xs ++ x ∷ [])
+pub each_more : {A B : Type 0} (Is : B → A → Type 0) (ds : List A) (xs : List B) (d : A) (x : B) → AllZip (λ d x. Is x d) ds xs → Is x d → AllZip (λ d x. Is x d) (ds ++ d ∷ []) (xs ++ x ∷ [])
 each_more Is [] [] d x all last = (last, tt)
 each_more Is [] (y ∷ xs) d x all last = absurd all
 each_more Is (e ∷ ds) [] d x all last = absurd all
@@ -38,8 +38,8 @@ module _ (vs : List Value) (i : ℕ) (v : Value) (within : i < length vs) (here 
   all_seen = ap (λ l. map view l) (sym (take-append-drop i vs) ∙ ap (λ l. take i vs ++ l) (drop_more vs i v within ∙ ap (λ w. w ∷ drop (i + 1) vs) (sym here)))
       ∙ map_all (take i vs) v (drop (i + 1) vs)
 
-  pub reads_on : {B : Type 0} (Is : B → Data → Type 0) (xs : List B) (x : B) → Each Is (map view (take i vs)) xs → Is x (view v) → Each Is (map view (take (i + 1) vs)) (xs ++ x ∷ [])
-  reads_on Is xs x all last = subst (λ ds. Each Is ds (xs ++ x ∷ [])) (sym next_seen) (each_more Is _ xs (view v) x all last)
+  pub reads_on : {B : Type 0} (Is : B → Data → Type 0) (xs : List B) (x : B) → AllZip (λ d x. Is x d) (map view (take i vs)) xs → Is x (view v) → AllZip (λ d x. Is x d) (map view (take (i + 1) vs)) (xs ++ x ∷ [])
+  reads_on Is xs x all last = subst (λ ds. AllZip (λ d x. Is x d) ds (xs ++ x ∷ [])) (sym next_seen) (each_more Is _ xs (view v) x all last)
 
   pub clean_on : (Offends : Data → Faults) → Clean (each Offends (map view (take i vs))) → Clean (Offends (view v)) → Clean (each Offends (map view (take (i + 1) vs)))
   clean_on Offends all last = subst (λ ds. Clean (each Offends ds)) (sym next_seen) (clean_one_more Offends _ (view v) all last)

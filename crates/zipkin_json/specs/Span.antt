@@ -8,7 +8,7 @@ use Rattle.serde_json.specs.Data.{Data, null, string, Members, no_members, membe
 use Rattle.serde_json.specs.Find.{as_str, as_array, as_object}
 use Rattle.span_ids.specs.Times.{last_micros, nanos}
 use Rattle.span_io.specs.Paths.{Faults, nothing, here, ◌▹◌, required, optional, each, valued, Given, Never, OfKind}
-use Rattle.span_io.specs.Tables.{Each}
+use Rattle.std.specs.List.{AllZip}
 use Rattle.zipkin_json.specs.declared.span.Endpoint.{Endpoint}
 use Rattle.zipkin_json.specs.declared.span.ZKind.{ZKind}
 use Rattle.zipkin_json.specs.declared.span.ZKind.TheVariants as kinds
@@ -83,7 +83,7 @@ abbrev pub annotation_faults : Data → Faults
 annotation_faults d = valued (λ members. annotation_members d) (as_object d)
 
 abbrev pub AreAnnotations : List (ℕ × List ℕ) → Data → Type 0
-AreAnnotations list d = OfKind (λ l held. Each IsAnnotation (elements held) l) list (as_array d)
+AreAnnotations list d = OfKind (λ l held. AllZip (λ d x. IsAnnotation x d) (elements held) l) list (as_array d)
 
 abbrev pub annotations_faults : Data → Faults
 annotations_faults d = valued (λ held. each annotation_faults (elements held)) (as_array d)
@@ -152,7 +152,7 @@ HasRisingTags s = Rise s.tags
 -- ---- the whole text: an array of spans
 
 abbrev pub AreSpans : List ZSpan → Data → Type 0
-AreSpans spans d = OfKind (λ list held. Each IsSpan (elements held) list) spans (as_array d)
+AreSpans spans d = OfKind (λ list held. AllZip (λ d x. IsSpan x d) (elements held) list) spans (as_array d)
 
 abbrev pub spans_faults : Data → Faults
 spans_faults d = valued (λ held. each span_faults (elements held)) (as_array d)

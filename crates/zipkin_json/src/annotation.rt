@@ -2,7 +2,7 @@
 ghost use Rattle.std.specs.Prelude.{◌≡◌, [], map, IfOk};
 ghost use Rattle.serde_json.specs.View.{view};
 ghost use Rattle.span_io.specs.Paths.{optional, each, JudgesValue, Given};
-ghost use Rattle.span_io.specs.Tables.{Each};
+ghost use Rattle.std.specs.List.{AllZip};
 ghost use Rattle.zipkin_json.specs.Members.{member};
 ghost use Rattle.zipkin_json.specs.Span.{IsAnnotation, annotation_members, annotation_faults, AreAnnotations, annotations_faults};
 
@@ -29,7 +29,7 @@ fn read_annotations(
     alloc: Global,
     elements: &Vec<Value>,
 ) -> Result<Items<(Nanos, Text)>, Halt<Cause>>
-    ensures value { IfOk result (λ list. Each IsAnnotation (map view elements.now.items) list) }
+    ensures value { IfOk result (λ list. AllZip (λ d x. IsAnnotation x d) (map view elements.now.items) list) }
     ensures judged { JudgesValue result (each annotation_faults (map view elements.now.items)) }
 {
     let mut list = Items::new(alloc);

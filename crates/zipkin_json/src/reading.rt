@@ -2,7 +2,7 @@
 ghost use Rattle.std.specs.Prelude.{◌≡◌, ◌+◌, ◌*◌, ◌≤◌, List, All, map, IfOk, codes};
 ghost use Rattle.serde_json.specs.View.{view};
 ghost use Rattle.span_io.specs.Paths.{each, optional, JudgesValue, JudgesInput, ReadsOnly, Given};
-ghost use Rattle.span_io.specs.Tables.{Each};
+ghost use Rattle.std.specs.List.{AllZip};
 ghost use Rattle.span_ids.specs.Times.{last_micros};
 ghost use Rattle.zipkin_json.specs.Members.{member, IsCount, count_in, count_faults};
 ghost use Rattle.zipkin_json.specs.Texts.{AreSpansText, IsUnread, text_faults};
@@ -75,7 +75,7 @@ fn read_span(alloc: Global, v: &Value) -> Result<ZSpan, Halt<Cause>>
 }
 
 fn read_each(alloc: Global, elements: &Vec<Value>) -> Result<Items<ZSpan>, Halt<Refusal>>
-    ensures value { IfOk result (λ spans. Each IsSpan (map view elements.now.items) spans) }
+    ensures value { IfOk result (λ spans. AllZip (λ d x. IsSpan x d) (map view elements.now.items) spans) }
     ensures rising { IfOk result (All HasRisingTags) }
     ensures judged { JudgesInput result (each span_faults (map view elements.now.items)) }
 {
