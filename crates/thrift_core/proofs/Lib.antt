@@ -5,7 +5,6 @@ pub mod Halts
 pub mod Stopping
 pub mod Meanings
 pub mod TextsFrom
-pub mod OneTree
 pub mod WalkSteps
 pub mod OpenStructs
 pub mod Answering

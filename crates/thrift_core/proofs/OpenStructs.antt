@@ -16,7 +16,7 @@ use Rattle.thrift_core.specs.Laws.{OneReading, ReadsBack, OpenFronts}
 use Rattle.thrift_core.proofs.Determined.{front_of, one_turn, one_word, one_end, passes_more, passes_on, ended_there}
 use Rattle.thrift_core.proofs.Completed.{stack_filled, walk_suits}
 use Rattle.thrift_core.proofs.Meanings.{whole_walk, fields_on}
-use Rattle.thrift_core.proofs.OneTree.{one_value, one_fields}
+use Rattle.thrift_core.specs.OneReading.{one_value, one_fields}
 use Rattle.thrift_core.proofs.TextsFrom as texts
 use Rattle.thrift_core.proofs.TextsFrom.{no_header}
 

@@ -1,9 +1,6 @@
-pub mod FieldValues
-pub mod Messages
 pub mod OneReading
 pub mod Parts
 pub mod Reading
-pub mod StructLaws
 pub mod Trees
 pub mod Walks
 pub mod Protocols

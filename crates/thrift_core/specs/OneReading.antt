@@ -264,7 +264,7 @@ module _ (Spells : Spelling) (reads : ReadingOf) (ThenVarint : Part → List ℕ
     one_value (structure x) b zero held whole rest other e h k = absurd h
     one_value (structure x) b (suc left) held whole rest other e h k =
         let o = other_of kinds.Struct b (suc left) held whole other e k in
-        by_content structure x o.content b rest other o.is (one_struct x o.content left (pos 0) whole rest other h o.stands)
+        by_content structure x o.content b rest other o.is (one_fields x o.content left (pos 0) whole rest other h o.stands)
     one_value (map_of x) b zero held whole rest other e h k = absurd h
     one_value (map_of x) b (suc left) held whole rest other e h k =
         let o = other_of kinds.Map b (suc left) held whole other e k in
@@ -287,17 +287,17 @@ module _ (Spells : Spelling) (reads : ReadingOf) (ThenVarint : Part → List ℕ
         let same = subst (λ (m : ListHead). ElementsThen Spells o.content m.element left h.1 other) (sym n.0) (subst (λ l. ElementsThen Spells o.content g.0.element left l other) (sym n.1) g.4) in
         by_content list_of x o.content b rest other o.is (one_list x o.content h.0.element left h.1 rest other (sym h.3 ∙ (ap (λ (m : ListHead). m.size) n.0 ∙ g.3)) h.4 same)
 
-    pub one_struct : (a b : Fields) (left : ℕ) (last : ℤ) (whole rest other : List ℕ) → FieldsThen Spells a left last whole rest → FieldsThen Spells b left last whole other → (a ≡ b) × (rest ≡ other)
-    one_struct no_fields no_fields left last whole rest other h k = (refl, (one_part (header left last) None None whole rest other h k).1)
-    one_struct no_fields (field_then id tree more) left last whole rest other h k =
+    pub one_fields : (a b : Fields) (left : ℕ) (last : ℤ) (whole rest other : List ℕ) → FieldsThen Spells a left last whole rest → FieldsThen Spells b left last whole other → (a ≡ b) × (rest ≡ other)
+    one_fields no_fields no_fields left last whole rest other h k = (refl, (one_part (header left last) None None whole rest other h k).1)
+    one_fields no_fields (field_then id tree more) left last whole rest other h k =
         let head : Field = record { id = id; kind = kind_of tree; held = k.0 } in
         let n = one_part (header left last) None (Some head) whole rest k.1 h k.3 in
         let never : None ≡ Some head = n.0 in absurd (cc)
-    one_struct (field_then id tree more) no_fields left last whole rest other h k =
+    one_fields (field_then id tree more) no_fields left last whole rest other h k =
         let head : Field = record { id = id; kind = kind_of tree; held = h.0 } in
         let n = one_part (header left last) (Some head) None whole h.1 other h.3 k in
         let never : Some head ≡ None = n.0 in absurd (cc)
-    one_struct (field_then id tree more) (field_then it that others) left last whole rest other h k =
+    one_fields (field_then id tree more) (field_then it that others) left last whole rest other h k =
         let head : Field = record { id = id; kind = kind_of tree; held = h.0 } in
         let there : Field = record { id = it; kind = kind_of that; held = k.0 } in
         let n = one_part (header left last) (Some head) (Some there) whole h.1 k.1 h.3 k.3 in
@@ -306,7 +306,7 @@ module _ (Spells : Spelling) (reads : ReadingOf) (ThenVarint : Part → List ℕ
         let v = one_value tree that left h.0 h.1 h.2 k.2 (ap (λ (f : Field). f.kind) same) h.4
         (subst (λ (x : Option Bool). ValueThen Spells that left x h.1 k.2) (sym (ap (λ (f : Field). f.held) same)) (subst (λ l. ValueThen Spells that left k.0 l k.2) (sym n.1) k.4)) in
         let ids : id ≡ it = ap (λ (f : Field). f.id) same in
-        let m = one_struct more others left id h.2 rest other h.5 (subst (λ (x : ℤ). FieldsThen Spells others left x h.2 other) (sym ids) (subst (λ l. FieldsThen Spells others left it l other) (sym v.1) k.5)) in
+        let m = one_fields more others left id h.2 rest other h.5 (subst (λ (x : ℤ). FieldsThen Spells others left x h.2 other) (sym ids) (subst (λ l. FieldsThen Spells others left it l other) (sym v.1) k.5)) in
         (λ i. field_then (ids i) (v.0 i) (m.0 i), m.1)
 
     one_list : (a b : Trees) (kind : Option TypeCode) (left : ℕ) (whole rest other : List ℕ) → tree_count a ≡ tree_count b → ElementsThen Spells a kind left whole rest → ElementsThen Spells b kind left whole other → (a ≡ b) × (rest ≡ other)
