@@ -61,6 +61,14 @@ IsGiven kinds.Truth None = ⊥
 IsGiven other (Some b) = ⊥
 IsGiven other None = Unit {0}
 
+-- the head of a field that is written, which keeps of a truth value what the protocol keeps
+abbrev pub field_head : (Option Bool → Option Bool) → ℤ → TypeCode → Option Bool → Option Field
+field_head keeps id kind given = Some (record { id = id; kind = kind; held = keeps given })
+
+-- the head of a list that is written
+abbrev pub list_of_type : TypeCode → ℕ → ListHead
+list_of_type element many = record { element = Some element; size = many }
+
 -- the largest size of a binary, list, set or map
 abbrev pub last_size : ℕ
 last_size = 2147483647

@@ -2,7 +2,7 @@ ghost use Rattle.std.specs.Prelude.{◌≡◌, ◌≤◌, ◌<ℤ◌, ℕ, ℤ, 
 ghost use Rattle.span_io.specs.declared.cause.Cause.{Cause};
 ghost use Rattle.thrift_core.specs.Parts.{Part, Spelling, header, truth, byte, short, int, long, eight, size, list_head, map_head};
 ghost use Rattle.thrift_core.specs.Reading.{ReadingOf, Gives, Stays};
-ghost use Rattle.thrift_core.specs.Protocols.{ReadsExactly, PartLaws, WritingOf, WritesShortest, IsGiven, last_size};
+ghost use Rattle.thrift_core.specs.Protocols.{ReadsExactly, PartLaws, WritingOf, WritesShortest, IsGiven, field_head, list_of_type, last_size};
 
 use crate::field::{Field, ListHead, MapHead};
 use crate::type_code::TypeCode;
@@ -89,7 +89,7 @@ pub trait Protocol {
     ) -> Result<(), OutOfMemory>
         requires rises { last <ℤ id }
         requires given { IsGiven kind held }
-        ensures ok { (left : ℕ) → OnOk result (out.new ≡ out.old ++ writes (header left last) (Some (record { id = id; kind = kind; held = keeps held }))) }
+        ensures ok { (left : ℕ) → OnOk result (out.new ≡ out.old ++ writes (header left last) (field_head keeps id kind held)) }
         ensures err { OnErr result (out.new ≡ out.old) };
 
     fn put_stop(out: &mut Blob) -> Result<(), OutOfMemory>
@@ -122,7 +122,7 @@ pub trait Protocol {
     /// The head of a list.
     fn put_list(out: &mut Blob, element: TypeCode, many: u32) -> Result<(), OutOfMemory>
         requires small { many ≤ last_size }
-        ensures ok { (left : ℕ) → OnOk result (out.new ≡ out.old ++ writes (list_head left) (record { element = Some element; size = many })) }
+        ensures ok { (left : ℕ) → OnOk result (out.new ≡ out.old ++ writes (list_head left) (list_of_type element many)) }
         ensures err { OnErr result (out.new ≡ out.old) };
 
     ghost reads_exactly: { ReadsExactly spells reads then_varint refuses };
