@@ -1,4 +1,4 @@
-ghost use Rattle.std.specs.Prelude.{◌≡◌, ℕ, List, ◌<◌, ◌^◌, ◌↔◌, IsOk, IfOk, IsErr, Ok};
+ghost use Rattle.std.specs.Prelude.{◌≡◌, ℕ, List, ◌<◌, ◌^◌, ◌↔◌, IsOk, IfOk, IsErr, Ok, IsUtf8};
 ghost use Rattle.std.specs.Int.{w64, to_be_bytes};
 ghost use Rattle.hex.specs.Hex.{encode_lower};
 ghost use Rattle.span_ids.specs.HexTexts.{IsIdHexText, SpellsInHex};
@@ -92,6 +92,7 @@ impl SpanId {
 
     /// Writes the 16 digits of the identifier, in lower case.
     pub fn write_hex(&self, out: &mut [u8; 16])
+        ensures utf8 { IsUtf8 out.new }
         ensures written { out.new ≡ encode_lower (to_be_bytes w64 self.now) }
         // So that each rule reads it back.
         ensures again { (rule : IdRule) → SpellsInHex rule 16 out.new self.now }

@@ -1,4 +1,4 @@
-ghost use Rattle.std.specs.Prelude.{◌≡◌, ℕ, List, ◌<◌, ◌^◌, ◌↔◌, IsOk, IfOk, IsErr, Ok};
+ghost use Rattle.std.specs.Prelude.{◌≡◌, ℕ, List, ◌<◌, ◌^◌, ◌↔◌, IsOk, IfOk, IsErr, Ok, IsUtf8};
 ghost use Rattle.std.specs.Int.{w128, to_be_bytes};
 ghost use Rattle.hex.specs.Hex.{encode_lower};
 ghost use Rattle.span_ids.specs.HexTexts.{IsIdHexText, SpellsInHex};
@@ -101,6 +101,7 @@ impl TraceId {
 
     /// Writes the 32 digits of the identifier, in lower case.
     pub fn write_hex(&self, out: &mut [u8; 32])
+        ensures utf8 { IsUtf8 out.new }
         ensures written { out.new ≡ encode_lower (to_be_bytes w128 self.now) }
         // So that each rule reads it back.
         ensures again { (rule : IdRule) → SpellsInHex rule 32 out.new self.now }

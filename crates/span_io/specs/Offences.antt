@@ -99,7 +99,13 @@ Judges (Ok x) Offends = (place number : ℕ) → ¬ Offends place number
 Judges (Err (halts.Why cause)) Offends = Least Offends (cause_number cause)
 Judges (Err halts.OutOfMemory) Offends = Unit {0}
 
--- the same only of where there is no value
+-- this value is read, or memory is wanted
+abbrev pub OnlyReads : {T E : Type 0} → Result T (Halt E) → T → Type 0
+OnlyReads (Ok read) value = read ≡ value
+OnlyReads (Err (halts.Why why)) value = ⊥
+OnlyReads (Err halts.OutOfMemory) value = Unit {0}
+
+-- what is judged where there is no value
 abbrev pub OnHalt : {T : Type 0} → Result T (Halt Cause) → (ℕ → ℕ → Type 0) → Type 0
 OnHalt (Ok x) Offends = Unit {0}
 OnHalt (Err (halts.Why cause)) Offends = Least Offends (cause_number cause)

@@ -3,17 +3,17 @@ use Rattle.std.proofs.Common.{◌≡◌, List, [], ◌∷◌, Option, Some, None
 use Rattle.span_io.specs.Causes.{cause_number}
 use Rattle.span_io.specs.declared.cause.Cause.{Cause}
 use Rattle.span_io.specs.declared.cause.Cause.TheVariants as causes
-use Rattle.span_io.specs.Paths.{Faults, nothing, ◌▹◌, required, optional, each, valued, Given, Never, OfKind, Clean, Quiet, Counts}
+use Rattle.span_io.specs.Paths.{Faults, nothing, ◌▹◌, required, optional, each, valued, Given, Never, OfKind, NothingOffends, Quiet, Counts}
 use Rattle.span_io.specs.PathLaws.{clean_nothing, clean_parts, counts_only, first_of_parts, later_of_parts, one_on, quiet_each}
 use Rattle.std.specs.List.{AllZip}
 
-pub data Decided {A : Type 0} (Means : A → Type 0) (Offends : Faults) : Type 0 where
-  one : (x : A) → Means x → ((y : A) → Means y → x ≡ y) → Clean Offends → Decided Means Offends
-  none : (cause : Cause) → Counts Offends (cause_number cause) → ((y : A) → ¬ Means y) → Decided Means Offends
+pub data IsSettled {A : Type 0} (Means : A → Type 0) (Offends : Faults) : Type 0 where
+  one : (x : A) → Means x → ((y : A) → Means y → x ≡ y) → NothingOffends Offends → IsSettled Means Offends
+  none : (cause : Cause) → Counts Offends (cause_number cause) → ((y : A) → ¬ Means y) → IsSettled Means Offends
 
 module _ {A B : Type 0} {M : A → Type 0} {Offends : Faults} where
   -- the same of what is made of it
-  pub decided_as : (N : B → Type 0) (f : A → B) → ((x : A) → M x → N (f x)) → ((z : B) → N z → (x : A) × M x × (f x ≡ z)) → Decided M Offends → Decided N Offends
+  pub decided_as : (N : B → Type 0) (f : A → B) → ((x : A) → M x → N (f x)) → ((z : B) → N z → (x : A) × M x × (f x ≡ z)) → IsSettled M Offends → IsSettled N Offends
   decided_as N f there back (one x means only clean) =
       one (f x) (there x means) (λ z h. let made = back z h in ap f (only made.0 made.1) ∙ made.2) clean
   decided_as N f there back (none cause counts never) = none cause counts (λ z h. let made = back z h in never made.0 made.1)
@@ -24,33 +24,33 @@ pub pair : {A B : Type 0} (x a : A) (y b : B) → x ≡ a → y ≡ b → ◌≡
 pair {A} {B} x a y b e k = cc
 
 module _ {A B : Type 0} {M : A → Type 0} {N : B → Type 0} {First Others : Faults} where
-  pub also : Quiet Others → Decided M First → ((x : A) → M x → Decided N Others) → Decided (λ (p : A × B). M p.0 × N p.1) (First ▹ Others)
+  pub also : Quiet Others → IsSettled M First → ((x : A) → M x → IsSettled N Others) → IsSettled (λ (p : A × B). M p.0 × N p.1) (First ▹ Others)
   also quiet (none cause counts never) rest =
       none cause (record { path = _; is_least = first_of_parts First Others quiet counts.path (cause_number cause) counts.is_least }) (λ p h. never p.0 h.0)
   also quiet (one x means only clean) rest = behind (rest x means)
     where
-      behind : Decided N Others → Decided (λ (p : A × B). M p.0 × N p.1) (First ▹ Others)
+      behind : IsSettled N Others → IsSettled (λ (p : A × B). M p.0 × N p.1) (First ▹ Others)
       behind (one y also_means only_also clean_also) =
           one (x, y) (means, also_means) (λ p h. pair x p.0 y p.1 (only p.0 h.0) (only_also p.1 h.1)) (clean_parts First Others clean clean_also)
       behind (none cause counts never) =
           none cause (record { path = one_on First Others counts.path; is_least = later_of_parts First Others clean counts.path (cause_number cause) counts.is_least }) (λ p h. never p.1 h.1)
 
 -- no more members
-pub no_more : Decided (λ (u : Unit {0}). Unit {0}) nothing
+pub no_more : IsSettled (λ (u : Unit {0}). Unit {0}) nothing
 no_more = one tt tt (λ y h. refl) clean_nothing
 
 -- ---- members and elements
 
-module _ {A D : Type 0} (M : A → D → Type 0) (Offends : D → Faults) (decide : (d : D) → Decided (λ x. M x d) (Offends d)) where
-  pub decided_required : (o : Option D) → Decided (λ x. Given M Never x o) (required Offends o)
+module _ {A D : Type 0} (M : A → D → Type 0) (Offends : D → Faults) (decide : (d : D) → IsSettled (λ x. M x d) (Offends d)) where
+  pub decided_required : (o : Option D) → IsSettled (λ x. Given M Never x o) (required Offends o)
   decided_required None = none causes.Missing (counts_only 8) (λ y h. h)
   decided_required (Some d) = decide d
 
-  pub decided_optional : (default : A) (o : Option D) → Decided (λ x. Given M (λ y. y ≡ default) x o) (optional Offends o)
+  pub decided_optional : (default : A) (o : Option D) → IsSettled (λ x. Given M (λ y. y ≡ default) x o) (optional Offends o)
   decided_optional default None = one default refl (λ y h. sym h) clean_nothing
   decided_optional default (Some d) = decide d
 
-  pub decided_each : (ds : List D) → Decided (λ xs. AllZip (λ d x. M x d) ds xs) (each Offends ds)
+  pub decided_each : (ds : List D) → IsSettled (λ xs. AllZip (λ d x. M x d) ds xs) (each Offends ds)
   decided_each [] = one [] tt only clean_nothing
     where
       only : (ys : List A) → AllZip (λ d x. M x d) [] ys → [] ≡ ys
@@ -66,8 +66,8 @@ module _ {A D : Type 0} (M : A → D → Type 0) (Offends : D → Faults) (decid
       back [] h = absurd h
       back (z ∷ zs) h = ((z, zs), (h.0, h.1), refl)
 
-module _ {A K : Type 0} (M : A → K → Type 0) (Offends : K → Faults) (decide : (k : K) → Decided (λ x. M x k) (Offends k)) where
-  pub decided_valued : (o : Option K) → Decided (λ x. OfKind M x o) (valued Offends o)
+module _ {A K : Type 0} (M : A → K → Type 0) (Offends : K → Faults) (decide : (k : K) → IsSettled (λ x. M x k) (Offends k)) where
+  pub decided_valued : (o : Option K) → IsSettled (λ x. OfKind M x o) (valued Offends o)
   decided_valued None = none causes.BadShape (counts_only 11) never
     where
       never : (y : A) → ¬ OfKind M y None
@@ -77,7 +77,7 @@ module _ {A K : Type 0} (M : A → K → Type 0) (Offends : K → Faults) (decid
       back : (z : A) → OfKind M z (Some k) → (x : A) × M x k × (x ≡ z)
       back z h = (z, (let e : k ≡ h.held = let s = h.shape in cc in subst (λ (y : K). M z y) (sym e) h.means), refl)
 
-pub decided_plain : {K : Type 0} (o : Option K) → Decided (λ (x : K). o ≡ Some x) (valued (λ x. nothing) o)
+pub decided_plain : {K : Type 0} (o : Option K) → IsSettled (λ (x : K). o ≡ Some x) (valued (λ x. nothing) o)
 decided_plain {K} None = none causes.BadShape (counts_only 11) never
   where
     never : (y : K) → ¬ (None ≡ Some y)

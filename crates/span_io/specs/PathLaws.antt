@@ -6,17 +6,17 @@ use Rattle.span_io.specs.declared.cause.Cause.{Cause}
 use Rattle.span_io.specs.declared.halt.Halt.{Halt}
 use Rattle.span_io.specs.declared.halt.Halt.TheVariants as halts
 use Rattle.span_io.specs.declared.refusal.Refusal.{Refusal}
-use Rattle.span_io.specs.Paths.{Faults, nothing, here, ◌▹◌, each, valued, ComesBefore, IsLeast, Clean, Quiet, Counts, Halts, JudgesValue, HaltsInput, JudgesInput, in_unit}
+use Rattle.span_io.specs.Paths.{Faults, nothing, here, ◌▹◌, each, valued, ComesBefore, IsLeast, NothingOffends, Quiet, Counts, Halts, JudgesValue, HaltsInput, JudgesInput, in_unit}
 
 -- ---- one value
 
-pub clean_nothing : Clean nothing
+pub clean_nothing : NothingOffends nothing
 clean_nothing = record { none = λ path number offends. offends }
 
 pub quiet_nothing : Quiet nothing
 quiet_nothing = record { none = λ number offends. offends }
 
-pub clean_here : (Numbers : ℕ → Type 0) → ((n : ℕ) → ¬ Numbers n) → Clean (here Numbers)
+pub clean_here : (Numbers : ℕ → Type 0) → ((n : ℕ) → ¬ Numbers n) → NothingOffends (here Numbers)
 clean_here Numbers fine = record { none = none }
   where
     none : (path : List ℕ) (n : ℕ) → ¬ here Numbers path n
@@ -34,7 +34,7 @@ pub counts_here : (Numbers : ℕ → Type 0) (number : ℕ) → Numbers number �
 counts_here Numbers number offence first = record { path = []; is_least = least_here Numbers number offence first }
 
 -- of a value of a kind, and of one that isn't
-pub clean_valued : {A : Type 0} (Offends : Faults) (o : Option A) → is_some o ≡ true → Clean Offends → Clean (valued (λ x. Offends) o)
+pub clean_valued : {A : Type 0} (Offends : Faults) (o : Option A) → is_some o ≡ true → NothingOffends Offends → NothingOffends (valued (λ x. Offends) o)
 clean_valued Offends (Some x) shape clean = clean
 clean_valued {A} Offends None shape clean = cc
 
@@ -49,7 +49,7 @@ counts_only number = counts_here (λ n. n ≡ number) number refl (λ n e. omega
 -- ---- two parts
 
 module _ (First Others : Faults) where
-  pub clean_parts : Clean First → Clean Others → Clean (First ▹ Others)
+  pub clean_parts : NothingOffends First → NothingOffends Others → NothingOffends (First ▹ Others)
   unfolding ◌▹◌
   clean_parts first others = record { none = none }
     where
@@ -87,7 +87,7 @@ module _ (First Others : Faults) where
   one_on-before (i ∷ p) (j ∷ q) (inl less) = inl (omega arith)
   one_on-before (i ∷ p) (j ∷ q) (inr h) = inr (ap suc h.0, h.1)
 
-  pub later_of_parts : Clean First → (path : List ℕ) (number : ℕ) → IsLeast Others path number → IsLeast (First ▹ Others) (one_on path) number
+  pub later_of_parts : NothingOffends First → (path : List ℕ) (number : ℕ) → IsLeast Others path number → IsLeast (First ▹ Others) (one_on path) number
   unfolding ◌▹◌
   later_of_parts clean path number h = record { offence = offence path h.offence; least = least }
     where
@@ -110,7 +110,7 @@ halts_first (halts.Why cause) First Others quiet h =
     record { path = zero ∷ h.path; is_least = first_of_parts First Others quiet h.path (cause_number cause) h.is_least }
 halts_first halts.OutOfMemory First Others quiet h = tt
 
-pub halts_later : (halt : Halt Cause) (First Others : Faults) → Clean First → Halts halt Others → Halts halt (First ▹ Others)
+pub halts_later : (halt : Halt Cause) (First Others : Faults) → NothingOffends First → Halts halt Others → Halts halt (First ▹ Others)
 halts_later (halts.Why cause) First Others clean h =
     record { path = one_on First Others h.path; is_least = later_of_parts First Others clean h.path (cause_number cause) h.is_least }
 halts_later halts.OutOfMemory First Others clean h = tt
@@ -128,7 +128,7 @@ module _ {A : Type 0} (Offends : A → Faults) where
   quiet_each [] = quiet_nothing
   quiet_each (x ∷ xs) = quiet_parts (Offends x) (each Offends xs) (quiet_each xs)
 
-  pub clean_one_more : (seen : List A) (x : A) → Clean (each Offends seen) → Clean (Offends x) → Clean (each Offends (seen ++ x ∷ []))
+  pub clean_one_more : (seen : List A) (x : A) → NothingOffends (each Offends seen) → NothingOffends (Offends x) → NothingOffends (each Offends (seen ++ x ∷ []))
   unfolding ◌▹◌
   clean_one_more [] x all clean = clean_parts (Offends x) nothing clean clean_nothing
   clean_one_more (y ∷ seen) x all clean =
@@ -140,7 +140,7 @@ module _ {A : Type 0} (Offends : A → Faults) where
       rest (i ∷ path) n o = all.none (suc i ∷ path) n o
 
   -- the first element that offends, behind others that don't
-  pub least_at : (seen : List A) (x : A) (more : List A) → Clean (each Offends seen) → (path : List ℕ) (number : ℕ) → IsLeast (Offends x) path number
+  pub least_at : (seen : List A) (x : A) (more : List A) → NothingOffends (each Offends seen) → (path : List ℕ) (number : ℕ) → IsLeast (Offends x) path number
       → IsLeast (each Offends (seen ++ x ∷ more)) (length seen ∷ path) number
   unfolding ◌▹◌
   least_at [] x more clean path number h = first_of_parts (Offends x) (each Offends more) (quiet_each more) path number h
@@ -152,13 +152,13 @@ module _ {A : Type 0} (Offends : A → Faults) where
       rest [] n o = (quiet_each seen).none n o
       rest (i ∷ p) n o = clean.none (suc i ∷ p) n o
 
-  pub halts_at : (halt : Halt Cause) (seen : List A) (x : A) (more : List A) → Clean (each Offends seen) → Halts halt (Offends x) → Halts halt (each Offends (seen ++ x ∷ more))
+  pub halts_at : (halt : Halt Cause) (seen : List A) (x : A) (more : List A) → NothingOffends (each Offends seen) → Halts halt (Offends x) → Halts halt (each Offends (seen ++ x ∷ more))
   halts_at (halts.Why cause) seen x more clean h =
       record { path = length seen ∷ h.path; is_least = least_at seen x more clean h.path (cause_number cause) h.is_least }
   halts_at halts.OutOfMemory seen x more clean h = tt
 
   -- the same, as a refusal with the element's number
-  pub halts_input_at : (halt : Halt Cause) (seen : List A) (x : A) (more : List A) → Clean (each Offends seen) → Halts halt (Offends x)
+  pub halts_input_at : (halt : Halt Cause) (seen : List A) (x : A) (more : List A) → NothingOffends (each Offends seen) → Halts halt (Offends x)
       → HaltsInput (in_unit (suc (length seen)) halt) (each Offends (seen ++ x ∷ more))
   halts_input_at (halts.Why cause) seen x more clean h =
       record { path = length seen ∷ h.path; is_least = least_at seen x more clean h.path (cause_number cause) h.is_least; unit = refl }

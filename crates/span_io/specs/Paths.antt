@@ -78,7 +78,7 @@ pub record IsLeast (Offends : Faults) (path : List ℕ) (number : ℕ) : Type 0 
   pub least : (p : List ℕ) (n : ℕ) → Offends p n → ComesBefore path p ⊎ ((path ≡ p) × (number ≤ n))
 
 -- nothing offends
-pub record Clean (Offends : Faults) : Type 0 where
+pub record NothingOffends (Offends : Faults) : Type 0 where
   pub none : (path : List ℕ) (number : ℕ) → ¬ Offends path number
 
 -- the value itself doesn't offend
@@ -98,7 +98,7 @@ Halts halts.OutOfMemory Offends = Unit {0}
 
 -- Nothing offends where there is a value, and a cause is that of the offence that counts.
 abbrev pub JudgesValue : {T : Type 0} → Result T (Halt Cause) → Faults → Type 0
-JudgesValue (Ok x) Offends = Clean Offends
+JudgesValue (Ok x) Offends = NothingOffends Offends
 JudgesValue (Err halt) Offends = Halts halt Offends
 
 -- the number of the element that a path leads into, from 1, and 0 for the whole
@@ -107,25 +107,19 @@ unit_of [] = 0
 unit_of (i ∷ path) = suc i
 
 -- a refusal has the number of the offence that counts, and of the element that it stands in
-pub record Refuses (Offends : Faults) (refusal : Refusal) : Type 0 where
+pub record RefusesInput (Offends : Faults) (refusal : Refusal) : Type 0 where
   pub path : List ℕ
   pub is_least : IsLeast Offends path (cause_number refusal.cause)
   pub unit : refusal.unit ≡ unit_of path
 
 abbrev pub HaltsInput : Halt Refusal → Faults → Type 0
-HaltsInput (halts.Why refusal) Offends = Refuses Offends refusal
+HaltsInput (halts.Why refusal) Offends = RefusesInput Offends refusal
 HaltsInput halts.OutOfMemory Offends = Unit {0}
 
 -- The same of an input, which is a list of units.
 abbrev pub JudgesInput : {T : Type 0} → Result T (Halt Refusal) → Faults → Type 0
-JudgesInput (Ok x) Offends = Clean Offends
+JudgesInput (Ok x) Offends = NothingOffends Offends
 JudgesInput (Err halt) Offends = HaltsInput halt Offends
-
--- this value, or want of memory
-abbrev pub ReadsOnly : {T : Type 0} → Result T (Halt Refusal) → T → Type 0
-ReadsOnly (Ok read) value = read ≡ value
-ReadsOnly (Err (halts.Why refusal)) value = ⊥
-ReadsOnly (Err halts.OutOfMemory) value = Unit {0}
 
 -- a halt in the unit of this number
 abbrev pub in_unit : ℕ → Halt Cause → Halt Refusal

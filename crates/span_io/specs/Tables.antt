@@ -114,3 +114,7 @@ NotText held number = (number ≡ 9) × ¬ IsUtf8 held
 -- BadEnum: the value is above the last of the enum
 abbrev pub Above : ℕ → ℕ → ℕ → Type 0
 Above last n number = (number ≡ 13) × (last < n)
+
+-- nothing offends inside what the row holds
+abbrev pub nothing_inside : {A : Type 0} → A → ℕ → ℕ → Type 0
+nothing_inside held place number = ⊥

@@ -1,8 +1,9 @@
-ghost use Rattle.std.specs.Prelude.{◌≡◌, [], ◌++◌, length, IfOk, OnOk, OnErr};
+ghost use Rattle.std.specs.Prelude.{◌≡◌, ◌+◌, ◌<◌, ◌≤◌, [], ◌∷◌, ◌++◌, length, take, drop, IfOk, OnOk, OnErr};
 
 use crate::halt::OutOfMemory;
 use std::alloc::Global;
 use std::marker::Model;
+use std::mem;
 
 /// A growing list of bytes, which contracts see as the list.
 #[derive(Debug, Drop)]
@@ -80,6 +81,50 @@ impl Blob {
                 Err(refused.into())
             }
         }
+    }
+
+    /// Puts a byte in the place of the one that stands there.
+    #[inline(always)]
+    pub fn set(&mut self, place: usize, byte: u8)
+        requires { place < length self.old }
+        ensures { self.new ≡ take place self.old ++ (byte ∷ drop (place + 1) self.old) }
+    {
+        self.bytes[place] = byte;
+    }
+
+    /// Puts a byte in at a place, and moves what stands from there on behind it.
+    pub fn insert(&mut self, place: usize, byte: u8) -> Result<(), OutOfMemory>
+        requires { place ≤ length self.old }
+        ensures ok { OnOk result (self.new ≡ take place self.old ++ (byte ∷ drop place self.old)) }
+        ensures err { OnErr result (self.new ≡ self.old) }
+    {
+        match self.bytes.insert(place, byte) {
+            Ok(()) => Ok(()),
+            Err(_) => Err(OutOfMemory),
+        }
+    }
+
+    /// Keeps so many of its first bytes, and its room.
+    pub fn truncate(&mut self, count: usize)
+        ensures { self.new ≡ take count self.old }
+    {
+        self.bytes.truncate(count);
+    }
+
+    /// Takes the vector that holds the bytes, and leaves an empty list.
+    pub fn take(&mut self) -> Vec<u8>
+        ensures taken { result.items ≡ self.old }
+        ensures left { self.new ≡ [] }
+    {
+        let alloc = *self.bytes.allocator();
+        mem::replace(&mut self.bytes, Vec::new(alloc))
+    }
+
+    /// The bytes of a vector, with its room.
+    pub fn from_vec(bytes: Vec<u8>) -> Blob
+        ensures { result ≡ bytes.items }
+    {
+        Blob { bytes }
     }
 
     /// Empties the list, which keeps its room.

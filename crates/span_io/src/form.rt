@@ -7,6 +7,8 @@ ghost use Rattle.span_io.specs.declared.form.Form.{Form};
 pub enum Form {
     /// OTLP `ExportTraceServiceRequest` in the proto3 wire format.
     OtlpProto,
+    /// Batches of `jaeger.thrift`, one after the other, in the Thrift binary protocol.
+    JaegerBinary,
 }
 
 impl Form {
@@ -16,6 +18,7 @@ impl Form {
     {
         match word {
             b"otlp-proto" => Some(Form::OtlpProto),
+            b"jaeger-binary" => Some(Form::JaegerBinary),
             _ => None,
         }
     }

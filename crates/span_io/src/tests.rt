@@ -167,6 +167,7 @@ fn causes(rt: HostRuntime) {
 #[test]
 fn forms(rt: HostRuntime) {
     assert_eq!(rt; Form::of_word(b"otlp-proto"), Some(Form::OtlpProto));
+    assert_eq!(rt; Form::of_word(b"jaeger-binary"), Some(Form::JaegerBinary));
     for word in ["", "otlp", "otlp-prot", "otlp-proto ", "OTLP-PROTO"] {
         assert_eq!(rt; Form::of_word(word.as_bytes()), None, "{word}");
     }

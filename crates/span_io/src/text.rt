@@ -30,6 +30,15 @@ impl Text {
         }
     }
 
+    /// The same text, in memory of its own.
+    pub fn of(alloc: Global, piece: &str) -> Result<Text, OutOfMemory>
+        ensures { IfOk result (λ text. text ≡ piece.now) }
+    {
+        let mut text = Text::new(alloc);
+        text.append(piece)?;
+        Ok(text)
+    }
+
     /// The text of a string, which is taken over.
     pub fn from_string(text: String) -> Text
         ensures { result ≡ string_bytes text }

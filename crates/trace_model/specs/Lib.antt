@@ -5,6 +5,7 @@ pub mod Gathering
 pub mod Laws
 pub mod LeastOf
 pub mod Proper
+pub mod Remarks
 pub mod Soundness
 pub mod ValueTexts
 pub mod Values

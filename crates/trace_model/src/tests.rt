@@ -15,16 +15,10 @@ use std::test::Fail;
 const NESTED: &str =
     "[\"a\\\"\\\\/\\n\\u0001é\",-9223372036854775808,null,\"AP8QIA==\",[],{\"\":true,\"k\\\"\":{}}]";
 
-fn text_of(alloc: Global, piece: &str) -> Result<Text, OutOfMemory> {
-    let mut text = Text::new(alloc);
-    text.append(piece)?;
-    Ok(text)
-}
-
 fn numbers(alloc: Global, list: &[(&str, i64)]) -> Result<Items<(Text, Value)>, OutOfMemory> {
     let mut pairs = Items::new(alloc);
     for (key, number) in list {
-        pairs.push((text_of(alloc, key)?, Value::Number(*number)))?;
+        pairs.push((Text::of(alloc, key)?, Value::Number(*number)))?;
     }
     Ok(pairs)
 }
@@ -88,9 +82,9 @@ fn gathers_many_pairs(rt: HostRuntime) -> Result<(), Fail> {
     for number in 0..1000u32 {
         let key = format!(in rt.alloc(); "{:03}", 999 - number)?;
         let value = Value::Number(i64::from(number));
-        apart.push((text_of(rt.alloc(), key.as_str())?, value))?;
+        apart.push((Text::of(rt.alloc(), key.as_str())?, value))?;
         let value = Value::Number(i64::from(number));
-        equal.push((text_of(rt.alloc(), "k")?, value))?;
+        equal.push((Text::of(rt.alloc(), "k")?, value))?;
     }
     let (attributes, twice) = attrs_of(rt.alloc(), apart)?;
     assert_eq!(rt; (attributes.len(), twice.len()), (1000, 0));
@@ -107,10 +101,10 @@ fn gathers_many_pairs(rt: HostRuntime) -> Result<(), Fail> {
 fn prints_and_copies_values(rt: HostRuntime) -> Result<(), Fail> {
     let mut bytes = Blob::new(rt.alloc());
     bytes.append(&[1, 2])?;
-    let pair = (text_of(rt.alloc(), "k")?, Value::Truth(false));
+    let pair = (Text::of(rt.alloc(), "k")?, Value::Truth(false));
     for (value, wanted) in [
         (
-            Value::Text(text_of(rt.alloc(), "t")?),
+            Value::Text(Text::of(rt.alloc(), "t")?),
             "Text(Text { text: \"t\" })",
         ),
         (Value::Truth(true), "Truth(true)"),
@@ -147,10 +141,10 @@ fn blob_of(alloc: Global, bytes: &[u8]) -> Result<Blob, OutOfMemory> {
 /// A list with a text to escape, a number, nothing, bytes, an empty list and a map of two keys.
 fn nested(alloc: Global) -> Result<Value, OutOfMemory> {
     let mut pairs = Items::new(alloc);
-    pairs.push((text_of(alloc, "")?, Value::Truth(true)))?;
-    pairs.push((text_of(alloc, "k\"")?, Value::Map(Items::new(alloc))))?;
+    pairs.push((Text::of(alloc, "")?, Value::Truth(true)))?;
+    pairs.push((Text::of(alloc, "k\"")?, Value::Map(Items::new(alloc))))?;
     let mut members = Items::new(alloc);
-    members.push(Value::Text(text_of(alloc, "a\"\\/\n\u{1}é")?))?;
+    members.push(Value::Text(Text::of(alloc, "a\"\\/\n\u{1}é")?))?;
     members.push(Value::Number(i64::MIN))?;
     members.push(Value::Nothing)?;
     members.push(Value::Bytes(blob_of(alloc, &[0, 255, 16, 32])?))?;
@@ -170,7 +164,7 @@ fn has_text(alloc: Global, value: &Value, wanted: Option<&str>) -> bool {
 #[test]
 fn tells_leaves_as_texts(rt: HostRuntime) -> Result<(), Fail> {
     let alloc = rt.alloc();
-    let text = text_of(alloc, "a\"é")?;
+    let text = Text::of(alloc, "a\"é")?;
     let bytes = blob_of(alloc, &[251, 255])?;
     for (value, wanted) in [
         (Value::Text(text), Some("a\"é")),
@@ -193,7 +187,7 @@ fn tells_lists_and_maps_as_texts(rt: HostRuntime) -> Result<(), Fail> {
     let several = nested(alloc)?;
     let pairs = numbers(alloc, &[("b", 2), ("c", -1)])?;
     let inner = one(alloc, Value::Eight([63, 240, 0, 0, 0, 0, 0, 0]))?;
-    let outer = one(alloc, (text_of(alloc, "k")?, Value::List(inner)))?;
+    let outer = one(alloc, (Text::of(alloc, "k")?, Value::List(inner)))?;
     for (value, wanted) in [
         (Value::List(Items::new(alloc)), Some("[]")),
         (Value::Map(pairs), Some("{\"b\":2,\"c\":-1}")),
@@ -225,15 +219,19 @@ fn numbers_and_names_faults(rt: HostRuntime) -> Result<(), Fail> {
     let alloc = rt.alloc();
     for (fault, number, name) in [
         (Fault::EndBeforeStart, 20, "EndBeforeStart"),
-        (Fault::Reserved(text_of(alloc, "error")?), 21, "Reserved"),
-        (Fault::OwnKey(text_of(alloc, "jaeger.flags")?), 22, "OwnKey"),
+        (Fault::Reserved(Text::of(alloc, "error")?), 21, "Reserved"),
+        (
+            Fault::OwnKey(Text::of(alloc, "jaeger.flags")?),
+            22,
+            "OwnKey",
+        ),
         (Fault::EventText, 23, "EventText"),
         (Fault::ChildOfLink, 24, "ChildOfLink"),
         (Fault::DoubleInText, 25, "DoubleInText"),
     ] {
         assert_eq!(rt; (fault.number(), fault.name()), (number, name));
     }
-    let shown = format!(in alloc; "{:?}", Fault::OwnKey(text_of(alloc, "k")?))?;
+    let shown = format!(in alloc; "{:?}", Fault::OwnKey(Text::of(alloc, "k")?))?;
     assert_eq!(rt; shown.as_str(), "OwnKey(Text { text: \"k\" })");
     Ok(())
 }
@@ -245,7 +243,7 @@ fn holds_traces(rt: HostRuntime) -> Result<(), Fail> {
     let id = SpanId::from_bytes(&[2; 8])?;
     let event = Event {
         time: Nanos(7),
-        name: text_of(alloc, "e")?,
+        name: Text::of(alloc, "e")?,
         attributes: numbers(alloc, &[("k", 1)])?,
         dropped: 1,
     };
@@ -259,14 +257,14 @@ fn holds_traces(rt: HostRuntime) -> Result<(), Fail> {
     };
     let status = Status {
         code: Code::Fail,
-        message: text_of(alloc, "m")?,
+        message: Text::of(alloc, "m")?,
     };
     let span = Span {
         trace,
         id,
         state: Text::new(alloc),
         parent: None,
-        name: text_of(alloc, "s")?,
+        name: Text::of(alloc, "s")?,
         kind: Kind::Server,
         start: Nanos(5),
         end: Nanos(9),
@@ -280,7 +278,7 @@ fn holds_traces(rt: HostRuntime) -> Result<(), Fail> {
         flags: 7,
     };
     let scope = Scope {
-        name: text_of(alloc, "n")?,
+        name: Text::of(alloc, "n")?,
         version: Text::new(alloc),
         attributes: Items::new(alloc),
         dropped: 8,
@@ -303,7 +301,7 @@ fn holds_traces(rt: HostRuntime) -> Result<(), Fail> {
     let remark = Remark {
         place: Place::Event(1, 2),
         kind: RemarkKind::EqualKey,
-        key: text_of(alloc, "k")?,
+        key: Text::of(alloc, "k")?,
     };
     let wanted = "Remark { place: Event(1, 2), kind: EqualKey, key: Text { text: \"k\" } }";
     assert_eq!(rt; format!(in alloc; "{remark:?}")?.as_str(), wanted);

@@ -41,18 +41,14 @@ fn truth_text(alloc: Global, truth: bool) -> Result<Text, OutOfMemory>
     ensures { IfOk result (λ text. text ≡ truth_text truth) }
 {
     let word = if truth { "true" } else { "false" };
-    let mut text = Text::new(alloc);
-    text.append(word)?;
-    Ok(text)
+    Text::of(alloc, word)
 }
 
 fn number_text(alloc: Global, number: &i64) -> Result<Text, OutOfMemory>
     ensures { IfOk result (λ text. text ≡ signed_decimal number.now) }
 {
     let mut buffer = itoa::Buffer::new();
-    let mut text = Text::new(alloc);
-    text.append(buffer.format(*number))?;
-    Ok(text)
+    Text::of(alloc, buffer.format(*number))
 }
 
 fn bytes_text(alloc: Global, bytes: &[u8]) -> Result<Text, OutOfMemory>
