@@ -9,7 +9,8 @@ use Rattle.trace_model.specs.declared.value.Value.{Value}
 use Rattle.otlp_proto.specs.Laws.{ReadingLaws}
 use Rattle.otlp_proto.specs.Attributes.{AttributesOf}
 use Rattle.otlp_proto.specs.Event.{IsEvent, event_table, event_padded}
-use Rattle.otlp_proto.specs.Notes.{Keys, Noted}
+use Rattle.trace_model.specs.Remarks.{Keys}
+use Rattle.otlp_proto.specs.Notes.{Noted}
 use Rattle.otlp_proto.specs.Rows.{bytes_of, varints_of, fixed64s_of, MeansMessage}
 use Rattle.otlp_proto.specs.Texts.{event_text}
 use Rattle.otlp_proto.proofs.Bridges.{Bridge, read_back}

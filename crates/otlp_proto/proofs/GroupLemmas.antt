@@ -19,7 +19,8 @@ use Rattle.otlp_proto.specs.Group.{IsGroup, IsResource, no_resource, group_table
 use Rattle.otlp_proto.specs.GroupSoFar.{GatheredScopes, GatheredGroup}
 use Rattle.otlp_proto.specs.Notes.{Noted, SpanNotes, ScopeNotes}
 use Rattle.otlp_proto.specs.ReadParts.{IsReadScope, resource_read}
-use Rattle.otlp_proto.specs.Remarks.{equal_keys, scope_remarks, scopes_remarks}
+use Rattle.trace_model.specs.Remarks.{equal_keys}
+use Rattle.otlp_proto.specs.Remarks.{scope_remarks, scopes_remarks}
 use Rattle.otlp_proto.specs.Rows.{bytes_of, MeansMessage}
 use Rattle.otlp_proto.specs.Scope.{IsScope}
 use Rattle.span_io.specs.RowLaws.{all_zip_push}

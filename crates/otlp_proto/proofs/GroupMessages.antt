@@ -12,7 +12,8 @@ use Rattle.trace_model.specs.declared.value.Value.{Value}
 use Rattle.otlp_proto.specs.Laws.{ReadingLaws}
 use Rattle.otlp_proto.specs.Attributes.{AttributesOf}
 use Rattle.otlp_proto.specs.Group.{Resource, IsResource, no_resource, resource_table, resource_padded, NotedGroup, IsGroup, IsGroupText, group_table, group_padded}
-use Rattle.otlp_proto.specs.Notes.{Keys, Noted, ScopeNotes}
+use Rattle.trace_model.specs.Remarks.{Keys}
+use Rattle.otlp_proto.specs.Notes.{Noted, ScopeNotes}
 use Rattle.otlp_proto.specs.Remarks.{group_remarks, scopes_remarks}
 use Rattle.otlp_proto.specs.Rows.{bytes_of, varints_of, MeansMessage}
 use Rattle.otlp_proto.specs.Scope.{IsScope}

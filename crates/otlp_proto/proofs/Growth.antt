@@ -1,10 +1,11 @@
 -- Pieces that are written in a row, and a front of them where memory is wanted.
-use Rattle.std.proofs.Common.{◌≡◌, ◌≢◌, ℕ, ◌+◌, ◌*◌, List, [], ◌∷◌, ◌++◌, length, Result, Ok, Err, OnErr, refl, sym, ap, subst, ◌∙◌, append_assoc, arith}
-use Rattle.std.proofs.lemmas.List.{append-nil}
+use Rattle.std.proofs.Common.{◌≡◌, ℕ, ◌+◌, ◌*◌, ◌<◌, ◌≤◌, List, [], ◌∷◌, ◌++◌, length, take, Result, Ok, Err, OnOk, OnErr, refl, sym, ap, ◌∙◌, append_assoc, arith}
+use Rattle.std.proofs.lemmas.List.{append-nil, length-append, take_at}
+use Rattle.std.proofs.lemmas.Result.{on_err_weaker}
 use Rattle.span_io.specs.Outside.{GrowsFront}
 use Rattle.span_io.specs.Varint.{varint_text}
 use Rattle.proto_wire.specs.Wire.{record_text, opening_text}
-use Rattle.otlp_proto.specs.Texts.{bytes_field, filled_field, size_of}
+use Rattle.otlp_proto.specs.Texts.{bytes_field, filled_field}
 
 pub joins : (old middle new first second : List ℕ) → middle ≡ old ++ first → new ≡ middle ++ second → new ≡ old ++ (first ++ second)
 joins old middle new first second e h = h ∙ ap (λ l. l ++ second) e ∙ append_assoc old first second
@@ -60,45 +61,34 @@ pub opened : (number : ℕ) (held : List ℕ) → bytes_field number held ≡ op
 unfolding record_text opening_text
 opened number held = sym (append_assoc (varint_text (number * 8 + 2)) (varint_text (length held)) held)
 
-module _ (number : ℕ) (held : List ℕ) where
-  pub enclosed : (old middle new : List ℕ) → middle ≡ old ++ opening_text number (length held) → new ≡ middle ++ held → new ≡ old ++ bytes_field number held
-  enclosed old middle new e h = joins old middle new (opening_text number (length held)) held e h ∙ ap (λ l. old ++ l) (sym (opened number held))
+-- what was written behind the opening, or a front of it
+behind : {T E : Type 0} (written : Result T E) (begun middle held : List ℕ) → OnOk written (middle ≡ begun ++ held) → OnErr written (GrowsFront begun middle held) → (more : List ℕ) × (middle ≡ begun ++ more)
+behind (Ok x) begun middle held ok err = (held, ok)
+behind (Err e) begun middle held ok err = (err.front, err.grows)
 
-  pub enclosed_opening : (old new : List ℕ) → GrowsFront old new (opening_text number (length held)) → GrowsFront old new (bytes_field number held)
-  enclosed_opening old new h = subst (λ l. GrowsFront old new l) (sym (opened number held)) (grows_first old new (opening_text number (length held)) held h)
+module _ {T E : Type 0} (number begins : ℕ) (written : Result T E) (old begun middle held : List ℕ) (b : begins ≡ length old) (o : begun ≡ old ++ opening_text number 0) (ok : OnOk written (middle ≡ begun ++ held)) (err : OnErr written (GrowsFront begun middle held)) where
+  pub opened_within : begins + length (opening_text number 0) ≤ length middle
+  opened_within = let m : (more : List ℕ) × (middle ≡ begun ++ more) = behind written begun middle held ok err in
+      omega (arith, b, ap length o, length-append old (opening_text number 0), ap length m.1, length-append begun m.0)
 
-  pub enclosed_held : (old middle new : List ℕ) → middle ≡ old ++ opening_text number (length held) → GrowsFront middle new held → GrowsFront old new (bytes_field number held)
-  enclosed_held old middle new e h = subst (λ l. GrowsFront old new l) (sym (opened number held)) (grows_second old middle new (opening_text number (length held)) held e h)
+  cut_off : take begins middle ≡ old
+  cut_off = let m : (more : List ℕ) × (middle ≡ begun ++ more) = behind written begun middle held ok err in
+      ap (take begins) (m.1 ∙ ap (λ l. l ++ m.0) o ∙ append_assoc old (opening_text number 0) m.0) ∙ take_at old (opening_text number 0 ++ m.0) begins (sym b)
+
+  pub front_cut : {S F : Type 0} (closed : Result S F) (new piece : List ℕ) → OnErr closed (new ≡ take begins middle) → OnErr closed (GrowsFront old new piece)
+  front_cut closed new piece e = on_err_weaker closed (λ cut. grows_none old new piece (cut ∙ cut_off)) e
+
+pub ruleset in_field = (opened_within, front_cut, grows_none, on_err_from)
 
 -- ---- a message that is left out where it is empty
 
-module _ (number size : ℕ) (held : List ℕ) (measured : size ≡ size_of held) where
-  pub filled_some : size ≢ 0 → filled_field number held ≡ bytes_field number held
-  unfolding size_of
-  filled_some some = of held measured
+module _ (number begins : ℕ) (old new before begun held : List ℕ) (b : begins ≡ length before) (o : begun ≡ before ++ opening_text number 0) (ok : old ≡ begun ++ held) (some : begins + length (opening_text number 0) < length old) where
+  filled_some : filled_field number held ≡ bytes_field number held
+  filled_some = of held (omega (arith, b, ap length o, length-append before (opening_text number 0), ap length ok, length-append begun held, some))
     where
-      of : (l : List ℕ) → size ≡ size_of l → filled_field number l ≡ bytes_field number l
-      of [] e = absurd (some e)
+      of : (l : List ℕ) → 0 < length l → filled_field number l ≡ bytes_field number l
+      of [] e = absurd (omega arith)
       of (b ∷ l) e = refl
 
-  pub filled_none : size ≡ 0 → filled_field number held ≡ []
-  unfolding size_of
-  filled_none none = of held measured
-    where
-      of : (l : List ℕ) → size ≡ size_of l → filled_field number l ≡ []
-      of [] e = refl
-      of (b ∷ l) e = absurd (omega arith)
-
-  pub filled_nothing : (old new : List ℕ) → size ≡ 0 → new ≡ old → new ≡ old ++ filled_field number held
-  filled_nothing old new none e = nothing_more old new e ∙ ap (λ l. old ++ l) (sym (filled_none none))
-
-  pub filled_whole : (old middle new : List ℕ) → size ≢ 0 → middle ≡ old ++ opening_text number (length held) → new ≡ middle ++ held → new ≡ old ++ filled_field number held
-  filled_whole old middle new some e h = enclosed number held old middle new e h ∙ ap (λ l. old ++ l) (sym (filled_some some))
-
-  pub filled_opening : (old new : List ℕ) → size ≢ 0 → GrowsFront old new (opening_text number (length held)) → GrowsFront old new (filled_field number held)
-  filled_opening old new some h = subst (λ l. GrowsFront old new l) (sym (filled_some some)) (enclosed_opening number held old new h)
-
-  pub filled_held : (old middle new : List ℕ) → size ≢ 0 → middle ≡ old ++ opening_text number (length held) → GrowsFront middle new held → GrowsFront old new (filled_field number held)
-  filled_held old middle new some e h = subst (λ l. GrowsFront old new l) (sym (filled_some some)) (enclosed_held number held old middle new e h)
-
-pub ruleset in_field = (enclosed, enclosed_opening, enclosed_held, filled_nothing, filled_whole, filled_opening, filled_held, grows_none, on_err_from)
+  pub closes_filled : new ≡ before ++ (opening_text number (length held) ++ held) → new ≡ before ++ filled_field number held
+  closes_filled e = e ∙ ap (λ l. before ++ l) (sym (filled_some ∙ opened number held))

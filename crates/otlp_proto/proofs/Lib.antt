@@ -28,7 +28,6 @@ pub mod RowProofs
 pub mod ScopeLemmas
 pub mod ScopeMessages
 pub mod Shapes
-pub mod Sizes
 pub mod SoundLemmas
 pub mod SoundMessages
 pub mod SpanEnds

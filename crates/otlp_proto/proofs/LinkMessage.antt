@@ -11,7 +11,8 @@ use Rattle.trace_model.specs.declared.value.Value.{Value}
 use Rattle.otlp_proto.specs.Laws.{ReadingLaws}
 use Rattle.otlp_proto.specs.Attributes.{AttributesOf}
 use Rattle.otlp_proto.specs.Link.{LinkParts, link_of, IsLink, link_table, link_padded}
-use Rattle.otlp_proto.specs.Notes.{Keys, Noted}
+use Rattle.trace_model.specs.Remarks.{Keys}
+use Rattle.otlp_proto.specs.Notes.{Noted}
 use Rattle.otlp_proto.specs.Rows.{bytes_of, varints_of, fixed32s_of, MeansMessage}
 use Rattle.otlp_proto.specs.Span.{kept_links}
 use Rattle.otlp_proto.specs.Texts.{link_text}

@@ -8,8 +8,10 @@ use Rattle.trace_model.specs.declared.remark.Remark.{Remark}
 use Rattle.trace_model.specs.declared.span.Link.{Link}
 use Rattle.trace_model.specs.declared.span.Span.{Span}
 use Rattle.trace_model.specs.declared.trace.Scope.{Scope}
-use Rattle.otlp_proto.specs.Notes.{Keys, Noted, SpanNotes, ScopeNotes}
-use Rattle.otlp_proto.specs.Remarks.{equal_keys, numbered, link_remarks, span_remarks, scopes_remarks}
+use Rattle.trace_model.specs.Remarks.{Keys}
+use Rattle.otlp_proto.specs.Notes.{Noted, SpanNotes, ScopeNotes}
+use Rattle.trace_model.specs.Remarks.{equal_keys, numbered}
+use Rattle.otlp_proto.specs.Remarks.{link_remarks, span_remarks, scopes_remarks}
 use Rattle.otlp_proto.specs.Span.{kept_link, kept_links}
 
 -- what is written has nothing noted

@@ -4,12 +4,12 @@ use Rattle.std.specs.Prelude.{IfOk}
 use Rattle.span_io.specs.declared.cause.Cause.{Cause}
 use Rattle.span_io.specs.declared.halt.Halt.{Halt}
 use Rattle.span_io.specs.declared.halt.Halt.TheVariants as halts
-use Rattle.span_io.specs.Offences.{Offence, Judges}
+use Rattle.span_io.specs.Offences.{Offence, Judges, OnlyReads}
 use Rattle.proto_wire.specs.Messages.{messages}
 use Rattle.trace_model.specs.Soundness.{IsSoundGroup}
 use Rattle.trace_model.specs.declared.remark.Remark.{Remark}
 use Rattle.trace_model.specs.declared.trace.Group.{Group}
-use Rattle.otlp_proto.specs.Group.{IsGroupText, OnlyReads, group_rules}
+use Rattle.otlp_proto.specs.Group.{IsGroupText, group_rules}
 
 module _ (text : List ℕ) where
   pub only_group : ((g h : Group) (r s : List Remark) → IsGroupText g r text → IsGroupText h s text → (g ≡ h) × (r ≡ s))

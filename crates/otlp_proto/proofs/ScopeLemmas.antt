@@ -15,7 +15,8 @@ use Rattle.otlp_proto.specs.declared.scope.ScopeRows.{ScopeRows}
 use Rattle.otlp_proto.specs.declared.scope.SpanList.{SpanList}
 use Rattle.otlp_proto.specs.Notes.{Noted, SpanNotes}
 use Rattle.otlp_proto.specs.ReadParts.{IsReadSpan, IsReadScope, instrumentation_scope_read}
-use Rattle.otlp_proto.specs.Remarks.{equal_keys, numbered, span_remarks}
+use Rattle.trace_model.specs.Remarks.{equal_keys, numbered}
+use Rattle.otlp_proto.specs.Remarks.{span_remarks}
 use Rattle.otlp_proto.specs.Rows.{bytes_of, MeansMessage}
 use Rattle.otlp_proto.specs.Scope.{IsInstrumentationScope, no_instrumentation_scope, scope_table}
 use Rattle.otlp_proto.specs.ScopeSoFar.{GatheredSpans, GatheredScope}

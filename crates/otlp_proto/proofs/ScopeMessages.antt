@@ -12,7 +12,8 @@ use Rattle.trace_model.specs.declared.trace.Scope.{Scope}
 use Rattle.trace_model.specs.declared.value.Value.{Value}
 use Rattle.otlp_proto.specs.Laws.{ReadingLaws}
 use Rattle.otlp_proto.specs.Attributes.{AttributesOf}
-use Rattle.otlp_proto.specs.Notes.{Keys, Noted, SpanNotes, ScopeNotes}
+use Rattle.trace_model.specs.Remarks.{Keys}
+use Rattle.otlp_proto.specs.Notes.{Noted, SpanNotes, ScopeNotes}
 use Rattle.otlp_proto.specs.Rows.{bytes_of, varints_of, MeansMessage}
 use Rattle.otlp_proto.specs.Scope.{InstrumentationScope, IsInstrumentationScope, no_instrumentation_scope, instrumentation_scope_table, instrumentation_scope_padded, IsScope, scope_table, scope_padded}
 use Rattle.otlp_proto.specs.Span.{IsSpan}

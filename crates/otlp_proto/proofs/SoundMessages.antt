@@ -17,7 +17,8 @@ use Rattle.otlp_proto.specs.Attributes.{AttributesOf}
 use Rattle.otlp_proto.specs.Event.{IsEvent}
 use Rattle.otlp_proto.specs.Group.{Resource, IsResource, no_resource, IsGroupText}
 use Rattle.otlp_proto.specs.Link.{LinkParts, link_of, IsLink}
-use Rattle.otlp_proto.specs.Notes.{Keys, Noted, SpanNotes, ScopeNotes}
+use Rattle.trace_model.specs.Remarks.{Keys}
+use Rattle.otlp_proto.specs.Notes.{Noted, SpanNotes, ScopeNotes}
 use Rattle.otlp_proto.specs.Rows.{bytes_of, MeansMessage}
 use Rattle.otlp_proto.specs.Scope.{InstrumentationScope, IsInstrumentationScope, no_instrumentation_scope, IsScope}
 use Rattle.otlp_proto.specs.Span.{kept_links, IsSpan}

@@ -19,7 +19,8 @@ use Rattle.otlp_proto.specs.Attributes.{AttributesOf}
 use Rattle.otlp_proto.specs.Event.{IsEvent}
 use Rattle.otlp_proto.specs.Identifiers.{MeansTraceId, MeansSpanId}
 use Rattle.otlp_proto.specs.Link.{IsLink}
-use Rattle.otlp_proto.specs.Notes.{Keys, Noted, SpanNotes}
+use Rattle.trace_model.specs.Remarks.{Keys}
+use Rattle.otlp_proto.specs.Notes.{Noted, SpanNotes}
 use Rattle.otlp_proto.specs.Rows.{bytes_of, varints_of, fixed64s_of, fixed32s_of, MeansMessage}
 use Rattle.otlp_proto.specs.Span.{kept_links, IsSpan, span_table, span_padded, span_ends}
 use Rattle.otlp_proto.specs.Status.{IsStatus, no_status}

@@ -7,7 +7,8 @@ use Rattle.proto_wire.specs.Messages.{messages}
 use Rattle.proto_wire.specs.Records.{Record}
 use Rattle.trace_model.specs.Attributes.{AreAttributes, Rise, StandsTwice}
 use Rattle.trace_model.specs.declared.value.Value.{Value}
-use Rattle.otlp_proto.specs.Notes.{Keys, Noted}
+use Rattle.trace_model.specs.Remarks.{Keys}
+use Rattle.otlp_proto.specs.Notes.{Noted}
 use Rattle.otlp_proto.specs.Rows.{bytes_row}
 use Rattle.otlp_proto.specs.Values.{KeyValue, entry, keys_inside, key_value_at, key_value_rules}
 

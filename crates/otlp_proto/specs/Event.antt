@@ -7,7 +7,8 @@ use Rattle.proto_wire.specs.Messages.{messages}
 use Rattle.proto_wire.specs.Records.{Record}
 use Rattle.trace_model.specs.declared.span.Event.{Event}
 use Rattle.otlp_proto.specs.Attributes.{AttributesOf, NotedIn, attributes}
-use Rattle.otlp_proto.specs.Notes.{Keys, Noted}
+use Rattle.trace_model.specs.Remarks.{Keys}
+use Rattle.otlp_proto.specs.Notes.{Noted}
 use Rattle.otlp_proto.specs.PaddedValues.{AttributePadded}
 use Rattle.otlp_proto.specs.Rows.{bytes_of, varints_of, fixed64s_of, MeansNumber, MeansCount, text, time, count}
 

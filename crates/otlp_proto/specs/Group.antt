@@ -1,10 +1,7 @@
 -- `Resource` (OTLP resource.proto): `attributes` 1 and `dropped_attributes_count` 2; and `ResourceSpans` (trace.proto): `resource` 1,
 -- `scope_spans` 2 and `schema_url` 3, a text.
-use Rattle.std.specs.Prelude.{◌≡◌, ℕ, List, [], ◌∷◌, map, Result, Ok, Err}
+use Rattle.std.specs.Prelude.{◌≡◌, ℕ, List, [], ◌∷◌, map}
 use Rattle.std.specs.List.{AllZip}
-use Rattle.span_io.specs.declared.cause.Cause.{Cause}
-use Rattle.span_io.specs.declared.halt.Halt.{Halt}
-use Rattle.span_io.specs.declared.halt.Halt.TheVariants as halts
 use Rattle.span_io.specs.FreeItems.{Paddings, Same, TextPadded}
 use Rattle.span_io.specs.Offences.{Rules, Offence}
 use Rattle.span_io.specs.Tables.{Row, Singular, rules_by, no_ends, MeansText}
@@ -15,7 +12,8 @@ use Rattle.trace_model.specs.declared.trace.Group.{Group}
 use Rattle.trace_model.specs.declared.trace.Scope.{Scope}
 use Rattle.trace_model.specs.declared.value.Value.{Value}
 use Rattle.otlp_proto.specs.Attributes.{AttributesOf, NotedIn, attributes}
-use Rattle.otlp_proto.specs.Notes.{Keys, Noted, ScopeNotes}
+use Rattle.trace_model.specs.Remarks.{Keys}
+use Rattle.otlp_proto.specs.Notes.{Noted, ScopeNotes}
 use Rattle.otlp_proto.specs.Remarks.{group_remarks}
 use Rattle.otlp_proto.specs.PaddedValues.{AttributePadded}
 use Rattle.otlp_proto.specs.Rows.{bytes_of, varints_of, MeansCount, text, count, message, messages_of, MeansMessage}
@@ -86,9 +84,3 @@ abbrev pub GroupPadded : List ℕ → List ℕ → Type 0
 GroupPadded text other = TextPadded messages group_table group_padded text other
 
 -- ---- what a reader answers
-
--- this value, or want of memory
-abbrev pub OnlyReads : {T : Type 0} → Result T (Halt Cause) → T → Type 0
-OnlyReads (Ok read) value = read ≡ value
-OnlyReads (Err (halts.Why cause)) value = ⊥
-OnlyReads (Err halts.OutOfMemory) value = Unit {0}

@@ -1,10 +1,7 @@
 -- What bytes mean, with what is noted beside it: keys that stand more than once, and links that were dropped. The numbers of a remark's
 -- place are found in the whole group (Remarks.antt).
-use Rattle.std.specs.Prelude.{ℕ, Bool, List}
-
--- keys that stand more than once
-abbrev pub Keys : Type 0
-Keys = List (List ℕ)
+use Rattle.std.specs.Prelude.{Bool, List}
+use Rattle.trace_model.specs.Remarks.{Keys}
 
 pub record Noted (A N : Type 0) : Type 0 where
   pub means : A

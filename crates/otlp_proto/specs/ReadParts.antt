@@ -11,7 +11,8 @@ use Rattle.otlp_proto.specs.declared.noted.ReadInstrumentationScope.{ReadInstrum
 use Rattle.otlp_proto.specs.declared.noted.ReadScope.{ReadScope}
 use Rattle.otlp_proto.specs.declared.noted.ReadResource.{ReadResource}
 use Rattle.otlp_proto.specs.Group.{Resource}
-use Rattle.otlp_proto.specs.Notes.{Keys, Noted, SpanNotes, ScopeNotes}
+use Rattle.trace_model.specs.Remarks.{Keys}
+use Rattle.otlp_proto.specs.Notes.{Noted, SpanNotes, ScopeNotes}
 use Rattle.otlp_proto.specs.Remarks.{span_remarks, scope_remarks}
 use Rattle.otlp_proto.specs.Scope.{InstrumentationScope, IsScope}
 use Rattle.otlp_proto.specs.Span.{IsSpan}

@@ -1,25 +1,11 @@
 -- Remarks on what was read, by place: a resource before the scopes, a scope before its spans, and a span before its events and then
 -- its links. At one place equal keys come first, in their order. Scopes and spans are counted through their group, from 1, events and
 -- links in their span.
-use Rattle.std.specs.Prelude.{ℕ, suc, ◌+◌, Bool, if◌then◌else◌, List, [], ◌∷◌, ◌++◌, length, map}
-use Rattle.trace_model.specs.declared.place.Place.{Place}
+use Rattle.std.specs.Prelude.{ℕ, suc, ◌+◌, List, [], ◌∷◌, ◌++◌, length}
 use Rattle.trace_model.specs.declared.place.Place.TheVariants as places
 use Rattle.trace_model.specs.declared.remark.Remark.{Remark}
-use Rattle.trace_model.specs.declared.remark.RemarkKind.TheVariants as kinds
-use Rattle.otlp_proto.specs.Notes.{Keys, SpanNotes, ScopeNotes}
-
--- a key stood more than once at this place, for each of these keys
-abbrev pub equal_keys : Place → Keys → List Remark
-equal_keys place keys = map (λ key. record { place = place; kind = kinds.EqualKey; key = key }) keys
-
--- a link was dropped at this place, if one was
-abbrev pub link_dropped : Place → Bool → List Remark
-link_dropped place dropped = if dropped then record { place = place; kind = kinds.LinkDropped; key = [] } ∷ [] else []
-
--- those of the members of a list, of which each has the next number
-unfoldable pub numbered : {A : Type 0} → (ℕ → A → List Remark) → ℕ → List A → List Remark
-numbered remarks n [] = []
-numbered remarks n (x ∷ xs) = remarks n x ++ numbered remarks (suc n) xs
+use Rattle.trace_model.specs.Remarks.{Keys, equal_keys, link_dropped, numbered}
+use Rattle.otlp_proto.specs.Notes.{SpanNotes, ScopeNotes}
 
 -- of the span of this number
 abbrev pub event_remarks : ℕ → List Keys → List Remark

@@ -2,7 +2,7 @@
 -- give to it, and how they offend.
 use Rattle.std.specs.Prelude.{◌≡◌, ℕ, ◌%◌, ◌^◌, ◌⊎◌, ◌==◌, if◌then◌else◌, List, [], ◌∷◌, Option, None}
 use Rattle.std.specs.List.{AllZip, flat_map}
-use Rattle.span_io.specs.Tables.{Row, MeansByItems, Singular, Twice, MeansText, NotText, Above}
+use Rattle.span_io.specs.Tables.{Row, MeansByItems, Singular, Twice, MeansText, NotText, Above, nothing_inside}
 use Rattle.proto_wire.specs.Records.{Held, varint, fixed64, bytes, fixed32, Record}
 use Rattle.proto_wire.specs.Wire.{Wire}
 use Rattle.otlp_proto.specs.Identifiers.{MeansTraceId, MeansSpanId, WrongLength}
@@ -96,9 +96,6 @@ number_row give B Means Here = record {
   here = λ earlier k n. Here earlier k n;
   inside = λ k place n. ⊥;
 }
-
-abbrev pub nothing_inside : List ℕ → ℕ → ℕ → Type 0
-nothing_inside held place n = ⊥
 
 -- ---- the rows of the tables, each with the number of its field
 

@@ -13,7 +13,8 @@ use Rattle.otlp_proto.specs.declared.scope.SpanList.{SpanList}
 use Rattle.otlp_proto.specs.AttributesSoFar.{GatheredAttributes}
 use Rattle.otlp_proto.specs.Notes.{Noted, SpanNotes}
 use Rattle.otlp_proto.specs.ReadParts.{IsReadScope, instrumentation_scope_read}
-use Rattle.otlp_proto.specs.Remarks.{numbered, span_remarks}
+use Rattle.trace_model.specs.Remarks.{numbered}
+use Rattle.otlp_proto.specs.Remarks.{span_remarks}
 use Rattle.otlp_proto.specs.Rows.{MeansCount, MeansMessage}
 use Rattle.span_io.specs.RowsSoFar.{Gave}
 use Rattle.otlp_proto.specs.Scope.{IsInstrumentationScope, instrumentation_scope_table, scope_table}

@@ -16,7 +16,8 @@ use Rattle.otlp_proto.specs.AttributesSoFar.{GatheredAttributes}
 use Rattle.otlp_proto.specs.Event.{IsEvent}
 use Rattle.otlp_proto.specs.Identifiers.{MeansTraceId, MeansSpanId}
 use Rattle.otlp_proto.specs.Link.{IsLink}
-use Rattle.otlp_proto.specs.Notes.{Keys, Noted, SpanNotes}
+use Rattle.trace_model.specs.Remarks.{Keys}
+use Rattle.otlp_proto.specs.Notes.{Noted, SpanNotes}
 use Rattle.otlp_proto.specs.Remarks.{event_remarks, link_remarks, span_remarks}
 use Rattle.otlp_proto.specs.Rows.{MeansNumber, MeansCount, MeansMessage}
 use Rattle.span_io.specs.RowsSoFar.{Gave}

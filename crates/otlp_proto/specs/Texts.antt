@@ -1,10 +1,9 @@
 -- The one canonical text of each message: fields by rising number, repeated ones in their order, each varint in its shortest
 -- spelling. A field is left out where it is its default, and a message inside where all of it is. An element of a list is always
 -- written, and so is the one member of a value.
-use Rattle.std.specs.Prelude.{ℕ, ◌==◌, min, if◌then◌else◌, Bool, List, [], ◌∷◌, ◌++◌, length, Option, Some, None}
+use Rattle.std.specs.Prelude.{ℕ, ◌==◌, if◌then◌else◌, Bool, List, [], ◌∷◌, ◌++◌, Option, Some, None}
 use Rattle.std.specs.List.{flat_map}
 use Rattle.std.specs.Int.{w64, w128, to_be_bytes, from_be_bytes, cast_unsigned}
-use Rattle.span_io.specs.Outside.{last_count}
 use Rattle.proto_wire.specs.Records.{varint, fixed64, bytes, fixed32}
 use Rattle.proto_wire.specs.Wire.{record_text}
 use Rattle.trace_model.specs.declared.span.Kind.{Kind}
@@ -45,10 +44,6 @@ flags_field number n = if n == 0 then [] else record_text (record { number = num
 -- a repeated field of messages, in their order
 unfoldable pub list_text : {A : Type 0} → ℕ → (A → List ℕ) → List A → List ℕ
 list_text number text xs = flat_map (λ x. bytes_field number (text x)) xs
-
--- the number of bytes of a text, at the most where a count of 64 bits stands still
-unfoldable pub size_of : List ℕ → ℕ
-size_of text = min (length text) last_count
 
 -- ---- values (common.proto)
 

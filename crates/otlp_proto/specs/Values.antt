@@ -12,7 +12,8 @@ use Rattle.proto_wire.specs.Wire.{Wire}
 use Rattle.trace_model.specs.Attributes.{AreAttributes, AreRepeated}
 use Rattle.trace_model.specs.declared.value.Value.{Value}
 use Rattle.trace_model.specs.declared.value.Value.TheVariants as values
-use Rattle.otlp_proto.specs.Notes.{Keys, Noted}
+use Rattle.trace_model.specs.Remarks.{Keys}
+use Rattle.otlp_proto.specs.Notes.{Noted}
 use Rattle.otlp_proto.specs.Rows.{bytes_of, bytes_row, text, message}
 
 -- a member of a value

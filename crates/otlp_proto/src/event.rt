@@ -12,10 +12,10 @@ use crate::attributes::AttributeRows;
 use crate::laws::message_rules;
 use crate::message::{Rows, read_rows};
 use crate::noted::ReadEvent;
-use crate::rows::{count_row, text_row, time_row};
+use crate::rows::{count_row, time_row};
 use proto_wire::{Payload, WireRecord};
 use span_ids::Nanos;
-use span_io::{Cause, Halt, OutOfMemory, Text};
+use span_io::{Cause, Halt, OutOfMemory, Text, text_row};
 use std::alloc::Global;
 use trace_model::Event;
 

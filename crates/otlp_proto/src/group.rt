@@ -1,10 +1,10 @@
 //! Groups of spans: OTLP `ResourceSpans`.
 ghost use Rattle.std.specs.Prelude.{◌≡◌, [], ℕ, List, IfOk, OnOk};
-ghost use Rattle.span_io.specs.Offences.{Offence, Judges};
+ghost use Rattle.span_io.specs.Offences.{Offence, Judges, OnlyReads};
 ghost use Rattle.span_io.specs.Tables.{givens};
 ghost use Rattle.proto_wire.specs.Messages.{messages};
 ghost use Rattle.trace_model.specs.Soundness.{IsSoundGroup};
-ghost use Rattle.otlp_proto.specs.Group.{IsGroupText, OnlyReads, no_resource, resource_rules, group_table, group_rules};
+ghost use Rattle.otlp_proto.specs.Group.{IsGroupText, no_resource, resource_rules, group_table, group_rules};
 ghost use Rattle.otlp_proto.specs.GroupSoFar.{MeansResource, GatheredScopes, GatheredGroup, MakesGroup};
 ghost use Rattle.otlp_proto.specs.ReadParts.{resource_read};
 ghost use Rattle.span_io.specs.RowsSoFar.{Sets, Adds, JudgesMessage};
@@ -13,14 +13,12 @@ ghost use Rattle.otlp_proto.specs.Scope.{scope_rules};
 use crate::laws::{message_rules, one_group};
 use crate::message::{Rows, read_rows};
 use crate::noted::ReadResource;
-use crate::remarks::{number_behind, remark_all, remark_keys};
 use crate::resource::read_resource;
-use crate::rows::{once, text_row};
 use crate::scope::read_scope;
 use proto_wire::{Payload, WireRecord};
-use span_io::{Cause, Halt, Items, OutOfMemory, Text};
+use span_io::{Cause, Halt, Items, OutOfMemory, Text, once, text_row};
 use std::alloc::Global;
-use trace_model::{Attrs, Group, Place, Remark, Scope};
+use trace_model::{Attrs, Group, Place, Remark, Scope, number_behind, remark_all, remark_keys};
 
 /// The scopes that were read of a group, and the remarks on them.
 #[derive(Debug, Drop)]

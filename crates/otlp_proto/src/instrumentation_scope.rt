@@ -12,9 +12,9 @@ use crate::attributes::AttributeRows;
 use crate::laws::message_rules;
 use crate::message::{Rows, read_rows};
 use crate::noted::ReadInstrumentationScope;
-use crate::rows::{count_row, text_row};
+use crate::rows::count_row;
 use proto_wire::{Payload, WireRecord};
-use span_io::{Cause, Halt, OutOfMemory, Text};
+use span_io::{Cause, Halt, OutOfMemory, Text, text_row};
 use std::alloc::Global;
 
 /// What was gathered of an instrumentation scope so far.

@@ -9,7 +9,6 @@ pub mod laws;
 mod link;
 mod message;
 mod noted;
-mod remarks;
 mod resource;
 mod rows;
 mod scope;

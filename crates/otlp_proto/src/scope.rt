@@ -13,13 +13,11 @@ use crate::instrumentation_scope::read_instrumentation_scope;
 use crate::laws::message_rules;
 use crate::message::{Rows, read_rows};
 use crate::noted::{ReadInstrumentationScope, ReadScope};
-use crate::remarks::{number_behind, remark_all, remark_keys};
-use crate::rows::{once, text_row};
 use crate::span::read_span;
 use proto_wire::{Payload, WireRecord};
-use span_io::{Cause, Halt, Items, OutOfMemory, Text};
+use span_io::{Cause, Halt, Items, OutOfMemory, Text, once, text_row};
 use std::alloc::Global;
-use trace_model::{Attrs, Place, Remark, Scope, Span};
+use trace_model::{Attrs, Place, Remark, Scope, Span, number_behind, remark_all, remark_keys};
 
 /// The spans that were read of a scope, and the remarks on them.
 #[derive(Debug, Drop)]

@@ -18,14 +18,14 @@ use crate::attributes::AttributeRows;
 use crate::laws::message_rules;
 use crate::message::{Rows, read_rows};
 use crate::noted::ReadSpan;
-use crate::rows::{count_row, flags_row, once, span_id_row, text_row, time_row, trace_id_row};
+use crate::rows::{count_row, flags_row, span_id_row, time_row, trace_id_row};
 use crate::status::read_status;
 use events::EventList;
 use links::LinkList;
 use proto_wire::{Payload, WireRecord};
 use remarks::remarks_of;
 use span_ids::{Nanos, SpanId, TraceId};
-use span_io::{Cause, Halt, Text};
+use span_io::{Cause, Halt, Text, once, text_row};
 use std::alloc::Global;
 use trace_model::{Code, Kind, Span, Status};
 

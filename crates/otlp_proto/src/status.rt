@@ -11,9 +11,8 @@ ghost use Rattle.otlp_proto.specs.Rows.{MeansMessage};
 
 use crate::laws::message_rules;
 use crate::message::{Rows, read_rows};
-use crate::rows::{once, text_row};
 use proto_wire::{Payload, WireRecord};
-use span_io::{Cause, Halt, Text};
+use span_io::{Cause, Halt, Text, once, text_row};
 use std::alloc::Global;
 use trace_model::{Code, Status};
 

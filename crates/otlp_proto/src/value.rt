@@ -14,13 +14,12 @@ ghost use Rattle.otlp_proto.specs.ValuesSoFar.{JudgesMember};
 ghost use Rattle.span_io.specs.Gathering.{JudgesNext};
 
 use crate::noted::{ReadKeyValue, ReadValue};
-use crate::rows::{once, text_row};
 use crate::value_rows::{
     KeyValueRows, ListRows, MapRows, bytes_member, key_value_of, leaf_member, text_member, value_of,
 };
 use proto_wire::laws::message_cuts;
 use proto_wire::{Payload, WireRecord, next_record};
-use span_io::{Cause, Cursor, Halt};
+use span_io::{Cause, Cursor, Halt, once, text_row};
 use std::alloc::Global;
 use trace_model::Value;
 

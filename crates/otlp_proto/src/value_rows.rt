@@ -9,8 +9,7 @@ ghost use Rattle.otlp_proto.specs.ValuesSoFar.{GatheredList, GatheredMap, Gather
 ghost use Rattle.otlp_proto.specs.ValuesSoFar.{JudgesMember, SetsLeaf, GivesRead, GivesField};
 
 use crate::noted::{ReadKeyValue, ReadValue};
-use crate::rows::{once, text_of};
-use span_io::{Blob, Cause, Halt, Items, OutOfMemory, Text};
+use span_io::{Blob, Cause, Halt, Items, OutOfMemory, Text, once, text_of};
 use std::alloc::Global;
 use trace_model::{Value, attrs_of};
 

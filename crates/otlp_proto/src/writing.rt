@@ -1,9 +1,9 @@
 //! Writing messages of OTLP as protobuf: one canonical text for each.
 mod elements;
+mod enclosed;
 mod fields;
 mod groups;
 mod parts;
-mod sizes;
 mod spans;
 mod values;
 

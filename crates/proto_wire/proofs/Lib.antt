@@ -1,5 +1,6 @@
 pub mod FirstFrame
 pub mod LengthsPast
+pub mod LengthsSet
 pub mod Messages
 pub mod NextClauses
 pub mod OffenceFormat

@@ -78,7 +78,7 @@ pub record Written (old new : List ℕ) (n passed rest : ℕ) : Type 0 where
 pub written_first : (old : List ℕ) (n : ℕ) → n < 2 ^ 64 → Written old old n 0 n
 written_first old n below = record { front = []; grows = sym (append-nil old); parts = text_within n; below = below }
 
-room_step : (room more rest : ℕ) → room ≡ more + 1 → rest < below_room room → rest / 128 < below_room more
+pub room_step : (room more rest : ℕ) → room ≡ more + 1 → rest < below_room room → rest / 128 < below_room more
 room_step room more rest e below = next more rest (subst (λ r. rest < below_room r) (e ∙ (let s : more + 1 ≡ suc more = omega arith in s)) below)
   where
     next : (more rest : ℕ) → rest < below_room (suc more) → rest / 128 < below_room more

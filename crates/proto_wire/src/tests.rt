@@ -1,7 +1,7 @@
 use crate::laws::{one_framing, one_reading, open_fronts, shortest_record};
 use crate::{
-    Frame, Payload, WireRecord, first_frame, first_record, next_record, opening_size, record_size,
-    write_opening, write_record,
+    Frame, Payload, WireRecord, close_record, first_frame, first_record, next_record, open_record,
+    opening_size, record_size, write_record,
 };
 use span_io::{Blob, Cause, Cursor, Step};
 use std::test::Fail;
@@ -123,8 +123,11 @@ fn opens_records(rt: HostRuntime) -> Result<(), Fail> {
     one_reading();
     shortest_record();
     let mut out = Blob::new(rt.alloc());
-    write_opening(&mut out, 1, 300)?;
-    assert_eq!(rt; out.as_slice(), b"\x0a\xac\x02".as_slice());
+    open_record(&mut out, 2)?;
+    assert_eq!(rt; out.as_slice(), b"\x12\0".as_slice());
+    out.append(b"testing")?;
+    close_record(&mut out, 2, 0)?;
+    assert_eq!(rt; out.as_slice(), b"\x12\x07testing".as_slice());
     assert_eq!(rt; opening_size(1, 300), 3);
     assert_eq!(rt; opening_size(536_870_911, u64::MAX), 15);
     Ok(())

@@ -1,4 +1,4 @@
-ghost use Rattle.std.specs.Prelude.{◌≡◌, ◌+◌, ◌*◌, ◌<◌, ◌≤◌, ◌++◌, length, OnOk, OnErr};
+ghost use Rattle.std.specs.Prelude.{◌≡◌, ◌+◌, ◌*◌, ◌<◌, ◌≤◌, ◌++◌, ℕ, List, length, take, drop, OnOk, OnErr};
 ghost use Rattle.span_io.specs.Varint.{varint_text};
 ghost use Rattle.span_io.specs.Outside.{GrowsFront};
 ghost use Rattle.proto_wire.specs.Records.{IsFieldNumber, plain_payload};
@@ -143,13 +143,101 @@ pub fn opening_size(number: u32, size: u64) -> u64
     key_size(number, 2) + varint_size(size)
 }
 
-/// Appends what stands before the bytes of a record of wire type 2 that holds `size` bytes.
+// Appends what stands before the bytes of a record of wire type 2 that holds `size` bytes.
 #[tactic(auto, using(crate::proofs::Shortest::in_pieces), unfolding(crate::specs::Wire::record_text, crate::specs::Wire::opening_text))]
-pub fn write_opening(out: &mut Blob, number: u32, size: u64) -> Result<(), OutOfMemory>
+fn write_opening(out: &mut Blob, number: u32, size: u64) -> Result<(), OutOfMemory>
     requires { IsFieldNumber number }
     ensures ok { OnOk result (out.new ≡ out.old ++ opening_text number size) }
     ensures err { OnErr result (GrowsFront out.old out.new (opening_text number size)) }
 {
     write_key(out, number, 2)?;
     write_varint(out, size)
+}
+
+/// Opens a record of wire type 2: appends its key and the length of no bytes, or nothing. Its bytes
+/// are to come behind, and `close_record` then gives it their length.
+#[inline(always)]
+#[tactic(auto, using(crate::proofs::LengthsSet::short_opening))]
+pub fn open_record(out: &mut Blob, number: u32) -> Result<(), OutOfMemory>
+    requires { IsFieldNumber number }
+    ensures ok { OnOk result (out.new ≡ out.old ++ opening_text number 0) }
+    ensures err { OnErr result (out.new ≡ out.old) }
+{
+    if number < 16 {
+        return out.append(&[(number * 8 + 2) as u8, 0]);
+    }
+    open_long(out, number)
+}
+
+#[inline(never)]
+fn open_long(out: &mut Blob, number: u32) -> Result<(), OutOfMemory>
+    requires { IsFieldNumber number }
+    ensures ok { OnOk result (out.new ≡ out.old ++ opening_text number 0) }
+    ensures err { OnErr result (out.new ≡ out.old) }
+{
+    let begins = out.len();
+    match write_opening(out, number, 0) {
+        Ok(()) => Ok(()),
+        Err(want) => {
+            out.truncate(begins);
+            Err(want)
+        }
+    }
+}
+
+// Puts the shortest varint in the place of a byte. Only one of more than a byte moves what stands behind it.
+#[inline(always)]
+fn set_varint(out: &mut Blob, place: usize, n: u64) -> Result<(), OutOfMemory>
+    requires { place < length out.old }
+    ensures ok { OnOk result (out.new ≡ take place out.old ++ (varint_text n ++ drop (place + 1) out.old)) }
+    ensures err { OnErr result (take place out.new ≡ take place out.old) }
+{
+    if n < 128 {
+        out.set(place, n as u8);
+        return Ok(());
+    }
+    set_long(out, place, n)
+}
+
+#[inline(never)]
+fn set_long(out: &mut Blob, place: usize, n: u64) -> Result<(), OutOfMemory>
+    requires { place < length out.old }
+    ensures ok { OnOk result (out.new ≡ take place out.old ++ (varint_text n ++ drop (place + 1) out.old)) }
+    ensures err { OnErr result (take place out.new ≡ take place out.old) }
+{
+    let behind = out.len() - place;
+    let mut rest = n;
+    'groups: for _passed in 0..9_u64 {
+        let at = out.len() - behind;
+        if rest < 128 {
+            out.set(at, rest as u8);
+            return Ok(());
+        }
+        out.insert(at, (128 + rest % 128) as u8)?;
+        rest /= 128;
+    }
+    let last = out.len() - behind;
+    out.set(last, rest as u8);
+    Ok(())
+}
+
+/// Gives the record that was opened at `begins` the length of what stands behind its opening. Only
+/// a length of more than a byte moves those bytes. Where memory is wanted, the record is cut off.
+#[inline(always)]
+pub fn close_record(out: &mut Blob, number: u32, begins: usize) -> Result<(), OutOfMemory>
+    requires number { IsFieldNumber number }
+    requires opened { begins + length (opening_text number 0) ≤ length out.old }
+    ensures ok { (before held : List ℕ) → begins ≡ length before → out.old ≡ (before ++ opening_text number 0) ++ held
+        → OnOk result (out.new ≡ before ++ (opening_text number (length held) ++ held)) }
+    ensures err { OnErr result (out.new ≡ take begins out.old) }
+{
+    let end = out.len();
+    let place = begins + key_size(number, 2) as usize;
+    match set_varint(out, place, (end - (place + 1)) as u64) {
+        Ok(()) => Ok(()),
+        Err(want) => {
+            out.truncate(begins);
+            Err(want)
+        }
+    }
 }

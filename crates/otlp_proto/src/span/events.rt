@@ -7,10 +7,9 @@ ghost use Rattle.span_io.specs.RowsSoFar.{Adds};
 ghost use Rattle.otlp_proto.specs.SpanSoFar.{GatheredEvents};
 
 use crate::event::read_event;
-use crate::remarks::{number_behind, remark_keys};
 use span_io::{Cause, Halt, Items};
 use std::alloc::Global;
-use trace_model::{Event, Place, Remark};
+use trace_model::{Event, Place, Remark, number_behind, remark_keys};
 
 /// The events that were read, and the remarks on them.
 #[derive(Debug, Drop)]

@@ -7,10 +7,9 @@ ghost use Rattle.span_io.specs.RowsSoFar.{Adds};
 ghost use Rattle.otlp_proto.specs.SpanSoFar.{GatheredLinks};
 
 use crate::link::read_link;
-use crate::remarks::{number_behind, remark_keys};
 use span_io::{Cause, Halt, Items};
 use std::alloc::Global;
-use trace_model::{Link, Place, Remark};
+use trace_model::{Link, Place, Remark, number_behind, remark_keys};
 
 /// The links that were read, whether one was dropped, and the remarks on the others.
 #[derive(Debug, Drop)]

@@ -1,31 +1,11 @@
 //! Remarks on a span.
-ghost use Rattle.std.specs.Prelude.{◌≡◌, ◌++◌, OnOk, IfOk};
-ghost use Rattle.otlp_proto.specs.Remarks.{equal_keys, link_dropped};
+ghost use Rattle.std.specs.Prelude.{◌≡◌, ◌++◌, IfOk};
+ghost use Rattle.trace_model.specs.Remarks.{equal_keys, link_dropped};
 ghost use Rattle.trace_model.specs.declared.place.Place.TheVariants as places;
 
-use crate::remarks::{remark_all, remark_keys};
 use span_io::{Items, OutOfMemory, Text};
 use std::alloc::Global;
-use trace_model::{Place, Remark, RemarkKind};
-
-// Adds at the end that a link was dropped, if one was.
-fn remark_dropped(
-    alloc: Global,
-    remarks: &mut Items<Remark>,
-    place: Place,
-    dropped: bool,
-) -> Result<(), OutOfMemory>
-    ensures { OnOk result (remarks.new ≡ remarks.old ++ link_dropped place dropped) }
-{
-    if !dropped {
-        return Ok(());
-    }
-    remarks.push(Remark {
-        place,
-        kind: RemarkKind::LinkDropped,
-        key: Text::new(alloc),
-    })
-}
+use trace_model::{Place, Remark, remark_all, remark_dropped, remark_keys};
 
 /// The remarks on the span of this number, in the order of their places: on the keys of its
 /// attributes, on dropped links, on its events and on its links.

@@ -2,19 +2,16 @@
 ghost use Rattle.std.specs.Prelude.{◌≡◌, ◌++◌, ℕ, List, OnOk, OnErr};
 ghost use Rattle.span_io.specs.Outside.{GrowsFront};
 ghost use Rattle.proto_wire.specs.Records.{IsFieldNumber};
-ghost use Rattle.otlp_proto.specs.Texts.{bytes_field, filled_field, list_text, size_of};
+ghost use Rattle.otlp_proto.specs.Texts.{bytes_field, filled_field, list_text};
 
-use crate::writing::sizes::{enclosed_size, filled_size, open_field};
+use crate::writing::enclosed::{close_field, close_filled};
+use proto_wire::open_record;
 use span_io::{Blob, OutOfMemory};
 
 /// A message, which stands in a field of wire type 2 of the message around it.
 pub trait Message {
     // The one text that is written.
     ghost text: { Self → List ℕ };
-
-    /// The number of bytes of the text.
-    fn size(&self) -> u64
-        ensures { result ≡ size_of (text self.now) };
 
     /// Appends the text.
     fn write(&self, out: &mut Blob) -> Result<(), OutOfMemory>
@@ -29,20 +26,10 @@ pub fn write_filled<T: Message>(out: &mut Blob, number: u32, message: &T) -> Res
     ensures ok { OnOk result (out.new ≡ out.old ++ filled_field number (T.text message.now)) }
     ensures err { OnErr result (GrowsFront out.old out.new (filled_field number (T.text message.now))) }
 {
-    let size = message.size();
-    if size == 0 {
-        return Ok(());
-    }
-    open_field(out, number, size)?;
-    message.write(out)
-}
-
-/// The number of bytes of a message in a field of this number, which is left out where it is empty.
-pub fn message_size<T: Message>(number: u32, message: &T) -> u64
-    requires { IsFieldNumber number }
-    ensures { result ≡ size_of (filled_field number (T.text message.now)) }
-{
-    filled_size(number, message.size())
+    let begins = out.len();
+    open_record(out, number)?;
+    let written = message.write(out);
+    close_filled(out, number, begins, written)
 }
 
 /// Appends a message in a field of this number.
@@ -56,8 +43,10 @@ pub fn write_element<T: Message>(
     ensures ok { OnOk result (out.new ≡ out.old ++ bytes_field number (T.text message.now)) }
     ensures err { OnErr result (GrowsFront out.old out.new (bytes_field number (T.text message.now))) }
 {
-    open_field(out, number, message.size())?;
-    message.write(out)
+    let begins = out.len();
+    open_record(out, number)?;
+    let written = message.write(out);
+    close_field(out, number, begins, written)
 }
 
 /// Appends messages in fields of this number.
@@ -74,17 +63,4 @@ pub fn write_elements<T: Message>(
         write_element(out, number, item)?;
     }
     Ok(())
-}
-
-/// The number of bytes of messages in fields of this number.
-pub fn elements_size<T: Message>(number: u32, items: &[T]) -> u64
-    requires { IsFieldNumber number }
-    ensures { result ≡ size_of (list_text number T.text items.now) }
-{
-    let mut total = 0u64;
-    for item in items {
-        let size = enclosed_size(number, item.size());
-        total = total.saturating_add(size);
-    }
-    total
 }

@@ -1,10 +1,10 @@
 //! Fields that are left out where they are their default.
-ghost use Rattle.std.specs.Prelude.{◌≡◌, ◌++◌, length, OnOk, OnErr};
+ghost use Rattle.std.specs.Prelude.{◌≡◌, ◌++◌, OnOk, OnErr};
 ghost use Rattle.span_io.specs.Outside.{GrowsFront};
 ghost use Rattle.proto_wire.specs.Records.{IsFieldNumber};
 ghost use Rattle.otlp_proto.specs.Texts.{filled_field, count_field, time_field, flags_field, trace_field, span_field, parent_field};
 
-use proto_wire::{Payload, record_size, write_record};
+use proto_wire::{Payload, write_record};
 use span_ids::{Nanos, SpanId, TraceId};
 use span_io::{Blob, OutOfMemory, Text};
 
@@ -20,16 +20,6 @@ pub fn write_text(out: &mut Blob, number: u32, text: &Text) -> Result<(), OutOfM
     }
 }
 
-pub fn text_size(number: u32, text: &Text) -> u64
-    requires { IsFieldNumber number }
-    ensures { result ≡ length (filled_field number text.now) }
-{
-    match text.as_str().as_bytes() {
-        [] => 0,
-        held => record_size(number, &Payload::Bytes(held)),
-    }
-}
-
 /// Appends a count or another number of wire type 0, unless it is 0.
 pub fn write_count(out: &mut Blob, number: u32, count: u32) -> Result<(), OutOfMemory>
     requires { IsFieldNumber number }
@@ -39,16 +29,6 @@ pub fn write_count(out: &mut Blob, number: u32, count: u32) -> Result<(), OutOfM
     match count {
         0 => Ok(()),
         _ => write_record(out, number, Payload::Varint(u64::from(count))),
-    }
-}
-
-pub fn count_size(number: u32, count: u32) -> u64
-    requires { IsFieldNumber number }
-    ensures { result ≡ length (count_field number count) }
-{
-    match count {
-        0 => 0,
-        _ => record_size(number, &Payload::Varint(u64::from(count))),
     }
 }
 
@@ -64,16 +44,6 @@ pub fn write_time(out: &mut Blob, number: u32, time: Nanos) -> Result<(), OutOfM
     }
 }
 
-pub fn time_size(number: u32, time: Nanos) -> u64
-    requires { IsFieldNumber number }
-    ensures { result ≡ length (time_field number time) }
-{
-    match time.0 {
-        0 => 0,
-        nanos => record_size(number, &Payload::Fixed64(nanos)),
-    }
-}
-
 /// Appends flags, unless they are 0.
 pub fn write_flags(out: &mut Blob, number: u32, flags: u32) -> Result<(), OutOfMemory>
     requires { IsFieldNumber number }
@@ -86,16 +56,6 @@ pub fn write_flags(out: &mut Blob, number: u32, flags: u32) -> Result<(), OutOfM
     }
 }
 
-pub fn flags_size(number: u32, flags: u32) -> u64
-    requires { IsFieldNumber number }
-    ensures { result ≡ length (flags_field number flags) }
-{
-    match flags {
-        0 => 0,
-        _ => record_size(number, &Payload::Fixed32(flags)),
-    }
-}
-
 /// Appends the identifier of a trace.
 pub fn write_trace(out: &mut Blob, number: u32, id: TraceId) -> Result<(), OutOfMemory>
     requires { IsFieldNumber number }
@@ -103,13 +63,6 @@ pub fn write_trace(out: &mut Blob, number: u32, id: TraceId) -> Result<(), OutOf
     ensures err { OnErr result (GrowsFront out.old out.new (trace_field number id)) }
 {
     write_record(out, number, Payload::Bytes(&id.to_bytes()))
-}
-
-pub fn trace_size(number: u32, id: TraceId) -> u64
-    requires { IsFieldNumber number }
-    ensures { result ≡ length (trace_field number id) }
-{
-    record_size(number, &Payload::Bytes(&id.to_bytes()))
 }
 
 /// Appends the identifier of a span.
@@ -121,13 +74,6 @@ pub fn write_span_id(out: &mut Blob, number: u32, id: SpanId) -> Result<(), OutO
     write_record(out, number, Payload::Bytes(&id.to_bytes()))
 }
 
-pub fn span_id_size(number: u32, id: SpanId) -> u64
-    requires { IsFieldNumber number }
-    ensures { result ≡ length (span_field number id) }
-{
-    record_size(number, &Payload::Bytes(&id.to_bytes()))
-}
-
 /// Appends the identifier of a parent, if there is one.
 pub fn write_parent(out: &mut Blob, number: u32, parent: Option<SpanId>) -> Result<(), OutOfMemory>
     requires { IsFieldNumber number }
@@ -137,15 +83,5 @@ pub fn write_parent(out: &mut Blob, number: u32, parent: Option<SpanId>) -> Resu
     match parent {
         Some(id) => write_span_id(out, number, id),
         None => Ok(()),
-    }
-}
-
-pub fn parent_size(number: u32, parent: Option<SpanId>) -> u64
-    requires { IsFieldNumber number }
-    ensures { result ≡ length (parent_field number parent) }
-{
-    match parent {
-        Some(id) => span_id_size(number, id),
-        None => 0,
     }
 }

@@ -1,26 +1,15 @@
 //! Scopes and groups.
 ghost use Rattle.std.specs.Prelude.{◌≡◌, ◌++◌, OnOk, OnErr};
 ghost use Rattle.span_io.specs.Outside.{GrowsFront};
-ghost use Rattle.otlp_proto.specs.Texts.{filled_field, instrumentation_scope_text, resource_text, group_record, size_of};
+ghost use Rattle.otlp_proto.specs.Texts.{filled_field, instrumentation_scope_text, resource_text, group_record};
 
-use crate::writing::elements::{Message, elements_size, write_element, write_elements};
-use crate::writing::fields::{count_size, text_size, write_count, write_text};
-use crate::writing::sizes::{filled_size, open_field, sum};
-use crate::writing::values::{attributes_size, write_attributes};
+use crate::writing::elements::{Message, write_element, write_elements};
+use crate::writing::enclosed::close_filled;
+use crate::writing::fields::{write_count, write_text};
+use crate::writing::values::write_attributes;
+use proto_wire::open_record;
 use span_io::{Blob, OutOfMemory};
 use trace_model::{Group, Scope};
-
-// The number of bytes of the instrumentation scope.
-fn instrumentation_scope_size(scope: &Scope) -> u64
-    ensures { result ≡ size_of (instrumentation_scope_text scope.now) }
-{
-    sum(&[
-        text_size(1, &scope.name),
-        text_size(2, &scope.version),
-        attributes_size(3, scope.attributes.as_slice()),
-        count_size(4, scope.dropped),
-    ])
-}
 
 // Appends the instrumentation scope.
 #[tactic(auto, using(crate::proofs::Growth::in_pieces), unfolding(crate::specs::Texts::instrumentation_scope_text))]
@@ -40,23 +29,10 @@ fn write_scope_field(out: &mut Blob, scope: &Scope) -> Result<(), OutOfMemory>
     ensures ok { OnOk result (out.new ≡ out.old ++ filled_field 1 (instrumentation_scope_text scope.now)) }
     ensures err { OnErr result (GrowsFront out.old out.new (filled_field 1 (instrumentation_scope_text scope.now))) }
 {
-    let size = instrumentation_scope_size(scope);
-    if size == 0 {
-        return Ok(());
-    }
-    open_field(out, 1, size)?;
-    write_instrumentation_scope(out, scope)
-}
-
-// The number of bytes of the resource.
-#[tactic(auto, using(crate::proofs::Sizes::in_row), unfolding(crate::specs::Texts::resource_text))]
-fn resource_size(group: &Group) -> u64
-    ensures { result ≡ size_of (resource_text group.now) }
-{
-    sum(&[
-        attributes_size(1, group.resource.as_slice()),
-        count_size(2, group.dropped),
-    ])
+    let begins = out.len();
+    open_record(out, 1)?;
+    let written = write_instrumentation_scope(out, scope);
+    close_filled(out, 1, begins, written)
 }
 
 // Appends the resource.
@@ -75,26 +51,16 @@ fn write_resource_field(out: &mut Blob, group: &Group) -> Result<(), OutOfMemory
     ensures ok { OnOk result (out.new ≡ out.old ++ filled_field 1 (resource_text group.now)) }
     ensures err { OnErr result (GrowsFront out.old out.new (filled_field 1 (resource_text group.now))) }
 {
-    let size = resource_size(group);
-    if size == 0 {
-        return Ok(());
-    }
-    open_field(out, 1, size)?;
-    write_resource(out, group)
+    let begins = out.len();
+    open_record(out, 1)?;
+    let written = write_resource(out, group);
+    close_filled(out, 1, begins, written)
 }
 
 impl Message for Scope {
     ghost use Rattle.otlp_proto.specs.Texts.{scope_text};
 
     ghost text = { scope_text };
-
-    fn size(&self) -> u64 {
-        sum(&[
-            filled_size(1, instrumentation_scope_size(self)),
-            elements_size(2, self.spans.as_slice()),
-            text_size(3, &self.schema_url),
-        ])
-    }
 
     #[tactic(auto, using(crate::proofs::Growth::in_pieces), unfolding(crate::specs::Texts::scope_text))]
     fn write(&self, out: &mut Blob) -> Result<(), OutOfMemory> {
@@ -108,14 +74,6 @@ impl Message for Group {
     ghost use Rattle.otlp_proto.specs.Texts.{group_text};
 
     ghost text = { group_text };
-
-    fn size(&self) -> u64 {
-        sum(&[
-            filled_size(1, resource_size(self)),
-            elements_size(2, self.scopes.as_slice()),
-            text_size(3, &self.schema_url),
-        ])
-    }
 
     #[tactic(auto, using(crate::proofs::Growth::in_pieces), unfolding(crate::specs::Texts::group_text))]
     fn write(&self, out: &mut Blob) -> Result<(), OutOfMemory> {

@@ -3,15 +3,11 @@ ghost use Rattle.std.specs.Prelude.{◌≡◌, ◌++◌, OnOk, OnErr};
 ghost use Rattle.span_io.specs.Outside.{GrowsFront};
 ghost use Rattle.otlp_proto.specs.Texts.{kind_number, filled_field, count_field, time_field, flags_field, trace_field, span_field, parent_field, list_text, attributes_text, status_text, event_text, link_text};
 
-use crate::writing::elements::{
-    Message, elements_size, message_size, write_elements, write_filled,
-};
+use crate::writing::elements::{Message, write_elements, write_filled};
 use crate::writing::fields::{
-    count_size, flags_size, parent_size, span_id_size, text_size, time_size, trace_size,
     write_count, write_flags, write_parent, write_span_id, write_text, write_time, write_trace,
 };
-use crate::writing::sizes::sum;
-use crate::writing::values::{attributes_size, write_attributes};
+use crate::writing::values::write_attributes;
 use span_io::{Blob, OutOfMemory};
 use trace_model::{Kind, Span};
 
@@ -99,27 +95,6 @@ impl Message for Span {
     ghost use Rattle.otlp_proto.specs.Texts.{span_text};
 
     ghost text = { span_text };
-
-    fn size(&self) -> u64 {
-        sum(&[
-            trace_size(1, self.trace),
-            span_id_size(2, self.id),
-            text_size(3, &self.state),
-            parent_size(4, self.parent),
-            text_size(5, &self.name),
-            count_size(6, number_of(self.kind)),
-            time_size(7, self.start),
-            time_size(8, self.end),
-            attributes_size(9, self.attributes.as_slice()),
-            count_size(10, self.dropped_attributes),
-            elements_size(11, self.events.as_slice()),
-            count_size(12, self.dropped_events),
-            elements_size(13, self.links.as_slice()),
-            count_size(14, self.dropped_links),
-            message_size(15, &self.status),
-            flags_size(16, self.flags),
-        ])
-    }
 
     #[tactic(auto, using(crate::proofs::SpanFields::by_fours))]
     fn write(&self, out: &mut Blob) -> Result<(), OutOfMemory> {

@@ -47,12 +47,6 @@ const VALUES: &[u8] = &[
     0x18, 0xac, 0x02,
 ];
 
-fn text_of(alloc: Global, piece: &str) -> Result<Text, OutOfMemory> {
-    let mut text = Text::new(alloc);
-    text.append(piece)?;
-    Ok(text)
-}
-
 fn one<T: Drop>(alloc: Global, item: T) -> Result<Items<T>, OutOfMemory> {
     let mut items = Items::new(alloc);
     items.push(item)?;
@@ -60,7 +54,7 @@ fn one<T: Drop>(alloc: Global, item: T) -> Result<Items<T>, OutOfMemory> {
 }
 
 fn pair(alloc: Global, key: &str, value: Value) -> Result<(Text, Value), OutOfMemory> {
-    Ok((text_of(alloc, key)?, value))
+    Ok((Text::of(alloc, key)?, value))
 }
 
 fn number(alloc: Global, key: &str, number: i64) -> Result<Attrs, OutOfMemory> {
@@ -116,7 +110,7 @@ fn events(alloc: Global) -> Result<Items<Event>, OutOfMemory> {
         alloc,
         Event {
             time: Nanos(7),
-            name: text_of(alloc, "e")?,
+            name: Text::of(alloc, "e")?,
             attributes: number(alloc, "k", 1)?,
             dropped: 5,
         },
@@ -134,7 +128,7 @@ fn full_span(alloc: Global) -> Result<Span, Fail> {
     let link = Link {
         trace: TraceId::from_bytes(&[4, 4, 4, 4, 4, 4, 4, 4, 4, 4, 4, 4, 4, 4, 4, 5])?,
         span: SpanId::from_bytes(&[5, 5, 5, 5, 5, 5, 5, 6])?,
-        state: text_of(alloc, "u=2")?,
+        state: Text::of(alloc, "u=2")?,
         attributes: number(alloc, "l", 2)?,
         dropped: 7,
         flags: 769,
@@ -142,9 +136,9 @@ fn full_span(alloc: Global) -> Result<Span, Fail> {
     Ok(Span {
         trace: TraceId::from_bytes(&[1, 1, 1, 1, 1, 1, 1, 1, 1, 1, 1, 1, 1, 1, 1, 2])?,
         id: SpanId::from_bytes(&[2, 2, 2, 2, 2, 2, 2, 3])?,
-        state: text_of(alloc, "t=1")?,
+        state: Text::of(alloc, "t=1")?,
         parent: Some(SpanId::from_bytes(&[3, 3, 3, 3, 3, 3, 3, 4])?),
-        name: text_of(alloc, "buy")?,
+        name: Text::of(alloc, "buy")?,
         kind: Kind::Server,
         start: Nanos(1_544_712_660_000_000_000),
         end: Nanos(1_544_712_661_000_000_000),
@@ -156,7 +150,7 @@ fn full_span(alloc: Global) -> Result<Span, Fail> {
         dropped_links: 8,
         status: Status {
             code: Code::Fail,
-            message: text_of(alloc, "no")?,
+            message: Text::of(alloc, "no")?,
         },
         flags: 257,
     })
@@ -168,20 +162,20 @@ fn writes_every_field(rt: HostRuntime) -> Result<(), Fail> {
     let mut scopes = one(
         alloc,
         Scope {
-            name: text_of(alloc, "lib")?,
-            version: text_of(alloc, "1.0")?,
+            name: Text::of(alloc, "lib")?,
+            version: Text::of(alloc, "1.0")?,
             attributes: one(alloc, pair(alloc, "a", Value::Truth(true))?)?,
             dropped: 300,
-            schema_url: text_of(alloc, "s")?,
+            schema_url: Text::of(alloc, "s")?,
             spans: one(alloc, full_span(alloc)?)?,
         },
     )?;
     scopes.push(scope_of(alloc, Items::new(alloc)))?;
-    let service = Value::Text(text_of(alloc, "shop")?);
+    let service = Value::Text(Text::of(alloc, "shop")?);
     let group = Group {
         resource: one(alloc, pair(alloc, "service.name", service)?)?,
         dropped: 1,
-        schema_url: text_of(alloc, "r")?,
+        schema_url: Text::of(alloc, "r")?,
         scopes,
     };
     let mut out = Blob::new(alloc);

@@ -2,7 +2,7 @@ use Rattle.std.proofs.Common.{ℕ, List, ap, ◌++◌, ◌∙◌}
 use Rattle.std.specs.Option.{unwrap_or}
 use Rattle.trace_model.specs.declared.place.Place.TheVariants as places
 use Rattle.trace_model.specs.declared.remark.Remark.{Remark}
-use Rattle.otlp_proto.specs.Remarks.{equal_keys}
+use Rattle.trace_model.specs.Remarks.{equal_keys}
 use Rattle.otlp_proto.proofs.GroupLemmas.{group_is}
 use Rattle.otlp_proto.proofs.group.group_of.Goals as goal
 

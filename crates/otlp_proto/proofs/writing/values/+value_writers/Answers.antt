@@ -1,51 +1,30 @@
 use Rattle.std.proofs.Common.{◌≡◌, List, ℕ, ap, sym, ◌∙◌}
-use Rattle.std.proofs.lemmas.Result.{on_ok_weaker, on_err_weaker}
 use Rattle.trace_model.specs.declared.value.Value.{Value}
 use Rattle.otlp_proto.specs.Texts.{bytes_field, list_text, value_text, key_value_text, attributes_text}
-use Rattle.otlp_proto.proofs.Growth.{enclosed, enclosed_opening, enclosed_held, on_err_from}
+use Rattle.otlp_proto.proofs.Growth.{on_err_from}
 use Rattle.otlp_proto.proofs.ListTexts.{list_start, list_more, list_front}
 use Rattle.otlp_proto.proofs.ValueTexts.{list_value, map_value}
 use Rattle.otlp_proto.proofs.writing.values.+value_writers.Goals as goal
 
-pub write_value-returns-in_err-open_field-in-List-clause-err : goal.write_value-returns-in_err-open_field-in-List-clause-err
-write_value-returns-in_err-open_field-in-List-clause-err t c =
-    let text : value_text c.args.value.now ≡ bytes_field 5 (list_text 1 value_text c.as_slice-values.result.now) = ap value_text c.in-List.is ∙ list_value c.in-List.members ∙ ap (λ (l : List Value). bytes_field 5 (list_text 1 value_text l)) (sym c.as_slice-values.ensures) in
-    on_err_from c.from_residual.result
-    (rw text (enclosed_opening 5 (list_text 1 value_text c.as_slice-values.result.now) c.args.out.now c.open_field.new.out (c.in_err-open_field-in-List.ensures.err (list_text 1 value_text c.as_slice-values.result.now) c.members_size.ensures)))
+pub write_value-returns-in-List-clause-ok : goal.write_value-returns-in-List-clause-ok
+write_value-returns-in-List-clause-ok t c =
+    let text : value_text c.args.value.now ≡ bytes_field 5 (list_text 1 value_text c.as_slice.result.now) = ap value_text c.in-List.is ∙ list_value c.in-List.members ∙ ap (λ (l : List Value). bytes_field 5 (list_text 1 value_text l)) (sym c.as_slice.ensures) in
+    rw text c.write_list.ensures.ok
 
-pub write_value-returns-in_ok-open_field-in-List-clause-ok : goal.write_value-returns-in_ok-open_field-in-List-clause-ok
-write_value-returns-in_ok-open_field-in-List-clause-ok t c =
-    let text : value_text c.args.value.now ≡ bytes_field 5 (list_text 1 value_text c.as_slice-values.result.now) = ap value_text c.in-List.is ∙ list_value c.in-List.members ∙ ap (λ (l : List Value). bytes_field 5 (list_text 1 value_text l)) (sym c.as_slice-values.ensures) in
-    rw text (on_ok_weaker c.write_members.result
-    (enclosed 5 (list_text 1 value_text c.as_slice-values.result.now) c.args.out.now c.open_field.new.out c.write_members.new.out (c.in_ok-open_field-in-List.ensures.ok (list_text 1 value_text c.as_slice-values.result.now) c.members_size.ensures))
-    c.write_members.ensures.ok)
+pub write_value-returns-in-List-clause-err : goal.write_value-returns-in-List-clause-err
+write_value-returns-in-List-clause-err t c =
+    let text : value_text c.args.value.now ≡ bytes_field 5 (list_text 1 value_text c.as_slice.result.now) = ap value_text c.in-List.is ∙ list_value c.in-List.members ∙ ap (λ (l : List Value). bytes_field 5 (list_text 1 value_text l)) (sym c.as_slice.ensures) in
+    rw text c.write_list.ensures.err
 
-pub write_value-returns-in_ok-open_field-in-List-clause-err : goal.write_value-returns-in_ok-open_field-in-List-clause-err
-write_value-returns-in_ok-open_field-in-List-clause-err t c =
-    let text : value_text c.args.value.now ≡ bytes_field 5 (list_text 1 value_text c.as_slice-values.result.now) = ap value_text c.in-List.is ∙ list_value c.in-List.members ∙ ap (λ (l : List Value). bytes_field 5 (list_text 1 value_text l)) (sym c.as_slice-values.ensures) in
-    rw text (on_err_weaker c.write_members.result
-    (enclosed_held 5 (list_text 1 value_text c.as_slice-values.result.now) c.args.out.now c.open_field.new.out c.write_members.new.out (c.in_ok-open_field-in-List.ensures.ok (list_text 1 value_text c.as_slice-values.result.now) c.members_size.ensures))
-    c.write_members.ensures.err)
+pub write_value-returns-in-Map-clause-ok : goal.write_value-returns-in-Map-clause-ok
+write_value-returns-in-Map-clause-ok t c =
+    let text : value_text c.args.value.now ≡ bytes_field 6 (attributes_text 1 c.as_slice-in-Map.result.now) = ap value_text c.in-Map.is ∙ map_value c.in-Map.pairs ∙ ap (λ (l : List (List ℕ × Value)). bytes_field 6 (attributes_text 1 l)) (sym c.as_slice-in-Map.ensures) in
+    rw text c.write_map.ensures.ok
 
-pub write_value-returns-in_err-open_field-in-Map-clause-err : goal.write_value-returns-in_err-open_field-in-Map-clause-err
-write_value-returns-in_err-open_field-in-Map-clause-err t c =
-    let text : value_text c.args.value.now ≡ bytes_field 6 (attributes_text 1 c.as_slice-entries.result.now) = ap value_text c.in-Map.is ∙ map_value c.in-Map.pairs ∙ ap (λ (l : List (List ℕ × Value)). bytes_field 6 (attributes_text 1 l)) (sym c.as_slice-entries.ensures) in
-    on_err_from c.from_residual-in_err-open_field-in-Map.result
-    (rw text (enclosed_opening 6 (attributes_text 1 c.as_slice-entries.result.now) c.args.out.now c.open_field-in-Map.new.out (c.in_err-open_field-in-Map.ensures.err (attributes_text 1 c.as_slice-entries.result.now) c.attributes_size.ensures)))
-
-pub write_value-returns-in_ok-open_field-in-Map-clause-ok : goal.write_value-returns-in_ok-open_field-in-Map-clause-ok
-write_value-returns-in_ok-open_field-in-Map-clause-ok t c =
-    let text : value_text c.args.value.now ≡ bytes_field 6 (attributes_text 1 c.as_slice-entries.result.now) = ap value_text c.in-Map.is ∙ map_value c.in-Map.pairs ∙ ap (λ (l : List (List ℕ × Value)). bytes_field 6 (attributes_text 1 l)) (sym c.as_slice-entries.ensures) in
-    rw text (on_ok_weaker c.write_attributes.result
-    (enclosed 6 (attributes_text 1 c.as_slice-entries.result.now) c.args.out.now c.open_field-in-Map.new.out c.write_attributes.new.out (c.in_ok-open_field-in-Map.ensures.ok (attributes_text 1 c.as_slice-entries.result.now) c.attributes_size.ensures))
-    c.write_attributes.ensures.ok)
-
-pub write_value-returns-in_ok-open_field-in-Map-clause-err : goal.write_value-returns-in_ok-open_field-in-Map-clause-err
-write_value-returns-in_ok-open_field-in-Map-clause-err t c =
-    let text : value_text c.args.value.now ≡ bytes_field 6 (attributes_text 1 c.as_slice-entries.result.now) = ap value_text c.in-Map.is ∙ map_value c.in-Map.pairs ∙ ap (λ (l : List (List ℕ × Value)). bytes_field 6 (attributes_text 1 l)) (sym c.as_slice-entries.ensures) in
-    rw text (on_err_weaker c.write_attributes.result
-    (enclosed_held 6 (attributes_text 1 c.as_slice-entries.result.now) c.args.out.now c.open_field-in-Map.new.out c.write_attributes.new.out (c.in_ok-open_field-in-Map.ensures.ok (attributes_text 1 c.as_slice-entries.result.now) c.attributes_size.ensures))
-    c.write_attributes.ensures.err)
+pub write_value-returns-in-Map-clause-err : goal.write_value-returns-in-Map-clause-err
+write_value-returns-in-Map-clause-err t c =
+    let text : value_text c.args.value.now ≡ bytes_field 6 (attributes_text 1 c.as_slice-in-Map.result.now) = ap value_text c.in-Map.is ∙ map_value c.in-Map.pairs ∙ ap (λ (l : List (List ℕ × Value)). bytes_field 6 (attributes_text 1 l)) (sym c.as_slice-in-Map.ensures) in
+    rw text c.write_map.ensures.err
 
 pub write_members-members-init : goal.write_members-members-init
 write_members-members-init t c = list_start 1 value_text c.args.out.now c.args.members.now

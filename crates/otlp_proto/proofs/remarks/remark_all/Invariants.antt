@@ -1,5 +1,0 @@
-use Rattle.std.proofs.Common.{◌≡◌, ◌++◌}
-use Rattle.otlp_proto.proofs.remarks.remark_all.Given as goal
-
-abbrev pub invariant-remarks : goal.invariant-remarks
-invariant-remarks l = l.remarks ++ l.remark-iterator.rest.items ≡ l.initial.remarks ++ l.fn.more
