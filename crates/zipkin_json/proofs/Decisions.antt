@@ -8,7 +8,7 @@ use Rattle.span_io.specs.declared.cause.Cause.TheVariants as causes
 use Rattle.span_io.specs.Causes.{cause_number}
 use Rattle.span_io.specs.Paths.{Faults, here, ◌▹◌, optional, each, valued, Given, Never, OfKind, Quiet}
 use Rattle.span_io.specs.PathLaws.{clean_nothing, clean_here, counts_here, counts_only, least_here, first_of_parts, quiet_nothing, quiet_parts, quiet_each}
-use Rattle.span_io.specs.PathDecisions.{Decided, one, none, decided_as, also, no_more, decided_required, decided_optional, decided_each, decided_valued, decided_plain, pair}
+use Rattle.span_io.specs.PathDecisions.{IsSettled, one, none, decided_as, also, no_more, decided_required, decided_optional, decided_each, decided_valued, decided_plain, pair}
 use Rattle.zipkin_json.specs.Members.{member, elements, values, IsText, text_faults, IsTruth, truth_faults, IsCount, IsPort, port_faults, count_faults, count_in}
 use Rattle.zipkin_json.specs.Identifiers.{SpellsTrace, SpellsSpan, SpellsParent}
 use Rattle.zipkin_json.specs.declared.span.ZKind.{ZKind}
@@ -20,17 +20,17 @@ use Rattle.zipkin_json.specs.declared.span.ZSpan.{ZSpan}
 
 -- ---- texts, truth values and numbers
 
-pub text_decided : (d : Data) → Decided (λ text. IsText text d) (text_faults d)
+pub text_decided : (d : Data) → IsSettled (λ text. IsText text d) (text_faults d)
 text_decided d = decided_plain (as_str d)
 
-pub truth_decided : (d : Data) → Decided (λ truth. IsTruth truth d) (truth_faults d)
+pub truth_decided : (d : Data) → IsSettled (λ truth. IsTruth truth d) (truth_faults d)
 truth_decided d = decided_plain (as_bool d)
 
 -- a count that fits behind `start`
 abbrev pub Fits : ℕ → ℕ → Data → Type 0
 Fits start count d = IsCount count d × (start + count ≤ last_micros)
 
-unsigned_decided : (start u : ℕ) → Decided (λ count. Fits start count (number (unsigned u))) (here (λ n. (n ≡ 16) × (last_micros < start + u)))
+unsigned_decided : (start u : ℕ) → IsSettled (λ count. Fits start count (number (unsigned u))) (here (λ n. (n ≡ 16) × (last_micros < start + u)))
 unsigned_decided start u = on (either_side (start + u) last_micros)
   where
     only : (y : ℕ) → Fits start y (number (unsigned u)) → u ≡ y
@@ -39,11 +39,11 @@ unsigned_decided start u = on (either_side (start + u) last_micros)
     never : last_micros < start + u → (y : ℕ) → ¬ Fits start y (number (unsigned u))
     never late y h = let e : u ≡ y = only y h in let k = h.1 in omega arith
 
-    on : (start + u ≤ last_micros) ⊎ (last_micros < start + u) → Decided (λ count. Fits start count (number (unsigned u))) (here (λ n. (n ≡ 16) × (last_micros < start + u)))
+    on : (start + u ≤ last_micros) ⊎ (last_micros < start + u) → IsSettled (λ count. Fits start count (number (unsigned u))) (here (λ n. (n ≡ 16) × (last_micros < start + u)))
     on (inl fits) = one u (refl, fits) only (clean_here _ (λ n h. let k = h.1 in omega arith))
     on (inr late) = none causes.BadTime (counts_here _ 16 (refl, late) (λ n h. let k = h.0 in omega arith)) (never late)
 
-pub count_decided : (start : ℕ) (d : Data) → Decided (λ count. Fits start count d) (count_faults start d)
+pub count_decided : (start : ℕ) (d : Data) → IsSettled (λ count. Fits start count d) (count_faults start d)
 count_decided start (number (unsigned u)) = unsigned_decided start u
 count_decided start (number (negative z)) = none causes.BadTime (counts_only 16) (λ y h. let e = h.0 in cc)
 count_decided start (number (float x)) = none causes.BadShape (counts_only 11) (λ y h. let e = h.0 in cc)
@@ -53,36 +53,36 @@ count_decided start (string s) = none causes.BadShape (counts_only 11) (λ y h. 
 count_decided start (array ds) = none causes.BadShape (counts_only 11) (λ y h. let e = h.0 in cc)
 count_decided start (object ms) = none causes.BadShape (counts_only 11) (λ y h. let e = h.0 in cc)
 
-small_decided : (o : Option ℕ) → Decided (λ port. (o ≡ Some port) × (port ≤ 65535)) (valued (λ port. here (λ n. (n ≡ 11) × (65535 < port))) o)
+small_decided : (o : Option ℕ) → IsSettled (λ port. (o ≡ Some port) × (port ≤ 65535)) (valued (λ port. here (λ n. (n ≡ 11) × (65535 < port))) o)
 small_decided None = none causes.BadShape (counts_only 11) (λ y h. let e = h.0 in cc)
 small_decided (Some p) = on (either_side p 65535)
   where
     only : (y : ℕ) → (Some p ≡ Some y) × (y ≤ 65535) → p ≡ y
     only y h = let e = h.0 in cc
 
-    on : (p ≤ 65535) ⊎ (65535 < p) → Decided (λ port. (Some p ≡ Some port) × (port ≤ 65535)) (here (λ n. (n ≡ 11) × (65535 < p)))
+    on : (p ≤ 65535) ⊎ (65535 < p) → IsSettled (λ port. (Some p ≡ Some port) × (port ≤ 65535)) (here (λ n. (n ≡ 11) × (65535 < p)))
     on (inl small) = one p (refl, small) only (clean_here _ (λ n h. let k = h.1 in omega arith))
     on (inr large) = none causes.BadShape (counts_here _ 11 (refl, large) (λ n h. let k = h.0 in omega arith)) (λ y h. let e : p ≡ y = only y h in let k = h.1 in omega arith)
 
-pub port_decided : (d : Data) → Decided (λ port. IsPort port d) (port_faults d)
+pub port_decided : (d : Data) → IsSettled (λ port. IsPort port d) (port_faults d)
 port_decided d = small_decided _
 
 -- ---- identifiers and the kind
 
 text_chosen : {A : Type 0} (Spells : List ℕ → A → Type 0) (cause : Cause) (text : List ℕ) → SpellsOne Spells text
-    → Decided (λ x. Spells text x) (here (λ n. (n ≡ cause_number cause) × ((x : A) → ¬ Spells text x)))
+    → IsSettled (λ x. Spells text x) (here (λ n. (n ≡ cause_number cause) × ((x : A) → ¬ Spells text x)))
 text_chosen Spells cause text (inl h) = one h.0 h.1 h.2 (clean_here _ (λ n k. k.1 h.0 h.1))
 text_chosen Spells cause text (inr never) = none cause (counts_here _ (cause_number cause) (refl, never) (λ n k. let e = k.0 in omega arith)) never
 
 spelled_decided : {A : Type 0} (Spells : List ℕ → A → Type 0) (cause : Cause) → ((text : List ℕ) → SpellsOne Spells text) → (d : Data)
-    → Decided (λ x. Spelled Spells x d) (unspelled Spells (cause_number cause) d)
+    → IsSettled (λ x. Spelled Spells x d) (unspelled Spells (cause_number cause) d)
 spelled_decided {A} Spells cause choose d =
     decided_valued (λ x text. Spells text x) (λ text. here (λ n. (n ≡ cause_number cause) × ((x : A) → ¬ Spells text x))) (λ text. text_chosen Spells cause text (choose text)) (as_str d)
 
 -- ---- endpoints
 
 -- the members of an object
-objects_decided : {A : Type 0} {M : A → Type 0} {Offends : Faults} (d : Data) → Decided M Offends → Decided (λ x. OfKind (λ y members. M y) x (as_object d)) (valued (λ members. Offends) (as_object d))
+objects_decided : {A : Type 0} {M : A → Type 0} {Offends : Faults} (d : Data) → IsSettled M Offends → IsSettled (λ x. OfKind (λ y members. M y) x (as_object d)) (valued (λ members. Offends) (as_object d))
 objects_decided {A} {M} {Offends} d decided = decided_valued (λ y members. M y) (λ members. Offends) (λ members. decided) (as_object d)
 
 is_object : {A : Type 0} {M : A → Type 0} (x : A) (d : Data) → OfKind (λ y members. M y) x (as_object d) → is_some (as_object d) ≡ true
@@ -98,7 +98,7 @@ EndpointParts = List ℕ × (List ℕ × (List ℕ × (ℕ × Unit {0})))
 abbrev pub AreEndpointParts : Data → EndpointParts → Type 0
 AreEndpointParts d p = Given IsText (λ x. x ≡ []) p.0 (member (codes "serviceName") d) × (Given IsText (λ x. x ≡ []) p.1.0 (member (codes "ipv4") d) × (Given IsText (λ x. x ≡ []) p.1.1.0 (member (codes "ipv6") d) × (Given IsPort (λ x. x ≡ 0) p.1.1.1.0 (member (codes "port") d) × Unit {0})))
 
-endpoint_parts : (d : Data) → Decided (AreEndpointParts d) (endpoint_members d)
+endpoint_parts : (d : Data) → IsSettled (AreEndpointParts d) (endpoint_members d)
 unfolding endpoint_members
 endpoint_parts d =
     also (search (quiet_parts, quiet_nothing) depth 24) (decided_optional IsText text_faults text_decided [] (member (codes "serviceName") d)) (λ x h0.
@@ -107,7 +107,7 @@ endpoint_parts d =
     also quiet_nothing (decided_optional IsPort port_faults port_decided 0 (member (codes "port") d)) (λ x h3.
     no_more))))
 
-pub endpoint_decided : (d : Data) → Decided (λ e. IsEndpoint e d) (endpoint_faults d)
+pub endpoint_decided : (d : Data) → IsSettled (λ e. IsEndpoint e d) (endpoint_faults d)
 endpoint_decided d = decided_as (λ e. IsEndpoint e d) made there back (objects_decided {M = AreEndpointParts d} d (endpoint_parts d))
   where
     made : EndpointParts → Endpoint
@@ -127,7 +127,7 @@ AnnotationParts = ℕ × (List ℕ × Unit {0})
 abbrev pub AreAnnotationParts : Data → AnnotationParts → Type 0
 AreAnnotationParts d p = Given (Fits 0) Never p.0 (member (codes "timestamp") d) × (Given IsText Never p.1.0 (member (codes "value") d) × Unit {0})
 
-annotation_parts : (d : Data) → Decided (AreAnnotationParts d) (annotation_members d)
+annotation_parts : (d : Data) → IsSettled (AreAnnotationParts d) (annotation_members d)
 unfolding annotation_members
 annotation_parts d =
     also (search (quiet_parts, quiet_nothing) depth 24) (decided_required (Fits 0) (count_faults 0) (count_decided 0) (member (codes "timestamp") d)) (λ x h0.
@@ -143,7 +143,7 @@ given_sum : (start count : ℕ) (o : Option Data) → Given IsCount Never count 
 given_sum start count None h fits = absurd h
 given_sum start count (Some d) h fits = (h, fits)
 
-annotation_decided : (d : Data) → Decided (λ a. IsAnnotation a d) (annotation_faults d)
+annotation_decided : (d : Data) → IsSettled (λ a. IsAnnotation a d) (annotation_faults d)
 annotation_decided d = decided_as (λ a. IsAnnotation a d) made there back (objects_decided {M = AreAnnotationParts d} d (annotation_parts d))
   where
     made : AnnotationParts → ℕ × List ℕ
@@ -164,16 +164,16 @@ annotation_decided d = decided_as (λ a. IsAnnotation a d) made there back (obje
           pair (nanos h.timestamp) z.0 z.1 z.1 (sym h.time) refl,
         )
 
-annotations_decided : (d : Data) → Decided (λ list. AreAnnotations list d) (annotations_faults d)
+annotations_decided : (d : Data) → IsSettled (λ list. AreAnnotations list d) (annotations_faults d)
 annotations_decided d = decided_valued _ (λ held. each annotation_faults (elements held)) (λ held. decided_each IsAnnotation annotation_faults annotation_decided (elements held)) (as_array d)
 
 -- ---- tags
 
-no_tags : {Others : Faults} → Quiet Others → Decided (λ (tags : List (List ℕ × List ℕ)). None ≡ Some tags) (here (λ n. n ≡ 11) ▹ Others)
+no_tags : {Others : Faults} → Quiet Others → IsSettled (λ (tags : List (List ℕ × List ℕ)). None ≡ Some tags) (here (λ n. n ≡ 11) ▹ Others)
 no_tags {Others} quiet =
     none causes.BadShape (record { path = _; is_least = first_of_parts _ Others quiet _ 11 (least_here _ 11 refl (λ n h. omega arith)) }) (λ y h. cc)
 
-tags_in : (ms : Members) → Decided (λ tags. texts_in ms ≡ Some tags) (each tag_faults (values ms))
+tags_in : (ms : Members) → IsSettled (λ tags. texts_in ms ≡ Some tags) (each tag_faults (values ms))
 tags_in no_members = one [] refl (λ y h. cc) clean_nothing
 tags_in (has key null more) =
     decided_as (λ tags. texts_in more ≡ Some tags) (λ p. p.1) (λ p h. h.1) (λ z h. ((tt, z), (tt, h), refl)) (also (quiet_each tag_faults (values more)) no_more (λ x h. tags_in more))
@@ -197,7 +197,7 @@ tags_in (has key (number n) more) = no_tags (quiet_each tag_faults (values more)
 tags_in (has key (array ds) more) = no_tags (quiet_each tag_faults (values more))
 tags_in (has key (object os) more) = no_tags (quiet_each tag_faults (values more))
 
-tags_decided : (d : Data) → Decided (λ tags. AreTags tags d) (tags_faults d)
+tags_decided : (d : Data) → IsSettled (λ tags. AreTags tags d) (tags_faults d)
 tags_decided d = decided_valued _ (λ members. each tag_faults (values members)) tags_in (as_object d)
 
 -- ---- spans
@@ -206,7 +206,7 @@ tags_decided d = decided_valued _ (λ members. each tag_faults (values members))
 abbrev pub CountIn : ℕ → Option Data → ℕ → Type 0
 CountIn start o count = Given IsCount (λ c. c ≡ 0) count o × (start + count ≤ last_micros)
 
-count_in_decided : (start : ℕ) → start ≤ last_micros → (o : Option Data) → Decided (λ count. CountIn start o count) (optional (count_faults start) o)
+count_in_decided : (start : ℕ) → start ≤ last_micros → (o : Option Data) → IsSettled (λ count. CountIn start o count) (optional (count_faults start) o)
 count_in_decided start low None = one 0 (refl, omega arith) (λ y h. sym h.0) clean_nothing
 count_in_decided start low (Some d) = count_decided start d
 
@@ -223,7 +223,7 @@ SpanParts = ℕ × (ℕ × (Option ℕ × (List ℕ × (ZKind × (ℕ × (ℕ ×
 abbrev pub AreSpanParts : Data → SpanParts → Type 0
 AreSpanParts d p = Given (Spelled SpellsTrace) Never p.0 (member (codes "traceId") d) × (Given (Spelled SpellsSpan) Never p.1.0 (member (codes "id") d) × (Given (Spelled SpellsParent) (λ x. x ≡ None) p.1.1.0 (member (codes "parentId") d) × (Given IsText (λ x. x ≡ []) p.1.1.1.0 (member (codes "name") d) × (Given (Spelled SpellsKind) (λ x. x ≡ kinds.Absent) p.1.1.1.1.0 (member (codes "kind") d) × (CountIn 0 (member (codes "timestamp") d) p.1.1.1.1.1.0 × (CountIn (count_in (member (codes "timestamp") d)) (member (codes "duration") d) p.1.1.1.1.1.1.0 × (Given IsTruth (λ x. x ≡ false) p.1.1.1.1.1.1.1.0 (member (codes "debug") d) × (Given IsTruth (λ x. x ≡ false) p.1.1.1.1.1.1.1.1.0 (member (codes "shared") d) × (Given IsEndpoint (λ x. x ≡ no_endpoint) p.1.1.1.1.1.1.1.1.1.0 (member (codes "localEndpoint") d) × (Given IsEndpoint (λ x. x ≡ no_endpoint) p.1.1.1.1.1.1.1.1.1.1.0 (member (codes "remoteEndpoint") d) × (Given AreAnnotations (λ x. x ≡ []) p.1.1.1.1.1.1.1.1.1.1.1.0 (member (codes "annotations") d) × (Given AreTags (λ x. x ≡ []) p.1.1.1.1.1.1.1.1.1.1.1.1.0 (member (codes "tags") d) × Unit {0}))))))))))))
 
-span_parts : (d : Data) → Decided (AreSpanParts d) (span_members d)
+span_parts : (d : Data) → IsSettled (AreSpanParts d) (span_members d)
 unfolding span_members
 span_parts d =
     also (search (quiet_parts, quiet_nothing) depth 24) (decided_required (Spelled SpellsTrace) trace_faults (spelled_decided SpellsTrace causes.BadId trace_chosen) (member (codes "traceId") d)) (λ x h0.
@@ -244,7 +244,7 @@ span_parts d =
 ends : (z : ZSpan) (start end : ℕ) → start ≡ z.start → end ≡ z.end → record z { start = start; end = end } ≡ z
 ends z start end e k = rw (e, k) refl
 
-pub span_decided : (d : Data) → Decided (λ s. IsSpan s d) (span_faults d)
+pub span_decided : (d : Data) → IsSettled (λ s. IsSpan s d) (span_faults d)
 span_decided d = decided_as (λ s. IsSpan s d) made there back (objects_decided {M = AreSpanParts d} d (span_parts d))
   where
     made : SpanParts → ZSpan
@@ -266,5 +266,5 @@ span_decided d = decided_as (λ s. IsSpan s d) made there back (objects_decided 
           ends z (nanos h.timestamp) (nanos (h.timestamp + h.duration)) (sym h.start) (sym h.end),
         )
 
-pub spans_decided : (d : Data) → Decided (λ spans. AreSpans spans d) (spans_faults d)
+pub spans_decided : (d : Data) → IsSettled (λ spans. AreSpans spans d) (spans_faults d)
 spans_decided d = decided_valued _ (λ held. each span_faults (elements held)) (λ held. decided_each IsSpan span_faults span_decided (elements held)) (as_array d)

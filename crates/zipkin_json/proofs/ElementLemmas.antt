@@ -7,7 +7,7 @@ use Rattle.serde_json.specs.declared.value.Value.{Value}
 use Rattle.span_io.specs.declared.cause.Cause.{Cause}
 use Rattle.span_io.specs.declared.halt.Halt.{Halt}
 use Rattle.span_io.specs.declared.refusal.Refusal.{Refusal}
-use Rattle.span_io.specs.Paths.{Faults, each, valued, Clean, Halts, HaltsInput, in_unit}
+use Rattle.span_io.specs.Paths.{Faults, each, valued, NothingOffends, Halts, HaltsInput, in_unit}
 use Rattle.span_io.specs.PathLaws.{clean_one_more, halts_at, halts_input_at}
 use Rattle.std.specs.List.{AllZip}
 use Rattle.zipkin_json.specs.Members.{elements}
@@ -41,13 +41,13 @@ module _ (vs : List Value) (i : ℕ) (v : Value) (within : i < length vs) (here 
   pub reads_on : {B : Type 0} (Is : B → Data → Type 0) (xs : List B) (x : B) → AllZip (λ d x. Is x d) (map view (take i vs)) xs → Is x (view v) → AllZip (λ d x. Is x d) (map view (take (i + 1) vs)) (xs ++ x ∷ [])
   reads_on Is xs x all last = subst (λ ds. AllZip (λ d x. Is x d) ds (xs ++ x ∷ [])) (sym next_seen) (each_more Is _ xs (view v) x all last)
 
-  pub clean_on : (Offends : Data → Faults) → Clean (each Offends (map view (take i vs))) → Clean (Offends (view v)) → Clean (each Offends (map view (take (i + 1) vs)))
-  clean_on Offends all last = subst (λ ds. Clean (each Offends ds)) (sym next_seen) (clean_one_more Offends _ (view v) all last)
+  pub clean_on : (Offends : Data → Faults) → NothingOffends (each Offends (map view (take i vs))) → NothingOffends (Offends (view v)) → NothingOffends (each Offends (map view (take (i + 1) vs)))
+  clean_on Offends all last = subst (λ ds. NothingOffends (each Offends ds)) (sym next_seen) (clean_one_more Offends _ (view v) all last)
 
-  pub halts_here : (Offends : Data → Faults) (halt : Halt Cause) → Clean (each Offends (map view (take i vs))) → Halts halt (Offends (view v)) → Halts halt (each Offends (map view vs))
+  pub halts_here : (Offends : Data → Faults) (halt : Halt Cause) → NothingOffends (each Offends (map view (take i vs))) → Halts halt (Offends (view v)) → Halts halt (each Offends (map view vs))
   halts_here Offends halt all h = subst (λ ds. Halts halt (each Offends ds)) (sym all_seen) (halts_at Offends halt _ (view v) _ all h)
 
-  pub refuses_here : (Offends : Data → Faults) (halt : Halt Cause) (unit : ℕ) → unit ≡ i + 1 → Clean (each Offends (map view (take i vs))) → Halts halt (Offends (view v))
+  pub refuses_here : (Offends : Data → Faults) (halt : Halt Cause) (unit : ℕ) → unit ≡ i + 1 → NothingOffends (each Offends (map view (take i vs))) → Halts halt (Offends (view v))
       → HaltsInput (in_unit unit halt) (each Offends (map view vs))
   refuses_here Offends halt unit is all h =
       let seen : length (map view (take i vs)) ≡ i = seen_length in
@@ -58,14 +58,14 @@ module _ (vs : List Value) (i : ℕ) (v : Value) (within : i < length vs) (here 
 -- ---- what was answered of the elements, of the array
 
 module _ (Offends : Data → Faults) where
-  clean_elements : (vs : List Value) → Clean (each Offends (map view vs)) → Clean (each Offends (elements (items_view vs)))
-  clean_elements vs h = subst (λ ds. Clean (each Offends ds)) (sym (elements-items_view vs)) h
+  clean_elements : (vs : List Value) → NothingOffends (each Offends (map view vs)) → NothingOffends (each Offends (elements (items_view vs)))
+  clean_elements vs h = subst (λ ds. NothingOffends (each Offends ds)) (sym (elements-items_view vs)) h
 
   halts_elements : (halt : Halt Cause) (vs : List Value) → Halts halt (each Offends (map view vs)) → Halts halt (each Offends (elements (items_view vs)))
   halts_elements halt vs h = subst (λ ds. Halts halt (each Offends ds)) (sym (elements-items_view vs)) h
 
-  pub clean_array : (vs : List Value) (held : Option Items) → Some (items_view vs) ≡ held → Clean (each Offends (map view vs)) → Clean (valued (λ ds. each Offends (elements ds)) held)
-  clean_array vs held is h = subst (λ o. Clean (valued (λ ds. each Offends (elements ds)) o)) is (clean_elements vs h)
+  pub clean_array : (vs : List Value) (held : Option Items) → Some (items_view vs) ≡ held → NothingOffends (each Offends (map view vs)) → NothingOffends (valued (λ ds. each Offends (elements ds)) held)
+  clean_array vs held is h = subst (λ o. NothingOffends (valued (λ ds. each Offends (elements ds)) o)) is (clean_elements vs h)
 
   pub halts_array : (halt : Halt Cause) (vs : List Value) (held : Option Items) → Some (items_view vs) ≡ held → Halts halt (each Offends (map view vs)) → Halts halt (valued (λ ds. each Offends (elements ds)) held)
   halts_array halt vs held is h = subst (λ o. Halts halt (valued (λ ds. each Offends (elements ds)) o)) is (halts_elements halt vs h)

@@ -9,7 +9,8 @@ use Rattle.span_io.specs.Causes.{cause_number}
 use Rattle.span_io.specs.declared.halt.Halt.{Halt}
 use Rattle.span_io.specs.declared.halt.Halt.TheVariants as halts
 use Rattle.span_io.specs.declared.refusal.Refusal.{Refusal}
-use Rattle.span_io.specs.Paths.{Refuses, ComesBefore, JudgesInput, HaltsInput, ReadsOnly}
+use Rattle.span_io.specs.Paths.{RefusesInput, ComesBefore, JudgesInput, HaltsInput}
+use Rattle.span_io.specs.Offences.{OnlyReads}
 use Rattle.zipkin_json.specs.Laws.{OneList}
 use Rattle.zipkin_json.specs.Span.{AreSpans, spans_faults}
 use Rattle.zipkin_json.specs.Texts.{IsValueText, AreSpansText, text_faults, IsUnread}
@@ -20,7 +21,7 @@ Answer = Result (List ZSpan) (Halt Refusal)
 
 -- a value that has spans gives them alone
 pub only_spans : OneList → (d : Data) (answer : Answer) → IfOk answer (λ spans. AreSpans spans d) → JudgesInput answer (spans_faults d)
-    → (spans : List ZSpan) → AreSpans spans d → ReadsOnly answer spans
+    → (spans : List ZSpan) → AreSpans spans d → OnlyReads answer spans
 only_spans laws d (Ok read) value judged spans is = laws.once d read spans value is
 only_spans laws d (Err (halts.Why refusal)) value judged spans is = (laws.fine d spans is).none judged.path (cause_number refusal.cause) judged.is_least.offence
 only_spans laws d (Err halts.OutOfMemory) value judged spans is = tt
@@ -51,13 +52,13 @@ module _ (bytes : List ℕ) (d : Data) (is : IsValueText d bytes) where
   value_text (Ok read) h = record { value = d; is_text = is; are_spans = h }
   value_text (Err halt) h = tt
 
-  pub only_text : (answer : Answer) → ((spans : List ZSpan) → AreSpans spans d → ReadsOnly answer spans) → (spans : List ZSpan) → AreSpansText spans bytes → ReadsOnly answer spans
+  pub only_text : (answer : Answer) → ((spans : List ZSpan) → AreSpans spans d → OnlyReads answer spans) → (spans : List ZSpan) → AreSpansText spans bytes → OnlyReads answer spans
   only_text answer only spans h = only spans (subst (λ (v : Data). AreSpans spans v) (same_value h.value h.is_text) h.are_spans)
 
 -- ---- bytes that are none
 
 module _ (bytes : List ℕ) (never : (d : Data) → ¬ IsValueText d bytes) where
-  pub bad_json : Refuses (text_faults bytes) (record { unit = 0; cause = causes.BadJson })
+  pub bad_json : RefusesInput (text_faults bytes) (record { unit = 0; cause = causes.BadJson })
   bad_json = record {
     path = [];
     is_least = record { offence = inl (record { whole = refl; bad = refl; none = never }); least = least };
@@ -79,9 +80,9 @@ no_value bytes none d h = let a = none h.utf8 in let b = h.reading in cc
 module _ (bytes : List ℕ) (error : Error) (none : ¬ IsMemory error → IsUtf8 bytes → read bytes ≡ None) where
   pub unread_halts : (halt : Halt Refusal) → IsUnread error halt → HaltsInput halt (text_faults bytes)
   unread_halts (halts.Why refusal) h =
-      subst (λ (r : Refusal). Refuses (text_faults bytes) r) (sym h.1) (bad_json bytes (no_value bytes (none h.0)))
+      subst (λ (r : Refusal). RefusesInput (text_faults bytes) r) (sym h.1) (bad_json bytes (no_value bytes (none h.0)))
   unread_halts halts.OutOfMemory h = tt
 
-  pub unread_only : (halt : Halt Refusal) → IsUnread error halt → (spans : List ZSpan) → AreSpansText spans bytes → ReadsOnly {T = List ZSpan} (Err halt) spans
+  pub unread_only : (halt : Halt Refusal) → IsUnread error halt → (spans : List ZSpan) → AreSpansText spans bytes → OnlyReads {T = List ZSpan} {E = Refusal} (Err halt) spans
   unread_only (halts.Why refusal) h spans is = no_spans bytes (no_value bytes (none h.0)) spans is
   unread_only halts.OutOfMemory h spans is = tt

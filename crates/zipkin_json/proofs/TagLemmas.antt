@@ -8,14 +8,14 @@ use Rattle.serde_json.specs.Data.{Data, null, boolean, number, string, array, ob
 use Rattle.serde_json.specs.Find.{as_null, as_str}
 use Rattle.serde_json.specs.View.{view, members_view}
 use Rattle.serde_json.proofs.Views.{Entry}
-use Rattle.span_io.specs.Paths.{each, Clean, Counts}
+use Rattle.span_io.specs.Paths.{each, NothingOffends, Counts}
 use Rattle.span_io.specs.PathLaws.{clean_nothing, counts_only, clean_one_more, least_at}
 use Rattle.zipkin_json.specs.Members.{values}
 use Rattle.zipkin_json.specs.Span.{texts_in, tag_faults, Rise}
 
 -- ---- one tag
 
-pub clean_null : (d : Data) → is_some (as_null d) ≡ true → Clean (tag_faults d)
+pub clean_null : (d : Data) → is_some (as_null d) ≡ true → NothingOffends (tag_faults d)
 clean_null null h = clean_nothing
 clean_null (boolean b) h = cc
 clean_null (number n) h = cc
@@ -23,7 +23,7 @@ clean_null (string s) h = cc
 clean_null (array ds) h = cc
 clean_null (object ms) h = cc
 
-pub clean_text : (d : Data) (text : List ℕ) → Some text ≡ as_str d → Clean (tag_faults d)
+pub clean_text : (d : Data) (text : List ℕ) → Some text ≡ as_str d → NothingOffends (tag_faults d)
 clean_text null text h = cc
 clean_text (boolean b) text h = cc
 clean_text (number n) text h = cc
@@ -45,13 +45,13 @@ values_all : (es : List Entry) (e : Entry) (more : List Entry) → values (membe
 values_all [] e more = refl
 values_all (x ∷ es) e more = ap (λ ds. view x.1 ∷ ds) (values_all es e more)
 
-pub clean_member : (es : List Entry) (e : Entry) → Clean (each tag_faults (values (members_view es))) → Clean (tag_faults (view e.1)) → Clean (each tag_faults (values (members_view (es ++ e ∷ []))))
-clean_member es e all last = subst (λ ds. Clean (each tag_faults ds)) (sym (values_all es e [])) (clean_one_more tag_faults _ (view e.1) all last)
+pub clean_member : (es : List Entry) (e : Entry) → NothingOffends (each tag_faults (values (members_view es))) → NothingOffends (tag_faults (view e.1)) → NothingOffends (each tag_faults (values (members_view (es ++ e ∷ []))))
+clean_member es e all last = subst (λ ds. NothingOffends (each tag_faults ds)) (sym (values_all es e [])) (clean_one_more tag_faults _ (view e.1) all last)
 
-counts_at : (ds : List Data) (d : Data) (more : List Data) (cause : ℕ) → Clean (each tag_faults ds) → Counts (tag_faults d) cause → Counts (each tag_faults (ds ++ d ∷ more)) cause
+counts_at : (ds : List Data) (d : Data) (more : List Data) (cause : ℕ) → NothingOffends (each tag_faults ds) → Counts (tag_faults d) cause → Counts (each tag_faults (ds ++ d ∷ more)) cause
 counts_at ds d more cause all h = record { path = _; is_least = least_at tag_faults ds d more all h.path cause h.is_least }
 
-pub counts_member : (entries es : List Entry) (e : Entry) (more : List Entry) (cause : ℕ) → entries ≡ es ++ e ∷ more → Clean (each tag_faults (values (members_view es)))
+pub counts_member : (entries es : List Entry) (e : Entry) (more : List Entry) (cause : ℕ) → entries ≡ es ++ e ∷ more → NothingOffends (each tag_faults (values (members_view es)))
     → Counts (tag_faults (view e.1)) cause → Counts (each tag_faults (values (members_view entries))) cause
 counts_member entries es e more cause all clean h =
     subst (λ ds. Counts (each tag_faults ds) cause) (sym (ap (λ l. values (members_view l)) all ∙ values_all es e more)) (counts_at _ (view e.1) _ cause clean h)

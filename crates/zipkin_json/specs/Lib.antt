@@ -3,3 +3,5 @@ pub mod Members
 pub mod Span
 pub mod Laws
 pub mod Texts
+pub mod Canonical
+pub mod Writing

@@ -9,9 +9,11 @@ mod members;
 mod reading;
 mod span;
 mod tags;
+mod writing;
 
 pub use reading::{read_spans, read_text};
 pub use span::{Endpoint, ZKind, ZSpan};
+pub use writing::write_span;
 
 #[cfg(test)]
 mod tests;

@@ -28,15 +28,6 @@ pub fn member_of<'v>(v: &'v Value, name: &str) -> Option<&'v Value>
     Some(found)
 }
 
-// A text of its own.
-pub fn copy_of(alloc: Global, given: &str) -> Result<Text, OutOfMemory>
-    ensures { IfOk result (λ text. text ≡ given.now) }
-{
-    let mut text = Text::new(alloc);
-    text.append(given)?;
-    Ok(text)
-}
-
 fn text_of(alloc: Global, v: &Value) -> Result<Text, Halt<Cause>>
     ensures value { IfOk result (λ text. IsText text (view v.now)) }
     ensures judged { JudgesValue result (text_faults (view v.now)) }
@@ -44,7 +35,7 @@ fn text_of(alloc: Global, v: &Value) -> Result<Text, Halt<Cause>>
     let Some(given) = v.as_str() else {
         return Err(Halt::Why(Cause::BadShape));
     };
-    Ok(copy_of(alloc, given)?)
+    Ok(Text::of(alloc, given)?)
 }
 
 // A text that may be absent, which is empty then.

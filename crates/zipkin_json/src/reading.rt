@@ -1,7 +1,8 @@
 //! Reading spans.
 ghost use Rattle.std.specs.Prelude.{◌≡◌, ◌+◌, ◌*◌, ◌≤◌, List, All, map, IfOk, codes};
 ghost use Rattle.serde_json.specs.View.{view};
-ghost use Rattle.span_io.specs.Paths.{each, optional, JudgesValue, JudgesInput, ReadsOnly, Given};
+ghost use Rattle.span_io.specs.Paths.{each, optional, JudgesValue, JudgesInput, Given};
+ghost use Rattle.span_io.specs.Offences.{OnlyReads};
 ghost use Rattle.std.specs.List.{AllZip};
 ghost use Rattle.span_ids.specs.Times.{last_micros};
 ghost use Rattle.zipkin_json.specs.Members.{member, IsCount, count_in, count_faults};
@@ -112,7 +113,7 @@ pub fn read_spans(alloc: Global, v: &Value) -> Result<Items<ZSpan>, Halt<Refusal
     ensures rising { IfOk result (All HasRisingTags) }
     ensures judged { JudgesInput result (spans_faults (view v.now)) }
     // Whatever spans the value stands for are the answer.
-    ensures only { (spans : List ZSpan) → AreSpans spans (view v.now) → ReadsOnly result spans }
+    ensures only { (spans : List ZSpan) → AreSpans spans (view v.now) → OnlyReads result spans }
 {
     one_list();
     read_root(alloc, v)
@@ -124,7 +125,7 @@ pub fn read_text(alloc: Global, bytes: &[u8]) -> Result<Items<ZSpan>, Halt<Refus
     ensures rising { IfOk result (All HasRisingTags) }
     ensures judged { JudgesInput result (text_faults bytes.now) }
     // Whatever spans the bytes are a text of are the answer.
-    ensures only { (spans : List ZSpan) → AreSpansText spans bytes.now → ReadsOnly result spans }
+    ensures only { (spans : List ZSpan) → AreSpansText spans bytes.now → OnlyReads result spans }
 {
     match Value::from_slice(alloc, bytes) {
         Ok(v) => read_spans(alloc, &v),

@@ -5,7 +5,7 @@ ghost use Rattle.span_io.specs.Paths.{optional, each, JudgesValue, Given};
 ghost use Rattle.zipkin_json.specs.Members.{member, values};
 ghost use Rattle.zipkin_json.specs.Span.{texts_in, AreTags, Rise, tag_faults, tags_faults};
 
-use crate::members::{copy_of, member_of};
+use crate::members::member_of;
 use serde_json::{Map, Value};
 use span_io::{Cause, Halt, Items, Text};
 use std::alloc::Global;
@@ -27,8 +27,8 @@ fn read_tags(
         let Some(text) = value.as_str() else {
             return Err(Halt::Why(Cause::BadShape));
         };
-        let key = copy_of(alloc, key.as_str())?;
-        let text = copy_of(alloc, text)?;
+        let key = Text::of(alloc, key.as_str())?;
+        let text = Text::of(alloc, text)?;
         tags.push((key, text))?;
     }
     Ok(tags)

@@ -1,7 +1,7 @@
-use crate::{ZKind, read_spans, read_text};
+use crate::{ZKind, read_spans, read_text, write_span};
 use serde_json::Value;
 use span_ids::Nanos;
-use span_io::{Cause, Halt};
+use span_io::{Blob, Cause, Halt};
 
 #[test]
 fn refuses_by_the_least_offence(rt: HostRuntime) {
@@ -174,4 +174,30 @@ fn reads_what_a_library_wrote(rt: HostRuntime) {
     assert_eq!(rt; tab.as_str(), "tab\t");
     assert_eq!(rt; peer.as_str(), "peer.service");
     assert_eq!(rt; redis.as_str(), "redis");
+}
+
+// Two spans that share an identifier, and one with every member, as a text of spans.
+#[test]
+fn writes_canonical_texts(rt: HostRuntime) {
+    // each text, and what is written of its spans, without what stands between them
+    let cases = [
+        (
+            r#"[{"traceId":"463ac35c9f6413ad","id":"a2fb4a1d1a96d312","kind":"CLIENT"},{"traceId":"463ac35c9f6413ad","id":"A2FB4A1D1A96D312","kind":"SERVER","shared":true,"debug":false}]"#,
+            r#"{"id":"a2fb4a1d1a96d312","kind":"CLIENT","traceId":"0000000000000000463ac35c9f6413ad"}{"id":"a2fb4a1d1a96d312","kind":"SERVER","shared":true,"traceId":"0000000000000000463ac35c9f6413ad"}"#,
+        ),
+        (
+            r#"[{"traceId":"1","id":"1","parentId":"2","name":"a \"b\"","kind":"PRODUCER","timestamp":5,"duration":7,"debug":true,"localEndpoint":{"serviceName":"s","ipv4":"10.0.0.7","ipv6":"::1","port":80},"remoteEndpoint":{"port":0,"serviceName":""},"annotations":[{"value":"","timestamp":0}],"tags":{"b":"","a":"1"}}]"#,
+            r#"{"annotations":[{"timestamp":0,"value":""}],"debug":true,"duration":7,"id":"0000000000000001","kind":"PRODUCER","localEndpoint":{"ipv4":"10.0.0.7","ipv6":"::1","port":80,"serviceName":"s"},"name":"a \"b\"","parentId":"0000000000000002","tags":{"a":"1","b":""},"timestamp":5,"traceId":"00000000000000000000000000000001"}"#,
+        ),
+    ];
+    for (text, written) in cases {
+        let Ok(spans) = read_text(rt.alloc(), text.as_bytes()) else {
+            panic!(rt; "refused: {text}");
+        };
+        let mut out = Blob::new(rt.alloc());
+        for span in spans.as_slice() {
+            assert!(rt; write_span(&mut out, span).is_ok());
+        }
+        assert!(rt; out.as_slice() == written.as_bytes(), "{text}");
+    }
 }

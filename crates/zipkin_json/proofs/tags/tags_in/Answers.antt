@@ -1,6 +1,6 @@
 use Rattle.std.proofs.Common.{sym, Option, subst, rules}
 use Rattle.serde_json.specs.Data.{Members}
-use Rattle.span_io.specs.Paths.{each, valued, Clean, Halts}
+use Rattle.span_io.specs.Paths.{each, valued, NothingOffends, Halts}
 use Rattle.span_io.specs.PathLaws.{exits}
 use Rattle.serde_json.specs.View.{members_view}
 use Rattle.zipkin_json.specs.Members.{values}
@@ -17,4 +17,4 @@ returns-clause-value c = record { held = members_view c.in-Some.members.now.entr
 
 pub returns-clause-judged : goal.returns-clause-judged
 returns-clause-judged c =
-    subst (λ (o : Option Members). Clean (valued (λ members. each tag_faults (values members)) o)) c.in-Some.ensures c.in_ok-tags.ensures.judged
+    subst (λ (o : Option Members). NothingOffends (valued (λ members. each tag_faults (values members)) o)) c.in-Some.ensures c.in_ok-tags.ensures.judged

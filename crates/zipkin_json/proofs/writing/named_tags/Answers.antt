@@ -1,0 +1,15 @@
+use Rattle.std.proofs.Common.{rules}
+use Rattle.zipkin_json.proofs.WritingLemmas.{seq, stop, exits_written}
+use Rattle.zipkin_json.proofs.writing.named_tags.Goals as goal
+
+pub returns-in_err-name_of : goal.returns-in_err-name_of
+returns-in_err-name_of c = exits_written _ c.in_err-name_of.field-0.0 _ _ _ _ (search rules) (stop _ _ _ _ _ c.in_err-name_of.ensures)
+
+pub returns-in_err-open_object : goal.returns-in_err-open_object
+returns-in_err-open_object c = exits_written _ c.in_err-open_object.field-0.0 _ _ _ _ (search rules) (seq _ _ _ _ _ _ c.in_ok-name_of.ensures (stop _ _ _ _ _ c.in_err-open_object.ensures))
+
+pub returns-in_err-write_tags : goal.returns-in_err-write_tags
+returns-in_err-write_tags c = exits_written _ c.in_err-write_tags.field-0.0 _ _ _ _ (search rules) (seq _ _ _ _ _ _ c.in_ok-name_of.ensures (seq _ _ _ _ _ _ c.in_ok-open_object.ensures (stop _ _ _ _ _ c.in_err-write_tags.ensures)))
+
+pub returns-in_err-close_object : goal.returns-in_err-close_object
+returns-in_err-close_object c = exits_written _ c.in_err-close_object.field-0.0 _ _ _ _ (search rules) (seq _ _ _ _ _ _ c.in_ok-name_of.ensures (seq _ _ _ _ _ _ c.in_ok-open_object.ensures (seq _ _ _ _ _ _ c.in_ok-write_tags.ensures c.in_err-close_object.ensures)))

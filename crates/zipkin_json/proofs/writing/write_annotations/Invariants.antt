@@ -1,0 +1,7 @@
+use Rattle.std.proofs.Common.{take, Ok}
+use Rattle.span_io.specs.declared.halt.OutOfMemory.{OutOfMemory}
+use Rattle.zipkin_json.specs.Writing.{Appends, pieces, annotation_piece}
+use Rattle.zipkin_json.proofs.writing.write_annotations.Given as goal
+
+abbrev pub invariant-annotations : goal.invariant-annotations
+invariant-annotations l = record { written : Appends {E = OutOfMemory} (Ok tt) l.initial.out l.out (pieces annotation_piece (take l.annotation-index l.list)) }

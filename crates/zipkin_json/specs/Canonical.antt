@@ -1,0 +1,94 @@
+-- The one canonical text of a span of Zipkin v2: compact JSON (RFC 8259), the members of each object in the order of their names' bytes. A
+-- member that holds its default is left out, and so is an object of which all is default; `traceId`, `id`, both members of an annotation
+-- and every tag are always written. Identifiers have all their digits, in lower case.
+use Rattle.std.specs.Prelude.{ℕ, zero, suc, ◌-◌, List, [], ◌∷◌, map, Bool, true, false, Option, Some, None, option_map, codes}
+use Rattle.std.specs.Int.{w64, w128, to_be_bytes}
+use Rattle.hex.specs.Hex.{encode_lower}
+use Rattle.serde_json.specs.Data.{Data, boolean, number, string, array, object, unsigned, Members, no_members, member}
+use Rattle.serde_json.specs.View.{items_of}
+use Rattle.serde_json.specs.Written.{compact_text}
+use Rattle.span_ids.specs.Times.{micros}
+use Rattle.zipkin_json.specs.declared.span.Endpoint.{Endpoint}
+use Rattle.zipkin_json.specs.declared.span.ZKind.{ZKind}
+use Rattle.zipkin_json.specs.declared.span.ZKind.TheVariants as kinds
+use Rattle.zipkin_json.specs.declared.span.ZSpan.{ZSpan}
+
+-- ---- members that are left out where they hold their default
+
+abbrev pub text_given : List ℕ → Option Data
+text_given [] = None
+text_given (x ∷ more) = Some (string (x ∷ more))
+
+abbrev pub count_given : ℕ → Option Data
+count_given zero = None
+count_given (suc n) = Some (number (unsigned (suc n)))
+
+abbrev pub truth_given : Bool → Option Data
+truth_given false = None
+truth_given true = Some (boolean true)
+
+abbrev pub MemberRow : Type 0
+MemberRow = List ℕ × Option Data
+
+-- the members of these names that aren't left out
+abbrev pub members_given : List MemberRow → Members
+members_given [] = no_members
+members_given ((name, None) ∷ rows) = members_given rows
+members_given ((name, Some d) ∷ rows) = member name d (members_given rows)
+
+-- an object, unless all of it is left out
+abbrev pub unless_empty : Members → Option Data
+unless_empty no_members = None
+unless_empty (member name d more) = Some (object (member name d more))
+
+-- ---- `Endpoint`, `Annotation` and `tags`
+
+abbrev pub endpoint_rows : Endpoint → List MemberRow
+endpoint_rows e = (codes "ipv4", text_given e.ipv4) ∷ (codes "ipv6", text_given e.ipv6) ∷ (codes "port", count_given e.port)
+    ∷ (codes "serviceName", text_given e.service) ∷ []
+
+abbrev pub endpoint_given : Endpoint → Option Data
+endpoint_given e = unless_empty (members_given (endpoint_rows e))
+
+abbrev pub annotation_json : ℕ × List ℕ → Data
+annotation_json a = object (member (codes "timestamp") (number (unsigned (micros a.0))) (member (codes "value") (string a.1) no_members))
+
+abbrev pub annotations_given : List (ℕ × List ℕ) → Option Data
+annotations_given [] = None
+annotations_given (a ∷ more) = Some (array (items_of (map annotation_json (a ∷ more))))
+
+abbrev pub tag_members : List (List ℕ × List ℕ) → Members
+tag_members [] = no_members
+tag_members (tag ∷ tags) = member tag.0 (string tag.1) (tag_members tags)
+
+abbrev pub tags_given : List (List ℕ × List ℕ) → Option Data
+tags_given tags = unless_empty (tag_members tags)
+
+-- ---- `Span`
+
+abbrev pub kind_given : ZKind → Option Data
+kind_given kinds.Absent = None
+kind_given kinds.Client = Some (string (codes "CLIENT"))
+kind_given kinds.Server = Some (string (codes "SERVER"))
+kind_given kinds.Producer = Some (string (codes "PRODUCER"))
+kind_given kinds.Consumer = Some (string (codes "CONSUMER"))
+
+abbrev pub trace_text : ℕ → List ℕ
+trace_text id = encode_lower (to_be_bytes w128 id)
+
+abbrev pub id_text : ℕ → List ℕ
+id_text id = encode_lower (to_be_bytes w64 id)
+
+abbrev pub span_rows : ZSpan → List MemberRow
+span_rows s = (codes "annotations", annotations_given s.annotations) ∷ (codes "debug", truth_given s.debug)
+    ∷ (codes "duration", count_given (micros s.end - micros s.start)) ∷ (codes "id", Some (string (id_text s.id)))
+    ∷ (codes "kind", kind_given s.kind) ∷ (codes "localEndpoint", endpoint_given s.local) ∷ (codes "name", text_given s.name)
+    ∷ (codes "parentId", option_map (λ id. string (id_text id)) s.parent) ∷ (codes "remoteEndpoint", endpoint_given s.remote)
+    ∷ (codes "shared", truth_given s.shared) ∷ (codes "tags", tags_given s.tags) ∷ (codes "timestamp", count_given (micros s.start))
+    ∷ (codes "traceId", Some (string (trace_text s.trace))) ∷ []
+
+abbrev pub span_json : ZSpan → Data
+span_json s = object (members_given (span_rows s))
+
+unfoldable pub span_text : ZSpan → List ℕ
+span_text s = compact_text (span_json s)
