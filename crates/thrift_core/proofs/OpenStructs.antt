@@ -11,7 +11,7 @@ use Rattle.thrift_core.specs.Reading.{ReadingOf}
 use Rattle.thrift_core.specs.Protocols.{ReadsExactly, PartLaws, WritingOf, WritesShortest}
 use Rattle.thrift_core.specs.Trees.{Fields, StructText, outer_levels}
 use Rattle.thrift_core.specs.Walks.{Open, in_struct, in_value, first_of, opened_by_header, Turn, Turns, Passes, outer_struct}
-use Rattle.thrift_core.specs.Values.{structs, RefusedStruct}
+use Rattle.thrift_core.specs.Values.{struct_frames, RefusedStruct}
 use Rattle.thrift_core.specs.Laws.{OneReading, ReadsBack, OpenFronts}
 use Rattle.thrift_core.proofs.Determined.{front_of, one_turn, one_word, one_end, passes_more, passes_on, ended_there}
 use Rattle.thrift_core.proofs.Completed.{stack_filled, walk_suits}
@@ -69,7 +69,7 @@ module _ (Spells : Spelling) (reads : ReadingOf) (ThenVarint : Part → List ℕ
       no_bytes n (h.0 ++ below) rest (ends_append h.0 below struct) (subst (λ l. Turns Spells n (h.0 ++ below) l [] rest) none h.3)
 
   abbrev F : Framing
-  F = structs Spells ThenVarint
+  F = struct_frames Spells ThenVarint
 
   -- behind parts, in front of what is open
   between_proper : (text : List ℕ) (top : Open) (below : List Open) → Passes Spells (outer_struct ∷ []) text (top ∷ below) [] → IsProperFront F text

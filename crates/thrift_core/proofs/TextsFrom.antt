@@ -11,7 +11,7 @@ use Rattle.thrift_core.specs.Reading.{ReadingOf}
 use Rattle.thrift_core.specs.Protocols.{ReadsExactly, PartLaws}
 use Rattle.thrift_core.specs.Walks.{Open, in_struct, in_bytes, First, a_part, no_level, first_of, Turn, Turns, Passes, EndsInPart, EndsAtNoLevel, texts_from, RefusedFrom}
 use Rattle.thrift_core.specs.Trees.{outer_levels}
-use Rattle.thrift_core.specs.Values.{structs, RefusedStruct}
+use Rattle.thrift_core.specs.Values.{struct_frames, RefusedStruct}
 use Rattle.thrift_core.specs.Stops.{StopsBy, StopsFor, Lacks}
 use Rattle.thrift_core.proofs.Determined.{Stuck, passes_more, one_place, one_end}
 use Rattle.thrift_core.proofs.Completed.{Suits, filled}
@@ -210,5 +210,5 @@ module _ (Spells : Spelling) (reads : ReadingOf) (ThenVarint : Part → List ℕ
 
 module _ (Spells : Spelling) (reads : ReadingOf) (ThenVarint : Part → List ℕ → Type 0) (Refuses : Part → Cause → List ℕ → Type 0) (R : ReadsExactly Spells reads ThenVarint Refuses) (L : PartLaws Spells ThenVarint Refuses) where
   -- the same of a struct that no other container holds
-  pub outer_laws : FramingLaws (structs Spells ThenVarint) (RefusedStruct Spells Refuses)
+  pub outer_laws : FramingLaws (struct_frames Spells ThenVarint) (RefusedStruct Spells Refuses)
   outer_laws = struct_laws Spells reads ThenVarint Refuses R L outer_levels (pos 0)

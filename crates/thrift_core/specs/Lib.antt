@@ -7,3 +7,8 @@ pub mod Protocols
 pub mod Stops
 pub mod Values
 pub mod Laws
+pub mod FieldValues
+pub mod Messages
+pub mod StructLaws
+pub mod Written
+pub mod WrittenLaws

@@ -33,8 +33,8 @@ RefusesValue Spells ThenVarint Refuses left kind held result bytes =
 -- ---- structs
 
 -- the texts of a struct that no other container holds
-abbrev pub structs : Spelling → (Part → List ℕ → Type 0) → Framing
-structs Spells ThenVarint = texts_from Spells ThenVarint outer_struct
+abbrev pub struct_frames : Spelling → (Part → List ℕ → Type 0) → Framing
+struct_frames Spells ThenVarint = texts_from Spells ThenVarint outer_struct
 
 -- what refuses such a text, by the cause that this names
 abbrev pub RefusedStruct : Spelling → (Part → Cause → List ℕ → Type 0) → Cause → List ℕ → Type 0
@@ -42,4 +42,4 @@ RefusedStruct Spells Refuses = RefusedFrom Spells Refuses outer_struct
 
 -- what the answer says of the struct at the front of the bytes
 abbrev pub FirstStructIs : Spelling → (Part → List ℕ → Type 0) → (Part → Cause → List ℕ → Type 0) → ℕ → List ℕ → Step → Type 0
-FirstStructIs Spells ThenVarint Refuses limit bytes step = StepIs (structs Spells ThenVarint) (RefusedStruct Spells Refuses) limit bytes step
+FirstStructIs Spells ThenVarint Refuses limit bytes step = StepIs (struct_frames Spells ThenVarint) (RefusedStruct Spells Refuses) limit bytes step

@@ -4,7 +4,7 @@ ghost use Rattle.span_io.specs.Steps.{IfUnit};
 ghost use Rattle.span_io.specs.declared.step.Step.{Step};
 ghost use Rattle.thrift_core.specs.Walks.{outer_struct};
 ghost use Rattle.thrift_core.specs.Stops.{HaltsAs};
-ghost use Rattle.thrift_core.specs.Values.{structs, FirstStructIs};
+ghost use Rattle.thrift_core.specs.Values.{struct_frames, FirstStructIs};
 
 use crate::passing::{Halted, pass_struct};
 use crate::protocol::Protocol;
@@ -56,7 +56,7 @@ fn first<P: Protocol>(bytes: &[u8], limit: usize) -> Step
 pub fn first_frame<P: Protocol>(bytes: &[u8], limit: usize) -> Step
     ensures exact { (step : Step) → (result ≡ step) ↔ FirstStructIs P.spells P.then_varint P.refuses limit bytes.now step }
     // A struct of at most `limit` bytes at the front is found, whatever follows.
-    ensures frame { (n : ℕ) → (result ≡ Step.Unit n) ↔ BeginsFrame (structs P.spells P.then_varint) limit n bytes.now }
+    ensures frame { (n : ℕ) → (result ≡ Step.Unit n) ↔ BeginsFrame (struct_frames P.spells P.then_varint) limit n bytes.now }
     ensures within { IfUnit result (λ n. (1 ≤ n) × (n ≤ limit) × (n ≤ length bytes.now)) }
 {
     first::<P>(&bytes[..bytes.len().min(limit)], limit)

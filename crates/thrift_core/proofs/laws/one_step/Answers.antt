@@ -1,8 +1,8 @@
 use Rattle.span_io.specs.Framings.{step_laws}
-use Rattle.thrift_core.specs.Values.{structs, RefusedStruct}
+use Rattle.thrift_core.specs.Values.{struct_frames, RefusedStruct}
 use Rattle.thrift_core.proofs.TextsFrom.{outer_laws}
 use Rattle.thrift_core.proofs.laws.one_step.Goals as goal
 
 pub returns : goal.returns
-returns g c = step_laws (structs g.P.Protocol.spells g.P.Protocol.then_varint) (RefusedStruct g.P.Protocol.spells g.P.Protocol.refuses)
+returns g c = step_laws (struct_frames g.P.Protocol.spells g.P.Protocol.then_varint) (RefusedStruct g.P.Protocol.spells g.P.Protocol.refuses)
     (outer_laws g.P.Protocol.spells g.P.Protocol.reads g.P.Protocol.then_varint g.P.Protocol.refuses g.met.P.Protocol.reads_exactly g.met.P.Protocol.part_laws)
