@@ -1,0 +1,5 @@
+use Rattle.jaeger_model.proofs.BatchProofs.{some_batch}
+use Rattle.jaeger_model.proofs.laws.some_batch.Goals as goal
+
+pub returns : goal.returns
+returns g c = some_batch g.P.Protocol.spells _ _ _ g.met.P.Protocol.reads_exactly g.met.P.Protocol.part_laws

@@ -1,0 +1,11 @@
+use crate::span::JSpan;
+use crate::tag::Tag;
+use span_io::{Items, Text};
+
+/// A process and its spans (jaeger.thrift `Batch`).
+#[derive(Debug, Drop)]
+pub struct Batch {
+    pub service: Text,
+    pub tags: Items<Tag>,
+    pub spans: Items<JSpan>,
+}

@@ -1,0 +1,40 @@
+//! Laws of what structs mean, as contracts of functions that do nothing.
+ghost use Rattle.jaeger_model.specs.Laws.{OneBatch, SomeBatch, FreeFields, ReadsTimes, ReadsProper};
+
+use thrift_core::Protocol;
+
+/// A text is that of one batch at most, and nothing offends in one.
+pub fn one_batch<P: Protocol>()
+    ensures { OneBatch P.spells }
+{
+    // The clause is the law.
+}
+
+/// The text of any struct is that of a batch, or an offence in it counts, and it has a cause.
+pub fn some_batch<P: Protocol>()
+    ensures { SomeBatch P.spells }
+{
+    // The clause is the law.
+}
+
+/// Fields whose id and type are of no row of their struct's table change nothing that it means.
+pub fn free_fields<P: Protocol>()
+    ensures { FreeFields P.spells }
+{
+    // The clause is the law.
+}
+
+/// What is read of a text has times of whole microseconds, and no span in it ends before its start.
+pub fn reads_times<P: Protocol>()
+    ensures { ReadsTimes P.spells }
+{
+    // The clause is the law.
+}
+
+/// What is read of bytes is proper, but for the count of references to no span, where the protocol
+/// spells numbers of the bits of their types.
+pub fn reads_proper<P: Protocol>()
+    ensures { ReadsProper P.spells }
+{
+    // The clause is the law.
+}

@@ -1,0 +1,19 @@
+use span_io::{Blob, Text};
+
+/// What a tag holds, by its `vType` (jaeger.thrift `TagType`). A double is kept as its eight bytes, the most significant
+/// first.
+#[derive(Debug, Drop)]
+pub enum TagValue {
+    Text(Text),
+    Eight([u8; 8]),
+    Truth(bool),
+    Number(i64),
+    Bytes(Blob),
+}
+
+/// A key and its value (jaeger.thrift `Tag`).
+#[derive(Debug, Drop)]
+pub struct Tag {
+    pub key: Text,
+    pub value: TagValue,
+}

@@ -1,0 +1,10 @@
+//! Writing batches of Jaeger as Thrift: one canonical text for each.
+mod batches;
+mod fields;
+mod sizes;
+mod spans;
+mod structures;
+mod tags;
+
+pub use batches::write_batch;
+pub use sizes::has_sizes;
