@@ -1,0 +1,181 @@
+-- The spans of a group that Jaeger can hold, each by itself; and such a group, by its resource and spans.
+use Rattle.std.proofs.Common.{ℕ, zero, suc, ◌+◌, List, [], ◌∷◌, map, get_or, All, None, refl, sym, subst, ⊎_elim, arith}
+use Rattle.std.specs.Prelude.{◌≢◌, IsUtf8}
+use Rattle.std.proofs.lemmas.List.{get_or_default}
+use Rattle.std.proofs.lemmas.List.Elements.{All-nil, All-cons, All-head, All-tail, All-map, All-weaker, at_read}
+use Rattle.std.proofs.lemmas.Str.{IsUtf8-nil}
+use Rattle.trace_model.specs.Proper.{IsProperPair, AreProper, IsProperSpan, IsProperScope}
+use Rattle.trace_model.specs.Soundness.{IsSoundSpan, IsSoundScope}
+use Rattle.trace_model.specs.Values.{IsSound, AreSound}
+use Rattle.trace_model.specs.declared.fault.Fault.{Fault}
+use Rattle.trace_model.specs.declared.fault.Fault.TheVariants.{EndBeforeStart, Reserved, OwnKey, EventText, ChildOfLink, DoubleInText}
+use Rattle.trace_model.specs.declared.span.Code.TheVariants as statuses
+use Rattle.trace_model.specs.declared.span.Kind.TheVariants as kinds
+use Rattle.trace_model.specs.declared.span.Span.{Span}
+use Rattle.trace_model.specs.declared.trace.Group.{Group}
+use Rattle.trace_model.specs.declared.trace.Scope.{Scope}
+use Rattle.trace_model.specs.declared.value.Value.{Value}
+use Rattle.map_jaeger.specs.AttributeLaws.{attrs_rise}
+use Rattle.map_jaeger.specs.Faults.{in_span, in_event, in_resource, HasReserved, IsSpanFault, HasDouble, IsResourceFault, HasNoFault}
+use Rattle.map_jaeger.specs.Laws.{IsHeld}
+use Rattle.map_jaeger.specs.RunLaws.{IsPlain, scoped_all, scoped_runs, runs_each}
+use Rattle.map_jaeger.specs.Runs.{Scoped, spans_of, scoped, runs}
+
+abbrev pub NoSpanFault : Span → Type 0
+NoSpanFault span = (fault : Fault) → IsSpanFault span fault → ⊥
+
+abbrev pub NoResourceFault : List (List ℕ × Value) → Type 0
+NoResourceFault resource = (fault : Fault) → IsResourceFault resource fault → ⊥
+
+-- a span that Jaeger can hold, under the name and version of its scope
+pub record IsHeldSpan (one : Scoped Span) : Type 0 where
+  pub name : IsUtf8 one.name
+  pub version : IsUtf8 one.version
+  pub sound : IsSoundSpan one.span
+  pub proper : IsProperSpan one.span
+  pub no_fault : NoSpanFault one.span
+
+-- ---- what a group is, by its spans
+
+-- a group of a resource and runs of spans
+abbrev pub group_by : List (List ℕ × Value) → List (Scoped Span) → Group
+group_by resource spans = record { resource = resource; dropped = 0; schema_url = []; scopes = runs spans }
+
+all_mapped : {X Y : Type 0} (P : Y → Type 0) (f : X → Y) (xs : List X) → All P (map f xs) → All (λ x. P (f x)) xs
+all_mapped P f [] all = All-nil (λ x. P (f x))
+all_mapped P f (x ∷ xs) all = All-cons (λ x. P (f x)) x xs (All-head P (f x) (map f xs) all) (all_mapped P f xs (All-tail P (f x) (map f xs) all))
+
+all_or : {X : Type 0} (P : X → Type 0) (xs : List X) (n : ℕ) (d : X) → All P xs → P d → P (get_or xs n d)
+all_or P [] n d all here = here
+all_or P (x ∷ xs) zero d all here = All-head P x xs all
+all_or P (x ∷ xs) (suc n) d all here = all_or P xs n d (All-tail P x xs all) here
+
+-- ---- faults
+
+blank : Scoped Span
+blank = record {
+  name = [];
+  version = [];
+  span = record {
+    trace = 0;
+    id = 0;
+    state = [];
+    parent = None;
+    name = [];
+    kind = kinds.Internal;
+    start = 0;
+    end = 0;
+    attributes = [];
+    dropped_attributes = 0;
+    events = [];
+    dropped_events = 0;
+    links = [];
+    dropped_links = 0;
+    status = record { code = statuses.Unset; message = [] };
+    flags = 0;
+  };
+}
+
+blank_reserved : (key : List ℕ) → HasReserved blank.span key → ⊥
+unfolding blank
+blank_reserved key (in_span reserved there) = omega (arith, there.1)
+blank_reserved key (in_event event there) = omega (arith, there.2)
+
+none_double : HasDouble [] → ⊥
+none_double double = omega (arith, double.2)
+
+blank_plain : NoSpanFault blank.span
+unfolding blank
+blank_plain EndBeforeStart is = omega (arith, is)
+blank_plain (Reserved key) is = blank_reserved key is
+blank_plain (OwnKey key) is = omega (arith, is.1.1)
+blank_plain EventText is = is
+blank_plain ChildOfLink is = omega (arith, is.2)
+blank_plain DoubleInText is = ⊎_elim (λ h. none_double h) (λ h. omega (arith, h.2)) is
+
+-- no span of such a group has a fault
+spans_plain : (group : Group) → HasNoFault group → All (λ one. NoSpanFault one.span) (scoped group.scopes)
+spans_plain group none k d lt fault is = none (record { place = k + 1; fault = fault }) (in_span k refl
+    (at_read (scoped group.scopes) (λ one. IsSpanFault one.span fault) k (get_or (scoped group.scopes) k d) lt
+    (get_or_default (scoped group.scopes) k d (get_or (scoped group.scopes) k d) lt) is))
+
+pub no_fault_by : (group : Group) → NoResourceFault group.resource → All (λ one. NoSpanFault one.span) (scoped group.scopes) → HasNoFault group
+no_fault_by group in_no_resource in_no_span found (in_resource first is) = in_no_resource found.fault is
+no_fault_by group in_no_resource in_no_span found (in_span n place holds) =
+    all_or (λ one. NoSpanFault one.span) (scoped group.scopes) n blank in_no_span blank_plain found.fault (holds blank)
+
+-- ---- there and back
+
+scope_sound : (scope : Scope) → IsSoundScope scope → All (λ one. IsSoundSpan one.span) (spans_of scope)
+scope_sound scope sound = All-map (λ one. IsSoundSpan one.span) (λ span. record { name = scope.name; version = scope.version; span = span }) scope.spans sound.spans
+
+record IsProperScoped (one : Scoped Span) : Type 0 where
+  name : IsUtf8 one.name
+  version : IsUtf8 one.version
+  span : IsProperSpan one.span
+
+scope_proper : (scope : Scope) → IsProperScope scope → All IsProperScoped (spans_of scope)
+scope_proper scope proper = All-map IsProperScoped (λ span. record { name = scope.name; version = scope.version; span = span }) scope.spans
+    (λ k d lt. record { name = proper.name; version = proper.version; span = proper.spans k d lt })
+
+pub held_spans : (group : Group) → IsHeld group → All IsHeldSpan (scoped group.scopes)
+held_spans group held =
+    let sound : All (λ one. IsSoundSpan one.span) (scoped group.scopes) =
+    scoped_all (λ one. IsSoundSpan one.span) group.scopes (All-weaker IsSoundScope (λ scope. All (λ one. IsSoundSpan one.span) (spans_of scope)) scope_sound group.scopes held.sound.scopes) in
+    let proper : All IsProperScoped (scoped group.scopes) =
+    scoped_all IsProperScoped group.scopes (All-weaker IsProperScope (λ scope. All IsProperScoped (spans_of scope)) scope_proper group.scopes held.proper.scopes) in
+    λ k d lt. record {
+      name = (proper k d lt).name;
+      version = (proper k d lt).version;
+      sound = sound k d lt;
+      proper = (proper k d lt).span;
+      no_fault = spans_plain group held.no_fault k d lt;
+    }
+
+none_sound : AreSound []
+none_sound = record { rising = attrs_rise {V = Value} []; values = All-nil (λ pair. IsSound pair.1) }
+
+run_spans : (Q : Scoped Span → Type 0) (scope : Scope) → All Q (spans_of scope) → All (λ span. Q (record { name = scope.name; version = scope.version; span = span })) scope.spans
+run_spans Q scope all = all_mapped Q (λ span. record { name = scope.name; version = scope.version; span = span }) scope.spans all
+
+run_sound : (scope : Scope) → IsPlain scope × All IsHeldSpan (spans_of scope) → IsSoundScope scope
+run_sound scope (plain, held) = record {
+  attributes = subst AreSound (sym plain.attributes) none_sound;
+  spans = λ k d lt. (run_spans IsHeldSpan scope held k d lt).sound;
+}
+
+first_held : (name version : List ℕ) (spans : List Span) → spans ≢ [] → All (λ span. IsHeldSpan (record { name = name; version = version; span = span })) spans → IsUtf8 name × IsUtf8 version
+first_held name version [] some all = absurd (some refl)
+first_held name version (span ∷ spans) some all =
+    let first = All-head (λ span. IsHeldSpan (record { name = name; version = version; span = span })) span spans all in (first.name, first.version)
+
+run_proper : (scope : Scope) → IsPlain scope × All IsHeldSpan (spans_of scope) → IsProperScope scope
+run_proper scope (plain, held) =
+    let each = run_spans IsHeldSpan scope held in
+    let first = first_held scope.name scope.version scope.spans plain.some each in
+    record {
+      name = first.0;
+      version = first.1;
+      attributes = subst AreProper (sym plain.attributes) (All-nil IsProperPair);
+      dropped = omega (arith, plain.dropped);
+      schema_url = subst IsUtf8 (sym plain.schema_url) IsUtf8-nil;
+      spans = λ k d lt. (each k d lt).proper;
+    }
+
+-- the group of a resource and spans that Jaeger can hold is held
+pub held_by : (resource : List (List ℕ × Value)) (spans : List (Scoped Span)) → AreSound resource → AreProper resource → NoResourceFault resource → All IsHeldSpan spans → IsHeld (group_by resource spans)
+held_by resource spans sound proper plain held =
+    let each = runs_each IsHeldSpan spans held in
+    record {
+      sound = record {
+        resource = sound;
+        scopes = All-weaker (λ scope. IsPlain scope × All IsHeldSpan (spans_of scope)) IsSoundScope run_sound (runs spans) each;
+      };
+      proper = record {
+        resource = proper;
+        dropped = omega arith;
+        schema_url = IsUtf8-nil;
+        scopes = All-weaker (λ scope. IsPlain scope × All IsHeldSpan (spans_of scope)) IsProperScope run_proper (runs spans) each;
+      };
+      no_fault = no_fault_by (group_by resource spans) plain (subst (All (λ one. NoSpanFault one.span)) (sym (scoped_runs spans)) (λ k d lt. (held k d lt).no_fault));
+    }

@@ -1,0 +1,279 @@
+-- A span that was written is read as its normal form, without a remark.
+use Rattle.std.proofs.Common.{◌≡◌, ℕ, Bool, true, false, cond, not, ◌||◌, ◌&&◌, ◌==◌, List, [], ◌∷◌, ◌++◌, map, filter, find, get_or, suc, All, Contains, Option, Some, None, is_some, unwrap_or, option_map, refl, sym, ap, ◌∙◌, subst, true≢false, decimal}
+use Rattle.std.specs.List.{AllZip, zip}
+use Rattle.std.specs.Option.{option_or}
+use Rattle.std.specs.Str.{bytes_eq}
+use Rattle.std.proofs.lemmas.List.Elements.{All-head, All-tail, All-map}
+use Rattle.span_ids.specs.Times.{floor}
+use Rattle.trace_model.specs.Attributes.{Rise, keys, attrs, at, AreRepeated}
+use Rattle.trace_model.specs.Proper.{IsProperSpan}
+use Rattle.trace_model.specs.Remarks.{tags_dropped, numbered}
+use Rattle.trace_model.specs.Soundness.{IsSoundSpan}
+use Rattle.trace_model.specs.declared.fault.Fault.{Fault}
+use Rattle.trace_model.specs.declared.fault.Fault.TheVariants.{Reserved, OwnKey, ChildOfLink}
+use Rattle.trace_model.specs.declared.place.Place.TheVariants as places
+use Rattle.trace_model.specs.declared.span.Event.{Event}
+use Rattle.trace_model.specs.declared.span.Span.{Span}
+use Rattle.trace_model.specs.declared.value.Value.{Value, Text}
+use Rattle.map_jaeger.specs.AttributeLaws.{same_key, key_itself, other_way, option_or-none, last_at, key_of_some, at_absent, attrs_rise, at_attrs-append, same_pairs, at_filter, filter_rise, at_map, map_rise}
+use Rattle.map_jaeger.specs.Columns.{row, rows, looked, flags_in, text_in}
+use Rattle.map_jaeger.specs.Faults.{in_span, in_event, IsSpanFault, IsOwnParent}
+use Rattle.map_jaeger.specs.Keys.{is_reserved, flags_key, event_key, error_key, dropped_attributes_key, dropped_events_key, dropped_links_key, library_name_key, library_version_key, scope_name_key, scope_version_key, code_key, description_key, kind_key, state_key}
+use Rattle.map_jaeger.specs.Normal.{normal_scoped, normal_event, normal_link, normal_attributes}
+use Rattle.map_jaeger.specs.Reading.{attributes_of, without, high_flags, high_flags_of, is_free, span_attributes, is_own_parent, parent_of, names, event_of, link_of, links_of, scoped_by, scoped_of}
+use Rattle.map_jaeger.specs.Remarks.{is_idle, left_out, if_left, log_remarks, span_remarks, SpanKeys, RepeatsOf, RepeatsOfSpan}
+use Rattle.map_jaeger.specs.Runs.{Scoped}
+use Rattle.map_jaeger.specs.TagValues.{attribute_of, normal_value}
+use Rattle.map_jaeger.specs.Writing.{columns_of, flags_of, log_of, reference_of, jaeger_span}
+use Rattle.map_jaeger.proofs.ColumnLemmas.{last_at-row, none_in_rows, AreFree, normal_column, looked_back_leaves}
+use Rattle.map_jaeger.proofs.FlagLemmas.{count_back, count_told, own_back, low_back, high_flags_back}
+use Rattle.map_jaeger.proofs.GroupLeaves.{map_back, attributes_back}
+use Rattle.map_jaeger.proofs.SpanParts.{back_each, find_none, filter_each, none_of, kind_back, code_back, message_back, text_back, name_back, columns_leaves, text_told, error_told, code_told, description_told, kind_told, named, told_fields, event_back, event_told, root_link, kept_link, link_back}
+
+none_either : (b : Bool) (o : Option Value) → o ≡ None → cond b o None ≡ None
+none_either true o e = e
+none_either false o e = refl
+
+high_leaf : (n : ℕ) → normal_column (high_flags n) ≡ high_flags n
+high_leaf n = by (n == 0)
+  where
+    by : (b : Bool) → normal_column (cond b None (Some (Text (decimal n)))) ≡ cond b None (Some (Text (decimal n)))
+    by true = refl
+    by false = refl
+
+-- ---- logs
+
+-- a log in which no tag is left out
+abbrev IsQuiet : Event → Type 0
+IsQuiet event = if_left event_key (is_idle (at event_key (attributes_of (log_of event).fields)) (text_in (at event_key (attributes_of (log_of event).fields)))) ≡ []
+
+log_quiet : (n m : ℕ) (events : List Event) → All IsQuiet events → numbered (log_remarks n) m (zip (map log_of events) (map (λ event. []) events)) ≡ []
+unfolding numbered
+log_quiet n m [] all = refl
+log_quiet n m (event ∷ events) all =
+    let here : IsQuiet event = All-head IsQuiet event events all in
+    let rest : numbered (log_remarks n) (suc m) (zip (map log_of events) (map (λ event. []) events)) ≡ [] = log_quiet n (suc m) events (All-tail IsQuiet event events all) in
+    λ i. tags_dropped (places.Event n m) (here i) ++ rest i
+
+-- by a law of the model: no key is repeated where the keys rise
+abbrev pub NoneRepeated : Type 0
+NoneRepeated = (pairs : List (List ℕ × Value)) → Rise (keys pairs) → AreRepeated [] pairs
+
+-- no key of a span that was written is repeated
+abbrev pub no_repeats : Scoped Span → SpanKeys
+no_repeats one = record { span = []; logs = map (λ event. []) one.span.events }
+
+module _ (unrepeated : NoneRepeated) where
+  log_once : (event : Event) → RepeatsOf (log_of event) []
+  log_once event = subst (AreRepeated []) (sym (map_back (attrs (named event))))
+      (unrepeated (told_fields event) (map_rise normal_value (attrs (named event)) (attrs_rise (named event))))
+
+  logs_once : (events : List Event) → AllZip RepeatsOf (map log_of events) (map (λ event. []) events)
+  logs_once [] = tt
+  logs_once (event ∷ events) = (log_once event, logs_once events)
+
+module _ (one : Scoped Span) (sound : IsSoundSpan one.span) (proper : IsProperSpan one.span) (faultless : (fault : Fault) → IsSpanFault one.span fault → ⊥) where
+  up : Rise (keys one.span.attributes)
+  up = sound.attributes.rising
+
+  free : AreFree one.span.attributes
+  free k is = at_absent k one.span.attributes (λ there. faultless (Reserved k) (in_span is there))
+
+  formed : is_some (at flags_key one.span.attributes) ≡ true → flags_in (at flags_key one.span.attributes) ≡ None → ⊥
+  formed there none = faultless (OwnKey flags_key) (refl, key_of_some flags_key one.span.attributes there, none)
+
+  events_free : All (λ event. Contains (keys event.attributes) event_key → ⊥) one.span.events
+  events_free = none_of (λ event. Contains (keys event.attributes) event_key) one.span.events (λ any. faultless (Reserved event_key) (in_event refl any))
+
+  links_free : All (λ link. IsOwnParent one.span link → ⊥) one.span.links
+  links_free = none_of (IsOwnParent one.span) one.span.links (λ any. faultless ChildOfLink any)
+
+  -- ---- tags
+
+  abbrev others : List (List ℕ × Value)
+  others = without flags_key one.span.attributes
+
+  others_rise : Rise (keys others)
+  others_rise = filter_rise (λ k. not (bytes_eq flags_key k)) one.span.attributes up
+
+  at_others : (k : List ℕ) → at k others ≡ cond (not (bytes_eq flags_key k)) (at k one.span.attributes) None
+  at_others k = at_filter k (λ q. not (bytes_eq flags_key q)) one.span.attributes
+
+  others_free : AreFree others
+  others_free k is = at_others k ∙ none_either (not (bytes_eq flags_key k)) (at k one.span.attributes) (free k is)
+
+  abbrev told : List (List ℕ × Value)
+  told = rows (columns_of one) ++ others
+
+  -- what its tags hold
+  abbrev held : List (List ℕ × Value)
+  held = normal_attributes (attrs told)
+
+  tags_back : attributes_of (jaeger_span one).tags ≡ held
+  tags_back = attributes_back (attrs told) (attrs_rise told)
+
+  held_rise : Rise (keys held)
+  held_rise = map_rise normal_value (attrs told) (attrs_rise told)
+
+  columns_back : looked held ≡ columns_of one
+  columns_back = looked_back_leaves (columns_of one) others others_rise others_free (columns_leaves one)
+
+  at_held : (k : List ℕ) → is_reserved k ≡ false → at k held ≡ normal_column (at k others)
+  at_held k e =
+      at_map normal_value k (attrs told)
+      ∙ ap normal_column (at_attrs-append k (rows (columns_of one)) others others_rise
+      ∙ ap (option_or (at k others)) (none_in_rows k (columns_of one) e)
+      ∙ option_or-none (at k others))
+
+  own_held : at flags_key held ≡ None
+  own_held = at_held flags_key refl ∙ ap normal_column (at_others flags_key)
+
+  -- ---- attributes
+
+  abbrev high : Option Value
+  high = high_flags_of (flags_of one.span)
+
+  abbrev own : Option Value
+  own = at flags_key one.span.attributes
+
+  high_back : high ≡ own
+  high_back = high_flags_back one.span.flags own ∙ own_back own formed
+
+  pub own_leaf : normal_column own ≡ own
+  own_leaf = subst (λ o. normal_column o ≡ o) (own_back own formed) (high_leaf (unwrap_or (flags_in own) 0))
+
+  abbrev read : List ℕ → Option Value
+  read k = option_or (at k (filter (λ attribute. is_free attribute.0) held)) (last_at k (row flags_key high))
+
+  abbrev normal : List (List ℕ × Value)
+  normal = normal_attributes one.span.attributes
+
+  normal_at : (k : List ℕ) → at k normal ≡ normal_column (at k one.span.attributes)
+  normal_at k = at_map normal_value k one.span.attributes
+
+  own_at : (k : List ℕ) → flags_key ≡ k → high ≡ at k normal
+  own_at k e = high_back ∙ sym own_leaf ∙ sym (normal_at flags_key) ∙ ap (λ q. at q normal) e
+
+  read_by : (k : List ℕ) (r f : Bool) → is_reserved k ≡ r → bytes_eq flags_key k ≡ f
+      → option_or (cond (not (r || f)) (at k held) None) (cond (bytes_eq k flags_key) high None) ≡ at k normal
+  read_by k true true is own_key = absurd (true≢false (sym is ∙ ap is_reserved (sym (same_key flags_key k own_key))))
+  read_by k true false is apart =
+      ap (λ b. cond b high None) (other_way flags_key k apart) ∙ sym (normal_at k ∙ ap normal_column (free k is))
+  read_by k false true is own_key =
+      ap (λ b. cond b high None) (ap (λ q. bytes_eq q flags_key) (sym (same_key flags_key k own_key)) ∙ key_itself flags_key) ∙ own_at k (same_key flags_key k own_key)
+  read_by k false false is apart =
+      ap (λ b. option_or (at k held) (cond b high None)) (other_way flags_key k apart)
+      ∙ option_or-none (at k held)
+      ∙ at_held k is
+      ∙ ap normal_column (at_others k ∙ ap (λ b. cond (not b) (at k one.span.attributes) None) apart)
+      ∙ sym (normal_at k)
+
+  read_at : (k : List ℕ) → read k ≡ at k normal
+  read_at k =
+      (λ i. option_or (at_filter k is_free held i) (last_at-row k flags_key high i))
+      ∙ read_by k (is_reserved k) (bytes_eq flags_key k) refl refl
+
+  attributes_same : span_attributes (flags_of one.span) held ≡ normal
+  attributes_same = same_pairs (span_attributes (flags_of one.span) held) normal
+      (attrs_rise (row flags_key high ++ filter (λ attribute. is_free attribute.0) held))
+      (map_rise normal_value one.span.attributes up)
+      (λ k. at_attrs-append k (row flags_key high) (filter (λ attribute. is_free attribute.0) held) (filter_rise is_free held held_rise) ∙ read_at k)
+
+  -- ---- events and links
+
+  event_absent : (event : Event) → (Contains (keys event.attributes) event_key → ⊥) → at event_key event.attributes ≡ None
+  event_absent event absent = at_absent event_key event.attributes absent
+
+  events_back : map event_of (map log_of one.span.events) ≡ map normal_event one.span.events
+  events_back = back_each event_of log_of normal_event one.span.events
+      (λ k d lt. event_back (get_or one.span.events k d) (sound.events k d lt).rising (event_absent (get_or one.span.events k d) (events_free k d lt)))
+
+  parent_by : (parent : Option ℕ) → one.span.parent ≡ parent
+      → option_or parent (option_map (λ reference. reference.span) (find (is_own_parent one.span.trace) (map reference_of one.span.links))) ≡ parent
+  parent_by None e = ap (option_map (λ reference. reference.span)) (find_none (is_own_parent one.span.trace) (map reference_of one.span.links)
+      (All-map (λ reference. is_own_parent one.span.trace reference ≡ false) reference_of one.span.links
+      (λ k d lt. root_link one.span (get_or one.span.links k d) (links_free k d lt) e)))
+  parent_by (Some q) e = refl
+
+  parent_back : parent_of (jaeger_span one) ≡ one.span.parent
+  parent_back = parent_by one.span.parent refl
+
+  links_back : links_of (jaeger_span one) ≡ map normal_link one.span.links
+  links_back =
+      ap (λ parent. map link_of (filter (λ reference. not (is_own_parent one.span.trace reference && names parent reference.span)) (map reference_of one.span.links))) parent_back
+      ∙ ap (map link_of) (filter_each (λ reference. not (is_own_parent one.span.trace reference && names one.span.parent reference.span)) (map reference_of one.span.links)
+      (All-map (λ reference. not (is_own_parent one.span.trace reference && names one.span.parent reference.span) ≡ true) reference_of one.span.links
+      (λ k d lt. kept_link one.span (get_or one.span.links k d) (links_free k d lt))))
+      ∙ back_each link_of reference_of normal_link one.span.links (λ k d lt. link_back (get_or one.span.links k d))
+
+  -- ---- the span
+
+  by_columns : scoped_by (jaeger_span one) (columns_of one) held ≡ normal_scoped one
+  by_columns = λ i. record {
+    name = name_back one.name i;
+    version = name_back one.version i;
+    span = record {
+      trace = one.span.trace;
+      id = one.span.id;
+      state = text_back one.span.state i;
+      parent = parent_back i;
+      name = one.span.name;
+      kind = kind_back one.span.kind i;
+      start = floor one.span.start;
+      end = floor one.span.end;
+      attributes = attributes_same i;
+      dropped_attributes = count_back one.span.dropped_attributes proper.dropped_attributes i;
+      events = events_back i;
+      dropped_events = count_back one.span.dropped_events proper.dropped_events i;
+      links = links_back i;
+      dropped_links = count_back one.span.dropped_links proper.dropped_links i;
+      status = record { code = code_back one.span.status.code i; message = message_back one.span.status.code one.span.status.message i };
+      flags = low_back one.span.flags own i;
+    };
+  }
+
+  -- a written span is read as its normal form
+  pub span_back : scoped_of (jaeger_span one) ≡ normal_scoped one
+  span_back =
+      ap (λ l. scoped_by (jaeger_span one) (looked l) l) tags_back
+      ∙ ap (λ c. scoped_by (jaeger_span one) c held) columns_back
+      ∙ by_columns
+
+  -- ---- no tag is left out, and no key repeated
+
+  none_left : left_out (columns_of one) None ≡ []
+  none_left = λ i. if_left error_key (error_told one.span.status.code i)
+      ++ (if_left flags_key false
+      ++ (if_left dropped_attributes_key (count_told one.span.dropped_attributes proper.dropped_attributes i)
+      ++ (if_left dropped_events_key (count_told one.span.dropped_events proper.dropped_events i)
+      ++ (if_left dropped_links_key (count_told one.span.dropped_links proper.dropped_links i)
+      ++ (if_left library_name_key false
+      ++ (if_left library_version_key false
+      ++ (if_left scope_name_key (text_told one.name i)
+      ++ (if_left scope_version_key (text_told one.version i)
+      ++ (if_left code_key (code_told one.span.status.code i)
+      ++ (if_left description_key (description_told one.span.status.code one.span.status.message i)
+      ++ (if_left kind_key (kind_told one.span.kind i)
+      ++ if_left state_key (text_told one.span.state i))))))))))))
+
+  pub none_left_out : left_out (looked (attributes_of (jaeger_span one).tags)) (at flags_key (attributes_of (jaeger_span one).tags)) ≡ []
+  none_left_out =
+      ap (λ l. left_out (looked l) (at flags_key l)) tags_back
+      ∙ (λ i. left_out (columns_back i) (own_held i))
+      ∙ none_left
+
+  module _ (unrepeated : NoneRepeated) where
+    tags_once : AreRepeated [] (map attribute_of (jaeger_span one).tags)
+    tags_once = subst (AreRepeated []) (sym (map_back (attrs told))) (unrepeated held held_rise)
+
+    repeats : RepeatsOfSpan (jaeger_span one) (no_repeats one)
+    repeats = record { tags = tags_once; logs = logs_once unrepeated one.span.events }
+
+    quiet : (n : ℕ) → span_remarks n (jaeger_span one, no_repeats one) ≡ []
+    quiet n = λ i. tags_dropped (places.Span n) (none_left_out i)
+        ++ log_quiet n 1 one.span.events
+        (λ k d lt. event_told (get_or one.span.events k d) (sound.events k d lt).rising (event_absent (get_or one.span.events k d) (events_free k d lt))) i
+
+    -- no key of a span that was written is repeated, and there is no remark on it
+    pub span_plain : RepeatsOfSpan (jaeger_span one) (no_repeats one) × ((n : ℕ) → span_remarks n (jaeger_span one, no_repeats one) ≡ [])
+    span_plain = (repeats, quiet)

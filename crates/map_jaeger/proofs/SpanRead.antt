@@ -1,0 +1,222 @@
+-- What is read of a span is its own normal form, and nothing in it is a fault. The flags have 32 bits, as jaeger.thrift says.
+use Rattle.std.proofs.Common.{◌≡◌, ℕ, ◌-◌, ◌%◌, decimal, Bool, true, false, cond, not, ◌&&◌, ◌||◌, ◌==◌, List, [], ◌∷◌, ◌++◌, map, filter, find, get_or, All, Contains, Option, Some, None, is_some, unwrap_or, option_map, option_and_then, refl, sym, ap, ◌∙◌, true≢false, ⊎_elim, eq-eqb, arith}
+use Rattle.std.specs.Prelude.{Any, if◌then◌else◌, codes}
+use Rattle.std.specs.Option.{option_or}
+use Rattle.std.specs.Str.{bytes_eq}
+use Rattle.std.proofs.lemmas.List.Elements.{All-nil, All-cons, All-append, All-filter, All-map, filter_passes}
+use Rattle.jaeger_model.specs.declared.span.JSpan.{JSpan}
+use Rattle.jaeger_model.specs.declared.span.Log.{Log}
+use Rattle.jaeger_model.specs.declared.span.SpanRef.{SpanRef}
+use Rattle.span_ids.specs.Times.{floor}
+use Rattle.trace_model.specs.Attributes.{keys, at}
+use Rattle.trace_model.specs.declared.fault.Fault.{Fault}
+use Rattle.trace_model.specs.declared.fault.Fault.TheVariants.{EndBeforeStart, Reserved, OwnKey, EventText, ChildOfLink, DoubleInText}
+use Rattle.trace_model.specs.declared.span.Code.{Code}
+use Rattle.trace_model.specs.declared.span.Code.TheVariants as statuses
+use Rattle.trace_model.specs.declared.span.Kind.TheVariants as kinds
+use Rattle.trace_model.specs.declared.value.Value.{Value, Text}
+use Rattle.map_jaeger.specs.AttributeLaws.{same_key, other_way, some_of_key, at_there, attrs_rise, at_attrs-append, all_attrs, at_filter, filter_rise}
+use Rattle.map_jaeger.specs.Columns.{row, looked, text_in, flags_in}
+use Rattle.map_jaeger.specs.Faults.{HasReserved, in_span, in_event, IsOwnParent, HasDouble, IsSpanFault}
+use Rattle.map_jaeger.specs.Keys.{is_reserved, flags_key, event_key}
+use Rattle.map_jaeger.specs.Laws.{IsTimely}
+use Rattle.map_jaeger.specs.Normal.{normal_attributes, normal_kind, normal_status, normal_event, normal_link, normal_span}
+use Rattle.map_jaeger.specs.Reading.{attributes_of, without, kind_named, kind_in, code_of, message_by, flag_bits, high_flags, high_flags_of, is_free, span_attributes, event_of, link_of, is_own_parent, parent_of, names, scoped_of}
+use Rattle.map_jaeger.specs.TagValues.{attribute_of}
+use Rattle.map_jaeger.proofs.ColumnLemmas.{last_at-row}
+use Rattle.map_jaeger.proofs.FlagLemmas.{read_formed}
+use Rattle.map_jaeger.proofs.GroupLeaves.{IsLeaf, AreLeaves, tags_leaves, leaves_normal, leaves_plain}
+use Rattle.map_jaeger.proofs.GroupResource.{at_without}
+use Rattle.map_jaeger.proofs.SpanNormal.{bit_twice, no_any, mark, mark_back}
+use Rattle.map_jaeger.proofs.SpanParts.{back_each}
+
+abbrev leaf : List ℕ × Value → Type 0
+leaf pair = IsLeaf pair.1
+
+-- ---- rows
+
+-- no tag says that the kind isn't known
+kind_by : (a b c d e : Bool)
+    → normal_kind (unwrap_or (if a then Some kinds.Client else (if b then Some kinds.Consumer else (if c then Some kinds.Internal else (if d then Some kinds.Producer else (if e then Some kinds.Server else None))))) kinds.Internal)
+    ≡ unwrap_or (if a then Some kinds.Client else (if b then Some kinds.Consumer else (if c then Some kinds.Internal else (if d then Some kinds.Producer else (if e then Some kinds.Server else None))))) kinds.Internal
+kind_by true b c d e = refl
+kind_by false true c d e = refl
+kind_by false false true d e = refl
+kind_by false false false true e = refl
+kind_by false false false false true = refl
+kind_by false false false false false = refl
+
+kind_of_text : (text : Option (List ℕ)) → normal_kind (unwrap_or (option_and_then kind_named text) kinds.Internal) ≡ unwrap_or (option_and_then kind_named text) kinds.Internal
+kind_of_text None = refl
+kind_of_text (Some text) = kind_by (bytes_eq text (codes "client")) (bytes_eq text (codes "consumer")) (bytes_eq text (codes "internal")) (bytes_eq text (codes "producer")) (bytes_eq text (codes "server"))
+
+kind_read : (value : Option Value) → normal_kind (unwrap_or (kind_in value) kinds.Internal) ≡ unwrap_or (kind_in value) kinds.Internal
+kind_read value = kind_of_text (text_in value)
+
+message_read : (code : Code) (description : Option Value) → (normal_status (record { code = code; message = message_by code description })).message ≡ message_by code description
+message_read statuses.Unset description = refl
+message_read statuses.Okay description = refl
+message_read statuses.Fail description = refl
+
+high_by : (n : ℕ) (b : Bool) (text : List ℕ) → AreLeaves (row flags_key (cond b None (Some (Text text))))
+high_by n true text = All-nil leaf
+high_by n false text = All-cons leaf (flags_key, Text text) [] tt (All-nil leaf)
+
+-- ---- the first that passes, and none
+
+none_found : {A : Type 0} → (test : A → Bool) (xs : List A) → find test xs ≡ None → All (λ x. test x ≡ false) xs
+none_found test [] e = All-nil (λ x. test x ≡ false)
+none_found test (x ∷ xs) e = by (none_found test xs) (test x) refl e
+  where
+    by : (find test xs ≡ None → All (λ y. test y ≡ false) xs) → (b : Bool) → test x ≡ b → cond b (Some x) (find test xs) ≡ None → All (λ y. test y ≡ false) (x ∷ xs)
+    by rest true is e = absurd (true≢false (ap is_some e))
+    by rest false is e = All-cons (λ y. test y ≡ false) x xs is (rest e)
+
+second_none : {A : Type 0} → (a b : Option A) → option_or a b ≡ None → b ≡ None
+second_none None b e = e
+second_none (Some x) b e = absurd (true≢false (ap is_some e))
+
+mapped_none : {A B : Type 0} → (f : A → B) (o : Option A) → option_map f o ≡ None → o ≡ None
+mapped_none f None e = refl
+mapped_none f (Some x) e = absurd (true≢false (ap is_some e))
+
+-- ---- the span
+
+module _ (span : JSpan) where
+  abbrev tags : List (List ℕ × Value)
+  tags = attributes_of span.tags
+
+  tags_are_leaves : AreLeaves tags
+  tags_are_leaves = all_attrs leaf (map attribute_of span.tags) (tags_leaves span.tags)
+
+  abbrev high : Option Value
+  high = high_flags_of span.flags
+
+  abbrev kept : List (List ℕ × Value)
+  kept = filter (λ attribute. is_free attribute.0) tags
+
+  abbrev attributes : List (List ℕ × Value)
+  attributes = span_attributes span.flags tags
+
+  attributes_leaves : AreLeaves attributes
+  attributes_leaves = all_attrs leaf (row flags_key high ++ kept)
+      (All-append leaf (row flags_key high) kept (high_leaves (flag_bits span.flags - flag_bits span.flags % 2)) (All-filter (λ attribute. is_free attribute.0) leaf tags tags_are_leaves))
+    where
+      high_leaves : (n : ℕ) → AreLeaves (row flags_key (high_flags n))
+      high_leaves n = high_by n (n == 0) (decimal n)
+
+  at_attributes : (k : List ℕ) → at k attributes ≡ option_or (cond (is_free k) (at k tags) None) (cond (bytes_eq k flags_key) high None)
+  at_attributes k =
+      at_attrs-append k (row flags_key high) kept (filter_rise is_free tags (attrs_rise (map attribute_of span.tags)))
+      ∙ (λ i. option_or (at_filter k is_free tags i) (last_at-row k flags_key high i))
+
+  own_at : at flags_key attributes ≡ high
+  own_at = at_attributes flags_key
+
+  reserved_by : (k : List ℕ) (r f : Bool) → is_reserved k ≡ r → bytes_eq flags_key k ≡ f → r ≡ true → option_or (cond (not (r || f)) (at k tags) None) (cond (bytes_eq k flags_key) high None) ≡ None
+  reserved_by k true true is own e = absurd (true≢false (sym is ∙ ap is_reserved (sym (same_key flags_key k own))))
+  reserved_by k true false is apart e = ap (λ b. cond b high None) (other_way flags_key k apart)
+  reserved_by k false f is own e = absurd (true≢false (sym e))
+
+  reserved_at : (k : List ℕ) → is_reserved k ≡ true → at k attributes ≡ None
+  reserved_at k is = at_attributes k ∙ reserved_by k (is_reserved k) (bytes_eq flags_key k) refl refl is
+
+  -- ---- events
+
+  abbrev fields : Log → List (List ℕ × Value)
+  fields log = attributes_of log.fields
+
+  others_leaves : (log : Log) → AreLeaves (without event_key (fields log))
+  others_leaves log = All-filter (λ attribute. not (bytes_eq event_key attribute.0)) leaf (fields log) (all_attrs leaf (map attribute_of log.fields) (tags_leaves log.fields))
+
+  event_free : (key : List ℕ) → key ≡ event_key → (log : Log) → Contains (keys (without event_key (fields log))) key → ⊥
+  event_free key same log there = at_there key (without event_key (fields log)) there (ap (λ k. at k (without event_key (fields log))) same ∙ at_without event_key (fields log))
+
+  event_read : (log : Log) → log.time ≡ floor log.time → normal_event (event_of log) ≡ event_of log
+  event_read log timely =
+      let others : normal_attributes (without event_key (fields log)) ≡ without event_key (fields log) = leaves_normal (without event_key (fields log)) (others_leaves log) in
+      λ i. record { time = sym timely i; name = (event_of log).name; attributes = others i; dropped = 0 }
+
+  -- ---- links
+
+  abbrev is_own : SpanRef → Bool
+  is_own reference = is_own_parent span.trace reference
+
+  abbrev stays : SpanRef → Bool
+  stays reference = not (is_own reference && names (parent_of span) reference.span)
+
+  abbrev others : List SpanRef
+  others = filter stays span.references
+
+  -- where there is no parent, no reference is one
+  root : parent_of span ≡ None → All (λ reference. is_own reference ≡ false) others
+  root e = All-filter stays (λ reference. is_own reference ≡ false) span.references
+      (none_found is_own span.references
+      (mapped_none (λ reference. reference.span) (find is_own span.references)
+      (second_none span.parent (option_map (λ reference. reference.span) (find is_own span.references)) e)))
+
+  own_of : (reference : SpanRef) → IsOwnParent (scoped_of span).span (link_of reference) → is_own reference ≡ true
+  own_of reference is =
+      let child : reference.child_of ≡ true = sym (mark_back reference.child_of) ∙ is.0 in
+      let trace : (reference.trace == span.trace) ≡ true = eq-eqb reference.trace span.trace is.1 in
+      λ i. child i && trace i
+
+  goes : (reference : SpanRef) → is_own reference ≡ true → parent_of span ≡ Some reference.span → stays reference ≡ false
+  goes reference own parent =
+      let named : names (parent_of span) reference.span ≡ true = ap (λ o. names o reference.span) parent ∙ eq-eqb reference.span reference.span refl in
+      λ i. not (own i && named i)
+
+  never_parent : All (λ reference. IsOwnParent (scoped_of span).span (link_of reference) → ⊥) others
+  never_parent k d lt is = ⊎_elim
+      (λ (none : parent_of span ≡ None). true≢false (sym (own_of (get_or others k d) is) ∙ root none k d lt))
+      (λ (some : parent_of span ≡ Some (get_or others k d).span).
+      true≢false (sym (filter_passes stays span.references k d lt) ∙ goes (get_or others k d) (own_of (get_or others k d) is) some))
+      is.2
+
+  link_read : (reference : SpanRef) → normal_link (link_of reference) ≡ link_of reference
+  link_read reference = λ i. record { trace = reference.trace; span = reference.span; state = []; attributes = mark (mark_back reference.child_of i); dropped = 0; flags = 0 }
+
+  -- ---- faults
+
+  read_reserved : (key : List ℕ) → HasReserved (scoped_of span).span key → ⊥
+  read_reserved key (in_span is there) = at_there key attributes there (reserved_at key is)
+  read_reserved key (in_event same any) = no_any (λ event. Contains (keys event.attributes) key) (map event_of span.logs)
+      (All-map (λ event. Contains (keys event.attributes) key → ⊥) event_of span.logs (λ k d lt. event_free key same (get_or span.logs k d)))
+      any
+
+  module _ (timely : IsTimely span) where
+    -- nothing that was read is a fault
+    pub read_no_fault : (fault : Fault) → IsSpanFault (scoped_of span).span fault → ⊥
+    read_no_fault EndBeforeStart early = let ordered = timely.ordered in absurd (omega arith)
+    read_no_fault (Reserved key) has = read_reserved key has
+    read_no_fault (OwnKey key) has = read_formed span.flags (ap is_some (sym own_at) ∙ some_of_key flags_key attributes has.1) (ap flags_in (sym own_at) ∙ has.2)
+    read_no_fault EventText has = has
+    read_no_fault ChildOfLink any = no_any (IsOwnParent (scoped_of span).span) (map link_of others)
+        (All-map (λ link. IsOwnParent (scoped_of span).span link → ⊥) link_of others never_parent) any
+    read_no_fault DoubleInText has = ⊎_elim
+        (λ (inside : HasDouble attributes). leaves_plain attributes attributes_leaves inside)
+        (λ (any : Any (λ event. HasDouble event.attributes) (map event_of span.logs)). no_any (λ event. HasDouble event.attributes) (map event_of span.logs)
+        (All-map (λ event. HasDouble event.attributes → ⊥) event_of span.logs
+        (λ k d lt inside. leaves_plain (without event_key (fields (get_or span.logs k d))) (others_leaves (get_or span.logs k d)) inside))
+        any)
+        has
+
+  module _ (timely : IsTimely span) where
+    -- what was read is its own normal form
+    pub read_normal : normal_span (scoped_of span).span ≡ (scoped_of span).span
+    read_normal =
+        let same : normal_attributes attributes ≡ attributes = leaves_normal attributes attributes_leaves in
+        let events : map normal_event (map event_of span.logs) ≡ map event_of span.logs =
+        back_each normal_event event_of event_of span.logs (λ k d lt. event_read (get_or span.logs k d) (timely.logs k d lt)) in
+        let links : map normal_link (map link_of others) ≡ map link_of others =
+        back_each normal_link link_of link_of others (λ k d lt. link_read (get_or others k d)) in
+        λ i. record ((scoped_of span).span) {
+          kind = kind_read (looked tags).kind i;
+          start = sym timely.start i;
+          end = sym timely.end i;
+          attributes = same i;
+          events = events i;
+          links = links i;
+          status = record { code = code_of (looked tags); message = message_read (code_of (looked tags)) (looked tags).description i };
+          flags = bit_twice (flag_bits span.flags) i;
+        }

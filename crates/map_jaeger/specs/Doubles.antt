@@ -1,0 +1,16 @@
+-- Where a double stands inside a list or map that is told as a text, in a batch to be written.
+use Rattle.std.specs.Prelude.{Bool, ◌||◌}
+use Rattle.std.specs.List.{list_any}
+use Rattle.trace_model.specs.declared.span.Event.{Event}
+use Rattle.trace_model.specs.declared.trace.Group.{Group}
+use Rattle.trace_model.specs.declared.trace.Scope.{Scope}
+use Rattle.map_jaeger.specs.LeastFault.{doubles_inside, span_has_double, resource_has_double}
+
+abbrev pub event_has_double : Event → Bool
+event_has_double event = doubles_inside event.attributes
+
+abbrev pub scope_has_double : Scope → Bool
+scope_has_double scope = list_any span_has_double scope.spans
+
+abbrev pub group_has_double : Group → Bool
+group_has_double group = resource_has_double group.resource || list_any scope_has_double group.scopes

@@ -1,0 +1,92 @@
+-- What Jaeger can't hold of a group. A fault stands at a place: 0 is the group's resource, and n is its span of that number, with the
+-- events and links in it, counted through the scopes from 1. Of all faults the one at the first place counts, there the one of the least
+-- number, and of equal numbers that of the least key.
+use Rattle.std.specs.Prelude.{◌≡◌, ◌≢◌, ℕ, ◌+◌, ◌<◌, ◌⊎◌, true, List, [], Any, Contains, HoldsAt, Option, Some, None}
+use Rattle.std.specs.Cmp.Lexicographic.{slice_cmp}
+use Rattle.std.specs.Ordering.{nat_cmp}
+use Rattle.std.specs.declared.cmp.Ordering.TheVariants.{Greater}
+use Rattle.trace_model.specs.Attributes.{keys, at}
+use Rattle.trace_model.specs.Faults.{fault_number}
+use Rattle.trace_model.specs.LeastOf.{IsLeastOf}
+use Rattle.trace_model.specs.ValueTexts.{has_double}
+use Rattle.trace_model.specs.declared.fault.Fault.{Fault}
+use Rattle.trace_model.specs.declared.fault.Fault.TheVariants.{EndBeforeStart, Reserved, OwnKey, EventText, ChildOfLink, DoubleInText}
+use Rattle.trace_model.specs.declared.span.Link.{Link}
+use Rattle.trace_model.specs.declared.span.Span.{Span}
+use Rattle.trace_model.specs.declared.trace.Group.{Group}
+use Rattle.trace_model.specs.declared.value.Value.{Value, List', Map'}
+use Rattle.map_jaeger.specs.Columns.{flags_in}
+use Rattle.map_jaeger.specs.Keys.{is_reserved, flags_key, service_key, event_key, reference_key}
+use Rattle.map_jaeger.specs.Runs.{scoped}
+use Rattle.map_jaeger.specs.Writing.{is_child_of}
+
+-- ---- the rows of a span
+
+-- an attribute of the span, or one of an event, has a reserved key
+pub data HasReserved (span : Span) (key : List ℕ) : Type 0 where
+  in_span : is_reserved key ≡ true → Contains (keys span.attributes) key → HasReserved span key
+  in_event : key ≡ event_key → Any (λ event. Contains (keys event.attributes) key) span.events → HasReserved span key
+
+-- the attribute of Jaeger's own key isn't of its form
+abbrev pub HasOwn : Span → List ℕ → Type 0
+HasOwn span key = (key ≡ flags_key) × Contains (keys span.attributes) flags_key × (flags_in (at flags_key span.attributes) ≡ None)
+
+-- a child_of link of the span's own trace, where the span is a root or the link names its parent
+abbrev pub IsOwnParent : Span → Link → Type 0
+IsOwnParent span link = (is_child_of (at reference_key link.attributes) ≡ true) × (link.trace ≡ span.trace) × ((span.parent ≡ None) ⊎ (span.parent ≡ Some link.span))
+
+-- a double inside a list or map, whose text is wanted
+abbrev pub HasDoubleInside : Value → Type 0
+HasDoubleInside (List' shape members) = has_double (List' shape members) ≡ true
+HasDoubleInside (Map' shape members) = has_double (Map' shape members) ≡ true
+HasDoubleInside other = ⊥
+
+abbrev pub HasDouble : List (List ℕ × Value) → Type 0
+HasDouble attributes = Any (λ attribute. HasDoubleInside attribute.1) attributes
+
+abbrev pub IsSpanFault : Span → Fault → Type 0
+IsSpanFault span EndBeforeStart = span.end < span.start
+IsSpanFault span (Reserved key) = HasReserved span key
+IsSpanFault span (OwnKey key) = HasOwn span key
+IsSpanFault span EventText = ⊥
+IsSpanFault span ChildOfLink = Any (IsOwnParent span) span.links
+IsSpanFault span DoubleInText = HasDouble span.attributes ⊎ Any (λ event. HasDouble event.attributes) span.events
+
+-- ---- the rows of a resource: `service.name` is told as a text
+
+abbrev pub HasDoubleAt : Option Value → Type 0
+HasDoubleAt None = ⊥
+HasDoubleAt (Some value) = has_double value ≡ true
+
+abbrev pub IsResourceFault : List (List ℕ × Value) → Fault → Type 0
+IsResourceFault resource DoubleInText = HasDoubleAt (at service_key resource) ⊎ HasDouble resource
+IsResourceFault resource other = ⊥
+
+-- ---- the group
+
+pub record Placed : Type 0 where
+  pub place : ℕ
+  pub fault : Fault
+
+pub data IsFault (group : Group) (found : Placed) : Type 0 where
+  in_resource : found.place ≡ 0 → IsResourceFault group.resource found.fault → IsFault group found
+  in_span : (n : ℕ) → found.place ≡ n + 1 → HoldsAt (λ one. IsSpanFault one.span found.fault) (scoped group.scopes) n → IsFault group found
+
+-- the key of a fault, where it has one
+abbrev pub key_in : Fault → List ℕ
+key_in (Reserved key) = key
+key_in (OwnKey key) = key
+key_in other = []
+
+-- by place, by number, by key
+abbrev pub AtMost : Placed → Placed → Type 0
+AtMost a b = (a.place < b.place) ⊎ ((a.place ≡ b.place) × ((fault_number a.fault < fault_number b.fault)
+    ⊎ ((fault_number a.fault ≡ fault_number b.fault) × (slice_cmp nat_cmp (key_in a.fault) (key_in b.fault) ≢ Greater))))
+
+-- the fault that counts, if there is any
+abbrev pub IsFaultOf : Group → Option Fault → Type 0
+IsFaultOf group None = (found : Placed) → IsFault group found → ⊥
+IsFaultOf group (Some fault) = (place : ℕ) × IsLeastOf AtMost (IsFault group) (Some (record { place = place; fault = fault }))
+
+abbrev pub HasNoFault : Group → Type 0
+HasNoFault group = IsFaultOf group None

@@ -1,0 +1,183 @@
+-- What a batch means (OpenTelemetry exporter page for Jaeger, read backwards; jaeger.thrift): its process is a resource, and each of its
+-- spans a span, whose tags are attributes but for those of the reserved keys. Of equal tags the last counts, wherever it stands.
+use Rattle.std.specs.Prelude.{ℕ, ◌-◌, ◌%◌, ◌^◌, ℤ, Bool, true, false, not, ◌&&◌, ◌||◌, ◌==◌, if◌then◌else◌, List, [], ◌∷◌, ◌++◌, map, filter, find, Option, Some, None, option_map, option_and_then, unwrap_or, decimal, codes}
+use Rattle.std.specs.Int.{w32, cast_unsigned}
+use Rattle.std.specs.Option.{option_or}
+use Rattle.std.specs.Str.{bytes_eq}
+use Rattle.jaeger_model.specs.declared.batch.Batch.{Batch}
+use Rattle.jaeger_model.specs.declared.span.JSpan.{JSpan}
+use Rattle.jaeger_model.specs.declared.span.Log.{Log}
+use Rattle.jaeger_model.specs.declared.span.SpanRef.{SpanRef}
+use Rattle.jaeger_model.specs.declared.tag.Tag.{Tag}
+use Rattle.trace_model.specs.Attributes.{attrs, at}
+use Rattle.trace_model.specs.declared.span.Code.{Code}
+use Rattle.trace_model.specs.declared.span.Code.TheVariants as statuses
+use Rattle.trace_model.specs.declared.span.Event.{Event}
+use Rattle.trace_model.specs.declared.span.Kind.{Kind}
+use Rattle.trace_model.specs.declared.span.Kind.TheVariants as kinds
+use Rattle.trace_model.specs.declared.span.Link.{Link}
+use Rattle.trace_model.specs.declared.span.Span.{Span}
+use Rattle.trace_model.specs.declared.trace.Group.{Group}
+use Rattle.trace_model.specs.declared.value.Value.{Value, Text, Truth}
+use Rattle.map_jaeger.specs.Columns.{Columns, looked, row, text_in, count_in, text_given}
+use Rattle.map_jaeger.specs.Keys.{is_reserved, flags_key, service_key, event_key, reference_key, child_of_word}
+use Rattle.map_jaeger.specs.Runs.{Scoped, runs}
+use Rattle.map_jaeger.specs.TagValues.{attribute_of}
+
+-- the attributes that tags are
+abbrev pub attributes_of : List Tag → List (List ℕ × Value)
+attributes_of tags = attrs (map attribute_of tags)
+
+-- those under other keys than this one
+abbrev pub without : List ℕ → List (List ℕ × Value) → List (List ℕ × Value)
+without key attributes = filter (λ attribute. not (bytes_eq key attribute.0)) attributes
+
+-- ---- columns
+
+-- `span.kind`: one of five texts
+abbrev pub kind_named : List ℕ → Option Kind
+kind_named text =
+    if bytes_eq text (codes "client") then Some kinds.Client
+    else (if bytes_eq text (codes "consumer") then Some kinds.Consumer
+    else (if bytes_eq text (codes "internal") then Some kinds.Internal
+    else (if bytes_eq text (codes "producer") then Some kinds.Producer
+    else (if bytes_eq text (codes "server") then Some kinds.Server else None))))
+
+abbrev pub kind_in : Option Value → Option Kind
+kind_in value = option_and_then kind_named (text_in value)
+
+-- `otel.status_code`: one of two texts
+abbrev pub code_named : List ℕ → Option Code
+code_named text = if bytes_eq text (codes "OK") then Some statuses.Okay else (if bytes_eq text (codes "ERROR") then Some statuses.Fail else None)
+
+abbrev pub code_in : Option Value → Option Code
+code_in value = option_and_then code_named (text_in value)
+
+-- `error`: a truth value, or the text of one
+abbrev pub truth_named : List ℕ → Option Bool
+truth_named text = if bytes_eq text (codes "true") then Some true else (if bytes_eq text (codes "false") then Some false else None)
+
+abbrev pub error_in : Option Value → Option Bool
+error_in (Some (Truth truth)) = Some truth
+error_in (Some (Text text)) = truth_named text
+error_in other = None
+
+-- `error` decides where there is no code
+abbrev pub code_of : Columns → Code
+code_of c = unwrap_or (code_in c.code) (if unwrap_or (error_in c.error) false then statuses.Fail else statuses.Unset)
+
+-- an unset status has no description
+abbrev pub message_by : Code → Option Value → List ℕ
+message_by statuses.Unset description = []
+message_by statuses.Okay description = unwrap_or (text_in description) []
+message_by statuses.Fail description = unwrap_or (text_in description) []
+
+-- a name or version: the older key counts where the newer is absent
+abbrev pub name_in : Option Value → Option Value → List ℕ
+name_in newer older = unwrap_or (option_or (text_in newer) (text_in older)) []
+
+-- ---- flags: the first bit is the span's, and the others stand under a key of their own
+
+-- their 32 bits
+abbrev pub flag_bits : ℤ → ℕ
+flag_bits flags = cast_unsigned w32 flags % 2 ^ 32
+
+abbrev pub high_flags : ℕ → Option Value
+high_flags n = if n == 0 then None else Some (Text (decimal n))
+
+abbrev pub high_flags_of : ℤ → Option Value
+high_flags_of flags = high_flags (flag_bits flags - flag_bits flags % 2)
+
+-- ---- attributes, events and links
+
+-- no tag of Jaeger's own stands under the key
+abbrev pub is_free : List ℕ → Bool
+is_free key = not (is_reserved key || bytes_eq flags_key key)
+
+abbrev pub span_attributes : ℤ → List (List ℕ × Value) → List (List ℕ × Value)
+span_attributes flags tags = attrs (row flags_key (high_flags_of flags) ++ filter (λ attribute. is_free attribute.0) tags)
+
+abbrev pub event_of : Log → Event
+event_of log = record {
+  time = log.time;
+  name = unwrap_or (text_in (at event_key (attributes_of log.fields))) [];
+  attributes = without event_key (attributes_of log.fields);
+  dropped = 0;
+}
+
+abbrev pub link_of : SpanRef → Link
+link_of reference = record {
+  trace = reference.trace;
+  span = reference.span;
+  state = [];
+  attributes = if reference.child_of then (reference_key, Text child_of_word) ∷ [] else [];
+  dropped = 0;
+  flags = 0;
+}
+
+-- a CHILD_OF reference of the span's own trace
+abbrev pub is_own_parent : ℕ → SpanRef → Bool
+is_own_parent trace reference = reference.child_of && (reference.trace == trace)
+
+-- the parent, or where there is none the span of the first such reference
+abbrev pub parent_of : JSpan → Option ℕ
+parent_of span = option_or span.parent (option_map (λ reference. reference.span) (find (is_own_parent span.trace) span.references))
+
+abbrev pub names : Option ℕ → ℕ → Bool
+names None id = false
+names (Some parent) id = parent == id
+
+-- every reference but those that name the parent
+abbrev pub links_but : ℕ → Option ℕ → List SpanRef → List Link
+links_but trace parent references = map link_of (filter (λ reference. not (is_own_parent trace reference && names parent reference.span)) references)
+
+abbrev pub links_of : JSpan → List Link
+links_of span = links_but span.trace (parent_of span) span.references
+
+-- ---- the span, by its columns and its tags
+
+abbrev pub span_by : JSpan → Columns → List (List ℕ × Value) → Span
+span_by span c tags = record {
+  trace = span.trace;
+  id = span.id;
+  state = unwrap_or (text_in c.state) [];
+  parent = parent_of span;
+  name = span.name;
+  kind = unwrap_or (kind_in c.kind) kinds.Internal;
+  start = span.start;
+  end = span.end;
+  attributes = span_attributes span.flags tags;
+  dropped_attributes = unwrap_or (count_in c.dropped_attributes) 0;
+  events = map event_of span.logs;
+  dropped_events = unwrap_or (count_in c.dropped_events) 0;
+  links = links_of span;
+  dropped_links = unwrap_or (count_in c.dropped_links) 0;
+  status = record { code = code_of c; message = message_by (code_of c) c.description };
+  flags = flag_bits span.flags % 2;
+}
+
+abbrev pub scoped_by : JSpan → Columns → List (List ℕ × Value) → Scoped Span
+scoped_by span c tags = record {
+  name = name_in c.scope_name c.library_name;
+  version = name_in c.scope_version c.library_version;
+  span = span_by span c tags;
+}
+
+abbrev pub scoped_of : JSpan → Scoped Span
+scoped_of span = scoped_by span (looked (attributes_of span.tags)) (attributes_of span.tags)
+
+-- ---- the batch
+
+abbrev pub process_attributes : List ℕ → List (List ℕ × Value) → List (List ℕ × Value)
+process_attributes service tags = attrs (row service_key (text_given service) ++ without service_key tags)
+
+abbrev pub resource_of : Batch → List (List ℕ × Value)
+resource_of batch = process_attributes batch.service (attributes_of batch.tags)
+
+abbrev pub group_of : Batch → Group
+group_of batch = record {
+  resource = resource_of batch;
+  dropped = 0;
+  schema_url = [];
+  scopes = runs (map scoped_of batch.spans);
+}

@@ -1,0 +1,125 @@
+-- The batch of a group (OpenTelemetry exporter page for Jaeger; jaeger.thrift), where nothing in it is a fault. Tags and log fields stand by
+-- rising keys.
+use Rattle.std.specs.Prelude.{ℕ, ◌+◌, ◌%◌, ℤ, Bool, true, false, List, [], ◌++◌, map, Option, Some, None, unwrap_or, codes}
+use Rattle.std.specs.Int.{w32, cast_signed}
+use Rattle.std.specs.Str.{bytes_eq}
+use Rattle.jaeger_model.specs.declared.batch.Batch.{Batch}
+use Rattle.jaeger_model.specs.declared.span.JSpan.{JSpan}
+use Rattle.jaeger_model.specs.declared.span.Log.{Log}
+use Rattle.jaeger_model.specs.declared.span.SpanRef.{SpanRef}
+use Rattle.jaeger_model.specs.declared.tag.Tag.{Tag}
+use Rattle.span_ids.specs.Times.{floor}
+use Rattle.trace_model.specs.Attributes.{attrs, at}
+use Rattle.trace_model.specs.ValueTexts.{value_text}
+use Rattle.trace_model.specs.declared.span.Code.{Code}
+use Rattle.trace_model.specs.declared.span.Code.TheVariants as statuses
+use Rattle.trace_model.specs.declared.span.Event.{Event}
+use Rattle.trace_model.specs.declared.span.Kind.{Kind}
+use Rattle.trace_model.specs.declared.span.Kind.TheVariants as kinds
+use Rattle.trace_model.specs.declared.span.Link.{Link}
+use Rattle.trace_model.specs.declared.span.Span.{Span}
+use Rattle.trace_model.specs.declared.trace.Group.{Group}
+use Rattle.trace_model.specs.declared.value.Value.{Value, Text, Truth}
+use Rattle.map_jaeger.specs.Columns.{Columns, rows, row, flags_in, text_given, count_given}
+use Rattle.map_jaeger.specs.Keys.{flags_key, service_key, event_key, reference_key, child_of_word}
+use Rattle.map_jaeger.specs.Reading.{without}
+use Rattle.map_jaeger.specs.Runs.{Scoped, scoped}
+use Rattle.map_jaeger.specs.TagValues.{tag_of}
+
+-- ---- columns
+
+-- `span.kind`
+abbrev pub kind_given : Kind → Option Value
+kind_given kinds.Unspecified = None
+kind_given kinds.Internal = None
+kind_given kinds.Server = Some (Text (codes "server"))
+kind_given kinds.Client = Some (Text (codes "client"))
+kind_given kinds.Producer = Some (Text (codes "producer"))
+kind_given kinds.Consumer = Some (Text (codes "consumer"))
+
+-- `otel.status_code`
+abbrev pub code_given : Code → Option Value
+code_given statuses.Unset = None
+code_given statuses.Okay = Some (Text (codes "OK"))
+code_given statuses.Fail = Some (Text (codes "ERROR"))
+
+-- `error`
+abbrev pub error_given : Code → Option Value
+error_given statuses.Unset = None
+error_given statuses.Okay = None
+error_given statuses.Fail = Some (Truth true)
+
+-- `otel.status_description`
+abbrev pub description_given : Code → List ℕ → Option Value
+description_given statuses.Unset message = None
+description_given statuses.Okay message = text_given message
+description_given statuses.Fail message = text_given message
+
+abbrev pub columns_of : Scoped Span → Columns
+columns_of one = record {
+  error = error_given one.span.status.code;
+  dropped_attributes = count_given one.span.dropped_attributes;
+  dropped_events = count_given one.span.dropped_events;
+  dropped_links = count_given one.span.dropped_links;
+  library_name = None;
+  library_version = None;
+  scope_name = text_given one.name;
+  scope_version = text_given one.version;
+  code = code_given one.span.status.code;
+  description = description_given one.span.status.code one.span.status.message;
+  kind = kind_given one.span.kind;
+  state = text_given one.span.state;
+}
+
+-- ---- flags: the first bit of the span's, and those under the key of their own
+
+abbrev pub flags_of : Span → ℤ
+flags_of span = cast_signed w32 (span.flags % 2 + unwrap_or (flags_in (at flags_key span.attributes)) 0)
+
+-- ---- tags, logs and references
+
+abbrev pub tags_of : Scoped Span → List Tag
+tags_of one = map tag_of (attrs (rows (columns_of one) ++ without flags_key one.span.attributes))
+
+abbrev pub log_of : Event → Log
+log_of event = record {
+  time = floor event.time;
+  fields = map tag_of (attrs (row event_key (text_given event.name) ++ event.attributes));
+}
+
+-- the mark of a link that is CHILD_OF
+abbrev pub is_child_of : Option Value → Bool
+is_child_of (Some (Text text)) = bytes_eq text child_of_word
+is_child_of other = false
+
+abbrev pub reference_of : Link → SpanRef
+reference_of link = record { child_of = is_child_of (at reference_key link.attributes); trace = link.trace; span = link.span }
+
+abbrev pub jaeger_span : Scoped Span → JSpan
+jaeger_span one = record {
+  trace = one.span.trace;
+  id = one.span.id;
+  parent = one.span.parent;
+  name = one.span.name;
+  references = map reference_of one.span.links;
+  invalid_refs = 0;
+  flags = flags_of one.span;
+  start = floor one.span.start;
+  end = floor one.span.end;
+  tags = tags_of one;
+  logs = map log_of one.span.events;
+}
+
+-- ---- the batch
+
+-- the value text of `service.name`, or no text where it is absent
+abbrev pub service_of : Option Value → List ℕ
+service_of None = []
+service_of (Some value) = value_text value
+
+abbrev pub batch_of : Group → Batch
+batch_of group = record {
+  service = service_of (at service_key group.resource);
+  tags = map tag_of (without service_key group.resource);
+  spans = map jaeger_span (scoped group.scopes);
+}

@@ -1,0 +1,53 @@
+//! Laws of the table, as contracts of functions that do nothing.
+ghost use Rattle.map_jaeger.specs.Laws.{BatchesReadBack, NormalForms, ReadIsNormal, ReadIsSound, FaultsFound, WrittenIsProper, ReadIsProper};
+
+/// Reading the batch of a group that Jaeger can hold gives its normal form, without a remark.
+pub fn batches_read_back()
+    ensures { BatchesReadBack }
+{
+    trace_model::laws::rising_attributes();
+}
+
+/// The normal form is its own, Jaeger can hold it, and it has the same batch. Groups have equal
+/// batches where they have equal normal forms, and only there.
+pub fn normal_forms()
+    ensures { NormalForms }
+{
+    trace_model::laws::texts_of_values();
+}
+
+/// What is read of a batch, whose times are whole microseconds in order, is its own normal form.
+/// Nothing in it is a fault.
+pub fn read_is_normal()
+    ensures { ReadIsNormal }
+{
+    // The clause is the law.
+}
+
+/// What is read of a batch is sound.
+pub fn read_is_sound()
+    ensures { ReadIsSound }
+{
+    // The clause is the law.
+}
+
+/// A sound group has a fault that counts, or none.
+pub fn faults_found()
+    ensures { FaultsFound }
+{
+    // The clause is the law.
+}
+
+/// The batch of a proper group is proper.
+pub fn written_is_proper()
+    ensures { WrittenIsProper }
+{
+    trace_model::laws::texts_of_values();
+}
+
+/// The group that is read of a proper batch is proper.
+pub fn read_is_proper()
+    ensures { ReadIsProper }
+{
+    // The clause is the law.
+}

@@ -1,0 +1,15 @@
+//! Batches of Jaeger as groups of a trace, and back, by the OpenTelemetry exporter page for Jaeger.
+#![tactic(auto)]
+
+mod decimal_texts;
+mod faults;
+mod keys;
+pub mod laws;
+mod reading;
+mod rows;
+mod writing;
+mod writing_columns;
+mod writing_flags;
+
+pub use reading::group_of_batch;
+pub use writing::batch_of_group;
