@@ -2,21 +2,34 @@
 """Runs the built program over inputs that are made to be slow or large, and prints what each costs.
 
 Run it at the top as bench/hostile.py, after ./spanx has built the program; it needs Debian's `time`. Words that are
-given choose the cases whose names hold them. It prints seconds, the peak of memory, the bytes written, status and note
-of each, and ends with 1 where one takes more than 5 seconds or ends otherwise than it must. `--list` only makes the
-inputs and prints their sizes.
+given choose the cases whose names, with those of the forms, hold them. It prints seconds, the peak of memory, the bytes
+written, status and note of each, and ends with 1 where one takes more than 5 seconds or ends otherwise than it must.
+`--list` only makes the inputs and prints their sizes; `--small` makes them for a limit of 40,000 bytes in place of 16 MiB,
+and has them judged by the readers of jaeger.py in place of the program.
 """
 import itertools
 import os
 import random
+import struct
 import sys
 import tempfile
 
-from program import BUILD, CONVERT, PROGRAM, Measured
+import otlp
+
+SMALL = "--small" in sys.argv
+if SMALL:
+    # Before the modules that stand on it are loaded.
+    otlp.UNIT = 40_000
+
+import jaeger
+from jaeger import BINARY, DOUBLE, I8, I32, I64, LAST_MICROS, LIST, MAP, SET, STRUCT
+from otlp import UNIT
+from program import BUILD, PROGRAM, Measured, command
 from wire import bytes_field, varint
 
-UNIT = 16_777_216
 SLOW = 5.0
+SAME_FORM = "otlp-proto", "otlp-proto"
+TO_BATCHES, TO_REQUEST, BATCHES = ("otlp-proto", "jaeger-binary"), ("jaeger-binary", "otlp-proto"), ("jaeger-binary", "jaeger-binary")
 IDS = bytes_field(1, bytes(15) + b"\1") + bytes_field(2, bytes(7) + b"\2")
 LEVELS = 16
 
@@ -233,16 +246,306 @@ def cases():
         ("empty groups", lambda: same(b"\x0a\0" * UNIT)),
         ("frames that are no units", lambda: writes(b"\x10\0" * UNIT, b"")),
         ("empty groups, then a cut one", lambda: refused(b"\x0a\0" * UNIT + b"\x0a\5", UNIT + 1, "1 Truncated", b"\x0a\0" * UNIT)),
-        ("units of one span", lambda: same(GOOD_UNIT * 500_000)),
+        ("units of one span", lambda: same(GOOD_UNIT * (UNIT // len(GOOD_UNIT)))),
     ]
 
 
-def run(name, text, status, note, output):
+# ---- batches
+
+MOST = 2**31 - 1
+STOP = b"\0"
+
+
+def field(kind, id, held=b""):
+    return bytes([kind]) + struct.pack(">h", id) + held
+
+
+def binary(held):
+    return struct.pack(">i", len(held)) + held
+
+
+def list_of(size, elements=b"", element=STRUCT):
+    """What a list holds that says it has so many elements."""
+    return bytes([element]) + struct.pack(">i", size) + elements
+
+
+def tag(key, held=b""):
+    """A tag, a text where nothing more is given."""
+    return field(BINARY, 1, binary(key)) + field(I32, 2, bytes(4)) + held + STOP
+
+
+NO_TEXT = field(BINARY, 3, binary(b""))
+PROCESS = field(STRUCT, 1, field(BINARY, 1, binary(b"")) + STOP)
+NO_SPANS = field(LIST, 2, list_of(0))
+EMPTY_BATCH = PROCESS + NO_SPANS + STOP
+
+
+def numbers(*pairs):
+    """Fields of numbers of 64 bits."""
+    return b"".join(field(I64, id, struct.pack(">q", n)) for id, n in pairs)
+
+
+def span_begin(start=0, parent=0, references=b""):
+    """The required fields of a span, which is otherwise the one that IDS are of."""
+    ids = numbers((1, 1), (2, 0), (3, 2), (4, parent))
+    return ids + field(BINARY, 5, binary(b"")) + references + field(I32, 7, bytes(4)) + numbers((8, start), (9, 0))
+
+
+def batch(held=b"", spans=(b"",)):
+    """A batch of an empty process, with fields behind the span, or behind each of some spans."""
+    return PROCESS + held + field(LIST, 2, list_of(len(spans), b"".join(span_begin() + span + STOP for span in spans))) + STOP
+
+
+def filled_batch(piece, around=batch):
+    """A batch in whose unit a piece stands as often as it fits, and how often that is."""
+    count = (UNIT - len(around(b""))) // len(piece)
+    return around(piece * count), count
+
+
+def listed_span(id, piece):
+    """A span with a list of as many pieces as fit, behind its other fields."""
+    around = lambda held: batch(spans=[field(LIST, id, list_of(0)) + held])
+    count = filled_batch(piece, around)[1]
+    return batch(spans=[field(LIST, id, list_of(count, piece * count))])
+
+
+def spans_list(piece):
+    """As many spans as fit, and how many these are."""
+    count = (UNIT - len(EMPTY_BATCH)) // len(piece)
+    return PROCESS + field(LIST, 2, list_of(count, piece * count)) + STOP, count
+
+
+def containers(kinds):
+    """A field of containers within each other, each of one member, the last empty."""
+    kind, held = kinds[-1], {STRUCT: STOP, MAP: bytes([I8, I8]) + bytes(4)}.get(kinds[-1], list_of(0))
+    for outer in reversed(kinds[:-1]):
+        one = struct.pack(">i", 1)
+        held = {
+            STRUCT: lambda: field(kind, 1, held) + STOP, LIST: lambda: bytes([kind]) + one + held, SET: lambda: bytes([kind]) + one + held,
+            MAP: lambda: bytes([I8, kind]) + one + b"\7" + held,
+        }[outer]()
+        kind = outer
+    return field(kind, 99, held)
+
+
+def deep_fields(kinds, last=b"", cause=None):
+    """Unknown fields of a batch with containers to this depth, and perhaps a last one for which it is refused."""
+    around = lambda held: PROCESS + held + last + NO_SPANS + STOP
+    text = filled_batch(containers(kinds), around)[0]
+    return refused(text, 1, cause) if cause else writes(text, EMPTY_BATCH)
+
+
+def numbers_below(levels):
+    """Lists within lists, the last of as many numbers as fit."""
+    head = list_of(1, element=LIST) * (levels - 1)
+    count = UNIT - len(PROCESS + field(LIST, 99, head + list_of(0)) + NO_SPANS + STOP)
+    return writes(PROCESS + field(LIST, 99, head + list_of(count, bytes(count), I8)) + NO_SPANS + STOP, EMPTY_BATCH)
+
+
+def unknown_list(element, size):
+    """An unknown list of elements of so many zeros, as many as fit."""
+    count = (UNIT - len(batch()) - 8) // size
+    return writes(batch(field(LIST, 99, list_of(count, bytes(count * size), element))), batch())
+
+
+def many_tags(order):
+    """One span with as many different tags as fit, each without its value."""
+    count = (UNIT - len(batch()) - 8) // len(tag(b"0000"))
+    digits = bytes(range(48, 112))
+    keys = [bytes(key) for key in itertools.islice(itertools.product(digits, repeat=4), count)]
+    texts = [b"".join(tag(key, held) for key in keys) for keys, held in [(order(list(keys)), b""), (keys, NO_TEXT)]]
+    return writes(*(batch(spans=[field(LIST, 10, list_of(count, text))]) for text in texts))
+
+
+def one_tag(count, key, held):
+    return batch(spans=[field(LIST, 10, list_of(count, tag(key, held) * count))])
+
+
+def one_tag_again(key, held=b"", written=NO_TEXT):
+    """A span with one tag as often as it fits, of which the last counts."""
+    count = (UNIT - len(batch()) - 8) // len(tag(key, held))
+    return writes(one_tag(count, key, held), one_tag(1, key, written))
+
+
+def changing_scopes():
+    """Spans of which each has another scope than the one before."""
+    spans = [span_begin() + field(LIST, 10, list_of(1, tag(b"otel.scope.name", field(BINARY, 3, binary(name))))) + STOP for name in [b"a", b"b"]]
+    count = (UNIT - len(EMPTY_BATCH)) // len(spans[0] + spans[1])
+    scopes = b"".join(bytes_field(2, bytes_field(1, bytes_field(1, name)) + REQUEST_SPAN) for name in [b"a", b"b"])
+    return writes(PROCESS + field(LIST, 2, list_of(2 * count, (spans[0] + spans[1]) * count)) + STOP, bytes_field(1, scopes * count))
+
+
+# What is written in OTLP of the span that spans here are.
+REQUEST_SPAN = bytes_field(2, otlp.write_span(otlp.Span(1, 2, kind=1)))
+SPAN = span_begin() + STOP
+GOOD_BATCH = batch()
+LINK = field(I32, 1, struct.pack(">i", 1)) + numbers((2, 5), (3, 0), (4, 6)) + STOP
+NO_LINK = LINK[:-9] + bytes(9)
+TO_PARENT = field(I32, 1, bytes(4)) + numbers((2, 1), (3, 0), (4, 9)) + STOP
+LOG = numbers((1, 0)) + field(LIST, 2, list_of(0)) + STOP
+TEXT_ROOM = UNIT - len(PROCESS + field(LIST, 2, list_of(1, SPAN)) + STOP)
+
+
+def named(name):
+    """A batch of one span with this name."""
+    span = SPAN.replace(field(BINARY, 5, binary(b"")), field(BINARY, 5, binary(name)))
+    return PROCESS + field(LIST, 2, list_of(1, span)) + STOP
+
+
+def batch_of(begin):
+    """A batch of one span with these required fields."""
+    return PROCESS + field(LIST, 2, list_of(1, begin + STOP)) + STOP
+
+
+def links():
+    """References behind a span's other fields, which are written where they belong."""
+    text = listed_span(6, LINK)
+    count = text.count(LINK)
+    return writes(text, batch_of(span_begin(references=field(LIST, 6, list_of(count, LINK * count)))))
+
+
+def text_of_value(value, text):
+    """A span with one attribute, whose value has this text in a tag."""
+    return writes(one_value(value), one_tag(1, b"a", field(BINARY, 3, binary(text))))
+
+
+def many_nothings():
+    """A list of as many empty values as fit."""
+    count = LIST_ROOM // 2
+    return text_of_value(list_value(b"\x0a\0" * count), b"[" + b",".join([b"null"] * count) + b"]")
+
+
+def many_chains():
+    """A list of lists 16 deep."""
+    count = LIST_ROOM // len(DEEP_LIST)
+    chain = b"[" * (LEVELS - 1) + b"]" * (LEVELS - 1)
+    return text_of_value(list_value(DEEP_LIST * count), b"[" + b",".join([chain] * count) + b"]")
+
+
+def faulted(text, unit, fault, output=b""):
+    """An input, the note on what its target can't hold, and the text of the units before."""
+    return text, 4, f"unit {unit}: fault {fault}", output
+
+
+def many_spans(pair):
+    """As many spans as fit, as a batch and as a request."""
+    if pair[0] == "otlp-proto":
+        count = SCOPE_ROOM // len(GOOD_SPAN)
+        return writes(one_scope(GOOD_SPAN * count), PROCESS + field(LIST, 2, list_of(count, SPAN * count)) + STOP)
+    text, count = spans_list(SPAN)
+    return writes(text, text if pair == BATCHES else group(bytes_field(2, REQUEST_SPAN * count)))
+
+
+LAST_DOUBLE = listed(b"\x21" + bytes(8))
+
+
+def plain_request():
+    """The request of one such span."""
+    return group(bytes_field(2, REQUEST_SPAN))
+
+
+def one_attribute(key):
+    """The request of one such span with an attribute that is an empty text."""
+    span = otlp.Span(1, 2, kind=1, attributes={key.decode(): ("text", "")})
+    return group(bytes_field(2, bytes_field(2, otlp.write_span(span))))
+
+
+def last_span(last, cause):
+    """As many good spans as fit, and a last one for which they are refused."""
+    count = (UNIT - len(EMPTY_BATCH)) // len(SPAN) - 1
+    return refused(PROCESS + field(LIST, 2, list_of(count + 1, SPAN * count + last)) + STOP, 1, cause)
+
+
+def cut_batches():
+    count = UNIT // len(GOOD_BATCH)
+    return refused(GOOD_BATCH * count + GOOD_BATCH[:-1], count + 1, "1 Truncated", GOOD_BATCH * count)
+
+
+def reserved_last():
+    """One span with an attribute as often as it fits, and a reserved one behind."""
+    last = bytes_field(9, bytes_field(1, b"error"))
+    return one_span(filled(BARE_ATTRIBUTE, REST_ROOM - len(last)) + last)
+
+
+def batch_cases():
+    """The name of each case of batches with its pair of forms, and what makes its input and what must be seen."""
+    levels = [STRUCT, LIST, MAP, SET] * 8
+    claimed_list, claimed_binary = field(LIST, 2, list_of(MOST)), field(BINARY, 99, struct.pack(">i", MOST))
+    return [
+        ("structs 32 deep", BATCHES, lambda: deep_fields([STRUCT] * 31)),
+        ("lists 32 deep", BATCHES, lambda: deep_fields([LIST] * 31)),
+        ("maps 32 deep", BATCHES, lambda: deep_fields([MAP] * 31)),
+        ("containers 32 deep", TO_REQUEST, lambda: writes(deep_fields(levels[:31])[0], b"\x0a\0")),
+        ("numbers below lists 32 deep", BATCHES, lambda: numbers_below(31)),
+        ("containers 32 deep, the last 33", BATCHES, lambda: deep_fields(levels[:31], containers(levels), "5 TooDeep")),
+        ("structs without an end", BATCHES, lambda: refused(field(STRUCT, 1) * (UNIT // 3), 1, "5 TooDeep")),
+        ("one list of empty structs", BATCHES, lambda: unknown_list(STRUCT, 1)),
+        ("one list of empty maps", BATCHES, lambda: unknown_list(MAP, 6)),
+        ("one list of numbers", BATCHES, lambda: unknown_list(I64, 8)),
+        ("a map of numbers", BATCHES, lambda: writes(batch(field(MAP, 99, bytes([I8, DOUBLE]) + struct.pack(">i", UNIT // 10) + bytes(UNIT // 10 * 9))), batch())),
+        ("spans that are empty structs", BATCHES, lambda: refused(spans_list(STOP)[0], 1, "8 Missing")),
+        ("tags that are empty structs", TO_REQUEST, lambda: refused(listed_span(10, STOP), 1, "8 Missing")),
+        ("smallest good spans", BATCHES, lambda: many_spans(BATCHES)),
+        ("smallest good spans", TO_REQUEST, lambda: many_spans(TO_REQUEST)),
+        ("smallest good spans", TO_BATCHES, lambda: many_spans(TO_BATCHES)),
+        ("smallest good spans, the last one's times too late", BATCHES, lambda: last_span(span_begin(LAST_MICROS + 1) + STOP, "16 BadTime")),
+        ("spans of other scopes than the one before", TO_REQUEST, changing_scopes),
+        ("a list of 2^31-1 spans that aren't there", BATCHES, lambda: refused(PROCESS + claimed_list, 1, "1 Truncated")),
+        ("a list of 2^31-1 spans, 16 MiB of them there", BATCHES, lambda: refused((PROCESS + claimed_list).ljust(UNIT, STOP), 1, "6 UnitTooLong")),
+        ("the same, one byte less", BATCHES, lambda: refused((PROCESS + claimed_list).ljust(UNIT - 1, STOP), 1, "1 Truncated")),
+        ("a list of 2^31-1 truth values that aren't there", BATCHES, lambda: refused(field(LIST, 99, list_of(MOST, element=2)), 1, "1 Truncated")),
+        ("a map of 2^31-1 pairs that aren't there", BATCHES, lambda: refused(field(MAP, 99, bytes([I64, STRUCT]) + struct.pack(">i", MOST)), 1, "1 Truncated")),
+        ("a binary of 2^31-1 bytes that aren't there", BATCHES, lambda: refused(claimed_binary, 1, "6 UnitTooLong")),
+        ("the same behind a good batch", TO_REQUEST, lambda: refused(GOOD_BATCH + claimed_binary, 2, "6 UnitTooLong", bytes_field(1, bytes_field(2, REQUEST_SPAN)))),
+        ("a binary of 16 MiB that isn't there", BATCHES, lambda: refused(field(BINARY, 99, struct.pack(">i", UNIT)), 1, "6 UnitTooLong")),
+        ("a size below 0", BATCHES, lambda: refused(PROCESS + field(LIST, 2, list_of(-1)), 1, "4 BadSize")),
+        ("one tag a million times", BATCHES, lambda: one_tag_again(b"a")),
+        ("one tag a million times", TO_REQUEST, lambda: writes(one_tag_again(b"a")[0], one_attribute(b"a"))),
+        ("one reserved tag again and again", TO_REQUEST, lambda: writes(one_tag_again(b"span.kind", field(BINARY, 3, binary(b"x")))[0], plain_request())),
+        ("different tags, rising", BATCHES, lambda: many_tags(list)),
+        ("different tags, falling", BATCHES, lambda: many_tags(lambda keys: keys[::-1])),
+        ("different tags, shuffled", BATCHES, lambda: many_tags(shuffled)),
+        ("logs without fields", BATCHES, lambda: same(listed_span(11, LOG))),
+        ("references to other traces", BATCHES, links),
+        ("references without a span", BATCHES, lambda: writes(listed_span(6, NO_LINK), GOOD_BATCH)),
+        ("references to the parent", BATCHES, lambda: writes(listed_span(6, TO_PARENT), batch_of(span_begin(parent=9)))),
+        ("unknown fields in a batch", BATCHES, lambda: writes(filled_batch(field(I8, 99, b"\1"))[0], GOOD_BATCH)),
+        ("unknown fields in a span", TO_REQUEST, lambda: writes(filled_batch(field(I8, 99, b"\1"), lambda held: batch(spans=[held]))[0], plain_request())),
+        ("a text", BATCHES, lambda: same(named(b"x" * TEXT_ROOM))),
+        ("a text, its last byte no UTF-8", BATCHES, lambda: refused(named(b"x" * (TEXT_ROOM - 1) + b"\xff"), 1, "9 NotText")),
+        ("a whole batch of 16 MiB + 1", BATCHES, lambda: refused(named(b"x" * (TEXT_ROOM + 1)), 1, "6 UnitTooLong")),
+        ("batches without spans", TO_REQUEST, lambda: writes(EMPTY_BATCH * (UNIT // len(EMPTY_BATCH)), b"\x0a\0" * (UNIT // len(EMPTY_BATCH)))),
+        ("batches of one span, the last cut", BATCHES, cut_batches),
+        ("a list of empty values, as a tag's text", TO_BATCHES, many_nothings),
+        ("chains of lists 16 deep, as a tag's text", TO_BATCHES, many_chains),
+        ("a double in the last of many lists", TO_BATCHES, lambda: faulted(one_value(list_value(filled(DEEP_LIST, LIST_ROOM - 11) + LAST_DOUBLE)), 1, "25 DoubleInText")),
+        ("a reserved key behind many others", TO_BATCHES, lambda: faulted(reserved_last(), 1, '21 Reserved "error"')),
+        ("empty events", TO_BATCHES, lambda: writes(one_span(filled(b"\x5a\0", REST_ROOM)), batch(spans=[field(LIST, 11, list_of(REST_ROOM // 2, LOG * (REST_ROOM // 2)))]))),
+    ]
+
+
+# ---- running
+
+
+def judge(name, pair, make):
+    """Whether the readers say of a small input what must be seen."""
+    try:
+        text, status, note, output = make()
+    except AssertionError:
+        print(f"left out: {name}, {' to '.join(pair)}: larger than a small unit")
+        return True
+    got = jaeger.verdict(text, *pair)[:3]
+    right = got == (status, note and note + "\n", output)
+    print(f"{'ok' if right else 'WRONG'}: {name}, {' to '.join(pair)}: {len(text)} bytes, status {got[0]} {got[1].strip()!r}, wrote {len(got[2])}")
+    return right
+
+
+def run(name, pair, text, status, note, output):
     """Whether the run was quick, and ended as it must."""
     with tempfile.NamedTemporaryFile() as file:
         file.write(text)
         file.flush()
-        ran = Measured(CONVERT, file.name, 60)
+        ran = Measured(command(*pair), file.name, 60)
     wrong = []
     if (ran.status, ran.note) != (status, note):
         wrong.append(f"wanted status {status} '{note}'")
@@ -251,7 +554,7 @@ def run(name, text, status, note, output):
     if ran.seconds > SLOW:
         wrong.append("slow")
     print(
-        f"{'WRONG' if wrong else 'ok'}: {name}: {len(text)} bytes, {ran.seconds:.2f} s, {ran.memory / 1e6:.0f} MB of memory, "
+        f"{'WRONG' if wrong else 'ok'}: {name}, {' to '.join(pair)}: {len(text)} bytes, {ran.seconds:.2f} s, {ran.memory / 1e6:.0f} MB of memory, "
         f"wrote {len(ran.output)}, status {ran.status} '{ran.note}'" + "".join(f"; {what}" for what in wrong),
         flush=True,
     )
@@ -259,16 +562,19 @@ def run(name, text, status, note, output):
 
 
 def main():
-    words = [word for word in sys.argv[1:] if word != "--list"]
-    chosen = [(name, make) for name, make in cases() if not words or any(word in name for word in words)]
+    words = [word for word in sys.argv[1:] if not word.startswith("--")]
+    every = [(name, SAME_FORM, make) for name, make in cases()] + batch_cases()
+    chosen = [(name, pair, make) for name, pair, make in every if not words or any(word in f"{name}, {' to '.join(pair)}" for word in words)]
     if "--list" in sys.argv:
-        for name, make in chosen:
+        for name, pair, make in chosen:
             text, status, note, output = make()
-            print(f"{name}: {len(text)} bytes, status {status} '{note}', output {len(output)}")
+            print(f"{name}, {' to '.join(pair)}: {len(text)} bytes, status {status} '{note}', output {len(output)}")
         return
+    if SMALL:
+        sys.exit(0 if all([judge(*case) for case in chosen]) else 1)
     if not os.path.exists(PROGRAM):
         sys.exit(BUILD)
-    results = [run(name, *make()) for name, make in chosen]
+    results = [run(name, pair, *make()) for name, pair, make in chosen]
     sys.exit(0 if all(results) else 1)
 
 

@@ -8,13 +8,20 @@ import time
 
 TOP = os.path.dirname(os.path.dirname(os.path.abspath(__file__)))
 PROGRAM = os.path.join(TOP, "crates", "spanx", "out", "spanx")
-CONVERT = [PROGRAM, "convert", "--from", "otlp-proto", "--to", "otlp-proto"]
 BUILD = "build the program first: ./spanx convert --from otlp-proto --to otlp-proto < examples/checkout.bin"
 
 
-def convert(text):
+def command(source, target):
+    """The words that convert one form into another."""
+    return [PROGRAM, "convert", "--from", source, "--to", target]
+
+
+CONVERT = command("otlp-proto", "otlp-proto")
+
+
+def convert(text, source="otlp-proto", target="otlp-proto"):
     """The status, the output and the note for an input."""
-    done = subprocess.run(CONVERT, input=text, capture_output=True)
+    done = subprocess.run(command(source, target), input=text, capture_output=True)
     return done.returncode, done.stdout, done.stderr.decode(errors="replace")
 
 

@@ -1,6 +1,6 @@
 #!/usr/bin/python3
-"""Runs the built program over spoilt trace requests, and compares its status, note and output with what a reader of this
-script finds, which lists every offence of a unit and takes the first by place and then by number.
+"""Runs the built program over spoilt trace requests, and compares its status, note and output with what the reader of
+otlp.py finds, which lists every offence of a unit and takes the first by place and then by number.
 
 It needs Debian's python3-protobuf and protobuf-compiler, and is run at the top as bench/refused_input.py, after ./spanx
 has built the program; a number that is given is how many inputs are tried. It prints how often each outcome came, a line
@@ -13,137 +13,27 @@ import sys
 
 from google.protobuf.message import DecodeError
 
+from otlp import NAMES, TABLE, Refused, next_unit, unit_offences
 from program import BUILD, PROGRAM, convert
 from real_input import Maker, checkout, newer, normal, report, request_class, schema
 from wire import bytes_field, fixed64_field, number_field, padded_varint, records, varint
-
-UNIT = 16_777_216
-NAMES = {1: "Truncated", 2: "BadVarint", 3: "BadWire", 5: "TooDeep", 6: "UnitTooLong", 7: "FieldTwice", 9: "NotText", 12: "BadId", 13: "BadEnum"}
-
-# Of each message its known fields: the number with the wire type and what the field is.
-KEY_VALUES = ("list", "KeyValue")
-TABLE = {
-    "ResourceSpans": {1: (2, ("one", "Resource")), 2: (2, ("list", "ScopeSpans")), 3: (2, "text")},
-    "Resource": {1: (2, KEY_VALUES), 2: (0, "number")},
-    "ScopeSpans": {1: (2, ("one", "InstrumentationScope")), 2: (2, ("list", "Span")), 3: (2, "text")},
-    "InstrumentationScope": {1: (2, "text"), 2: (2, "text"), 3: (2, KEY_VALUES), 4: (0, "number")},
-    "Span": {
-        1: (2, ("id", 16)), 2: (2, ("id", 8)), 3: (2, "text"), 4: (2, ("id", 8)), 5: (2, "text"), 6: (0, ("enum", 5)),
-        7: (1, "number"), 8: (1, "number"), 9: (2, KEY_VALUES), 10: (0, "number"), 11: (2, ("list", "Event")), 12: (0, "number"),
-        13: (2, ("list", "Link")), 14: (0, "number"), 15: (2, ("one", "Status")), 16: (5, "number"),
-    },
-    "Event": {1: (1, "number"), 2: (2, "text"), 3: (2, KEY_VALUES), 4: (0, "number")},
-    "Link": {1: (2, ("id", 16)), 2: (2, ("id", 8)), 3: (2, "text"), 4: (2, KEY_VALUES), 5: (0, "number"), 6: (5, "number")},
-    "Status": {2: (2, "text"), 3: (0, ("enum", 2))},
-    "KeyValue": {1: (2, "text"), 2: (2, ("one", "AnyValue"))},
-    "AnyValue": {
-        1: (2, "text"), 2: (0, "number"), 3: (0, "number"), 4: (1, "number"), 5: (2, ("one", "ArrayValue")),
-        6: (2, ("one", "KeyValueList")), 7: (2, "bytes"),
-    },
-    "ArrayValue": {1: (2, ("list", "AnyValue"))},
-    "KeyValueList": {1: (2, KEY_VALUES)},
-}
-
-
-class Refused(Exception):
-    """No record begins: the number of the cause."""
-
-
-def spelled(text, at, end):
-    """A number, and the place behind it."""
-    n = 0
-    for i in range(10):
-        if at + i >= end:
-            raise Refused(1)
-        byte = text[at + i]
-        if i == 9 and byte > 1:
-            raise Refused(2)
-        n += (byte & 127) << 7 * i
-        if byte < 128:
-            return n, at + i + 1
-
-
-def record_at(text, at, end, limit=None):
-    """The record that begins at a place: number, wire type, held number, places of the held bytes, place behind it."""
-    begin = at
-    key, at = spelled(text, at, end)
-    number, wire = key >> 3, key & 7
-    if not 1 <= number <= 536_870_911 or wire in [3, 4, 6, 7]:
-        raise Refused(3)
-    n, size = 0, {0: 0, 1: 8, 5: 4}.get(wire, 0)
-    if wire == 0:
-        n, at = spelled(text, at, end)
-    if wire == 2:
-        size, at = spelled(text, at, end)
-        if limit is not None and at - begin + size > limit:
-            raise Refused(6)
-    if at + size > end:
-        raise Refused(1)
-    return number, wire, n, at, at + size
-
-
-def is_text(held):
-    try:
-        held.decode()
-        return True
-    except UnicodeDecodeError:
-        return False
-
-
-def offences(text, begin, end, name, level):
-    """The offences of a message, each a place and a number; places are counted from 1 through the unit."""
-    found, seen, ids = [], set(), {}
-    at = begin
-    while at < end:
-        place = at + 1
-        try:
-            number, wire, n, inner, at = record_at(text, at, end)
-        except Refused as why:
-            return found + [(place, why.args[0])]
-        row = TABLE[name].get(number)
-        if row is None or row[0] != wire:
-            continue
-        kind, held = row[1], text[inner:at]
-        singular = "member" if name == "AnyValue" else number
-        if kind[0] != "list":
-            if singular in seen:
-                found.append((place, 7))
-            seen.add(singular)
-        if kind == "text" and not is_text(held):
-            found.append((place, 9))
-        if kind[0] == "id":
-            ids[number] = any(held)
-            if held and len(held) != kind[1]:
-                found.append((place, 12))
-        if kind[0] == "enum" and n > kind[1]:
-            found.append((place, 13))
-        if name in ["ArrayValue", "KeyValueList"] and level == 16:
-            found.append((place, 5))
-            continue
-        if kind[0] in ["list", "one"]:
-            deeper = {"AnyValue": 0, "ArrayValue": 1, "KeyValueList": 1}.get(name, 0)
-            found += offences(text, inner, at, kind[1], 1 if kind[1] == "KeyValue" and deeper == 0 else level + deeper)
-    if name == "Span" and not (ids.get(1) and ids.get(2)):
-        found.append((end, 12))
-    return found
 
 
 def verdict(text):
     """The number of units before the end or the first cause, the place behind them, and that cause's number or 0."""
     at, units = 0, 0
-    while at < len(text):
-        begin = at
+    while True:
         try:
-            number, wire, n, inner, at = record_at(text, at, len(text), UNIT)
+            found = next_unit(text, at)
         except Refused as why:
-            return units, begin, why.args[0]
-        if (number, wire) != (1, 2):
-            continue
-        bad = offences(text[inner:at], 0, at - inner, "ResourceSpans", 0)
+            return units, at, why.args[0]
+        if found is None:
+            return units, len(text), 0
+        begin, unit, at = found
+        bad = unit_offences(unit)
         if bad:
             return units, begin, min(bad)[1]
         units += 1
-    return units, at, 0
 
 
 # ---- spoiling

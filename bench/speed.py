@@ -1,9 +1,10 @@
 #!/usr/bin/env python3
-"""Times the built program on a trace request as exporters write it, beside `cat` of the same file.
+"""Times the built program on spans as exporters write them, as a trace request and as Jaeger batches, beside `cat`.
 
-Run it at the top as bench/speed.py, after ./spanx has built the program. It makes inputs of about 1 MB and 25 MB, runs
-each command five times over them, and prints the best time of each with its user time, and the program's peak of memory. These figures are
-no test: they hang on the machine and its load. With `--write FILE MEGABYTES` it only writes such an input.
+Run it at the top as bench/speed.py, after ./spanx has built the program. It makes requests of about 1 MB and 25 MB and the
+batches of the same spans, which takes half a minute, runs each pair of forms five times over them, and prints the best
+time of each with its user time, and the peak of memory. These figures are no test: they hang on the machine and its load.
+With `--write FILE MEGABYTES` it only writes such a request, and with the word `jaeger-binary` behind it the batches.
 """
 import os
 import struct
@@ -11,7 +12,8 @@ import subprocess
 import sys
 import tempfile
 
-from program import BUILD, CONVERT, PROGRAM, Measured, seconds_of
+import jaeger
+from program import BUILD, PROGRAM, Measured, command, seconds_of
 from wire import bytes_field, fixed32_field, fixed64_field, number_field
 
 RUNS = 5
@@ -131,38 +133,58 @@ def request(size):
         g += 1
 
 
-def check(path, size):
-    """What is written has the input's size, since the input has no defaults, and is written again as it is."""
-    with tempfile.NamedTemporaryFile() as once, tempfile.NamedTemporaryFile() as twice:
-        for path_in, sink in [(path, once), (once.name, twice)]:
-            with open(path_in, "rb") as source:
-                if subprocess.run(CONVERT, stdin=source, stdout=sink).returncode != 0:
-                    sys.exit("the program refuses the input")
-                sink.seek(0)
-        first, second = once.read(), twice.read()
-        if len(first) != size or first != second:
-            sys.exit("the program doesn't write the canonical text of the input")
+def inputs(size):
+    """The text of each form, and the number of spans."""
+    text, spans = request(size)
+    batches = (jaeger.write_batch(jaeger.batch_of_group(group)) for group in jaeger.groups(text, "otlp-proto"))
+    return {"otlp-proto": text, "jaeger-binary": b"".join(batches)}, spans
+
+
+def converted(text, source, target):
+    done = subprocess.run(command(source, target), input=text, stdout=subprocess.PIPE)
+    if done.returncode != 0:
+        sys.exit(f"the program refuses the input, {source} to {target}")
+    return done.stdout
+
+
+def check(texts):
+    """What is written must be canonical: a request of the input's size, since that has no defaults, which is written again
+    as it is, and the very batches, also of the request that they are converted to."""
+    written = {pair: converted(texts[pair[0]], *pair) for pair in jaeger.PAIRS}
+    first, back = written["otlp-proto", "otlp-proto"], written["jaeger-binary", "otlp-proto"]
+    if len(first) != len(texts["otlp-proto"]) or converted(first, "otlp-proto", "otlp-proto") != first:
+        sys.exit("the program doesn't write the canonical text of the request")
+    others = [written[source, "jaeger-binary"] for source in texts] + [converted(back, "otlp-proto", "jaeger-binary")]
+    if any(other != texts["jaeger-binary"] for other in others):
+        sys.exit("the program doesn't write the batches of the input")
+
+
+def show(name, words, path, size):
+    """Prints what a command costs over a file."""
+    seconds, user = min(seconds_of(words, path) for _ in range(RUNS))
+    memory = Measured(words, path, 600).memory / 1e6
+    speed = size / 1e6 / seconds
+    print(f"  {name}: {seconds * 1000:.1f} ms, {user * 1000:.1f} ms of it user time, {speed:.0f} MB/s, memory {memory:.1f} MB")
 
 
 def measure(size):
-    text, spans = request(size)
-    with tempfile.NamedTemporaryFile() as file:
-        file.write(text)
-        file.flush()
-        check(file.name, len(text))
-        megabytes = len(text) / 1e6
-        print(f"{megabytes:.2f} MB, {spans} spans")
-        for name, command in [("cat", ["cat"]), ("spanx", CONVERT)]:
-            seconds, user = min(seconds_of(command, file.name) for _ in range(RUNS))
-            memory = Measured(command, file.name, 600).memory / 1e6
-            speed = megabytes / seconds
-            print(f"  {name}: {seconds * 1000:.1f} ms, {user * 1000:.1f} ms of it user time, {speed:.0f} MB/s, memory {memory:.1f} MB")
+    texts, spans = inputs(size)
+    check(texts)
+    for source, text in texts.items():
+        print(f"{source}: {len(text) / 1e6:.2f} MB, {spans} spans")
+        with tempfile.NamedTemporaryFile() as file:
+            file.write(text)
+            file.flush()
+            show("cat", ["cat"], file.name, len(text))
+            for target in texts:
+                show(f"spanx to {target}", command(source, target), file.name, len(text))
 
 
 def main():
     if sys.argv[1:2] == ["--write"]:
+        size, form = int(float(sys.argv[3]) * 1e6), (sys.argv[4:] or ["otlp-proto"])[0]
         with open(sys.argv[2], "wb") as out:
-            out.write(request(int(float(sys.argv[3]) * 1e6))[0])
+            out.write(request(size)[0] if form == "otlp-proto" else inputs(size)[0][form])
         return
     if not os.path.exists(PROGRAM):
         sys.exit(BUILD)

@@ -1,5 +1,5 @@
 -- A command is spelled by the mode, and its two options in either order.
-use Rattle.std.proofs.Common.{◌≡◌, ◌↔◌, ℕ, List, [], ◌∷◌, length, inl, inr, sym, ap, ◌∙◌, arith}
+use Rattle.std.proofs.Common.{◌≡◌, ◌↔◌, Option, Some, ℕ, ◌<◌, ◌≤◌, List, [], ◌∷◌, length, get_or, inl, inr, sym, ap, ◌∙◌, arith}
 use Rattle.std.specs.Prelude.{codes}
 use Rattle.span_cli.specs.declared.command.Command.{Command}
 use Rattle.span_cli.specs.declared.command.Command.TheVariants.{Convert}
@@ -52,3 +52,20 @@ module _ (mode first first_word second second_word : List ℕ) where
       → Spells command (mode ∷ first ∷ first_word ∷ second ∷ second_word ∷ []) → ⊥
   spells_sides (Convert source target) none (inl h) = let s = same mode first first_word second second_word _ _ _ _ _ h in none From s.second s.fourth
   spells_sides (Convert source target) none (inr h) = let s = same mode first first_word second second_word _ _ _ _ _ h in none To s.second s.fourth
+
+-- ---- five words
+
+pub five : {A : Type 0} → (l : List A) (a b c d e : A) → 5 ≤ length l → length l < 6
+    → a ≡ get_or l 0 a → b ≡ get_or l 1 b → c ≡ get_or l 2 c → d ≡ get_or l 3 d → e ≡ get_or l 4 e → l ≡ a ∷ b ∷ c ∷ d ∷ e ∷ []
+five [] a b c d e some few p q r s t = absurd (omega arith)
+five (v ∷ []) a b c d e some few p q r s t = absurd (omega arith)
+five (v ∷ w ∷ []) a b c d e some few p q r s t = absurd (omega arith)
+five (v ∷ w ∷ x ∷ []) a b c d e some few p q r s t = absurd (omega arith)
+five (v ∷ w ∷ x ∷ y ∷ []) a b c d e some few p q r s t = absurd (omega arith)
+five (v ∷ w ∷ x ∷ y ∷ z ∷ []) a b c d e some few p q r s t = λ i. sym p i ∷ sym q i ∷ sym r i ∷ sym s i ∷ sym t i ∷ []
+five (v ∷ w ∷ x ∷ y ∷ z ∷ u ∷ more) a b c d e some few p q r s t = absurd (omega arith)
+
+-- ---- a command that is read
+
+pub command_read : (command other : Command) → ◌≡◌ {A = Option Command} (Some command) (Some other) → command ≡ other
+command_read command other e = cc

@@ -1,22 +1,24 @@
 -- Each way for a run to end.
-use Rattle.std.proofs.Common.{◌≡◌, ◌≢◌, ◌≤◌, ◌<◌, ◌⊎◌, ℕ, List, [], length, Option, Some, None, Ok, Err, refl, sym, ap, subst, inl, inr, arith, append-nil}
-use Rattle.std.specs.Prelude.{IfSome, IsTrue, codes}
+use Rattle.std.proofs.Common.{◌≡◌, ◌≢◌, ◌≤◌, ◌<◌, ◌⊎◌, ℕ, List, [], length, Option, Some, None, Ok, Err, refl, sym, ap, subst, ◌++◌, ◌∙◌, inl, inr, arith, append-nil}
+use Rattle.std.specs.Prelude.{IfSome, IsTrue, Result, codes}
 use Rattle.std.proofs.lemmas.Bool.{cases_lt}
-use Rattle.std.specs.Io.KnownBytes.{Appends}
+use Rattle.std.specs.Io.KnownBytes.{Appends, Consumes}
 use Rattle.span_io.specs.Limits.{shipped_limits}
 use Rattle.span_io.specs.Outside.{Inlet, Outlet, Gains, GainsFront, Rises, InputFails, OutputFails}
 use Rattle.span_io.specs.declared.form.Form.{Form}
 use Rattle.span_io.specs.declared.limits.Limits.{Limits}
 use Rattle.span_io.specs.declared.refusal.Refusal.{Refusal}
-use Rattle.span_convert.specs.Converters.{KeepsRefusal, OnlyWants}
-use Rattle.span_convert.specs.Verdicts.{Verdict, good, refused, IsVerdict, IsJudged, Stops, WritesFront, text_in}
+use Rattle.span_convert.specs.Converters.{KeepsWhy, OnlyWants}
+use Rattle.span_convert.specs.Verdicts.{Verdict, good, refused, faulted, IsVerdict, IsJudged, Stops, WritesFront, text_in}
 use Rattle.span_convert.specs.declared.converter.State.{State}
 use Rattle.span_convert.specs.declared.converter.State.TheVariants as states
 use Rattle.span_convert.specs.declared.stop.Stop.{Stop}
 use Rattle.span_convert.specs.declared.stop.Stop.TheVariants as stops
+use Rattle.span_convert.specs.declared.tally.Tally.{Tally}
+use Rattle.span_convert.specs.declared.target_fault.TargetFault.{TargetFault}
 use Rattle.span_cli.specs.Inputs.{GaveInput, ReadsInput, IsAllRead}
 use Rattle.span_cli.specs.Runs.{IsEndingAt, EndsInput, EndsOutput, WritesRead, EndsRun}
-use Rattle.span_cli.specs.Verdicts.{OnVerdict, IsRunStatus, AgreesWith, Writes, said, input_failed, output_failed, no_memory, status_of, line_of, refusal_line}
+use Rattle.span_cli.specs.Verdicts.{OnVerdict, IsRunStatus, AgreesWith, Writes, said, input_failed, output_failed, no_memory, status_of, line_of, refusal_line, fault_line}
 use Rattle.span_cli.specs.Verdicts.{IsJudgedAt}
 use Rattle.span_cli.specs.declared.ending.Ending.{Ending}
 use Rattle.span_cli.specs.declared.ending.Ending.TheVariants as endings
@@ -31,6 +33,7 @@ unlike m n (inr more) e = absurd (omega arith)
 pub never_usage : (ending : Ending) → status_of ending ≢ 2
 never_usage endings.Whole = unlike 0 2 (inl (omega arith))
 never_usage (endings.Refused refusal) = unlike 3 2 (inr (omega arith))
+never_usage (endings.Faulted line) = unlike 4 2 (inr (omega arith))
 never_usage endings.InputFailed = unlike 5 2 (inr (omega arith))
 never_usage endings.OutputFailed = unlike 6 2 (inr (omega arith))
 never_usage endings.NoMemory = unlike 7 2 (inr (omega arith))
@@ -38,6 +41,7 @@ never_usage endings.NoMemory = unlike 7 2 (inr (omega arith))
 pub is_status : (ending : Ending) → IsRunStatus (status_of ending)
 is_status endings.Whole = refl
 is_status (endings.Refused refusal) = refl
+is_status (endings.Faulted line) = refl
 is_status endings.InputFailed = refl
 is_status endings.OutputFailed = refl
 is_status endings.NoMemory = refl
@@ -48,7 +52,7 @@ always : {A : Type 0} (told : Option A) (P : A → Type 0) → ((x : A) → P x)
 always None P holds = tt
 always (Some x) P holds = holds x
 
-on_verdict : (from to : Form) (left : Option (List ℕ)) (P Q : Verdict → Type 0) → ((verdict : Verdict) → P verdict → Q verdict) → OnVerdict from to left P → OnVerdict from to left Q
+pub on_verdict : (from to : Form) (left : Option (List ℕ)) (P Q : Verdict → Type 0) → ((verdict : Verdict) → P verdict → Q verdict) → OnVerdict from to left P → OnVerdict from to left Q
 on_verdict from to None P Q holds p = tt
 on_verdict from to (Some bytes) P Q holds p = λ verdict is. holds verdict (p verdict is)
 
@@ -73,22 +77,46 @@ front_nothing now bytes = record { front = []; is_front = (bytes, refl); gains =
 stops_write : (verdict : Verdict) (before now : Outlet) → Stops verdict stops.Write before now → GainsFront before now (text_in verdict)
 stops_write (good text tally) before now s = s.1
 stops_write (refused why text) before now s = s.1
+stops_write (faulted why text) before now s = s.1
 
 stops_wanting : (verdict : Verdict) (before now : Outlet) → Stops verdict stops.OutOfMemory before now → GainsFront before now (text_in verdict)
 stops_wanting (good text tally) before now s = s
 stops_wanting (refused why text) before now s = s
+stops_wanting (faulted why text) before now s = s
 
 agrees_refused : (verdict : Verdict) (before now : Outlet) → Stops verdict stops.Refused before now → AgreesWith said 3 verdict
 agrees_refused (good text tally) before now s = absurd s
 agrees_refused (refused why text) before now s = refl
+agrees_refused (faulted why text) before now s = absurd s
 
 gains_refused : (verdict : Verdict) (before now : Outlet) → Stops verdict stops.Refused before now → Gains before now (text_in verdict)
 gains_refused (good text tally) before now s = absurd s
 gains_refused (refused why text) before now s = s
+gains_refused (faulted why text) before now s = absurd s
 
-line_refused : (refusal : Refusal) (verdict : Verdict) (before now : Outlet) → Stops verdict stops.Refused before now → KeepsRefusal verdict (states.Refused refusal) → refusal_line refusal ≡ line_of said verdict
+line_refused : (refusal : Refusal) (verdict : Verdict) (before now : Outlet) → Stops verdict stops.Refused before now → KeepsWhy verdict (states.Refused refusal) → refusal_line refusal ≡ line_of said verdict
 line_refused refusal (good text tally) before now s kept = absurd s
 line_refused refusal (refused why text) before now s kept = ap refusal_line kept
+line_refused refusal (faulted why text) before now s kept = absurd s
+
+agrees_faulted : (verdict : Verdict) (before now : Outlet) → Stops verdict stops.Faulted before now → AgreesWith said 4 verdict
+agrees_faulted (good text tally) before now s = absurd s
+agrees_faulted (refused why text) before now s = absurd s
+agrees_faulted (faulted why text) before now s = refl
+
+gains_faulted : (verdict : Verdict) (before now : Outlet) → Stops verdict stops.Faulted before now → Gains before now (text_in verdict)
+gains_faulted (good text tally) before now s = absurd s
+gains_faulted (refused why text) before now s = absurd s
+gains_faulted (faulted why text) before now s = s
+
+line_faulted : (found : TargetFault) (verdict : Verdict) (before now : Outlet) → Stops verdict stops.Faulted before now → KeepsWhy verdict (states.Faulted found) → fault_line found ≡ line_of said verdict
+line_faulted found (good text tally) before now s kept = absurd s
+line_faulted found (refused why text) before now s kept = absurd s
+line_faulted found (faulted why text) before now s kept = ap fault_line kept
+
+-- the text of the groups before was written, and memory was wanted for the line
+front_faulted : (verdict : Verdict) (before now : Outlet) → Stops verdict stops.Faulted before now → GainsFront before now (text_in verdict)
+front_faulted verdict before now s = record { front = text_in verdict; is_front = ([], sym (append-nil (text_in verdict))); gains = gains_faulted verdict before now s }
 
 -- ---- devices
 
@@ -96,7 +124,7 @@ line_refused refusal (refused why text) before now s kept = ap refusal_line kept
 pub record StopsFeed {K : Type 0} (outlet : K → Outlet) (from to : Form) (limits : Limits) (fed : List ℕ) (stop : Stop) (state : State) (old new : K) : Type 0 where
   pub kept : length fed ≤ limits.binary → OnlyWants {T = Unit} (Err stop) × (new ≡ old)
   pub beyond : limits.binary < length fed → IsJudged {T = Unit} from to limits fed (Err stop)
-  pub carried : limits.binary < length fed → (v : Verdict) → IsVerdict from to limits fed v → Stops v stop (outlet old) (outlet new) × KeepsRefusal v state
+  pub carried : limits.binary < length fed → (v : Verdict) → IsVerdict from to limits fed v → Stops v stop (outlet old) (outlet new) × KeepsWhy v state
   pub front : WritesFront from to limits fed (outlet old) (outlet new)
   pub fails : stop ≡ stops.Write → OutputFails (outlet old) (outlet new)
   pub quiet : stop ≢ stops.Write → (outlet new).faults ≡ (outlet old).faults
@@ -108,6 +136,42 @@ pub same_feed : {K : Type 0} (outlet : K → Outlet) (from from' to to' : Form) 
 same_feed outlet from from' to to' limits limits' fed stop state old new e f l feed =
     subst (λ (x : Limits). StopsFeed outlet from' to' x fed stop state old new) l (
     subst (λ (x : Form). StopsFeed outlet from' x limits fed stop state old new) f (subst (λ (x : Form). StopsFeed outlet x to limits fed stop state old new) e feed))
+
+-- what the end of a converter that was fed these bytes says where it stopped
+pub record StopsFinish {K : Type 0} (outlet : K → Outlet) (from to : Form) (limits : Limits) (fed : List ℕ) (stop : Stop) (state : State) (old new : K) : Type 0 where
+  pub judged : IsJudged {T = Tally} from to limits fed (Err stop)
+  pub carried : (v : Verdict) → IsVerdict from to limits fed v → Stops v stop (outlet old) (outlet new) × KeepsWhy v state
+  pub front : WritesFront from to limits fed (outlet old) (outlet new)
+  pub fails : stop ≡ stops.Write → OutputFails (outlet old) (outlet new)
+  pub quiet : stop ≢ stops.Write → (outlet new).faults ≡ (outlet old).faults
+  pub answers : IsTrue (outlet old).steady → stop ≢ stops.Write
+
+-- the same by equal forms, limits and output
+pub same_finish : {K : Type 0} (outlet : K → Outlet) (from from' to to' : Form) (limits limits' : Limits) (fed : List ℕ) (stop : Stop) (state : State) (old old' new : K) → from ≡ from' → to ≡ to' → limits ≡ limits' → old ≡ old'
+    → StopsFinish outlet from to limits fed stop state old new → StopsFinish outlet from' to' limits' fed stop state old' new
+same_finish outlet from from' to to' limits limits' fed stop state old old' new e f l o end =
+    subst (λ k. StopsFinish outlet from' to' limits' fed stop state k new) o (
+    subst (λ (x : Limits). StopsFinish outlet from' to' x fed stop state old new) l (
+    subst (λ (x : Form). StopsFinish outlet from' x limits fed stop state old new) f (subst (λ (x : Form). StopsFinish outlet x to limits fed stop state old new) e end)))
+
+-- a stop that is answered is one
+pub stop_of : {T : Type 0} (a b : Stop) → ◌≡◌ {A = Result T Stop} (Err a) (Err b) → a ≡ b
+stop_of a b e = cc
+
+-- what is judged doesn't hang on what else would have been answered
+judged_as : (from to : Form) (limits : Limits) (bytes : List ℕ) (stop : Stop) → IsJudged {T = Tally} from to limits bytes (Err stop) → IsJudged {T = Unit} from to limits bytes (Err stop)
+judged_as from to limits bytes stops.Refused j = j
+judged_as from to limits bytes stops.Faulted j = j
+judged_as from to limits bytes stops.Write j = j
+judged_as from to limits bytes stops.OutOfMemory j = j
+
+-- where the input told its bytes and was read to its end, they are those that it gave
+all_told : (left now : Option (List ℕ)) (given : List ℕ) (P : List ℕ → Type 0) → Consumes left now given → IfSome left (λ bytes. now ≡ Some []) → P given → IfSome left P
+all_told None now given P gave told holds = tt
+all_told (Some bytes) None given P gave told holds = absurd gave
+all_told (Some bytes) (Some rest) given P gave told holds =
+    let none : rest ≡ [] = cc in
+    subst P (sym (gave ∙ ap (λ (l : List ℕ). given ++ l) none ∙ append-nil given)) holds
 
 module _ {K : Type 0} (outlet : K → Outlet) (from to : Form) (before now : Inlet) (old new : K) where
   -- whatever stopped the run
@@ -191,7 +255,7 @@ module _ {K : Type 0} (outlet : K → Outlet) (from to : Form) (before now : Inl
   }
 
   ends_refused : (refusal : Refusal) → Course → now.faults ≡ before.faults → (outlet new).faults ≡ (outlet old).faults → IfSome before.left (λ bytes. IsJudgedAt from to said bytes)
-      → OnVerdict from to before.left (λ v. Stops v stops.Refused (outlet old) (outlet new) × KeepsRefusal v (states.Refused refusal)) → EndsRun outlet from to (endings.Refused refusal) before now old new
+      → OnVerdict from to before.left (λ v. Stops v stops.Refused (outlet old) (outlet new) × KeepsWhy v (states.Refused refusal)) → EndsRun outlet from to (endings.Refused refusal) before now old new
   ends_refused refusal course still quiet judged on = record {
     input = input_left 3 (unlike 3 5 (inl (omega arith))) (unlike 3 0 (inr (omega arith))) still course;
     output = output_quiet 3 (unlike 3 6 (inl (omega arith))) (λ e. absurd (unlike 3 5 (inl (omega arith)) e)) quiet;
@@ -200,6 +264,18 @@ module _ {K : Type 0} (outlet : K → Outlet) (from to : Form) (before now : Inl
     verdict = on_verdict from to before.left _ (λ v. AgreesWith said 3 v) (λ v carried. agrees_refused v (outlet old) (outlet new) carried.0) on;
     written = on_verdict from to before.left _ (λ v. Gains (outlet old) (outlet new) (text_in v)) (λ v carried. gains_refused v (outlet old) (outlet new) carried.0) on;
     line = on_verdict from to before.left _ (λ v. refusal_line refusal ≡ line_of said v) (λ v carried. line_refused refusal v (outlet old) (outlet new) carried.0 carried.1) on;
+  }
+
+  ends_faulted : (line : List ℕ) (found : TargetFault) → line ≡ fault_line found → Course → now.faults ≡ before.faults → (outlet new).faults ≡ (outlet old).faults → IfSome before.left (λ bytes. IsJudgedAt from to said bytes)
+      → OnVerdict from to before.left (λ v. Stops v stops.Faulted (outlet old) (outlet new) × KeepsWhy v (states.Faulted found)) → EndsRun outlet from to (endings.Faulted line) before now old new
+  ends_faulted line found says course still quiet judged on = record {
+    input = input_left 4 (unlike 4 5 (inl (omega arith))) (unlike 4 0 (inr (omega arith))) still course;
+    output = output_quiet 4 (unlike 4 6 (inl (omega arith))) (λ e. absurd (unlike 4 5 (inl (omega arith)) e)) quiet;
+    front = course.front;
+    judged = judged;
+    verdict = on_verdict from to before.left _ (λ v. AgreesWith said 4 v) (λ v carried. agrees_faulted v (outlet old) (outlet new) carried.0) on;
+    written = on_verdict from to before.left _ (λ v. Gains (outlet old) (outlet new) (text_in v)) (λ v carried. gains_faulted v (outlet old) (outlet new) carried.0) on;
+    line = on_verdict from to before.left _ (λ v. line ≡ line_of said v) (λ v carried. says ∙ line_faulted found v (outlet old) (outlet new) carried.0 carried.1) on;
   }
 
   -- ---- a stop of the converter
@@ -216,28 +292,37 @@ module _ {K : Type 0} (outlet : K → Outlet) (from to : Form) (before now : Inl
   pub record StoppedBy (stop : Stop) (state : State) : Type 0 where
     pub devices : StopsDevices stop
     pub judged : IfSome before.left (λ bytes. IsJudged {T = Unit} from to shipped_limits bytes (Err stop))
-    pub carried : OnVerdict from to before.left (λ v. Stops v stop (outlet old) (outlet new) × KeepsRefusal v state)
+    pub carried : OnVerdict from to before.left (λ v. Stops v stop (outlet old) (outlet new) × KeepsWhy v state)
 
   pub ends_at_stop : (ending : Ending) (stop : Stop) (state : State) → IsEndingAt ending stop state → StoppedBy stop state → EndsRun outlet from to ending before now old new
   ends_at_stop endings.Whole stop state at by = absurd at
   ends_at_stop (endings.Refused refusal) stop state (stopped, kept) by =
       let there = subst (λ (s : Stop). StoppedBy s (states.Refused refusal)) stopped (subst (λ (s : State). StoppedBy stop s) kept by) in
       ends_refused refusal there.devices.course there.devices.still (there.devices.quiet (λ e. absurd (cc))) there.judged there.carried
+  ends_at_stop (endings.Faulted line) stop state at by =
+      let there = subst (λ (s : Stop). StoppedBy s (states.Faulted at.found)) at.stopped (subst (λ (s : State). StoppedBy stop s) at.kept by) in
+      ends_faulted line at.found at.says there.devices.course there.devices.still (there.devices.quiet (λ e. absurd (cc))) there.judged there.carried
   ends_at_stop endings.InputFailed stop state at by = absurd at
   ends_at_stop endings.OutputFailed stop state at by =
       let there = subst (λ (s : Stop). StoppedBy s state) at by in
       ends_output_failed there.devices.course there.devices.still (there.devices.fails refl) (λ steady. there.devices.answers steady refl)
       (on_verdict from to before.left _ (λ v. GainsFront (outlet old) (outlet new) (text_in v)) (λ v carried. stops_write v (outlet old) (outlet new) carried.0) there.carried)
-  ends_at_stop endings.NoMemory stop state at by =
+  ends_at_stop endings.NoMemory stop state (inr at) by =
+      let there = subst (λ (s : Stop). StoppedBy s state) at by in
+      wants there.devices.course there.devices.still (there.devices.quiet (λ e. absurd (cc)))
+      (on_verdict from to before.left _ (λ v. GainsFront (outlet old) (outlet new) (text_in v)) (λ v carried. front_faulted v (outlet old) (outlet new) carried.0) there.carried)
+  ends_at_stop endings.NoMemory stop state (inl at) by =
       let there = subst (λ (s : Stop). StoppedBy s state) at by in
       wants there.devices.course there.devices.still (there.devices.quiet (λ e. absurd (cc)))
       (on_verdict from to before.left _ (λ v. GainsFront (outlet old) (outlet new) (text_in v)) (λ v carried. stops_wanting v (outlet old) (outlet new) carried.0) there.carried)
 
   wanting : (ending : Ending) (stop : Stop) (state : State) → IsEndingAt ending stop state → StopsDevices stop → OnlyWants {T = Unit} (Err stop) → new ≡ old → EndsRun outlet from to ending before now old new
   wanting ending stops.Refused state at devices only same = absurd only
+  wanting ending stops.Faulted state at devices only same = absurd only
   wanting ending stops.Write state at devices only same = absurd only
   wanting endings.Whole stops.OutOfMemory state at devices only same = absurd at
   wanting (endings.Refused refusal) stops.OutOfMemory state (stopped, kept) devices only same = absurd (cc)
+  wanting (endings.Faulted line) stops.OutOfMemory state at devices only same = absurd (let e : stops.OutOfMemory ≡ stops.Faulted = at.stopped in cc)
   wanting endings.InputFailed stops.OutOfMemory state at devices only same = absurd at
   wanting endings.OutputFailed stops.OutOfMemory state at devices only same = absurd (cc)
   wanting endings.NoMemory stops.OutOfMemory state at devices only same = ends_no_memory devices.course devices.still same
@@ -261,8 +346,23 @@ module _ {K : Type 0} (outlet : K → Outlet) (from to : Form) (before now : Inl
       by_length (inl long) = ends_at_stop ending stop state at (record {
         devices = devices;
         judged = judged_told from to shipped_limits fed long before.left now.left stop gave (feed.beyond long);
-        carried = verdict_told from to shipped_limits fed long before.left now.left (λ v. Stops v stop (outlet old) (outlet new) × KeepsRefusal v state) gave (feed.carried long);
+        carried = verdict_told from to shipped_limits fed long before.left now.left (λ v. Stops v stop (outlet old) (outlet new) × KeepsWhy v state) gave (feed.carried long);
       })
+
+  -- An end that stopped, by the verdict on all that was read.
+  pub ends_at_finish : (fed : List ℕ) (ending : Ending) (stop : Stop) (state : State) → GaveInput before now fed → IfSome before.left (λ bytes. now.left ≡ Some []) → IsEndingAt ending stop state → ReadsInput before now
+      → now.faults ≡ before.faults → StopsFinish outlet from to shipped_limits fed stop state old new → EndsRun outlet from to ending before now old new
+  ends_at_finish fed ending stop state gave told at reads still end = ends_at_stop ending stop state at (record {
+    devices = record {
+      course = record { reads = reads; front = record { given = fed; gave = gave; front = end.front } };
+      still = still;
+      fails = end.fails;
+      quiet = end.quiet;
+      answers = end.answers;
+    };
+    judged = all_told before.left now.left fed (λ bytes. IsJudged {T = Unit} from to shipped_limits bytes (Err stop)) gave told (judged_as from to shipped_limits fed stop end.judged);
+    carried = all_told before.left now.left fed (λ bytes. (v : Verdict) → IsVerdict from to shipped_limits bytes v → Stops v stop (outlet old) (outlet new) × KeepsWhy v state) gave told end.carried;
+  })
 
 -- a feed that came to the end wrote nothing
 pub fed_within : {K : Type 0} (limit size : ℕ) (old new : K) → (size ≤ limit → OnlyWants {T = Unit} (Ok tt) × (new ≡ old)) → (limit < size → ⊥) → new ≡ old

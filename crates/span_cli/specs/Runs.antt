@@ -1,5 +1,5 @@
 -- How a conversion ends, and what it does to its input and output.
-use Rattle.std.specs.Prelude.{◌≡◌, ◌≢◌, ℕ, List, IfSome, IsTrue, Result, Ok, Err}
+use Rattle.std.specs.Prelude.{◌≡◌, ◌≢◌, ◌⊎◌, ℕ, List, IfSome, IsTrue, Result, Ok, Err}
 use Rattle.span_io.specs.Limits.{shipped_limits}
 use Rattle.span_io.specs.Outside.{Inlet, Outlet, InputFails, OutputFails}
 use Rattle.span_io.specs.declared.form.Form.{Form}
@@ -8,18 +8,27 @@ use Rattle.span_convert.specs.declared.converter.State.{State}
 use Rattle.span_convert.specs.declared.converter.State.TheVariants as states
 use Rattle.span_convert.specs.declared.stop.Stop.{Stop}
 use Rattle.span_convert.specs.declared.stop.Stop.TheVariants as stops
+use Rattle.span_convert.specs.declared.target_fault.TargetFault.{TargetFault}
 use Rattle.span_cli.specs.Inputs.{GaveInput, ReadsInput, IsAllRead}
-use Rattle.span_cli.specs.Verdicts.{OnVerdict, IsJudgedAt, AgreesWith, Writes, stage_of, status_of, line_of, ending_line}
+use Rattle.span_cli.specs.Verdicts.{OnVerdict, IsJudgedAt, AgreesWith, Writes, stage_of, status_of, line_of, fault_line, ending_line}
 use Rattle.span_cli.specs.declared.ending.Ending.{Ending}
 use Rattle.span_cli.specs.declared.ending.Ending.TheVariants as endings
 
--- the ending says the stop, and the refusal that the converter keeps
+-- the line says the fault that the converter keeps
+pub record IsFaultAt (line : List ℕ) (stop : Stop) (state : State) : Type 0 where
+  pub found : TargetFault
+  pub stopped : stop ≡ stops.Faulted
+  pub kept : state ≡ states.Faulted found
+  pub says : line ≡ fault_line found
+
+-- The ending says the stop, and the refusal or fault that the converter keeps. The line of a fault takes memory.
 abbrev pub IsEndingAt : Ending → Stop → State → Type 0
 IsEndingAt endings.Whole stop state = ⊥
 IsEndingAt (endings.Refused refusal) stop state = (stop ≡ stops.Refused) × (state ≡ states.Refused refusal)
+IsEndingAt (endings.Faulted line) stop state = IsFaultAt line stop state
 IsEndingAt endings.InputFailed stop state = ⊥
 IsEndingAt endings.OutputFailed stop state = stop ≡ stops.Write
-IsEndingAt endings.NoMemory stop state = stop ≡ stops.OutOfMemory
+IsEndingAt endings.NoMemory stop state = (stop ≡ stops.OutOfMemory) ⊎ (stop ≡ stops.Faulted)
 
 -- What a run that ends with this status did to its input. The input failed where its count rose, and only there.
 pub record EndsInput (status : ℕ) (before now : Inlet) : Type 0 where

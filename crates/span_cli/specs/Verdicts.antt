@@ -6,7 +6,13 @@ use Rattle.span_io.specs.Limits.{shipped_limits}
 use Rattle.span_io.specs.Outside.{Outlet, Gains, GainsFront, Rose}
 use Rattle.span_io.specs.declared.form.Form.{Form}
 use Rattle.span_io.specs.declared.refusal.Refusal.{Refusal}
-use Rattle.span_convert.specs.Verdicts.{Verdict, good, refused, IsVerdict}
+use Rattle.json.specs.Print.{print}
+use Rattle.json.specs.Token.{string}
+use Rattle.trace_model.specs.Faults.{fault_number, fault_name}
+use Rattle.trace_model.specs.declared.fault.Fault.{Fault}
+use Rattle.trace_model.specs.declared.fault.Fault.TheVariants as faults
+use Rattle.span_convert.specs.Verdicts.{Verdict, good, refused, faulted, IsVerdict}
+use Rattle.span_convert.specs.declared.target_fault.TargetFault.{TargetFault}
 use Rattle.span_cli.specs.declared.ending.Ending.{Ending}
 use Rattle.span_cli.specs.declared.ending.Ending.TheVariants as endings
 
@@ -19,6 +25,7 @@ OnVerdict from to left P = IfSome left (λ bytes. (verdict : Verdict) → IsVerd
 abbrev pub status_of : Ending → ℕ
 status_of endings.Whole = 0
 status_of (endings.Refused refusal) = 3
+status_of (endings.Faulted line) = 4
 status_of endings.InputFailed = 5
 status_of endings.OutputFailed = 6
 status_of endings.NoMemory = 7
@@ -27,7 +34,7 @@ status_of endings.NoMemory = 7
 pub data Stage : Type 0 where
   -- the words are no command: 2
   usage : Stage
-  -- the verdict was carried out: 0, 3
+  -- the verdict was carried out: 0, 3, 4
   said : Stage
   -- a device failed: 5, 6
   input_failed output_failed : Stage
@@ -43,7 +50,7 @@ stage_of status =
 
 -- the statuses that there are
 abbrev pub IsRunStatus : ℕ → Type 0
-IsRunStatus status = IsTrue (list_any (λ known. known == status) (0 ∷ 2 ∷ 3 ∷ 5 ∷ 6 ∷ 7 ∷ []))
+IsRunStatus status = IsTrue (list_any (λ known. known == status) (0 ∷ 2 ∷ 3 ∷ 4 ∷ 5 ∷ 6 ∷ 7 ∷ []))
 
 -- where the verdict was carried out there is one
 abbrev pub IsJudgedAt : Form → Form → Stage → List ℕ → Type 0
@@ -53,11 +60,12 @@ IsJudgedAt from to input_failed bytes = Unit {0}
 IsJudgedAt from to output_failed bytes = Unit {0}
 IsJudgedAt from to no_memory bytes = Unit {0}
 
--- a verdict that was carried out is told by the status: 0 for a good one, 3 for a refusal
+-- a verdict that was carried out is told by the status: 0 for a good one, 3 for a refusal, 4 for a fault of the target
 abbrev pub AgreesWith : Stage → ℕ → Verdict → Type 0
 AgreesWith usage status verdict = Unit {0}
 AgreesWith said status (good text tally) = status ≡ 0
 AgreesWith said status (refused refusal text) = status ≡ 3
+AgreesWith said status (faulted found text) = status ≡ 4
 AgreesWith input_failed status verdict = Unit {0}
 AgreesWith output_failed status verdict = Unit {0}
 AgreesWith no_memory status verdict = Unit {0}
@@ -81,6 +89,20 @@ refusal_line refusal =
     codes "unit " ++ decimal refusal.unit ++ codes ": cause " ++ decimal (cause_number refusal.cause)
     ++ codes " " ++ cause_name refusal.cause ++ codes "\n"
 
+-- a key is told as a JSON string (RFC 8259, section 7)
+abbrev pub key_part : Fault → List ℕ
+key_part (faults.Reserved key) = codes " " ++ print (string key ∷ [])
+key_part (faults.OwnKey key) = codes " " ++ print (string key ∷ [])
+key_part faults.EndBeforeStart = []
+key_part faults.EventText = []
+key_part faults.ChildOfLink = []
+key_part faults.DoubleInText = []
+
+abbrev pub fault_line : TargetFault → List ℕ
+fault_line found =
+    codes "unit " ++ decimal found.unit ++ codes ": fault " ++ decimal (fault_number found.fault)
+    ++ codes " " ++ fault_name found.fault ++ key_part found.fault ++ codes "\n"
+
 -- the line of a stage, none where a verdict was carried out
 abbrev pub stage_line : Stage → List ℕ
 stage_line usage = usage_line
@@ -94,6 +116,7 @@ abbrev pub line_of : Stage → Verdict → List ℕ
 line_of usage verdict = stage_line usage
 line_of said (good text tally) = []
 line_of said (refused refusal text) = refusal_line refusal
+line_of said (faulted found text) = fault_line found
 line_of input_failed verdict = stage_line input_failed
 line_of output_failed verdict = stage_line output_failed
 line_of no_memory verdict = stage_line no_memory
@@ -101,6 +124,7 @@ line_of no_memory verdict = stage_line no_memory
 abbrev pub ending_line : Ending → List ℕ
 ending_line endings.Whole = []
 ending_line (endings.Refused refusal) = refusal_line refusal
+ending_line (endings.Faulted line) = line
 ending_line endings.InputFailed = codes "input failed\n"
 ending_line endings.OutputFailed = codes "output failed\n"
 ending_line endings.NoMemory = codes "out of memory\n"

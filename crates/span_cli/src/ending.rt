@@ -4,15 +4,19 @@ ghost use Rattle.span_convert.specs.Converters.{stop_in};
 ghost use Rattle.span_cli.specs.Verdicts.{status_of};
 ghost use Rattle.span_cli.specs.Runs.{IsEndingAt};
 
+use crate::fault_line::line_of_fault;
 use span_convert::{Converter, Stop, Why};
-use span_io::Refusal;
+use span_io::{Blob, OutOfMemory, Refusal};
+use std::alloc::Global;
 
 /// How a run of `convert` ends.
-#[derive(Clone, Copy, Debug, PartialEq, Eq)]
+#[derive(Debug, Drop)]
 pub enum Ending {
     /// The whole text was written.
     Whole,
     Refused(Refusal),
+    /// The target can't hold a unit. It holds the line that is noted.
+    Faulted(Blob),
     InputFailed,
     OutputFailed,
     NoMemory,
@@ -20,15 +24,19 @@ pub enum Ending {
 
 impl Ending {
     /// How a run ends whose converter answered this stop.
-    pub fn at_stop(converter: &Converter, stop: Stop) -> Ending
+    pub fn at_stop(alloc: Global, converter: &Converter, stop: Stop) -> Ending
         requires kept { stop_in converter.now.state ≡ Some stop }
         ensures { IsEndingAt result stop converter.now.state }
     {
         match converter.why() {
             Why::Refusal(refusal) => Ending::Refused(*refusal),
+            Why::Fault(found) => match line_of_fault(alloc, found) {
+                Ok(line) => Ending::Faulted(line),
+                Err(OutOfMemory) => Ending::NoMemory,
+            },
             Why::Nothing => match stop {
                 Stop::Write => Ending::OutputFailed,
-                Stop::Refused | Stop::OutOfMemory => Ending::NoMemory,
+                Stop::Refused | Stop::Faulted | Stop::OutOfMemory => Ending::NoMemory,
             },
         }
     }
@@ -40,6 +48,7 @@ impl Ending {
         match self {
             Ending::Whole => 0,
             Ending::Refused(_) => 3,
+            Ending::Faulted(_) => 4,
             Ending::InputFailed => 5,
             Ending::OutputFailed => 6,
             Ending::NoMemory => 7,

@@ -33,7 +33,7 @@ pub fn feed_input<S: Source, K: Sink>(
     let Ok(mut buffer) = room(alloc, PIECE) else {
         return Err(Ending::NoMemory);
     };
-    feed_pieces(converter, input, output, buffer.as_mut_slice())
+    feed_pieces(alloc, converter, input, output, buffer.as_mut_slice())
 }
 
 // So many bytes of room.
@@ -45,6 +45,7 @@ fn room(alloc: Global, size: usize) -> Result<Vec<u8>, OutOfMemory>
 
 // The same with room for a piece.
 fn feed_pieces<S: Source, K: Sink>(
+    alloc: Global,
     converter: &mut Converter,
     input: &mut S,
     output: &mut K,
@@ -67,7 +68,7 @@ fn feed_pieces<S: Source, K: Sink>(
             return Ok(());
         }
         if let Err(stop) = converter.feed(&buffer[..given], output) {
-            return Err(Ending::at_stop(converter, stop));
+            return Err(Ending::at_stop(alloc, converter, stop));
         }
     }
 }

@@ -3,6 +3,7 @@
 
 mod command;
 mod ending;
+mod fault_line;
 mod input;
 mod note;
 mod top;

@@ -19,15 +19,16 @@ pub fn note_usage<N: Sink>(notes: &mut N)
 }
 
 /// Notes how a run ended, nothing where it wrote the whole text.
-pub fn note_ending<N: Sink>(notes: &mut N, ending: Ending)
-    ensures line { Notes (N.outlet notes.old) (N.outlet notes.new) (ending_line ending) }
-    ensures silent { ending ≡ Ending.Whole → notes.new ≡ notes.old }
+pub fn note_ending<N: Sink>(notes: &mut N, ending: &Ending)
+    ensures line { Notes (N.outlet notes.old) (N.outlet notes.new) (ending_line ending.now) }
+    ensures silent { ending.now ≡ Ending.Whole → notes.new ≡ notes.old }
 {
     match ending {
         Ending::Whole => note_line(notes, b""),
         Ending::Refused(refusal) => {
-            let _ = write_refusal(notes, refusal);
+            let _ = write_refusal(notes, *refusal);
         }
+        Ending::Faulted(line) => note_line(notes, line.as_slice()),
         Ending::InputFailed => note_line(notes, b"input failed\n"),
         Ending::OutputFailed => note_line(notes, b"output failed\n"),
         Ending::NoMemory => note_line(notes, b"out of memory\n"),

@@ -1,9 +1,18 @@
 //! Worked rows of the top call, over sources and sinks in memory.
+mod jaeger;
+mod jaeger_batches;
+mod jaeger_requests;
+mod jaeger_stops;
+
 use super::*;
-use span_io::{Blob, Items, MemSink, MemSource};
+use crate::ending::Ending;
+use crate::fault_line::line_of_fault;
+use span_convert::TargetFault;
+use span_io::{Blob, Items, MemSink, MemSource, Text};
 use std::alloc::Global;
 use std::process::Abort;
 use std::test::Fail;
+use trace_model::Fault;
 
 // A request of one span: identifiers 1 and 2, name `a`.
 const ONE_SPAN: &str = "0a231221121f0a1000000000000000000000000000000001120800000000000000022a0161";
@@ -374,6 +383,39 @@ fn knows_its_words(rt: HostRuntime) -> Result<(), Fail> {
         let bytes = bytes_of(rt.alloc(), ONE_SPAN)?;
         let answer = run_cut(rt.alloc(), words, bytes, 65_536, fails)?;
         expect_answer(&rt, rt.alloc(), &answer, 2, "", USAGE, "no command")?;
+    }
+    Ok(())
+}
+
+// A key is a JSON string as `serde_json` writes it.
+#[test]
+fn tells_faults(rt: HostRuntime) -> Result<(), Fail> {
+    let alloc = rt.alloc();
+    let reserved = Text::of(alloc, "error")?;
+    let own = Text::of(alloc, "a\"\\/\n\u{1f}\u{7f}\u{e9}")?;
+    let told = "unit 18446744073709551615: fault 22 OwnKey \"a\\\"\\\\/\\n\\u001f\u{7f}\u{e9}\"\n";
+    let rows = [
+        (
+            1,
+            Fault::EndBeforeStart,
+            "unit 1: fault 20 EndBeforeStart\n",
+        ),
+        (
+            20,
+            Fault::Reserved(reserved),
+            "unit 20: fault 21 Reserved \"error\"\n",
+        ),
+        (u64::MAX, Fault::OwnKey(own), told),
+        (3, Fault::EventText, "unit 3: fault 23 EventText\n"),
+        (4, Fault::ChildOfLink, "unit 4: fault 24 ChildOfLink\n"),
+        (5, Fault::DoubleInText, "unit 5: fault 25 DoubleInText\n"),
+    ];
+    for (unit, fault, line) in rows {
+        let Ok(written) = line_of_fault(alloc, &TargetFault { unit, fault }) else {
+            panic!(rt; "no memory");
+        };
+        assert_eq!(rt; written.as_slice(), line.as_bytes());
+        assert_eq!(rt; Ending::Faulted(written).status(), 4);
     }
     Ok(())
 }

@@ -19,8 +19,8 @@ use std::alloc::Global;
 /// Runs the command that the words after the program's name spell: it reads the input to its end,
 /// writes its canonical text to the output, and notes a refusal or a fault in one line. The answer is
 /// the exit status: 0 the whole text was written, 2 the words are no command, 3 the input is refused,
-/// and the text of the groups before was written, 5 the input failed, 6 the output failed, 7 no
-/// memory was found.
+/// 4 the target can't hold a unit (in both the text of the groups before was written), 5 the input
+/// failed, 6 the output failed, 7 no memory was found.
 pub fn run<S: Source, K: Sink, N: Sink>(
     alloc: Global,
     words: &[String],
@@ -60,8 +60,8 @@ pub fn run<S: Source, K: Sink, N: Sink>(
     ensures notes { OnConversion (texts words.now) (λ from to. OnVerdict from to (S.inlet input.old).left
         (λ verdict. Notes (N.outlet notes.old) (N.outlet notes.new) (line_of (stage_of result) verdict))) }
 
-    // The line of each status but 3 doesn't hang on the input. After the whole text nothing is noted.
-    ensures line { result ≢ 3 → Notes (N.outlet notes.old) (N.outlet notes.new) (stage_line (stage_of result)) }
+    // The line of each status but 3 and 4 doesn't hang on the input. After the whole text nothing is noted.
+    ensures line { result ≢ 3 → result ≢ 4 → Notes (N.outlet notes.old) (N.outlet notes.new) (stage_line (stage_of result)) }
     ensures silent { result ≡ 0 → notes.new ≡ notes.old }
 {
     let Some(command) = read_words(words) else {
@@ -71,7 +71,7 @@ pub fn run<S: Source, K: Sink, N: Sink>(
     let ending = match command {
         Command::Convert(from, to) => convert(alloc, from, to, input, output),
     };
-    note_ending(notes, ending);
+    note_ending(notes, &ending);
     ending.status()
 }
 
@@ -91,6 +91,6 @@ fn convert<S: Source, K: Sink>(
     }
     match converter.finish(output) {
         Ok(_) => Ending::Whole,
-        Err(stop) => Ending::at_stop(&converter, stop),
+        Err(stop) => Ending::at_stop(alloc, &converter, stop),
     }
 }

@@ -1,29 +1,27 @@
 -- What a walk wrote carries out each verdict on the input.
-use Rattle.std.proofs.Common.{◌≡◌, ℕ, ◌+◌, ◌-◌, ◌<◌, ◌≤◌, true, false, List, [], ◌++◌, length, take, Result, Ok, Err, refl, sym, ap, subst, ◌∙◌, append_assoc, arith}
+use Rattle.std.proofs.Common.{◌≡◌, ℕ, ◌+◌, ◌-◌, ◌<◌, ◌≤◌, true, false, List, [], ◌++◌, length, take, All, Result, Ok, Err, refl, sym, ap, subst, ◌∙◌, append_assoc, arith}
 use Rattle.std.proofs.lemmas.List.{take_all, append-nil}
 use Rattle.std.proofs.Math.Seq.{take-append-add}
 use Rattle.span_io.specs.Limits.{AreLimits}
-use Rattle.span_io.specs.Frames.{ItemsThen}
 use Rattle.span_io.specs.Outside.{Outlet, Gains, GainsFront, OutputFails, IsFront}
 use Rattle.span_io.specs.declared.form.Form.{Form}
-use Rattle.span_io.specs.declared.form.Form.TheVariants as forms
 use Rattle.span_io.specs.declared.limits.Limits.{Limits}
 use Rattle.span_io.specs.declared.refusal.Refusal.{Refusal}
 use Rattle.trace_model.specs.declared.trace.Group.{Group}
-use Rattle.span_convert.specs.Converters.{KeepsRefusal, Stopped}
-use Rattle.span_convert.specs.Requests.{AreRequestUnits}
-use Rattle.span_convert.specs.Units.{HoldsUnits, AreGroups, trace_text}
-use Rattle.span_convert.specs.Verdicts.{Verdict, good, refused, IsVerdict, text_in, WritesFront, Stops, Ends, Answers}
-use Rattle.span_convert.specs.Walks.{IsLookedAt, WritesRefused, WritesWhole, EndsRequest, EndsWalk}
+use Rattle.span_convert.specs.Converters.{KeepsWhy, Stopped}
+use Rattle.span_convert.specs.Units.{HoldsUnits, AreGroups, HasNoFault, canonical_text}
+use Rattle.span_convert.specs.Verdicts.{Verdict, good, refused, faulted, IsVerdict, text_in, WritesFront, Stops, Ends, Answers}
+use Rattle.span_convert.specs.Walks.{IsLookedAt, WritesRefused, WritesFaulted, WritesWhole, EndsWalk}
 use Rattle.span_convert.specs.declared.bad.Bad.TheVariants as bads
 use Rattle.span_convert.specs.declared.converter.State.{State}
 use Rattle.span_convert.specs.declared.converter.State.TheVariants as states
 use Rattle.span_convert.specs.declared.stop.Stop.{Stop}
 use Rattle.span_convert.specs.declared.stop.Stop.TheVariants as stops
 use Rattle.span_convert.specs.declared.tally.Tally.{Tally}
+use Rattle.span_convert.specs.declared.target_fault.TargetFault.{TargetFault}
 use Rattle.span_convert.specs.declared.progress.WalkStop.{WalkStop}
 use Rattle.span_convert.specs.declared.progress.WalkStop.TheVariants as walk_stops
-use Rattle.span_convert.proofs.WalkLemmas.{gains_none}
+use Rattle.span_convert.proofs.WalkLemmas.{gains_none, none_held, none_convert}
 
 -- ---- what is looked at
 
@@ -37,26 +35,29 @@ looked_front limits held bytes piece size room same measured e within beyond =
 
 -- ---- what is written
 
-stops_write : (before now : Outlet) (v : Verdict) → OutputFails before now → GainsFront before now (text_in v) → Stops v stops.Write before now × KeepsRefusal v states.Write
+stops_write : (before now : Outlet) (v : Verdict) → OutputFails before now → GainsFront before now (text_in v) → Stops v stops.Write before now × KeepsWhy v states.Write
 stops_write before now (good text tally) fails front = ((fails, front), tt)
 stops_write before now (refused refusal text) fails front = ((fails, front), tt)
+stops_write before now (faulted found text) fails front = ((fails, front), tt)
 
-stops_memory : (before now : Outlet) (v : Verdict) → GainsFront before now (text_in v) → Stops v stops.OutOfMemory before now × KeepsRefusal v states.OutOfMemory
+stops_memory : (before now : Outlet) (v : Verdict) → GainsFront before now (text_in v) → Stops v stops.OutOfMemory before now × KeepsWhy v states.OutOfMemory
 stops_memory before now (good text tally) front = (front, tt)
 stops_memory before now (refused refusal text) front = (front, tt)
+stops_memory before now (faulted found text) front = (front, tt)
 
 -- memory was wanted before anything was written
-stops_early : (now : Outlet) (v : Verdict) → Stops v stops.OutOfMemory now now × KeepsRefusal v states.OutOfMemory
+stops_early : (now : Outlet) (v : Verdict) → Stops v stops.OutOfMemory now now × KeepsWhy v states.OutOfMemory
 stops_early now v = stops_memory now now v (record { front = []; is_front = (text_in v, refl); gains = gains_none now })
 
-pub stopped_early : (now : Outlet) (v : Verdict) (result : Result (Unit {0}) Stop) (state : State) → result ≡ Err stops.OutOfMemory → state ≡ states.OutOfMemory → Stopped result (λ stop. Stops v stop now now) × KeepsRefusal v state
+pub stopped_early : (now : Outlet) (v : Verdict) (result : Result (Unit {0}) Stop) (state : State) → result ≡ Err stops.OutOfMemory → state ≡ states.OutOfMemory → Stopped result (λ stop. Stops v stop now now) × KeepsWhy v state
 stopped_early now v result state e f =
     let early = stops_early now v in
-    (subst (λ (r : Result (Unit {0}) Stop). Stopped r (λ stop. Stops v stop now now)) (sym e) early.0, subst (λ (s : State). KeepsRefusal v s) (sym f) early.1)
+    (subst (λ (r : Result (Unit {0}) Stop). Stopped r (λ stop. Stops v stop now now)) (sym e) early.0, subst (λ (s : State). KeepsWhy v s) (sym f) early.1)
 
--- a walk over a request is the walk that the forms ask for
-pub walk_between : (from to : Form) (limits : Limits) (whole : List ℕ) (result : Result Tally WalkStop) (before now : Outlet) → EndsRequest limits whole result before now → EndsWalk from to limits whole result before now
-walk_between forms.OtlpProto forms.OtlpProto limits whole result before now w = w
+-- a walk between two forms is the walk that these ask for
+pub walk_between : (a b from to : Form) → from ≡ a → to ≡ b → (limits : Limits) (whole : List ℕ) (result : Result Tally WalkStop) (before now : Outlet) → EndsWalk a b limits whole result before now → EndsWalk from to limits whole result before now
+walk_between a b from to e f limits whole result before now w =
+    subst (λ (x : Form). EndsWalk x to limits whole result before now) (sym e) (subst (λ (x : Form). EndsWalk a x limits whole result before now) (sym f) w)
 
 -- ---- a front of the text of the first units
 
@@ -65,28 +66,26 @@ gains_all before now text gains = record { front = text; is_front = ([], sym (ap
 
 -- nothing was written
 pub writes_none : (from to : Form) (limits : Limits) (bytes : List ℕ) (now : Outlet) → WritesFront from to limits bytes now now
-unfolding ItemsThen AreRequestUnits
-writes_none forms.OtlpProto to limits bytes now = record {
-  text = trace_text to [];
+writes_none from to limits bytes now = record {
+  text = [];
   so_far = record {
     units = [];
     rest = take limits.binary bytes;
-    held = record { frames = []; framed = refl; are_units = refl };
-    groups = [];
-    are_groups = tt;
-    is_text = refl;
+    held = none_held from limits bytes (take limits.binary bytes) refl;
+    convert = none_convert from to;
   };
-  gains = record { front = []; is_front = (trace_text to [], refl); gains = gains_none now };
+  gains = record { front = []; is_front = ([], refl); gains = gains_none now };
 }
 
 -- whatever the walk came to
 pub ends_front : (from to : Form) (limits : Limits) (whole : List ℕ) (result : Result Tally WalkStop) (before now : Outlet) → EndsWalk from to limits whole result before now → WritesFront from to limits whole before now
 ends_front from to limits whole (Ok tally) before now w = record {
   text = w.text;
-  so_far = record { units = w.is_good.units; rest = []; held = w.is_good.held; groups = w.is_good.groups; are_groups = w.is_good.are_groups; is_text = w.is_good.whole };
+  so_far = record { units = w.is_good.units; rest = []; held = w.is_good.held; convert = w.is_good.convert };
   gains = gains_all before now w.text w.gains;
 }
 ends_front from to limits whole (Err (walk_stops.Refused refusal)) before now w = record { text = w.text; so_far = w.so_far; gains = gains_all before now w.text w.gains }
+ends_front from to limits whole (Err (walk_stops.Faulted found)) before now w = record { text = w.text; so_far = w.so_far; gains = gains_all before now w.text w.gains }
 ends_front from to limits whole (Err walk_stops.Write) before now w = w.1
 ends_front from to limits whole (Err walk_stops.OutOfMemory) before now w = w
 
@@ -96,24 +95,34 @@ abbrev pub OneVerdict : Type 0
 OneVerdict = (from to : Form) (limits : Limits) (bytes : List ℕ) (v w : Verdict) → AreLimits limits → IsVerdict from to limits bytes v → IsVerdict from to limits bytes w → v ≡ w
 
 abbrev pub BeginsSo : Type 0
-BeginsSo = (from to : Form) (limits : Limits) (bytes rest : List ℕ) (units : List (List ℕ)) (groups : List Group) (v : Verdict) → AreLimits limits → HoldsUnits from limits bytes units rest → AreGroups from units groups → IsVerdict from to limits bytes v → IsFront (trace_text to groups) (text_in v)
+BeginsSo = (from to : Form) (limits : Limits) (bytes rest : List ℕ) (units : List (List ℕ)) (groups : List Group) (v : Verdict) → AreLimits limits → HoldsUnits from limits bytes units rest → AreGroups from units groups → All (HasNoFault to) groups → IsVerdict from to limits bytes v → IsFront (canonical_text to groups) (text_in v)
 
 module _ (from to : Form) (limits : Limits) (whole : List ℕ) (valid : AreLimits limits) (v : Verdict) (is_verdict : IsVerdict from to limits whole v) where
   module _ (once : OneVerdict) where
-    pub carries_refused : (before now : Outlet) (refusal : Refusal) → WritesRefused from to limits whole refusal before now → Stops v stops.Refused before now × KeepsRefusal v (states.Refused refusal)
+    pub carries_refused : (before now : Outlet) (refusal : Refusal) → WritesRefused from to limits whole refusal before now → Stops v stops.Refused before now × KeepsWhy v (states.Refused refusal)
     carries_refused before now refusal w =
         let same = once from to limits whole (refused refusal w.text) v valid w.is_bad is_verdict in
-        subst (λ (x : Verdict). Stops x stops.Refused before now × KeepsRefusal x (states.Refused refusal)) same (w.gains, refl)
+        subst (λ (x : Verdict). Stops x stops.Refused before now × KeepsWhy x (states.Refused refusal)) same (w.gains, refl)
 
-    pub carries_whole : (before now : Outlet) (tally : Tally) → WritesWhole from to limits whole tally before now → Ends v tally before now × KeepsRefusal v states.Ended
+    pub carries_faulted : (before now : Outlet) (found : TargetFault) → WritesFaulted from to limits whole found before now → Stops v stops.Faulted before now × KeepsWhy v (states.Faulted found)
+    carries_faulted before now found w =
+        let same = once from to limits whole (faulted found w.text) v valid w.is_faulted is_verdict in
+        subst (λ (x : Verdict). Stops x stops.Faulted before now × KeepsWhy x (states.Faulted found)) same (w.gains, refl)
+
+    pub carries_whole : (before now : Outlet) (tally : Tally) → WritesWhole from to limits whole tally before now → Ends v tally before now × KeepsWhy v states.Ended
     carries_whole before now tally w =
         let same = once from to limits whole (good w.text tally) v valid w.is_good is_verdict in
-        subst (λ (x : Verdict). Ends x tally before now × KeepsRefusal x states.Ended) same ((refl, w.gains), tt)
+        subst (λ (x : Verdict). Ends x tally before now × KeepsWhy x states.Ended) same ((refl, w.gains), tt)
 
     pub answers_refused : (before now : Outlet) (refusal : Refusal) → WritesRefused from to limits whole refusal before now → Answers v (Err (bads.Refused refusal))
     answers_refused before now refusal w =
         let same = once from to limits whole (refused refusal w.text) v valid w.is_bad is_verdict in
         subst (λ (x : Verdict). Answers x (Err (bads.Refused refusal))) same refl
+
+    pub answers_faulted : (before now : Outlet) (found : TargetFault) → WritesFaulted from to limits whole found before now → Answers v (Err (bads.Faulted found))
+    answers_faulted before now found w =
+        let same = once from to limits whole (faulted found w.text) v valid w.is_faulted is_verdict in
+        subst (λ (x : Verdict). Answers x (Err (bads.Faulted found))) same refl
 
     pub answers_whole : (before now : Outlet) (tally : Tally) (w : WritesWhole from to limits whole tally before now) (out : List ℕ) → out ≡ w.text → Answers v (Ok out)
     answers_whole before now tally w out e =
@@ -124,15 +133,15 @@ module _ (from to : Form) (limits : Limits) (whole : List ℕ) (valid : AreLimit
     front_of : (before now : Outlet) → WritesFront from to limits whole before now → GainsFront before now (text_in v)
     front_of before now w =
         let so_far = w.so_far in
-        let first = begins from to limits whole so_far.rest so_far.units so_far.groups v valid so_far.held so_far.are_groups is_verdict in
+        let first = begins from to limits whole so_far.rest so_far.units so_far.convert.groups v valid so_far.held so_far.convert.are_groups so_far.convert.fine is_verdict in
         record {
           front = w.gains.front;
-          is_front = (w.gains.is_front.0 ++ first.0, first.1 ∙ ap (λ l. l ++ first.0) (sym so_far.is_text ∙ w.gains.is_front.1) ∙ append_assoc w.gains.front w.gains.is_front.0 first.0);
+          is_front = (w.gains.is_front.0 ++ first.0, first.1 ∙ ap (λ l. l ++ first.0) (sym so_far.convert.is_text ∙ w.gains.is_front.1) ∙ append_assoc w.gains.front w.gains.is_front.0 first.0);
           gains = w.gains.gains;
         }
 
-    pub carries_write : (before now : Outlet) → OutputFails before now → WritesFront from to limits whole before now → Stops v stops.Write before now × KeepsRefusal v states.Write
+    pub carries_write : (before now : Outlet) → OutputFails before now → WritesFront from to limits whole before now → Stops v stops.Write before now × KeepsWhy v states.Write
     carries_write before now fails w = stops_write before now v fails (front_of before now w)
 
-    pub carries_memory : (before now : Outlet) → WritesFront from to limits whole before now → Stops v stops.OutOfMemory before now × KeepsRefusal v states.OutOfMemory
+    pub carries_memory : (before now : Outlet) → WritesFront from to limits whole before now → Stops v stops.OutOfMemory before now × KeepsWhy v states.OutOfMemory
     carries_memory before now w = stops_memory before now v (front_of before now w)

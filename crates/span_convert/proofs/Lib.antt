@@ -1,6 +1,17 @@
+pub mod BatchLaws
+pub mod BatchProper
+pub mod BatchTargets
+pub mod BatchTexts
+pub mod BatchTimes
 pub mod CarryLemmas
+pub mod FrameLemmas
 pub mod OutputLaws
+pub mod RequestLaws
+pub mod RequestUnits
 pub mod SomeVerdict
+pub mod SourceLaws
+pub mod Sources
+pub mod TargetLaws
 pub mod TextLaws
 pub mod VerdictLaws
 pub mod WalkLemmas

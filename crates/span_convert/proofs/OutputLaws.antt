@@ -1,9 +1,8 @@
 -- The groups of an input are sound and proper, so that what is written for them is read back.
-use Rattle.std.proofs.Common.{ℕ, ◌<◌, ◌++◌, ◌∷◌, List, [], take, All, Bool, true, false, sym, subst}
+use Rattle.std.proofs.Common.{ℕ, ◌<◌, ◌++◌, ◌∷◌, List, [], take, Bool, true, false, sym, subst}
 use Rattle.std.specs.Prelude.{◌==◌, if◌then◌else◌}
-use Rattle.std.specs.List.{AllByRecursion}
 use Rattle.std.proofs.lemmas.List.Elements.{All-nil, All-cons, All-head, All-tail, All-take}
-use Rattle.span_io.specs.Frames.{ItemsThen}
+use Rattle.span_io.specs.Frames.{Framing, ItemsThen}
 use Rattle.span_io.specs.declared.form.Form.{Form}
 use Rattle.span_io.specs.declared.form.Form.TheVariants as forms
 use Rattle.span_io.specs.declared.limits.Limits.{Limits}
@@ -15,15 +14,16 @@ use Rattle.trace_model.specs.declared.remark.Remark.{Remark}
 use Rattle.trace_model.specs.declared.trace.Group.{Group}
 use Rattle.otlp_proto.specs.Group.{IsGroupText}
 use Rattle.otlp_proto.specs.Rows.{bytes_in}
+use Rattle.span_convert.specs.BatchFiles.{batches}
+use Rattle.thrift_binary.specs.Spelling.{spells}
+use Rattle.jaeger_model.specs.Batches.{IsBatchText}
+use Rattle.jaeger_model.specs.declared.batch.Batch.{Batch}
+use Rattle.map_jaeger.specs.Laws.{ReadIsSound}
+use Rattle.map_jaeger.specs.Reading.{group_of}
 use Rattle.span_convert.specs.Canonical.{IsProperTrace}
 use Rattle.span_convert.specs.Requests.{AreRequestUnits}
 use Rattle.span_convert.specs.Units.{HoldsUnits, IsUnitOf, AreGroups}
-
-abbrev pub AreBytes : List ℕ → Type 0
-AreBytes text = All (λ b. b < 256) text
-
-abbrev pub AllBytes : List (List ℕ) → Type 0
-AllBytes texts = AllByRecursion AreBytes texts
+use Rattle.span_convert.proofs.SourceLaws.{AreBytes, AllBytes}
 
 -- ---- the bytes of units are bytes of the input
 
@@ -35,12 +35,12 @@ pub last_bytes : (front behind : List ℕ) → AreBytes (front ++ behind) → Ar
 last_bytes [] behind all = all
 last_bytes (x ∷ front) behind all = last_bytes front behind (All-tail (λ b. b < 256) x (front ++ behind) all)
 
-frames_bytes : (limit : ℕ) (frames : List (List ℕ)) (rest text : List ℕ) → AreBytes text → ItemsThen records limit frames rest text → AllBytes frames
+frames_bytes : (F : Framing) (limit : ℕ) (frames : List (List ℕ)) (rest text : List ℕ) → AreBytes text → ItemsThen F limit frames rest text → AllBytes frames
 unfolding ItemsThen
-frames_bytes limit [] rest text all h = tt
-frames_bytes limit (f ∷ frames) rest text all h =
+frames_bytes F limit [] rest text all h = tt
+frames_bytes F limit (f ∷ frames) rest text all h =
     let parts : AreBytes (f ++ h.2) = subst AreBytes h.3 all in
-    (first_bytes f h.2 parts, frames_bytes limit frames rest h.2 (last_bytes f h.2 parts) h.4)
+    (first_bytes f h.2 parts, frames_bytes F limit frames rest h.2 (last_bytes f h.2 parts) h.4)
 
 held_bytes : (own : ℕ) (held : Held) (payload : List ℕ) → AreBytes payload → SpellsHeld payload held → AllBytes (bytes_in 1 (record { number = own; held = held }))
 held_bytes own (varint n) payload all h = tt
@@ -65,23 +65,27 @@ units_bytes [] units all h = subst AllBytes (sym h) tt
 units_bytes (f ∷ frames) units all h = subst AllBytes (sym h.3) (both_bytes (bytes_in 1 h.0) h.2 (record_bytes f h.0 all.0 h.1) (units_bytes frames h.2 all.1 h.4))
 
 pub held_units : (from : Form) (limits : Limits) (text : List ℕ) (units : List (List ℕ)) (rest : List ℕ) → AreBytes text → HoldsUnits from limits text units rest → AllBytes units
-held_units forms.OtlpProto limits text units rest all h = units_bytes h.frames units (frames_bytes limits.unit h.frames rest (take limits.binary text) (All-take (λ b. b < 256) limits.binary text all) h.framed) h.are_units
+held_units forms.OtlpProto limits text units rest all h = units_bytes h.frames units (frames_bytes records limits.unit h.frames rest (take limits.binary text) (All-take (λ b. b < 256) limits.binary text all) h.framed) h.are_units
+held_units forms.JaegerBinary limits text units rest all h = frames_bytes batches limits.unit units rest (take limits.binary text) (All-take (λ b. b < 256) limits.binary text all) h
 
 -- ---- their groups
 
-module _ (sound : (text : List ℕ) (g : Group) (r : List Remark) → IsGroupText g r text → IsSoundGroup g) where
-  sound_unit : (from : Form) (g : Group) (unit : List ℕ) → IsUnitOf from unit g → IsSoundGroup g
-  sound_unit forms.OtlpProto g unit h = sound unit g h.remarks h.text
+module _ (sound : (text : List ℕ) (g : Group) (r : List Remark) → IsGroupText g r text → IsSoundGroup g) (read : ReadIsSound) where
+  pub sound_unit : (from : Form) (unit : List ℕ) (g : Group) → IsUnitOf from unit g → IsSoundGroup g
+  sound_unit forms.OtlpProto unit g h = sound unit g h.remarks h.text
+  sound_unit forms.JaegerBinary unit g h = subst IsSoundGroup (sym h.means) (read h.batch)
 
   pub sound_groups : (from : Form) (units : List (List ℕ)) (groups : List Group) → AreGroups from units groups → IsSoundTrace groups
   sound_groups from [] [] h = All-nil IsSoundGroup
   sound_groups from [] (g ∷ groups) h = absurd h
   sound_groups from (unit ∷ units) [] h = absurd h
-  sound_groups from (unit ∷ units) (g ∷ groups) h = All-cons IsSoundGroup g groups (sound_unit from g unit h.0) (sound_groups from units groups h.1)
+  sound_groups from (unit ∷ units) (g ∷ groups) h = All-cons IsSoundGroup g groups (sound_unit from unit g h.0) (sound_groups from units groups h.1)
 
-module _ (proper : (text : List ℕ) (g : Group) (r : List Remark) → AreBytes text → IsGroupText g r text → IsProperGroup g) where
+module _ (proper : (text : List ℕ) (g : Group) (r : List Remark) → AreBytes text → IsGroupText g r text → IsProperGroup g)
+    (batch : (unit : List ℕ) (batch : Batch) → AreBytes unit → IsBatchText spells batch unit → IsProperGroup (group_of batch)) where
   proper_unit : (from : Form) (g : Group) (unit : List ℕ) → AreBytes unit → IsUnitOf from unit g → IsProperGroup g
   proper_unit forms.OtlpProto g unit all h = proper unit g h.remarks all h.text
+  proper_unit forms.JaegerBinary g unit all h = subst IsProperGroup (sym h.means) (batch unit h.batch all h.text)
 
   pub proper_groups : (from : Form) (units : List (List ℕ)) (groups : List Group) → AllBytes units → AreGroups from units groups → IsProperTrace groups
   proper_groups from [] [] all h = All-nil IsProperGroup

@@ -1,32 +1,37 @@
 -- Canonical text is read back as the trace that it was written for, and bytes are read as one trace at most.
-use Rattle.std.proofs.Common.{◌≡◌, ℕ, ◌+◌, ◌<◌, ◌≤◌, ◌^◌, ◌++◌, ◌∷◌, inl, inr, List, [], length, map, All, refl, ap, sym, ◌∙◌, subst, arith}
-use Rattle.std.proofs.lemmas.List.{append-nil, length-append, length-map, take_all}
+use Rattle.std.proofs.Common.{◌≡◌, ℕ, ◌+◌, ◌<◌, ◌≤◌, ◌^◌, ◌++◌, ◌∷◌, List, [], length, map, All, refl, ap, sym, subst, arith}
+use Rattle.std.proofs.lemmas.List.{length-append, length-map, take_all}
 use Rattle.std.proofs.lemmas.List.Elements.{All-nil, All-cons, All-head, All-tail}
 use Rattle.std.specs.List.{AllZip}
-use Rattle.span_io.specs.Frames.{ItemsThen, GoesOn, BeginsFrame}
+use Rattle.span_io.specs.Frames.{ItemsThen}
 use Rattle.span_io.specs.Limits.{AreLimits}
 use Rattle.span_io.specs.declared.form.Form.{Form}
 use Rattle.span_io.specs.declared.form.Form.TheVariants as forms
 use Rattle.span_io.specs.declared.limits.Limits.{Limits}
 use Rattle.span_io.specs.RowLaws.{all_zip_once}
 use Rattle.proto_wire.specs.Records.{Record, IsProper, bytes}
-use Rattle.proto_wire.specs.Wire.{SpellsRecord, records, record_text, opening_text}
+use Rattle.proto_wire.specs.Wire.{SpellsRecord, records, RefusedBy, record_text, opening_text}
 use Rattle.trace_model.specs.Proper.{IsProperGroup}
 use Rattle.trace_model.specs.Soundness.{IsSoundGroup, IsSoundTrace}
 use Rattle.trace_model.specs.declared.trace.Group.{Group}
 use Rattle.otlp_proto.specs.Group.{IsGroupText}
 use Rattle.otlp_proto.specs.Texts.{group_text, group_record}
-use Rattle.span_convert.specs.Canonical.{normal_form, Reads, ReadsPlainly, IsProperTrace, IsSized, IsWithin}
+use Rattle.map_jaeger.specs.Laws.{NormalForms}
+use Rattle.span_convert.specs.Canonical.{Reads, ReadsPlainly, IsProperTrace, IsFaultless, IsHeldBy, IsSized, IsWithin}
+use Rattle.span_convert.specs.InputLaws.{RequestLaws}
 use Rattle.span_convert.specs.Requests.{AreRequestUnits, IsRequestUnit, request_text, IsRequestWithin, ReadsRequest, ReadsRequestPlainly, IsPlainRequestUnit}
-use Rattle.span_convert.specs.Units.{trace_text, span_count}
+use Rattle.span_convert.specs.Units.{HasNoFault, normal_form, canonical_text, span_count}
 use Rattle.span_convert.specs.Verdicts.{IsGood, tally_of}
-use Rattle.span_convert.proofs.VerdictLaws as verdicts
+use Rattle.span_convert.proofs.BatchTexts.{WrittenLaws, ReadLaws, batches_back, batches_to_itself, batches_held, batches_again, batches_spans, batches_faultless, batches_normal, batches_plainly}
+use Rattle.span_convert.proofs.FrameLemmas.{same_items}
+use Rattle.span_convert.proofs.RequestLaws.{units_once, one_group}
 
 -- what the crates below say of texts
 pub record TextLaws : Type 0 where
   pub spelled : (r : Record) → IsProper r → SpellsRecord (record_text r) r
   pub opened : (number : ℕ) (held : List ℕ) → record_text (record { number = number; held = bytes held }) ≡ opening_text number (length held) ++ held
   pub again : (g : Group) → IsSoundGroup g → IsProperGroup g → length (group_record g) < 2 ^ 63 → IsGroupText g [] (group_text g)
+  pub batches : WrittenLaws
 
 -- the record of a unit
 pub unit_record : Group → Record
@@ -44,6 +49,11 @@ rest_within limit g groups h = omega (arith, length-append (group_record g) (req
 pub each_within : (limit : ℕ) (groups : List Group) → length (request_text groups) ≤ limit → All (λ g. length (group_record g) ≤ limit) groups
 each_within limit [] h = All-nil (λ g. length (group_record g) ≤ limit)
 each_within limit (g ∷ groups) h = All-cons (λ g. length (group_record g) ≤ limit) g groups (first_within limit g groups h) (each_within limit groups (rest_within limit g groups h))
+
+-- OTLP can hold each group
+request_fine : (groups : List Group) → IsFaultless forms.OtlpProto groups
+request_fine [] = All-nil (HasNoFault forms.OtlpProto)
+request_fine (g ∷ groups) = All-cons (HasNoFault forms.OtlpProto) g groups tt (request_fine groups)
 
 -- units without remarks are units
 remarked : (units : List (List ℕ)) (groups : List Group) → AllZip IsPlainRequestUnit units groups → AllZip IsRequestUnit units groups
@@ -99,8 +109,9 @@ module _ (L : TextLaws) where
         are_groups = plain_units (length (request_text groups)) groups sized all sound proper;
       }
 
-  pub read_back : (to : Form) (groups : List Group) → IsSoundTrace groups → IsProperTrace groups → IsSized to groups → ReadsPlainly to (trace_text to (normal_form to groups)) (normal_form to groups)
-  read_back forms.OtlpProto groups sound proper sized = request_read_back groups sound proper sized
+  pub read_back : (to : Form) (groups : List Group) → IsHeldBy to groups → IsSized to groups → ReadsPlainly to (canonical_text to groups) (normal_form to groups)
+  read_back forms.OtlpProto groups held sized = request_read_back groups held.sound held.proper sized
+  read_back forms.JaegerBinary groups held sized = batches_back L.batches groups held
 
   -- ---- canonical text converts to itself
 
@@ -116,27 +127,41 @@ module _ (L : TextLaws) where
           are_units = units_held limits.unit groups short within.units;
         };
         within = within.text;
-        groups = groups;
-        are_groups = remarked (map group_text groups) groups (plain_units limits.unit groups short within.units sound proper);
-        whole = refl;
+        convert = record {
+          groups = groups;
+          are_groups = remarked (map group_text groups) groups (plain_units limits.unit groups short within.units sound proper);
+          fine = request_fine groups;
+          is_text = refl;
+        };
         counts = ap (λ n. tally_of n (span_count groups)) (sym (length-map groups group_text));
       }
 
-  pub to_itself : (to : Form) (limits : Limits) (groups : List Group) → AreLimits limits → IsSoundTrace groups → IsProperTrace groups → IsWithin to limits groups
-      → IsGood to to limits (trace_text to groups) (trace_text to groups) (tally_of (length groups) (span_count groups))
-  to_itself forms.OtlpProto limits groups valid sound proper within = request_to_itself limits groups valid sound proper within
+  pub to_itself : (to : Form) (limits : Limits) (groups : List Group) → AreLimits limits → IsHeldBy to groups → IsWithin to limits groups
+      → IsGood to to limits (canonical_text to groups) (canonical_text to groups) (tally_of (length groups) (span_count groups))
+  to_itself forms.OtlpProto limits groups valid held within = request_to_itself limits groups valid held.sound held.proper within
+  to_itself forms.JaegerBinary limits groups valid held within = batches_to_itself L.batches limits groups held within
 
 -- ---- normal forms
 
-pub normal_again : (to : Form) (groups : List Group) → normal_form to (normal_form to groups) ≡ normal_form to groups
-normal_again forms.OtlpProto groups = refl
+pub normal_held : NormalForms → (to : Form) (groups : List Group) → IsHeldBy to groups → IsHeldBy to (normal_form to groups)
+normal_held N forms.OtlpProto groups held = held
+normal_held N forms.JaegerBinary groups held = batches_held N groups held
 
--- the canonical text of a trace is that of its normal form
-pub normal_text : (to : Form) (groups : List Group) → trace_text to (normal_form to groups) ≡ trace_text to groups
-normal_text forms.OtlpProto groups = refl
+pub normal_again : NormalForms → (to : Form) (groups : List Group) → IsHeldBy to groups → normal_form to (normal_form to groups) ≡ normal_form to groups
+normal_again N forms.OtlpProto groups held = refl
+normal_again N forms.JaegerBinary groups held = batches_again N groups held
 
-pub normal_read : (from : Form) (text : List ℕ) (groups : List Group) → Reads from text groups → normal_form from groups ≡ groups
-normal_read forms.OtlpProto text groups h = refl
+pub normal_spans : (to : Form) (groups : List Group) → span_count (normal_form to groups) ≡ span_count groups
+normal_spans forms.OtlpProto groups = refl
+normal_spans forms.JaegerBinary groups = batches_spans groups
+
+pub faultless_read : ReadLaws → (from : Form) (text : List ℕ) (groups : List Group) → Reads from text groups → IsFaultless from groups
+faultless_read L forms.OtlpProto text groups h = request_fine groups
+faultless_read L forms.JaegerBinary text groups h = batches_faultless L text groups h
+
+pub normal_read : ReadLaws → (from : Form) (text : List ℕ) (groups : List Group) → Reads from text groups → normal_form from groups ≡ groups
+normal_read L forms.OtlpProto text groups h = refl
+normal_read L forms.JaegerBinary text groups h = batches_normal L text groups h
 
 -- ---- bytes are read as one trace at most
 
@@ -146,25 +171,11 @@ request_reads_plainly text groups h = record { frames = h.frames; framed = h.fra
 
 pub reads_plainly : (to : Form) (text : List ℕ) (groups : List Group) → ReadsPlainly to text groups → Reads to text groups
 reads_plainly forms.OtlpProto text groups h = request_reads_plainly text groups h
+reads_plainly forms.JaegerBinary text groups h = batches_plainly text groups h
 
-module _ (L : verdicts.Laws) where
-  none_left : (limit n : ℕ) → BeginsFrame records limit n [] → ⊥
-  none_left limit n b = L.open_frame (limit + 1) n [] (L.empty (limit + 1) (omega arith)) (record { text = b.text; rest = b.rest; whole = b.whole; parts = b.parts; size = b.size; within = omega (arith, b.within) })
-
-  same_frames : (limit : ℕ) (text : List ℕ) (a b : List (List ℕ)) → ItemsThen records limit a [] text → ItemsThen records limit b [] text → a ≡ b
-  same_frames limit text a b h g = elim (L.walks limit text [] [] a b h g) as (λ w. a ≡ b) [
-    | inl w ↦ sym (ends a b w)
-    | inr w ↦ ends b a w
-  ]
-    where
-      ends : (a b : List (List ℕ)) → GoesOn records limit a b [] [] → b ≡ a
-      ends a b w = w.parts ∙ ap (λ (l : List (List ℕ)). a ++ l) (verdicts.no_frames L limit w.more [] [] (none_left limit) w.items_then).0 ∙ append-nil a
-
-  one_request : (text : List ℕ) (a b : List Group) → ReadsRequest text a → ReadsRequest text b → a ≡ b
+module _ (L : RequestLaws) where
+  pub one_request : (text : List ℕ) (a b : List Group) → ReadsRequest text a → ReadsRequest text b → a ≡ b
   one_request text a b h g =
-      let frames : h.frames ≡ g.frames = same_frames (length text) text h.frames g.frames h.framed g.framed in
-      let units : h.units ≡ g.units = verdicts.units_once L g.frames h.units g.units (subst (λ (l : List (List ℕ)). AreRequestUnits l h.units) frames h.are_units) g.are_units in
-      all_zip_once IsRequestUnit (verdicts.one_group L) g.units a b (subst (λ (l : List (List ℕ)). AllZip IsRequestUnit l a) units h.are_groups) g.are_groups
-
-  pub one_trace : (from : Form) (text : List ℕ) (a b : List Group) → Reads from text a → Reads from text b → a ≡ b
-  one_trace forms.OtlpProto text a b h g = one_request text a b h g
+      let frames : h.frames ≡ g.frames = same_items records RefusedBy L.step L.framing (length text) text h.frames g.frames h.framed g.framed in
+      let units : h.units ≡ g.units = units_once L g.frames h.units g.units (subst (λ (l : List (List ℕ)). AreRequestUnits l h.units) frames h.are_units) g.are_units in
+      all_zip_once IsRequestUnit (one_group L) g.units a b (subst (λ (l : List (List ℕ)). AllZip IsRequestUnit l a) units h.are_groups) g.are_groups

@@ -4,7 +4,7 @@ use Rattle.span_io.specs.Limits.{AreLimits}
 use Rattle.span_io.specs.Outside.{Outlet}
 use Rattle.span_io.specs.declared.form.Form.{Form}
 use Rattle.span_io.specs.declared.refusal.Refusal.{Refusal}
-use Rattle.span_convert.specs.Verdicts.{Verdict, good, refused, IsVerdict, IsJudged, WritesFront}
+use Rattle.span_convert.specs.Verdicts.{Verdict, good, refused, faulted, IsVerdict, IsJudged, WritesFront}
 use Rattle.span_convert.specs.declared.converter.Converter.{Converter}
 use Rattle.span_convert.specs.declared.converter.State.{State}
 use Rattle.span_convert.specs.declared.converter.State.TheVariants as states
@@ -12,12 +12,14 @@ use Rattle.span_convert.specs.declared.why.Why.{Why}
 use Rattle.span_convert.specs.declared.why.Why.TheVariants as whys
 use Rattle.span_convert.specs.declared.stop.Stop.{Stop}
 use Rattle.span_convert.specs.declared.stop.Stop.TheVariants as stops
+use Rattle.span_convert.specs.declared.target_fault.TargetFault.{TargetFault}
 
 -- the stop that was answered, if one was
 abbrev pub stop_in : State → Option Stop
 stop_in states.Open = None
 stop_in states.Ended = None
 stop_in (states.Refused refusal) = Some stops.Refused
+stop_in (states.Faulted found) = Some stops.Faulted
 stop_in states.Write = Some stops.Write
 stop_in states.OutOfMemory = Some stops.OutOfMemory
 
@@ -25,13 +27,23 @@ abbrev pub refusal_in : State → Option Refusal
 refusal_in states.Open = None
 refusal_in states.Ended = None
 refusal_in (states.Refused refusal) = Some refusal
+refusal_in (states.Faulted found) = None
 refusal_in states.Write = None
 refusal_in states.OutOfMemory = None
+
+abbrev pub fault_in : State → Option TargetFault
+fault_in states.Open = None
+fault_in states.Ended = None
+fault_in (states.Refused refusal) = None
+fault_in (states.Faulted found) = Some found
+fault_in states.Write = None
+fault_in states.OutOfMemory = None
 
 abbrev pub is_ended : State → Bool
 is_ended states.Open = false
 is_ended states.Ended = true
 is_ended (states.Refused refusal) = false
+is_ended (states.Faulted found) = false
 is_ended states.Write = false
 is_ended states.OutOfMemory = false
 
@@ -57,14 +69,18 @@ pub record Fed (c : Converter) (bytes : List ℕ) : Type 0 where
   pub within : length bytes ≤ c.limits.binary
   pub limits : AreLimits c.limits
 
--- the refusal that is kept is that of the verdict
-abbrev pub KeepsRefusal : Verdict → State → Type 0
-KeepsRefusal (good text tally) (states.Refused refusal) = ⊥
-KeepsRefusal (refused why text) (states.Refused refusal) = refusal ≡ why
-KeepsRefusal verdict states.Open = Unit {0}
-KeepsRefusal verdict states.Ended = Unit {0}
-KeepsRefusal verdict states.Write = Unit {0}
-KeepsRefusal verdict states.OutOfMemory = Unit {0}
+-- the refusal or fault that is kept is that of the verdict
+abbrev pub KeepsWhy : Verdict → State → Type 0
+KeepsWhy (good text tally) (states.Refused refusal) = ⊥
+KeepsWhy (good text tally) (states.Faulted found) = ⊥
+KeepsWhy (refused why text) (states.Refused refusal) = refusal ≡ why
+KeepsWhy (refused why text) (states.Faulted found) = ⊥
+KeepsWhy (faulted why text) (states.Refused refusal) = ⊥
+KeepsWhy (faulted why text) (states.Faulted found) = found ≡ why
+KeepsWhy verdict states.Open = Unit {0}
+KeepsWhy verdict states.Ended = Unit {0}
+KeepsWhy verdict states.Write = Unit {0}
+KeepsWhy verdict states.OutOfMemory = Unit {0}
 
 -- a call on a converter that had stopped answers the same, and changes nothing
 abbrev pub SameStop : {T : Type 0} → Option Stop → Result T Stop → Type 0 → Type 0
@@ -81,6 +97,7 @@ abbrev pub OnlyWants : {T : Type 0} → Result T Stop → Type 0
 OnlyWants (Ok x) = Unit {0}
 OnlyWants (Err stops.OutOfMemory) = Unit {0}
 OnlyWants (Err stops.Refused) = ⊥
+OnlyWants (Err stops.Faulted) = ⊥
 OnlyWants (Err stops.Write) = ⊥
 
 -- a call that didn't go on to the end
@@ -88,8 +105,8 @@ abbrev pub Stopped : {T : Type 0} → Result T Stop → (Stop → Type 0) → Ty
 Stopped (Ok x) P = ⊥
 Stopped (Err stop) P = P stop
 
-abbrev pub IsWhy : Why → Option Refusal → Type 0
-IsWhy whys.Nothing None = Unit {0}
-IsWhy whys.Nothing (Some refusal) = ⊥
-IsWhy (whys.Refusal kept) None = ⊥
-IsWhy (whys.Refusal kept) (Some refusal) = kept.now ≡ refusal
+-- what is told is the refusal or fault that is kept
+abbrev pub IsWhy : Why → State → Type 0
+IsWhy whys.Nothing state = (refusal_in state ≡ None) × (fault_in state ≡ None)
+IsWhy (whys.Refusal kept) state = refusal_in state ≡ Some kept.now
+IsWhy (whys.Fault kept) state = fault_in state ≡ Some kept.now

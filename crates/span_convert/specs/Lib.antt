@@ -1,5 +1,7 @@
+pub mod BatchFiles
 pub mod Canonical
 pub mod Converters
+pub mod InputLaws
 pub mod Requests
 pub mod Units
 pub mod Verdicts

@@ -1,6 +1,7 @@
--- What is to be said of an input in one form that is converted to another. Of its units the first that has a cause counts, or the
--- rest behind them all; what was written is then the text of the groups before.
-use Rattle.std.specs.Prelude.{◌≡◌, ℕ, ◌+◌, ◌≤◌, ◌⊎◌, min, List, [], ◌∷◌, ◌++◌, length, Result, Ok, Err}
+-- What is to be said of an input in one form that is converted to another. Of its units the first that has a cause counts,
+-- or whose group has a fault of the target, or the rest behind them all. In one unit a cause goes before a fault. What was
+-- written is then the text of the groups before.
+use Rattle.std.specs.Prelude.{◌≡◌, ℕ, ◌+◌, ◌≤◌, ◌⊎◌, min, List, [], ◌∷◌, ◌++◌, length, All, Result, Ok, Err}
 use Rattle.span_io.specs.Causes.{cause_number}
 use Rattle.span_io.specs.Offences.{Least}
 use Rattle.span_io.specs.Outside.{Outlet, Gains, GainsFront, OutputFails, last_count}
@@ -8,65 +9,84 @@ use Rattle.span_io.specs.declared.form.Form.{Form}
 use Rattle.span_io.specs.declared.limits.Limits.{Limits}
 use Rattle.span_io.specs.declared.refusal.Refusal.{Refusal}
 use Rattle.trace_model.specs.declared.trace.Group.{Group}
-use Rattle.span_convert.specs.Units.{HoldsUnits, AreGroups, UnitOffence, trace_text, span_count, RestCause}
+use Rattle.span_convert.specs.Units.{HoldsUnits, IsUnitOf, AreGroups, UnitOffence, RestCause}
+use Rattle.span_convert.specs.Units.{FaultOf, HasNoFault, canonical_text, span_count}
 use Rattle.span_convert.specs.declared.bad.Bad.{Bad}
 use Rattle.span_convert.specs.declared.bad.Bad.TheVariants as bads
 use Rattle.span_convert.specs.declared.stop.Stop.{Stop}
 use Rattle.span_convert.specs.declared.stop.Stop.TheVariants as stops
 use Rattle.span_convert.specs.declared.tally.Tally.{Tally}
+use Rattle.span_convert.specs.declared.target_fault.TargetFault.{TargetFault}
 
 pub data Verdict : Type 0 where
   -- the whole canonical text, and how many units and spans it has
   good : List ℕ → Tally → Verdict
   -- a refusal, and the text of the groups before
   refused : Refusal → List ℕ → Verdict
+  -- a fault of the target, and the text of the groups before
+  faulted : TargetFault → List ℕ → Verdict
 
 -- A count stands still at the end of its type.
 abbrev pub tally_of : ℕ → ℕ → Tally
 tally_of units spans = record { units = units; spans = min spans last_count }
 
--- all of the input is units that are texts of groups, and other frames
+-- the units are texts of groups in which nothing is a fault of the target, and this is the canonical text of the groups
+pub record ConvertTo (from to : Form) (units : List (List ℕ)) (text : List ℕ) : Type 0 where
+  pub groups : List Group
+  pub are_groups : AreGroups from units groups
+  pub fine : All (HasNoFault to) groups
+  pub is_text : text ≡ canonical_text to groups
+
+-- all of the input is units that convert to the text, and other frames
 pub record IsGood (from to : Form) (limits : Limits) (bytes text : List ℕ) (tally : Tally) : Type 0 where
   pub units : List (List ℕ)
   pub held : HoldsUnits from limits bytes units []
   pub within : length bytes ≤ limits.binary
-  pub groups : List Group
-  pub are_groups : AreGroups from units groups
-  pub whole : text ≡ trace_text to groups
-  pub counts : tally ≡ tally_of (length units) (span_count groups)
+  pub convert : ConvertTo from to units text
+  pub counts : tally ≡ tally_of (length units) (span_count convert.groups)
 
--- the units before this one are texts of groups, and it offends
+-- the units before this one convert to the text, and it offends
 pub record IsBadUnit (from to : Form) (limits : Limits) (bytes text : List ℕ) (refusal : Refusal) : Type 0 where
   pub before : List (List ℕ)
   pub unit : List ℕ
   pub rest : List ℕ
   pub held : HoldsUnits from limits bytes (before ++ unit ∷ []) rest
-  pub groups : List Group
-  pub are_groups : AreGroups from before groups
+  pub convert : ConvertTo from to before text
   pub cause : Least (UnitOffence from unit) (cause_number refusal.cause)
   pub number : refusal.unit ≡ length before + 1
-  pub partial : text ≡ trace_text to groups
 
--- the units are texts of groups, and behind them no frame begins
+-- the units before this one convert to the text, and it is a text of a group that has this fault
+pub record IsFaultedUnit (from to : Form) (limits : Limits) (bytes text : List ℕ) (found : TargetFault) : Type 0 where
+  pub before : List (List ℕ)
+  pub unit : List ℕ
+  pub rest : List ℕ
+  pub held : HoldsUnits from limits bytes (before ++ unit ∷ []) rest
+  pub convert : ConvertTo from to before text
+  pub group : Group
+  pub is_unit : IsUnitOf from unit group
+  pub fault : FaultOf to group found.fault
+  pub number : found.unit ≡ length before + 1
+
+-- the units convert to the text, and behind them no frame begins
 pub record IsBadRest (from to : Form) (limits : Limits) (bytes text : List ℕ) (refusal : Refusal) : Type 0 where
   pub units : List (List ℕ)
   pub rest : List ℕ
   pub held : HoldsUnits from limits bytes units rest
-  pub groups : List Group
-  pub are_groups : AreGroups from units groups
+  pub convert : ConvertTo from to units text
   pub cause : RestCause from limits (length bytes) rest refusal.cause
   pub number : refusal.unit ≡ length units + 1
-  pub partial : text ≡ trace_text to groups
 
 -- the verdict on these bytes, where they are converted from the one form to the other
 abbrev pub IsVerdict : Form → Form → Limits → List ℕ → Verdict → Type 0
 IsVerdict from to limits bytes (good text tally) = IsGood from to limits bytes text tally
 IsVerdict from to limits bytes (refused refusal text) = IsBadUnit from to limits bytes text refusal ⊎ IsBadRest from to limits bytes text refusal
+IsVerdict from to limits bytes (faulted found text) = IsFaultedUnit from to limits bytes text found
 
 -- what is written: the whole text, or that of the groups before
 abbrev pub text_in : Verdict → List ℕ
 text_in (good text tally) = text
 text_in (refused refusal text) = text
+text_in (faulted found text) = text
 
 -- ---- what calls answer and write
 
@@ -74,17 +94,16 @@ text_in (refused refusal text) = text
 abbrev pub IsJudged : {T : Type 0} → Form → Form → Limits → List ℕ → Result T Stop → Type 0
 IsJudged from to limits bytes (Ok x) = (verdict : Verdict) × IsVerdict from to limits bytes verdict
 IsJudged from to limits bytes (Err stops.Refused) = (verdict : Verdict) × IsVerdict from to limits bytes verdict
+IsJudged from to limits bytes (Err stops.Faulted) = (verdict : Verdict) × IsVerdict from to limits bytes verdict
 IsJudged from to limits bytes (Err stops.Write) = Unit {0}
 IsJudged from to limits bytes (Err stops.OutOfMemory) = Unit {0}
 
--- the text is that of the first units of the input
+-- the first units of the input convert to the text
 pub record IsTextSoFar (from to : Form) (limits : Limits) (bytes text : List ℕ) : Type 0 where
   pub units : List (List ℕ)
   pub rest : List ℕ
   pub held : HoldsUnits from limits bytes units rest
-  pub groups : List Group
-  pub are_groups : AreGroups from units groups
-  pub is_text : text ≡ trace_text to groups
+  pub convert : ConvertTo from to units text
 
 -- a front of such a text was written
 pub record WritesFront (from to : Form) (limits : Limits) (bytes : List ℕ) (before now : Outlet) : Type 0 where
@@ -95,7 +114,11 @@ pub record WritesFront (from to : Form) (limits : Limits) (bytes : List ℕ) (be
 -- how the verdict was carried out where a call stopped: whole, or the sink failed or memory was wanted, and a front was written
 abbrev pub Stops : Verdict → Stop → Outlet → Outlet → Type 0
 Stops (good text tally) stops.Refused before now = ⊥
+Stops (good text tally) stops.Faulted before now = ⊥
 Stops (refused refusal text) stops.Refused before now = Gains before now text
+Stops (refused refusal text) stops.Faulted before now = ⊥
+Stops (faulted found text) stops.Refused before now = ⊥
+Stops (faulted found text) stops.Faulted before now = Gains before now text
 Stops verdict stops.Write before now = OutputFails before now × GainsFront before now (text_in verdict)
 Stops verdict stops.OutOfMemory before now = GainsFront before now (text_in verdict)
 
@@ -103,6 +126,7 @@ Stops verdict stops.OutOfMemory before now = GainsFront before now (text_in verd
 abbrev pub Ends : Verdict → Tally → Outlet → Outlet → Type 0
 Ends (good text tally) counts before now = (counts ≡ tally) × Gains before now text
 Ends (refused refusal text) counts before now = ⊥
+Ends (faulted found text) counts before now = ⊥
 
 abbrev pub Carries : Verdict → Result Tally Stop → Outlet → Outlet → Type 0
 Carries verdict (Ok counts) before now = Ends verdict counts before now
@@ -112,11 +136,17 @@ Carries verdict (Err stop) before now = Stops verdict stop before now
 abbrev pub Answers : Verdict → Result (List ℕ) Bad → Type 0
 Answers (good text tally) (Ok out) = out ≡ text
 Answers (good text tally) (Err (bads.Refused refusal)) = ⊥
+Answers (good text tally) (Err (bads.Faulted found)) = ⊥
 Answers (refused why text) (Ok out) = ⊥
 Answers (refused why text) (Err (bads.Refused refusal)) = refusal ≡ why
+Answers (refused why text) (Err (bads.Faulted found)) = ⊥
+Answers (faulted why text) (Ok out) = ⊥
+Answers (faulted why text) (Err (bads.Refused refusal)) = ⊥
+Answers (faulted why text) (Err (bads.Faulted found)) = found ≡ why
 Answers verdict (Err bads.OutOfMemory) = Unit {0}
 
 abbrev pub IsAnswered : Form → Form → Limits → List ℕ → Result (List ℕ) Bad → Type 0
 IsAnswered from to limits bytes (Ok out) = (verdict : Verdict) × IsVerdict from to limits bytes verdict
 IsAnswered from to limits bytes (Err (bads.Refused refusal)) = (verdict : Verdict) × IsVerdict from to limits bytes verdict
+IsAnswered from to limits bytes (Err (bads.Faulted found)) = (verdict : Verdict) × IsVerdict from to limits bytes verdict
 IsAnswered from to limits bytes (Err bads.OutOfMemory) = Unit {0}

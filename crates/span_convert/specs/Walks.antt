@@ -1,8 +1,7 @@
--- The walk over the units of an input, of which no more bytes are looked at than its limit. One walk is there today: over an OTLP
--- request, of which it writes the text as an OTLP request.
-use Rattle.std.specs.Prelude.{◌≡◌, ◌≢◌, ℕ, ◌+◌, min, ◌<◌, ◌≤◌, ◌⊎◌, take, Bool, true, false, List, [], ◌∷◌, ◌++◌, length, Option, Some, None, Result, Ok, Err}
+-- The walk over the units of an input, of which no more bytes are looked at than its limit. It is one walk for all pairs of forms.
+use Rattle.std.specs.Prelude.{◌≡◌, ◌≢◌, ℕ, ◌+◌, min, ◌<◌, ◌≤◌, ◌⊎◌, take, Bool, true, false, List, [], ◌∷◌, ◌++◌, length, All, Option, Some, None, Result, Ok, Err}
 use Rattle.std.specs.Borrow.{Bor}
-use Rattle.std.specs.List.{AllZip}
+use Rattle.span_io.specs.Frames.{NeedsMore}
 use Rattle.span_io.specs.Outside.{Outlet, Gains, GainsFront, OutputFails, last_count}
 use Rattle.span_io.specs.declared.cause.Cause.{Cause}
 use Rattle.span_io.specs.declared.cause.Cause.TheVariants as causes
@@ -16,14 +15,14 @@ use Rattle.proto_wire.specs.Records.{Record}
 use Rattle.proto_wire.specs.Wire.{SpellsRecord, NeedsMoreBytes, IsRefusedAs}
 use Rattle.trace_model.specs.declared.trace.Group.{Group}
 use Rattle.otlp_proto.specs.Rows.{bytes_in}
-use Rattle.otlp_proto.specs.Texts.{group_record}
-use Rattle.span_convert.specs.Requests.{HoldsRequestUnits, IsRequestUnit, request_text}
-use Rattle.span_convert.specs.Units.{span_count}
-use Rattle.span_convert.specs.Verdicts.{tally_of, IsGood, IsBadUnit, IsBadRest, IsTextSoFar, WritesFront}
+use Rattle.span_convert.specs.BatchFiles.{batches, IsRefusedBatch, CutsBatch}
+use Rattle.span_convert.specs.Units.{HoldsUnits, IsUnitOf, HasNoFault, IsSizedGroup, unit_text, span_count}
+use Rattle.span_convert.specs.Verdicts.{tally_of, ConvertTo, IsGood, IsBadUnit, IsBadRest, IsFaultedUnit, IsTextSoFar, WritesFront}
 use Rattle.span_convert.specs.declared.progress.Progress.{Progress}
 use Rattle.span_convert.specs.declared.progress.WalkStop.{WalkStop}
 use Rattle.span_convert.specs.declared.progress.WalkStop.TheVariants as walk_stops
 use Rattle.span_convert.specs.declared.tally.Tally.{Tally}
+use Rattle.span_convert.specs.declared.target_fault.TargetFault.{TargetFault}
 
 -- ---- what is looked at
 
@@ -39,55 +38,81 @@ pub record IsLookedAt (limits : Limits) (whole looked : List ℕ) (too_long : Bo
 
 -- ---- one frame
 
--- the bytes that a record lends, if it is of a row
+-- the bytes that are lent, if there are any
 abbrev pub lent_bytes : Option (Bor (List ℕ)) → List (List ℕ)
 lent_bytes None = []
 lent_bytes (Some held) = held.now ∷ []
 
--- A frame stands at the front of the rest, the text of a record of at most `limit` bytes that holds these units: one or none.
-pub record CutsFrame (limit : ℕ) (rest : List ℕ) (units : List (List ℕ)) (behind : List ℕ) : Type 0 where
+-- A frame of a request stands at the front of the rest, the text of a record of at most `limit` bytes that holds these units.
+pub record CutsRecord (limit : ℕ) (rest : List ℕ) (units : List (List ℕ)) (behind : List ℕ) : Type 0 where
   pub frame : List ℕ
   pub this : Record
   pub spelled : SpellsRecord frame this
   pub within : length frame ≤ limit
   pub holds : bytes_in 1 this ≡ units
   pub parts : rest ≡ frame ++ behind
-  pub nearer : length behind < length rest
 
--- why no frame begins at a rest behind which the input has other bytes, or hasn't
-abbrev pub StopsFrames : ℕ → Bool → List ℕ → Cause → Type 0
-StopsFrames limit too_long rest cause =
+-- a frame of at most `limit` bytes stands at the front of the rest, and holds these units: one or none
+abbrev pub CutsFrame : Form → ℕ → List ℕ → List (List ℕ) → List ℕ → Type 0
+CutsFrame forms.OtlpProto limit rest units behind = CutsRecord limit rest units behind
+CutsFrame forms.JaegerBinary limit rest units behind = CutsBatch limit rest units behind
+
+-- why no record begins at a rest behind which the request has other bytes, or hasn't
+abbrev pub StopsRecords : ℕ → Bool → List ℕ → Cause → Type 0
+StopsRecords limit too_long rest cause =
     IsRefusedAs limit rest cause
     ⊎ NeedsMoreBytes limit rest × (
     (cause ≡ causes.InputTooLong) × (too_long ≡ true)
     ⊎ (cause ≡ causes.Truncated) × (too_long ≡ false) × (rest ≢ []))
 
+-- why no batch does
+abbrev pub StopsBatches : ℕ → Bool → List ℕ → Cause → Type 0
+StopsBatches limit too_long rest cause =
+    IsRefusedBatch limit rest cause
+    ⊎ NeedsMore batches limit rest × (
+    (cause ≡ causes.InputTooLong) × (too_long ≡ true)
+    ⊎ (cause ≡ causes.Truncated) × (too_long ≡ false) × (rest ≢ []))
+
+-- why no frame begins at a rest behind which the input has other bytes, or hasn't
+abbrev pub StopsFrames : Form → ℕ → Bool → List ℕ → Cause → Type 0
+StopsFrames forms.OtlpProto limit too_long rest cause = StopsRecords limit too_long rest cause
+StopsFrames forms.JaegerBinary limit too_long rest cause = StopsBatches limit too_long rest cause
+
 -- ---- what was converted so far
 
--- A walk came to this rest. What the sink gained, and then what isn't written yet, is the text of the groups before.
-pub record WalkedUnits (limits : Limits) (whole rest : List ℕ) (before now : Outlet) (progress : Progress) : Type 0 where
+-- A walk came to this rest. What the sink gained, and then what isn't written yet, is the text that the units before convert to.
+pub record WalkedUnits (from to : Form) (limits : Limits) (whole rest : List ℕ) (before now : Outlet) (progress : Progress) : Type 0 where
   pub units : List (List ℕ)
-  pub held : HoldsRequestUnits limits whole units rest
-  pub groups : List Group
-  pub are_groups : AllZip IsRequestUnit units groups
+  pub held : HoldsUnits from limits whole units rest
   pub written : List ℕ
   pub gains : Gains before now written
-  pub parts : request_text groups ≡ written ++ progress.unwritten
-  pub counts : progress.tally ≡ tally_of (length units) (span_count groups)
+  pub convert : ConvertTo from to units (written ++ progress.unwritten)
+  pub sized : All (IsSizedGroup to) convert.groups
+  pub counts : progress.tally ≡ tally_of (length units) (span_count convert.groups)
 
--- the unit is a text of a group, whose canonical text and spans were added
-pub record AddsUnit (unit : List ℕ) (before now : Progress) : Type 0 where
-  pub group : Group
-  pub is_unit : IsRequestUnit unit group
-  pub text : now.unwritten ≡ before.unwritten ++ group_record group
+-- the form can hold the group, whose canonical text was appended
+pub record WritesGroup (to : Form) (group : Group) (before now : List ℕ) : Type 0 where
+  pub fine : HasNoFault to group
+  pub sized : IsSizedGroup to group
+  pub text : now ≡ before ++ unit_text to group
+
+-- the same, and its spans were counted
+pub record AddsGroup (to : Form) (group : Group) (before now : Progress) : Type 0 where
+  pub writes : WritesGroup to group before.unwritten now.unwritten
   pub units : now.tally.units ≡ before.tally.units + 1
   pub spans : now.tally.spans ≡ min (before.tally.spans + span_count (group ∷ [])) last_count
 
--- the cause of a refusal, where there is one
-abbrev pub IfWhy : {T : Type 0} → Result T (Halt Cause) → (Cause → Type 0) → Type 0
+-- what is said of the cause or fault of a refusal, where there is one
+abbrev pub IfWhy : {T E : Type 0} → Result T (Halt E) → (E → Type 0) → Type 0
 IfWhy (Ok x) P = Unit {0}
-IfWhy (Err (halts.Why cause)) P = P cause
+IfWhy (Err (halts.Why why)) P = P why
 IfWhy (Err halts.OutOfMemory) P = Unit {0}
+
+-- the next frame holds the unit, which is a text of the group
+pub record IsNextUnit (from : Form) (limits : Limits) (rest behind : List ℕ) (group : Group) : Type 0 where
+  pub unit : List ℕ
+  pub cut : CutsFrame from limits.unit rest (unit ∷ []) behind
+  pub is_unit : IsUnitOf from unit group
 
 -- ---- how a walk ends
 
@@ -98,14 +123,23 @@ pub record WritesRefused (from to : Form) (limits : Limits) (whole : List ℕ) (
   pub so_far : IsTextSoFar from to limits whole text
   pub gains : Gains before now text
 
+-- the same before a fault of the target
+pub record WritesFaulted (from to : Form) (limits : Limits) (whole : List ℕ) (found : TargetFault) (before now : Outlet) : Type 0 where
+  pub text : List ℕ
+  pub is_faulted : IsFaultedUnit from to limits whole text found
+  pub so_far : IsTextSoFar from to limits whole text
+  pub gains : Gains before now text
+
 -- the whole text was written
 pub record WritesWhole (from to : Form) (limits : Limits) (whole : List ℕ) (tally : Tally) (before now : Outlet) : Type 0 where
   pub text : List ℕ
   pub is_good : IsGood from to limits whole text tally
+  pub sized : All (IsSizedGroup to) is_good.convert.groups
   pub gains : Gains before now text
 
 abbrev pub StopsWalk : Form → Form → Limits → List ℕ → WalkStop → Outlet → Outlet → Type 0
 StopsWalk from to limits whole (walk_stops.Refused refusal) before now = WritesRefused from to limits whole refusal before now
+StopsWalk from to limits whole (walk_stops.Faulted found) before now = WritesFaulted from to limits whole found before now
 StopsWalk from to limits whole walk_stops.Write before now = OutputFails before now × WritesFront from to limits whole before now
 StopsWalk from to limits whole walk_stops.OutOfMemory before now = WritesFront from to limits whole before now
 
@@ -113,15 +147,9 @@ abbrev pub EndsWalk : Form → Form → Limits → List ℕ → Result Tally Wal
 EndsWalk from to limits whole (Ok tally) before now = WritesWhole from to limits whole tally before now
 EndsWalk from to limits whole (Err stop) before now = StopsWalk from to limits whole stop before now
 
--- the same of a walk over a request
-abbrev pub StopsRequest : Limits → List ℕ → WalkStop → Outlet → Outlet → Type 0
-StopsRequest limits whole stop before now = StopsWalk forms.OtlpProto forms.OtlpProto limits whole stop before now
-
-abbrev pub EndsRequest : Limits → List ℕ → Result Tally WalkStop → Outlet → Outlet → Type 0
-EndsRequest limits whole result before now = EndsWalk forms.OtlpProto forms.OtlpProto limits whole result before now
-
--- what is written where a cause stops the walk
-abbrev pub WritesOut : WalkStop → Refusal → List ℕ → Outlet → Outlet → Type 0
-WritesOut (walk_stops.Refused refusal) why text before now = (refusal ≡ why) × Gains before now text
+-- what is written where a cause or a fault stops the walk
+abbrev pub WritesOut : WalkStop → WalkStop → List ℕ → Outlet → Outlet → Type 0
+WritesOut (walk_stops.Refused refusal) why text before now = (walk_stops.Refused refusal ≡ why) × Gains before now text
+WritesOut (walk_stops.Faulted found) why text before now = (walk_stops.Faulted found ≡ why) × Gains before now text
 WritesOut walk_stops.Write why text before now = OutputFails before now × GainsFront before now text
 WritesOut walk_stops.OutOfMemory why text before now = ⊥

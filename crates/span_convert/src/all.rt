@@ -65,7 +65,7 @@ pub fn convert_all(
     ensures judged { IsAnswered from to limits.now bytes.now result }
     ensures verdict { (verdict : Verdict) → IsVerdict from to limits.now bytes.now verdict → Answers verdict result }
 
-    // What is answered is read back as the input's trace.
+    // What is answered is read back as the normal form of the input's trace.
     ensures back { IfOk result (λ out. ReadsBack from to limits.now bytes.now out) }
 {
     one_verdict();
@@ -82,6 +82,7 @@ pub fn convert_all(
             Ok(out.text)
         }
         Err(WalkStop::Refused(refusal)) => Err(Bad::Refused(refusal)),
+        Err(WalkStop::Faulted(found)) => Err(Bad::Faulted(found)),
         Err(WalkStop::Write | WalkStop::OutOfMemory) => Err(Bad::OutOfMemory),
     }
 }

@@ -1,8 +1,10 @@
+use crate::target_fault::TargetFault;
 use span_io::Refusal;
 
 /// Why an input has no text in the target form.
-#[derive(Clone, Copy, Debug, PartialEq, Eq)]
+#[derive(Debug, Drop)]
 pub enum Bad {
     Refused(Refusal),
+    Faulted(TargetFault),
     OutOfMemory,
 }

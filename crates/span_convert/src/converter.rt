@@ -3,8 +3,8 @@ ghost use Rattle.std.specs.Prelude.{◌≡◌, ◌≢◌, ◌++◌, [], ℕ, Lis
 ghost use Rattle.span_io.specs.Limits.{AreLimits};
 ghost use Rattle.span_io.specs.Outside.{OutputFails};
 ghost use Rattle.span_convert.specs.Converters.{HasForms, IsVerdictBy, IsJudgedBy, WritesFrontBy};
-ghost use Rattle.span_convert.specs.Converters.{Fed, KeepsRefusal, SameStop, KeepsStop, OnlyWants, Stopped, IsWhy};
-ghost use Rattle.span_convert.specs.Converters.{stop_in, refusal_in, is_ended};
+ghost use Rattle.span_convert.specs.Converters.{Fed, KeepsWhy, SameStop, KeepsStop, OnlyWants, Stopped, IsWhy};
+ghost use Rattle.span_convert.specs.Converters.{stop_in, is_ended};
 ghost use Rattle.span_convert.specs.Verdicts.{Verdict, Carries, Stops};
 ghost use Rattle.span_convert.specs.Walks.{IsLookedAt};
 ghost use Rattle.span_convert.specs.declared.converter.State.TheVariants as states;
@@ -14,18 +14,20 @@ use crate::laws::one_verdict;
 use crate::progress::WalkStop;
 use crate::stop::Stop;
 use crate::tally::Tally;
+use crate::target_fault::TargetFault;
 use crate::walk::write_units;
 use crate::why::Why;
 use span_io::{Blob, Form, Limits, OutOfMemory, Refusal, Sink};
 use std::alloc::Global;
 
 /// How far a converter has come.
-#[derive(Clone, Copy, Debug, PartialEq, Eq)]
+#[derive(Debug, Drop)]
 enum State {
     Open,
     /// The whole text was written.
     Ended,
     Refused(Refusal),
+    Faulted(TargetFault),
     Write,
     OutOfMemory,
 }
@@ -38,6 +40,7 @@ impl State {
         match self {
             State::Open | State::Ended => None,
             State::Refused(_) => Some(Stop::Refused),
+            State::Faulted(_) => Some(Stop::Faulted),
             State::Write => Some(Stop::Write),
             State::OutOfMemory => Some(Stop::OutOfMemory),
         }
@@ -100,7 +103,7 @@ impl Converter {
             → IsJudgedBy self.old whole result }
         ensures verdict { (whole : List ℕ) → AreLimits self.old.limits → IsLookedAt self.old.limits whole self.old.held too_long
             → (verdict : Verdict) → IsVerdictBy self.old whole verdict
-            → Carries verdict result (K.outlet out.old) (K.outlet out.new) × KeepsRefusal verdict self.new.state }
+            → Carries verdict result (K.outlet out.old) (K.outlet out.new) × KeepsWhy verdict self.new.state }
         ensures front { (whole : List ℕ) → IsLookedAt self.old.limits whole self.old.held too_long
             → WritesFrontBy self.old whole (K.outlet out.old) (K.outlet out.new) }
         ensures fails { result ≡ Err stops.Write → OutputFails (K.outlet out.old) (K.outlet out.new) }
@@ -127,6 +130,10 @@ impl Converter {
                 self.state = State::Refused(refusal);
                 Err(Stop::Refused)
             }
+            Err(WalkStop::Faulted(found)) => {
+                self.state = State::Faulted(found);
+                Err(Stop::Faulted)
+            }
             Err(WalkStop::Write) => {
                 self.state = State::Write;
                 Err(Stop::Write)
@@ -152,7 +159,7 @@ impl Converter {
             → IsLookedAt self.old.limits whole (self.old.held ++ piece.now) true
             → (verdict : Verdict) → IsVerdictBy self.old whole verdict
             → Stopped result (λ stop. Stops verdict stop (K.outlet out.old) (K.outlet out.new))
-            × KeepsRefusal verdict self.new.state }
+            × KeepsWhy verdict self.new.state }
         ensures front { (whole : List ℕ) → IsLookedAt self.old.limits whole (self.old.held ++ piece.now) true
             → WritesFrontBy self.old whole (K.outlet out.old) (K.outlet out.new) }
         ensures fails { result ≡ Err stops.Write → OutputFails (K.outlet out.old) (K.outlet out.new) }
@@ -182,13 +189,13 @@ impl Converter {
             → OnlyWants result × (out.new ≡ out.old) }
         ensures fed { (bytes : List ℕ) → Fed self.old bytes → OnOk result (Fed self.new (bytes ++ piece.now)) }
 
-        // Beyond it the verdict on all bytes so far is carried out, which is a refusal.
+        // Beyond it the verdict on all bytes so far is carried out, which is a refusal or a fault.
         ensures beyond { (bytes : List ℕ) → Fed self.old bytes → self.old.limits.binary < length (bytes ++ piece.now)
             → Stopped result (λ stop. IsJudgedBy {T = Unit} self.old (bytes ++ piece.now) (Err stop)) }
         ensures verdict { (bytes : List ℕ) → Fed self.old bytes → self.old.limits.binary < length (bytes ++ piece.now)
             → (verdict : Verdict) → IsVerdictBy self.old (bytes ++ piece.now) verdict
             → Stopped result (λ stop. Stops verdict stop (K.outlet out.old) (K.outlet out.new))
-            × KeepsRefusal verdict self.new.state }
+            × KeepsWhy verdict self.new.state }
 
         // Whatever is answered, a front of the text of the first units was written.
         ensures front { (bytes : List ℕ) → Fed self.old bytes
@@ -224,7 +231,7 @@ impl Converter {
         // The verdict on all bytes is carried out.
         ensures judged { (bytes : List ℕ) → Fed self.old bytes → IsJudgedBy self.old bytes result }
         ensures verdict { (bytes : List ℕ) → Fed self.old bytes → (verdict : Verdict) → IsVerdictBy self.old bytes verdict
-            → Carries verdict result (K.outlet out.old) (K.outlet out.new) × KeepsRefusal verdict self.new.state }
+            → Carries verdict result (K.outlet out.old) (K.outlet out.new) × KeepsWhy verdict self.new.state }
         ensures front { (bytes : List ℕ) → Fed self.old bytes
             → WritesFrontBy self.old bytes (K.outlet out.old) (K.outlet out.new) }
         ensures fails { stop_in self.old.state ≡ None → result ≡ Err stops.Write
@@ -248,12 +255,13 @@ impl Converter {
         matches!(self.state, State::Ended)
     }
 
-    /// The refusal, if one was answered.
+    /// The refusal or fault, if one was answered.
     pub fn why(&self) -> Why<'_>
-        ensures { IsWhy result (refusal_in self.now.state) }
+        ensures { IsWhy result self.now.state }
     {
         match &self.state {
             State::Refused(refusal) => Why::Refusal(refusal),
+            State::Faulted(found) => Why::Fault(found),
             _ => Why::Nothing,
         }
     }

@@ -3,12 +3,16 @@
 
 mod all;
 mod bad;
+mod batch_file;
+mod batch_writer;
 mod converter;
-mod frames;
 pub mod laws;
 mod progress;
+mod request;
 mod stop;
 mod tally;
+mod target_fault;
+mod units;
 mod walk;
 mod why;
 
@@ -17,6 +21,7 @@ pub use bad::Bad;
 pub use converter::Converter;
 pub use stop::Stop;
 pub use tally::Tally;
+pub use target_fault::TargetFault;
 pub use why::Why;
 
 #[cfg(test)]

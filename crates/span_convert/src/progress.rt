@@ -1,23 +1,23 @@
 //! What a walk over the units of an input has converted so far.
 ghost use Rattle.std.specs.Prelude.{◌≡◌, ◌≢◌, ◌+◌, ◌<◌, min, [], ◌∷◌, ℕ, List, ◌++◌, length, IfOk, IsOk, OnOk, OnErr, IsTrue, Err};
-ghost use Rattle.span_io.specs.Causes.{cause_number};
-ghost use Rattle.span_io.specs.Offences.{Offence, Least};
 ghost use Rattle.span_io.specs.Outside.{Gains, GainsFront, OutputFails, last_count};
-ghost use Rattle.proto_wire.specs.Messages.{messages};
-ghost use Rattle.otlp_proto.specs.Group.{group_rules};
-ghost use Rattle.span_convert.specs.Units.{span_count};
-ghost use Rattle.span_convert.specs.Walks.{AddsUnit, IfWhy, WritesOut};
+ghost use Rattle.trace_model.specs.Soundness.{IsSoundGroup};
+ghost use Rattle.span_convert.specs.Units.{FaultOf, span_count};
+ghost use Rattle.span_convert.specs.Walks.{AddsGroup, IfWhy, WritesOut};
 
 use crate::tally::Tally;
-use otlp_proto::{read_group, write_group};
+use crate::target_fault::TargetFault;
+use crate::units::UnitWriter;
 use span_io::{Blob, Cause, Failed, Halt, Refusal, Sink, write_all};
 use std::alloc::Global;
-use trace_model::Group;
+use trace_model::{Fault, Group};
 
 /// Why a walk goes no further.
-#[derive(Clone, Copy, Debug, PartialEq, Eq)]
+#[derive(Debug, Drop)]
 pub(crate) enum WalkStop {
     Refused(Refusal),
+    /// The target can't hold a unit.
+    Faulted(TargetFault),
     /// The sink failed.
     Write,
     OutOfMemory,
@@ -58,17 +58,20 @@ impl Progress {
         self.unwritten.len()
     }
 
-    /// Adds the canonical text of a unit, and counts the unit and its spans.
-    pub(crate) fn add_unit(&mut self, alloc: Global, unit: &[u8]) -> Result<(), Halt<Cause>>
-        requires { self.old.tally.units < last_count }
-        ensures ok { OnOk result (AddsUnit unit.now self.old self.new) }
-        ensures why { IfWhy result (λ cause.
-            Least (Offence messages group_rules unit.now) (cause_number cause) × (self.new ≡ self.old)) }
+    /// Adds the canonical text of a unit's group, and counts the unit and its spans.
+    pub(crate) fn add_group<W: UnitWriter>(
+        &mut self,
+        alloc: Global,
+        group: &Group,
+    ) -> Result<(), Halt<Fault>>
+        requires room { self.old.tally.units < last_count }
+        requires sound { IsSoundGroup group.now }
+        ensures ok { OnOk result (AddsGroup W.form group.now self.old self.new) }
+        ensures why { IfWhy result (λ fault. FaultOf W.form group.now fault × (self.new ≡ self.old)) }
     {
-        let (group, _remarks) = read_group(alloc, unit)?;
-        write_group(&mut self.unwritten, &group)?;
+        W::write(alloc, &mut self.unwritten, group)?;
         self.tally.units += 1;
-        self.tally.spans = self.tally.spans.saturating_add(spans_in(&group));
+        self.tally.spans = self.tally.spans.saturating_add(spans_in(group));
         Ok(())
     }
 
@@ -103,20 +106,42 @@ impl Progress {
         }
     }
 
+    // The number of the next unit.
+    fn next_unit(&self) -> u64
+        requires { self.now.tally.units < last_count }
+        ensures { result ≡ self.now.tally.units + 1 }
+    {
+        self.tally.units + 1
+    }
+
     /// Writes the last text, behind which the input is refused.
     pub(crate) fn refuse<K: Sink>(&mut self, cause: Cause, out: &mut K) -> WalkStop
         requires { self.old.tally.units < last_count }
-        ensures written { WritesOut result (record { unit = self.old.tally.units + 1; cause = cause })
+        ensures written { WritesOut result (WalkStop.Refused (record { unit = self.old.tally.units + 1; cause = cause }))
             self.old.unwritten (K.outlet out.old) (K.outlet out.new) }
         ensures quiet { result ≢ WalkStop.Write → (K.outlet out.new).faults ≡ (K.outlet out.old).faults }
         ensures answers { IsTrue (K.outlet out.old).steady → result ≢ WalkStop.Write }
         ensures steady { (K.outlet out.new).steady ≡ (K.outlet out.old).steady }
     {
+        let unit = self.next_unit();
         match self.flush(out) {
-            Ok(()) => WalkStop::Refused(Refusal {
-                unit: self.tally.units + 1,
-                cause,
-            }),
+            Ok(()) => WalkStop::Refused(Refusal { unit, cause }),
+            Err(Failed) => WalkStop::Write,
+        }
+    }
+
+    /// Writes the last text, behind which the target can't hold the next unit.
+    pub(crate) fn stop_at_fault<K: Sink>(&mut self, fault: Fault, out: &mut K) -> WalkStop
+        requires { self.old.tally.units < last_count }
+        ensures written { WritesOut result (WalkStop.Faulted (record { unit = self.old.tally.units + 1; fault = fault }))
+            self.old.unwritten (K.outlet out.old) (K.outlet out.new) }
+        ensures quiet { result ≢ WalkStop.Write → (K.outlet out.new).faults ≡ (K.outlet out.old).faults }
+        ensures answers { IsTrue (K.outlet out.old).steady → result ≢ WalkStop.Write }
+        ensures steady { (K.outlet out.new).steady ≡ (K.outlet out.old).steady }
+    {
+        let unit = self.next_unit();
+        match self.flush(out) {
+            Ok(()) => WalkStop::Faulted(TargetFault { unit, fault }),
             Err(Failed) => WalkStop::Write,
         }
     }

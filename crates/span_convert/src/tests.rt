@@ -57,7 +57,7 @@ fn convert_pieces(
 fn refusal_of(converter: &Converter) -> Option<Refusal> {
     match converter.why() {
         Why::Refusal(refusal) => Some(*refusal),
-        Why::Nothing => None,
+        Why::Fault(_) | Why::Nothing => None,
     }
 }
 

@@ -1,27 +1,33 @@
 //! The walk over the units of an input, which writes the text of each.
-ghost use Rattle.std.specs.Prelude.{◌≡◌, ◌≢◌, ◌≤◌, ◌+◌, ◌<◌, ℕ, List, true, OnOk, IfErr, IsErr, IsTrue, Err};
+ghost use Rattle.std.specs.Prelude.{◌≡◌, ◌≢◌, ◌≤◌, ◌+◌, ◌<◌, ℕ, List, true, OnOk, IfErr, IfSome, IsErr, IsTrue, Err};
 ghost use Rattle.span_io.specs.Outside.{Outlet, OutputFails, last_count};
+ghost use Rattle.span_io.specs.declared.form.Form.{Form};
 ghost use Rattle.span_io.specs.declared.limits.Limits.{Limits};
-ghost use Rattle.span_convert.specs.Walks.{lent_bytes, IsLookedAt, CutsFrame, WalkedUnits, StopsRequest, EndsRequest, EndsWalk};
+ghost use Rattle.trace_model.specs.Soundness.{IsSoundGroup};
+ghost use Rattle.span_convert.specs.Units.{FrameTells};
+ghost use Rattle.span_convert.specs.Walks.{lent_bytes, IsLookedAt, CutsFrame, IsNextUnit, WalkedUnits, StopsWalk, EndsWalk};
 
-use crate::frames::{Cut, next_frame};
+use crate::batch_file::BatchFile;
 use crate::progress::{Progress, WalkStop};
+use crate::request::Request;
 use crate::tally::Tally;
+use crate::units::{Cut, UnitReader, UnitWriter};
 use span_io::laws::gains_then;
 use span_io::{Failed, Form, Halt, Limits, Sink};
 use std::alloc::Global;
+use trace_model::Group;
 
 /// So many bytes of text, or more, are written at once.
 const FULL: usize = 65_536;
 
 // Writes what was converted, once it is much.
 fn write_full<K: Sink>(progress: &mut Progress, out: &mut K) -> Result<(), WalkStop>
-    ensures ok { OnOk result ((limits : Limits) (whole rest : List ℕ) (before : Outlet)
-        → WalkedUnits limits whole rest before (K.outlet out.old) progress.old
-        → WalkedUnits limits whole rest before (K.outlet out.new) progress.new) }
-    ensures stop { IfErr result (λ stop. (limits : Limits) (whole rest : List ℕ) (before : Outlet)
-        → WalkedUnits limits whole rest before (K.outlet out.old) progress.old
-        → StopsRequest limits whole stop before (K.outlet out.new)) }
+    ensures ok { OnOk result ((from to : Form) (limits : Limits) (whole rest : List ℕ) (before : Outlet)
+        → WalkedUnits from to limits whole rest before (K.outlet out.old) progress.old
+        → WalkedUnits from to limits whole rest before (K.outlet out.new) progress.new) }
+    ensures stop { IfErr result (λ stop. (from to : Form) (limits : Limits) (whole rest : List ℕ) (before : Outlet)
+        → WalkedUnits from to limits whole rest before (K.outlet out.old) progress.old
+        → StopsWalk from to limits whole stop before (K.outlet out.new)) }
     ensures units { OnOk result (progress.new.tally.units ≡ progress.old.tally.units) }
     ensures fails { result ≡ Err WalkStop.Write → OutputFails (K.outlet out.old) (K.outlet out.new) }
     ensures quiet { result ≢ Err WalkStop.Write → (K.outlet out.new).faults ≡ (K.outlet out.old).faults }
@@ -38,22 +44,54 @@ fn write_full<K: Sink>(progress: &mut Progress, out: &mut K) -> Result<(), WalkS
     }
 }
 
+// Converts the group of a unit.
+fn convert_group<W: UnitWriter, K: Sink>(
+    progress: &mut Progress,
+    alloc: Global,
+    group: &Group,
+    out: &mut K,
+) -> Result<(), WalkStop>
+    requires room { progress.old.tally.units < last_count }
+    requires sound { IsSoundGroup group.now }
+    ensures ok { OnOk result ((from : Form) (limits : Limits) (whole rest behind : List ℕ) (before : Outlet)
+        → IsNextUnit from limits rest behind group.now
+        → WalkedUnits from W.form limits whole rest before (K.outlet out.old) progress.old
+        → WalkedUnits from W.form limits whole behind before (K.outlet out.new) progress.new) }
+    ensures stop { IfErr result (λ stop. (from : Form) (limits : Limits) (whole rest behind : List ℕ) (before : Outlet)
+        → IsNextUnit from limits rest behind group.now
+        → WalkedUnits from W.form limits whole rest before (K.outlet out.old) progress.old
+        → StopsWalk from W.form limits whole stop before (K.outlet out.new)) }
+    ensures units { OnOk result (progress.new.tally.units ≤ progress.old.tally.units + 1) }
+    ensures fails { result ≡ Err WalkStop.Write → OutputFails (K.outlet out.old) (K.outlet out.new) }
+    ensures quiet { result ≢ Err WalkStop.Write → (K.outlet out.new).faults ≡ (K.outlet out.old).faults }
+    ensures answers { IsTrue (K.outlet out.old).steady → result ≢ Err WalkStop.Write }
+    ensures steady { (K.outlet out.new).steady ≡ (K.outlet out.old).steady }
+{
+    gains_then();
+    match progress.add_group::<W>(alloc, group) {
+        Ok(()) => write_full(progress, out),
+        Err(Halt::Why(fault)) => Err(progress.stop_at_fault(fault, out)),
+        Err(Halt::OutOfMemory) => Err(WalkStop::OutOfMemory),
+    }
+}
+
 // Converts a frame that was cut from a rest.
-fn convert_frame<K: Sink>(
+fn convert_frame<R: UnitReader, W: UnitWriter, K: Sink>(
     progress: &mut Progress,
     alloc: Global,
     cut: &Cut<'_>,
     out: &mut K,
 ) -> Result<(), WalkStop>
-    requires { progress.old.tally.units < last_count }
+    requires room { progress.old.tally.units < last_count }
+    requires framed { IfSome cut.now.unit (λ unit. FrameTells R.form unit.now) }
     ensures ok { OnOk result ((limits : Limits) (whole rest : List ℕ) (before : Outlet)
-        → CutsFrame limits.unit rest (lent_bytes cut.now.unit) cut.now.behind.now
-        → WalkedUnits limits whole rest before (K.outlet out.old) progress.old
-        → WalkedUnits limits whole cut.now.behind.now before (K.outlet out.new) progress.new) }
+        → CutsFrame R.form limits.unit rest (lent_bytes cut.now.unit) cut.now.behind.now
+        → WalkedUnits R.form W.form limits whole rest before (K.outlet out.old) progress.old
+        → WalkedUnits R.form W.form limits whole cut.now.behind.now before (K.outlet out.new) progress.new) }
     ensures stop { IfErr result (λ stop. (limits : Limits) (whole rest : List ℕ) (before : Outlet)
-        → CutsFrame limits.unit rest (lent_bytes cut.now.unit) cut.now.behind.now
-        → WalkedUnits limits whole rest before (K.outlet out.old) progress.old
-        → StopsRequest limits whole stop before (K.outlet out.new)) }
+        → CutsFrame R.form limits.unit rest (lent_bytes cut.now.unit) cut.now.behind.now
+        → WalkedUnits R.form W.form limits whole rest before (K.outlet out.old) progress.old
+        → StopsWalk R.form W.form limits whole stop before (K.outlet out.new)) }
     ensures units { OnOk result (progress.new.tally.units ≤ progress.old.tally.units + 1) }
     ensures fails { result ≡ Err WalkStop.Write → OutputFails (K.outlet out.old) (K.outlet out.new) }
     ensures quiet { result ≢ Err WalkStop.Write → (K.outlet out.new).faults ≡ (K.outlet out.old).faults }
@@ -64,15 +102,15 @@ fn convert_frame<K: Sink>(
     let Some(unit) = cut.unit else {
         return Ok(());
     };
-    match progress.add_unit(alloc, unit) {
-        Ok(()) => write_full(progress, out),
+    match R::read(alloc, unit) {
+        Ok(group) => convert_group::<W, K>(progress, alloc, &group, out),
         Err(Halt::Why(cause)) => Err(progress.refuse(cause, out)),
         Err(Halt::OutOfMemory) => Err(WalkStop::OutOfMemory),
     }
 }
 
-// Writes an OTLP request of the units of an OTLP request, of which these bytes are looked at.
-fn write_request<K: Sink>(
+// Writes the units of an input, of which these bytes are looked at.
+fn walk_units<R: UnitReader, W: UnitWriter, K: Sink>(
     alloc: Global,
     bytes: &[u8],
     too_long: bool,
@@ -80,7 +118,7 @@ fn write_request<K: Sink>(
     out: &mut K,
 ) -> Result<Tally, WalkStop>
     ensures walk { (whole : List ℕ) → IsLookedAt limits.now whole bytes.now too_long
-        → EndsRequest limits.now whole result (K.outlet out.old) (K.outlet out.new) }
+        → EndsWalk R.form W.form limits.now whole result (K.outlet out.old) (K.outlet out.new) }
     ensures fails { result ≡ Err WalkStop.Write → OutputFails (K.outlet out.old) (K.outlet out.new) }
     ensures quiet { result ≢ Err WalkStop.Write → (K.outlet out.new).faults ≡ (K.outlet out.old).faults }
     ensures answers { IsTrue (K.outlet out.old).steady → result ≢ Err WalkStop.Write }
@@ -91,9 +129,9 @@ fn write_request<K: Sink>(
     let mut progress = Progress::none(alloc);
     let mut rest = bytes;
     'frames: loop {
-        match next_frame(rest, limits.unit, too_long) {
+        match R::next_frame(rest, limits.unit, too_long) {
             Ok(Some(cut)) => {
-                convert_frame(&mut progress, alloc, &cut, out)?;
+                convert_frame::<R, W, K>(&mut progress, alloc, &cut, out)?;
                 rest = cut.behind;
             }
             Ok(None) => return progress.finish(out),
@@ -121,6 +159,17 @@ pub(crate) fn write_units<K: Sink>(
     ensures long { too_long ≡ true → IsErr result }
 {
     match (from, to) {
-        (Form::OtlpProto, Form::OtlpProto) => write_request(alloc, bytes, too_long, limits, out),
+        (Form::OtlpProto, Form::OtlpProto) => {
+            walk_units::<Request, Request, K>(alloc, bytes, too_long, limits, out)
+        }
+        (Form::OtlpProto, Form::JaegerBinary) => {
+            walk_units::<Request, BatchFile, K>(alloc, bytes, too_long, limits, out)
+        }
+        (Form::JaegerBinary, Form::OtlpProto) => {
+            walk_units::<BatchFile, Request, K>(alloc, bytes, too_long, limits, out)
+        }
+        (Form::JaegerBinary, Form::JaegerBinary) => {
+            walk_units::<BatchFile, BatchFile, K>(alloc, bytes, too_long, limits, out)
+        }
     }
 }

@@ -1,8 +1,10 @@
+use crate::target_fault::TargetFault;
 use span_io::Refusal;
 
-/// What a converter refused.
+/// What a converter refused, or its target can't hold.
 #[derive(Clone, Copy, Debug)]
 pub enum Why<'a> {
     Nothing,
     Refusal(&'a Refusal),
+    Fault(&'a TargetFault),
 }

@@ -1,8 +1,11 @@
-use Rattle.std.proofs.Common.{◌≡◌, ℕ, Option, Some, None, refl, sym, subst, ◌∙◌}
+use Rattle.std.proofs.Common.{◌≡◌, ℕ, List, Option, Some, None, refl, sym, subst, ◌∙◌}
+use Rattle.std.specs.Prelude.{IfSome}
+use Rattle.span_convert.specs.Verdicts.{text_in}
 use Rattle.span_cli.specs.declared.command.Command.{Command}
 use Rattle.span_cli.specs.declared.command.Command.TheVariants.{Convert}
-use Rattle.span_cli.specs.Verdicts.{IsRunStatus}
-use Rattle.span_cli.proofs.EndingLaws.{never_usage, is_status}
+use Rattle.span_cli.specs.Verdicts.{OnVerdict, IsRunStatus, IsJudgedAt, AgreesWith, Writes, Notes, stage_of, status_of, line_of}
+use Rattle.span_cli.proofs.CommandLemmas.{command_read}
+use Rattle.span_cli.proofs.EndingLaws.{never_usage, is_status, on_verdict}
 use Rattle.span_cli.proofs.top.run.Goals as goal
 
 pub returns-clause-usage : goal.returns-clause-usage
@@ -16,3 +19,33 @@ returns-clause-statuses g c = subst (λ (status : ℕ). IsRunStatus status) (sym
 
 pub returns-in_default-clause-front : goal.returns-in_default-clause-front
 returns-in_default-clause-front g c = λ from to spelled. absurd (let h : ◌≡◌ {A = Option Command} None (Some (Convert from to)) = sym c.in_default.is ∙ (c.read_words.ensures (Convert from to)).1 spelled in cc)
+
+pub returns-clause-front : goal.returns-clause-front
+returns-clause-front g c = λ from to spelled.
+    let same = command_read c.in-Some.command (Convert from to) ((c.in-Some.ensures (Convert from to)).1 spelled) in
+    (rw same at c.convert-ending.ensures).front
+
+pub returns-clause-judged : goal.returns-clause-judged
+returns-clause-judged g c = λ from to spelled.
+    let same = command_read c.in-Some.command (Convert from to) ((c.in-Some.ensures (Convert from to)).1 spelled) in
+    subst (λ (status : ℕ). IfSome (g.S.Source.inlet c.args.input.now).left (IsJudgedAt from to (stage_of status))) (sym c.status.ensures) (rw same at c.convert-ending.ensures).judged
+
+pub returns-clause-verdict : goal.returns-clause-verdict
+returns-clause-verdict g c = λ from to spelled.
+    let same = command_read c.in-Some.command (Convert from to) ((c.in-Some.ensures (Convert from to)).1 spelled) in
+    subst (λ (status : ℕ). OnVerdict from to (g.S.Source.inlet c.args.input.now).left (AgreesWith (stage_of status) status)) (sym c.status.ensures) (rw same at c.convert-ending.ensures).verdict
+
+pub returns-clause-output : goal.returns-clause-output
+returns-clause-output g c = λ from to spelled.
+    let same = command_read c.in-Some.command (Convert from to) ((c.in-Some.ensures (Convert from to)).1 spelled) in
+    subst (λ (status : ℕ). OnVerdict from to (g.S.Source.inlet c.args.input.now).left (λ verdict. Writes (stage_of status) (text_in verdict) (g.K.Sink.outlet c.args.output.now) (g.K.Sink.outlet c.convert-ending.new.output)))
+    (sym c.status.ensures) (rw same at c.convert-ending.ensures).written
+
+pub returns-clause-notes : goal.returns-clause-notes
+returns-clause-notes g c = λ from to spelled.
+    let same = command_read c.in-Some.command (Convert from to) ((c.in-Some.ensures (Convert from to)).1 spelled) in
+    let before = g.N.Sink.outlet c.args.notes.now in
+    let now = g.N.Sink.outlet c.note_ending.new.notes in
+    subst (λ (status : ℕ). OnVerdict from to (g.S.Source.inlet c.args.input.now).left (λ verdict. Notes before now (line_of (stage_of status) verdict))) (sym c.status.ensures)
+    (on_verdict from to (g.S.Source.inlet c.args.input.now).left _ (λ verdict. Notes before now (line_of (stage_of (status_of c.convert-ending.result)) verdict))
+    (λ verdict line. subst (λ (l : List ℕ). Notes before now l) line c.note_ending.ensures.line) (rw same at c.convert-ending.ensures).line)

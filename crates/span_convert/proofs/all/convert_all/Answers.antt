@@ -1,7 +1,7 @@
 use Rattle.std.proofs.Common.{◌≡◌, ◌++◌, ◌<◌, ◌^◌, ℕ, List, length, ap, sym, subst, ◌∙◌}
 use Rattle.span_convert.specs.Canonical.{ReadsBack}
-use Rattle.span_convert.specs.Verdicts.{good, refused}
-use Rattle.span_convert.proofs.CarryLemmas.{answers_whole, answers_refused}
+use Rattle.span_convert.specs.Verdicts.{good, refused, faulted}
+use Rattle.span_convert.proofs.CarryLemmas.{answers_whole, answers_refused, answers_faulted}
 use Rattle.span_convert.proofs.all.convert_all.Goals as goal
 
 pub returns-in-Ok-clause-judged : goal.returns-in-Ok-clause-judged
@@ -24,9 +24,19 @@ returns-in-Err-Refused-clause-verdict c = λ verdict is_verdict.
     answers_refused _ _ _ c.args.bytes.now c.requires.limits verdict is_verdict c.one_verdict.ensures.once _ _ c.in-Err-Refused.refusal
     ((rw c.in-Err-Refused.field-0-is at c.in-Err-Refused.ensures).walk c.args.bytes.now c.looked_at-too_long.ensures)
 
+pub returns-in-Err-Faulted-clause-judged : goal.returns-in-Err-Faulted-clause-judged
+returns-in-Err-Faulted-clause-judged c =
+    let w = (rw c.in-Err-Faulted.field-0-is at c.in-Err-Faulted.ensures).walk c.args.bytes.now c.looked_at-too_long.ensures in
+    (faulted c.in-Err-Faulted.found w.text, w.is_faulted)
+
+pub returns-in-Err-Faulted-clause-verdict : goal.returns-in-Err-Faulted-clause-verdict
+returns-in-Err-Faulted-clause-verdict c = λ verdict is_verdict.
+    answers_faulted _ _ _ c.args.bytes.now c.requires.limits verdict is_verdict c.one_verdict.ensures.once _ _ c.in-Err-Faulted.found
+    ((rw c.in-Err-Faulted.field-0-is at c.in-Err-Faulted.ensures).walk c.args.bytes.now c.looked_at-too_long.ensures)
+
 pub returns-in-Ok-clause-back : goal.returns-in-Ok-clause-back
 returns-in-Ok-clause-back c =
     let w = c.in-Ok.ensures.walk c.args.bytes.now c.looked_at-too_long.ensures in
     let text : c.write_units.new.out.text ≡ w.text = w.gains.held ∙ ap (λ l. l ++ w.text) c.new.ensures in
     subst (λ (l : List ℕ). ReadsBack c.args.from c.args.to c.args.limits.now c.args.bytes.now l) (sym text) (c.output_read_back.ensures.back c.args.from c.args.to c.args.limits.now c.args.bytes.now w.text c.in-Ok.field-0 c.requires.limits
-    c.bytes_known.ensures.each (subst (λ (l : List ℕ). length l < 2 ^ 63) (c.as_slice.ensures ∙ text) c.bytes_known-in-Ok.ensures.size) w.is_good)
+    c.bytes_known.ensures.each (subst (λ (l : List ℕ). length l < 2 ^ 63) (c.as_slice.ensures ∙ text) c.bytes_known-in-Ok.ensures.size) w.is_good w.sized)

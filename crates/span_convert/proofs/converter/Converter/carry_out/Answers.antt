@@ -1,9 +1,9 @@
 use Rattle.std.proofs.Common.{Bool, List, ℕ, ◌≡◌, Ok, Err, sym, subst}
 use Rattle.span_io.specs.declared.limits.Limits.{Limits}
-use Rattle.span_convert.specs.Verdicts.{good, refused}
+use Rattle.span_convert.specs.Verdicts.{good, refused, faulted}
 use Rattle.span_convert.specs.Walks.{IsLookedAt}
 use Rattle.span_convert.specs.declared.progress.WalkStop.TheVariants as walk_stops
-use Rattle.span_convert.proofs.CarryLemmas.{carries_whole, carries_refused, carries_write, carries_memory, ends_front}
+use Rattle.span_convert.proofs.CarryLemmas.{carries_whole, carries_refused, carries_faulted, carries_write, carries_memory, ends_front}
 use Rattle.span_convert.proofs.converter.Converter.carry_out.Goals as goal
 
 seen_there : (limits : Limits) (whole held lent : List ℕ) (too_long : Bool) → lent ≡ held → IsLookedAt limits whole held too_long → IsLookedAt limits whole lent too_long
@@ -28,6 +28,16 @@ returns-in-Err-Refused-clause-verdict g c = λ whole valid seen verdict is_verdi
     carries_refused _ _ _ whole valid verdict is_verdict c.one_verdict.ensures.once _ _ c.in-Err-Refused.refusal
     ((rw c.in-Err-Refused.field-0-is at c.in-Err-Refused.ensures).walk whole (seen_there _ whole _ _ _ c.as_slice.ensures seen))
 
+pub returns-in-Err-Faulted-clause-judged : goal.returns-in-Err-Faulted-clause-judged
+returns-in-Err-Faulted-clause-judged g c = λ whole valid seen.
+    let w = (rw c.in-Err-Faulted.field-0-is at c.in-Err-Faulted.ensures).walk whole (seen_there _ whole _ _ _ c.as_slice.ensures seen) in
+    (faulted c.in-Err-Faulted.found w.text, w.is_faulted)
+
+pub returns-in-Err-Faulted-clause-verdict : goal.returns-in-Err-Faulted-clause-verdict
+returns-in-Err-Faulted-clause-verdict g c = λ whole valid seen verdict is_verdict.
+    carries_faulted _ _ _ whole valid verdict is_verdict c.one_verdict.ensures.once _ _ c.in-Err-Faulted.found
+    ((rw c.in-Err-Faulted.field-0-is at c.in-Err-Faulted.ensures).walk whole (seen_there _ whole _ _ _ c.as_slice.ensures seen))
+
 pub returns-in-Err-Write-clause-verdict : goal.returns-in-Err-Write-clause-verdict
 returns-in-Err-Write-clause-verdict g c = λ whole valid seen verdict is_verdict.
     let w = (rw c.in-Err-Write.field-0-is at c.in-Err-Write.ensures).walk whole (seen_there _ whole _ _ _ c.as_slice.ensures seen) in
@@ -45,6 +55,10 @@ returns-in-Ok-clause-front g c = λ whole seen.
 pub returns-in-Err-Refused-clause-front : goal.returns-in-Err-Refused-clause-front
 returns-in-Err-Refused-clause-front g c = λ whole seen.
     ends_front _ _ _ whole (Err (walk_stops.Refused c.in-Err-Refused.refusal)) _ _ ((rw c.in-Err-Refused.field-0-is at c.in-Err-Refused.ensures).walk whole (seen_there _ whole _ _ _ c.as_slice.ensures seen))
+
+pub returns-in-Err-Faulted-clause-front : goal.returns-in-Err-Faulted-clause-front
+returns-in-Err-Faulted-clause-front g c = λ whole seen.
+    ends_front _ _ _ whole (Err (walk_stops.Faulted c.in-Err-Faulted.found)) _ _ ((rw c.in-Err-Faulted.field-0-is at c.in-Err-Faulted.ensures).walk whole (seen_there _ whole _ _ _ c.as_slice.ensures seen))
 
 pub returns-in-Err-Write-clause-front : goal.returns-in-Err-Write-clause-front
 returns-in-Err-Write-clause-front g c = λ whole seen.

@@ -1,0 +1,26 @@
+use Rattle.std.proofs.Common.{◌≤◌, length, Err, ap, ◌∙◌, subst, arith}
+use Rattle.span_io.specs.Limits.{shipped_limits}
+use Rattle.span_convert.specs.Converters.{stop_in}
+use Rattle.span_convert.specs.declared.stop.Stop.{Stop}
+use Rattle.span_convert.specs.declared.stop.Stop.TheVariants as stops
+use Rattle.span_cli.proofs.EndingLaws.{ends_at_finish, same_finish, stop_of}
+use Rattle.span_cli.proofs.top.convert.Goals as goal
+
+pub returns : goal.returns
+returns g c =
+    let fed = c.in_default.ensures.fed in
+    let end = c.in-Err-finish.ensures in
+    let going = ap stop_in fed.fed.going in
+    let bound : length fed.given ≤ shipped_limits.binary = subst (λ l. length fed.given ≤ l.binary) fed.limits fed.fed.within in
+    ends_at_finish g.K.Sink.outlet c.args.from c.args.to (g.S.Source.inlet c.args.input.now) (g.S.Source.inlet c.feed_input.new.input) c.args.output.now c.finish.new.out
+    fed.given c.at_stop.result c.in-Err-finish.stop c.finish.new.self.state fed.gave fed.all_read.told c.at_stop.ensures
+    (record { given = fed.given; gave = fed.gave; within = omega (arith, bound) }) fed.quiet
+    (same_finish g.K.Sink.outlet _ c.args.from _ c.args.to _ shipped_limits fed.given c.in-Err-finish.stop c.finish.new.self.state _ c.args.output.now c.finish.new.out
+    (fed.forms.0 ∙ c.new-converter.ensures.forms.0) (fed.forms.1 ∙ c.new-converter.ensures.forms.1) fed.limits c.in_default.ensures.unwritten (record {
+      judged = end.judged fed.given fed.fed;
+      carried = end.verdict fed.given fed.fed;
+      front = end.front fed.given fed.fed;
+      fails = λ e. end.fails going (ap (λ (s : Stop). Err s) e);
+      quiet = λ other. end.quiet (λ e. other (stop_of c.in-Err-finish.stop stops.Write e));
+      answers = λ steady e. end.answers going steady (ap (λ (s : Stop). Err s) e);
+    }))

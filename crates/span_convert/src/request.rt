@@ -1,0 +1,74 @@
+//! The units of an OTLP request.
+ghost use Rattle.std.specs.Prelude.{◌≡◌, ◌<◌, false, [], length, IfOk, IfErr, IfSome, MatchOption};
+ghost use Rattle.span_io.specs.declared.form.Form.TheVariants as forms;
+ghost use Rattle.proto_wire.specs.Records.{plain_record};
+ghost use Rattle.otlp_proto.specs.Rows.{bytes_in};
+ghost use Rattle.span_convert.specs.Walks.{lent_bytes, CutsRecord, StopsRecords};
+
+use crate::units::{Cut, UnitReader, UnitWriter};
+use otlp_proto::{read_group, write_group};
+use proto_wire::{Payload, WireRecord, first_record};
+use span_io::{Blob, Cause, Halt};
+use std::alloc::Global;
+use trace_model::{Fault, Group};
+
+/// OTLP in protobuf. It can hold all of a group.
+#[derive(Clone, Copy, Debug)]
+pub(crate) struct Request;
+
+impl UnitReader for Request {
+    ghost form = { forms.OtlpProto };
+
+    fn next_frame<'a>(
+        rest: &'a [u8],
+        limit: usize,
+        too_long: bool,
+    ) -> Result<Option<Cut<'a>>, Cause> {
+        cut_record(rest, limit, too_long)
+    }
+
+    fn read(alloc: Global, unit: &[u8]) -> Result<Group, Halt<Cause>> {
+        let (group, _remarks) = read_group(alloc, unit)?;
+        Ok(group)
+    }
+}
+
+impl UnitWriter for Request {
+    ghost form = { forms.OtlpProto };
+
+    fn write(_alloc: Global, out: &mut Blob, group: &Group) -> Result<(), Halt<Fault>> {
+        Ok(write_group(out, group)?)
+    }
+}
+
+// Cuts off the record at the front of a rest.
+fn cut_record<'a>(rest: &'a [u8], limit: usize, too_long: bool) -> Result<Option<Cut<'a>>, Cause>
+    ensures cut { IfOk result (λ next. MatchOption next ((rest.now ≡ []) × (too_long ≡ false))
+        (λ cut. CutsRecord limit rest.now (lent_bytes cut.unit) cut.behind.now)) }
+    ensures nearer { IfOk result (λ next. IfSome next (λ cut. length cut.behind.now < length rest.now)) }
+    ensures why { IfErr result (λ cause. StopsRecords limit too_long rest.now cause) }
+{
+    match first_record(rest, limit) {
+        Ok(Some(found)) => Ok(Some(Cut {
+            unit: unit_in(&found.record),
+            behind: &rest[found.size..],
+        })),
+        Ok(None) if too_long => Err(Cause::InputTooLong),
+        Ok(None) if rest.is_empty() => Ok(None),
+        Ok(None) => Err(Cause::Truncated),
+        Err(cause) => Err(cause),
+    }
+}
+
+// What a record holds, if it is of the field of units.
+fn unit_in<'a>(found: &WireRecord<'a>) -> Option<&'a [u8]>
+    ensures { bytes_in 1 (plain_record found.now) ≡ lent_bytes result }
+{
+    match found.payload {
+        Payload::Bytes(held) => match found.number {
+            1 => Some(held),
+            _ => None,
+        },
+        _ => None,
+    }
+}

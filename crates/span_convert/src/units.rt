@@ -1,0 +1,55 @@
+//! What the walk over an input asks of its form, and of the form of its target.
+ghost use Rattle.std.specs.Prelude.{◌≡◌, ◌<◌, false, [], length, IfOk, IfErr, IfSome, OnOk, MatchOption};
+ghost use Rattle.span_io.specs.Causes.{cause_number};
+ghost use Rattle.span_io.specs.Offences.{Least};
+ghost use Rattle.span_io.specs.declared.form.Form.{Form};
+ghost use Rattle.trace_model.specs.Soundness.{IsSoundGroup};
+ghost use Rattle.span_convert.specs.Units.{FrameTells, IsUnitOf, UnitOffence, FaultOf};
+ghost use Rattle.span_convert.specs.Walks.{lent_bytes, CutsFrame, StopsFrames, WritesGroup, IfWhy};
+
+use span_io::{Blob, Cause, Halt};
+use std::alloc::Global;
+use trace_model::{Fault, Group};
+
+/// A frame at the front of some bytes: the unit in it, if it holds one, and the bytes behind it.
+#[derive(Clone, Copy, Debug)]
+pub(crate) struct Cut<'a> {
+    pub(crate) unit: Option<&'a [u8]>,
+    pub(crate) behind: &'a [u8],
+}
+
+/// Reads the units of an input of one form.
+pub(crate) trait UnitReader {
+    ghost form: { Form };
+
+    /// The frame at the front of a rest, behind which the input may have other bytes, or why there is
+    /// none. None at the end.
+    fn next_frame<'a>(
+        rest: &'a [u8],
+        limit: usize,
+        too_long: bool,
+    ) -> Result<Option<Cut<'a>>, Cause>
+        ensures cut { IfOk result (λ next. MatchOption next ((rest.now ≡ []) × (too_long ≡ false))
+            (λ cut. CutsFrame form limit rest.now (lent_bytes cut.unit) cut.behind.now)) }
+        ensures nearer { IfOk result (λ next. IfSome next (λ cut. length cut.behind.now < length rest.now)) }
+        ensures framed { IfOk result (λ next. IfSome next (λ cut. IfSome cut.unit (λ unit. FrameTells form unit.now))) }
+        ensures why { IfErr result (λ cause. StopsFrames form limit too_long rest.now cause) };
+
+    /// The group that a unit is a text of, or the least offence in it.
+    fn read(alloc: Global, unit: &[u8]) -> Result<Group, Halt<Cause>>
+        requires framed { FrameTells form unit.now }
+        ensures value { IfOk result (λ group. IsUnitOf form unit.now group) }
+        ensures sound { IfOk result (λ group. IsSoundGroup group) }
+        ensures why { IfWhy result (λ cause. Least (UnitOffence form unit.now) (cause_number cause)) };
+}
+
+/// Writes the units of an output of one form.
+pub(crate) trait UnitWriter {
+    ghost form: { Form };
+
+    /// Appends the canonical text of a group, or answers the fault in it, and leaves `out` as it was.
+    fn write(alloc: Global, out: &mut Blob, group: &Group) -> Result<(), Halt<Fault>>
+        requires sound { IsSoundGroup group.now }
+        ensures ok { OnOk result (WritesGroup form group.now out.old out.new) }
+        ensures why { IfWhy result (λ fault. FaultOf form group.now fault × (out.new ≡ out.old)) };
+}
