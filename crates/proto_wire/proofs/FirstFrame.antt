@@ -11,7 +11,7 @@ use Rattle.span_io.specs.Frames.{EndsInVarint, IsRefused, BeginsFrame}
 use Rattle.span_io.specs.FramingLaws.{Place, is_open, is_begun, is_refused, FramingLaws, exact, item_first, first_item, item_size, refused_first, needs_more, too_long_first, of_front}
 use Rattle.proto_wire.specs.declared.record.Frame.{Frame}
 use Rattle.proto_wire.specs.Records.{Record, plain_record}
-use Rattle.proto_wire.specs.Wire.{SpellsRecord, Begins, IsOpenRecord, HoldsLengthPast, records, RefusedBy, FirstIs, NeedsMoreBytes, IsRefusedAs}
+use Rattle.proto_wire.specs.Wire.{SpellsRecord, BeginsRecord, IsOpenRecord, HoldsLengthPast, records, RefusedBy, FirstIs, NeedsMoreBytes, IsRefusedAs}
 use Rattle.proto_wire.specs.Reading.{record_at}
 use Rattle.proto_wire.specs.FirstFrames.{step_of, IsFirst}
 use Rattle.proto_wire.proofs.Payloads.{wire_cases}
@@ -130,7 +130,7 @@ module _ (L : VarintLaws) where
     module _ (frame : Frame) (rest : List ℕ) (place : frame.size + length rest ≡ length piece) (e : record_at piece ≡ Ok (Some (plain_record frame.record), rest)) where
       begins : BeginsFrame records limit frame.size piece
       begins =
-          let h : Begins (plain_record frame.record) piece rest = told L piece (Ok (Some (plain_record frame.record), rest)) e in
+          let h : BeginsRecord (plain_record frame.record) piece rest = told L piece (Ok (Some (plain_record frame.record), rest)) e in
           record {
             text = h.text;
             rest = rest;
@@ -145,7 +145,7 @@ module _ (L : VarintLaws) where
 
       pub frame_is : IsFirst limit frame piece
       frame_is =
-          let h : Begins (plain_record frame.record) piece rest = told L piece (Ok (Some (plain_record frame.record), rest)) e in
+          let h : BeginsRecord (plain_record frame.record) piece rest = told L piece (Ok (Some (plain_record frame.record), rest)) e in
           let size : frame.size ≡ length h.text = omega (arith, place, ap length h.parts, length-append h.text rest) in
           let sizes = item_size records RefusedBy record_laws limit frame.size piece begins in
           let text : h.text ≡ take frame.size piece = sym (ap (take frame.size) h.parts ∙ take-append-le frame.size h.text rest (omega (arith, size)) ∙ take_all frame.size h.text (omega (arith, size))) in

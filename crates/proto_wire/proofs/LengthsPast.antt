@@ -9,7 +9,7 @@ use Rattle.span_io.specs.Varint.{SpellsVarint}
 use Rattle.span_io.specs.VarintLaws.{VarintLaws}
 use Rattle.proto_wire.specs.Records.{bytes, IsFieldNumber}
 use Rattle.proto_wire.specs.Wire.{HoldsLengthPast}
-use Rattle.proto_wire.specs.Reading.{number_at, bytes_at, field_number, record_at, ◌>>=◌}
+use Rattle.proto_wire.specs.Reading.{number_at, held_bytes_at, field_number, record_at, ◌>>=◌}
 use Rattle.proto_wire.proofs.Varints.{NumberIs, number_is, number_read}
 use Rattle.proto_wire.proofs.Payloads.{is_2, held_2}
 use Rattle.proto_wire.proofs.Spellings.{with_number, FieldIs, field_good, field_refused, field_is, field_in, key_parts, key_number, key_wire, parted_key}
@@ -28,7 +28,7 @@ past_more limit text more h = record {
   past = h.past;
 }
 
-bytes_short : (size : ℕ) (text : List ℕ) → length text < size → bytes_at size text ≡ Err causes.Truncated
+bytes_short : (size : ℕ) (text : List ℕ) → length text < size → held_bytes_at size text ≡ Err causes.Truncated
 bytes_short size text h = rw (lt-ltb (length text) size h) refl
 
 past_length : (key size others text : List ℕ) → text ≡ key ++ (size ++ others) → length text ≡ length key + (length size + length others)
@@ -67,7 +67,7 @@ module _ (L : VarintLaws) where
       ap record_at h.parts
       ∙ parted_key L h.key (h.size ++ h.others) h.number 2 h.is_number is_2 h.key_spelled
       ∙ ap (λ r. r >>= with_number h.number) (held_2 (h.size ++ h.others)
-      ∙ ap (λ r. r >>= λ n. bytes_at n.0 n.1 >>= λ b. Ok (bytes b.0, b.1)) (number_read L h.held h.size h.others h.size_spelled)
+      ∙ ap (λ r. r >>= λ n. held_bytes_at n.0 n.1 >>= λ b. Ok (bytes b.0, b.1)) (number_read L h.held h.size h.others h.size_spelled)
       ∙ ap (λ r. r >>= λ b. Ok (bytes b.0, b.1)) (bytes_short h.held h.others few))
 
   pub past_reads : (limit : ℕ) (text : List ℕ) → length text ≤ limit → HoldsLengthPast limit text → ReadsLengthPast limit text

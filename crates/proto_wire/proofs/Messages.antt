@@ -5,7 +5,7 @@ use Rattle.std.proofs.lemmas.Nat.{from_le_bytes-to_le_bytes_4, from_le_bytes-to_
 use Rattle.std.specs.Int.{w32, w64, to_le_bytes}
 use Rattle.span_io.specs.Varint.{varint_text}
 use Rattle.proto_wire.specs.Records.{Held, varint, fixed64, bytes, fixed32, Record, wire_type, IsFieldNumber, IsProper, FitsHeld}
-use Rattle.proto_wire.specs.Wire.{SpellsHeld, SpellsRecord, Begins, Wire, key_of, held_text, record_text, opening_text}
+use Rattle.proto_wire.specs.Wire.{SpellsHeld, SpellsRecord, BeginsRecord, Wire, key_of, held_text, record_text, opening_text}
 use Rattle.proto_wire.specs.Reading.{record_at}
 use Rattle.span_io.specs.VarintLaws.{VarintLaws, ShortestLaws}
 use Rattle.proto_wire.proofs.Spellings.{record_none, spelled_read, begins_read}
@@ -22,7 +22,7 @@ module _ (L : VarintLaws) where
       let both : Given (Some r, more) ≡ Given (Some s, []) = sym longer ∙ ap record_at (sym e) ∙ whole in
       (same_rest (Some r, more) (Some s, []) both, record_same r s (same_next (Some r, more) (Some s, []) both))
 
-  not_empty : (rest : List ℕ) (r : Record) → Begins r [] rest → ⊥
+  not_empty : (rest : List ℕ) (r : Record) → BeginsRecord r [] rest → ⊥
   not_empty rest r h = let some : record_at [] ≡ Ok (Some r, rest) = begins_read L [] rest r h in
       let none : None ≡ Some r = same_next (None, []) (Some r, rest) (sym record_none ∙ some) in
       cc
@@ -30,8 +30,8 @@ module _ (L : VarintLaws) where
   pub one_message : (text : List ℕ) (first second : List Record) → Wire first text → Wire second text → first ≡ second
   unfolding Wire
   one_message text [] [] h k = refl
-  one_message text [] (s ∷ second) h k = absurd (not_empty k.0 s (subst (λ l. Begins s l k.0) h k.1))
-  one_message text (r ∷ first) [] h k = absurd (not_empty h.0 r (subst (λ l. Begins r l h.0) k h.1))
+  one_message text [] (s ∷ second) h k = absurd (not_empty k.0 s (subst (λ l. BeginsRecord s l k.0) h k.1))
+  one_message text (r ∷ first) [] h k = absurd (not_empty h.0 r (subst (λ l. BeginsRecord r l h.0) k h.1))
   one_message text (r ∷ first) (s ∷ second) h k =
       let both : Given (Some r, h.0) ≡ Given (Some s, k.0) = sym (begins_read L text h.0 r h.1) ∙ begins_read L text k.0 s k.1 in
       let same : r ≡ s = record_same r s (same_next (Some r, h.0) (Some s, k.0) both) in

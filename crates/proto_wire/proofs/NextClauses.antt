@@ -7,7 +7,7 @@ use Rattle.span_io.specs.declared.cause.Cause.{Cause}
 use Rattle.span_io.specs.declared.cause.Cause.TheVariants as causes
 use Rattle.proto_wire.specs.declared.record.WireRecord.{WireRecord}
 use Rattle.proto_wire.specs.Records.{Record, plain_record}
-use Rattle.proto_wire.specs.Wire.{SpellsRecord, Begins, IsOpenRecord, HasOverlong, HasBadKey}
+use Rattle.proto_wire.specs.Wire.{SpellsRecord, BeginsRecord, IsOpenRecord, HasOverlong, HasBadKey}
 use Rattle.proto_wire.specs.Reading.{record_at, GivesNext, IsNext, IsEnd}
 use Rattle.proto_wire.specs.Messages.{NoRecord}
 use Rattle.span_io.specs.VarintLaws.{VarintLaws}
@@ -16,12 +16,12 @@ use Rattle.proto_wire.proofs.Spellings.{record_none, begins_read, bad_key_read, 
 use Rattle.proto_wire.proofs.Refusals.{RecordIs, told, open_read, overlong_has, overlong_from, bad_key_has, bad_key_from, Given, same_rest, same_next}
 
 module _ (L : VarintLaws) (old new : List ℕ) where
-  pub found : (result : Result (Option WireRecord) Cause) → GivesNext result new (record_at old) → IfOk result (λ next. IfSome next (λ r. Begins (plain_record r) old new))
+  pub found : (result : Result (Option WireRecord) Cause) → GivesNext result new (record_at old) → IfOk result (λ next. IfSome next (λ r. BeginsRecord (plain_record r) old new))
   found (Ok None) e = tt
   found (Ok (Some r)) e = told L old (Ok (Some (plain_record r), new)) e
   found (Err cause) e = tt
 
-  pub only : (result : Result (Option WireRecord) Cause) → GivesNext result new (record_at old) → (r : Record) (rest : List ℕ) → Begins r old rest → IsNext result r × (new ≡ rest)
+  pub only : (result : Result (Option WireRecord) Cause) → GivesNext result new (record_at old) → (r : Record) (rest : List ℕ) → BeginsRecord r old rest → IsNext result r × (new ≡ rest)
   only (Ok None) e r rest h =
       let next : None ≡ Some r = same_next (None, new) (Some r, rest) (sym e ∙ begins_read L old rest r h) in cc
   only (Ok (Some f)) e r rest h =
@@ -83,6 +83,6 @@ module _ (L : VarintLaws) (old new : List ℕ) where
   pub nearer : (result : Result (Option WireRecord) Cause) → GivesNext result new (record_at old) → IfOk result (λ next. IfSome next (λ r. length new < length old))
   nearer (Ok None) e = tt
   nearer (Ok (Some r)) e =
-      let begun : Begins (plain_record r) old new = told L old (Ok (Some (plain_record r), new)) e in
+      let begun : BeginsRecord (plain_record r) old new = told L old (Ok (Some (plain_record r), new)) e in
       omega (arith, text_some begun.text (plain_record r) begun.spelled, length-append begun.text new, ap length begun.parts)
   nearer (Err cause) e = tt

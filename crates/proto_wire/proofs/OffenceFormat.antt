@@ -9,7 +9,7 @@ use Rattle.span_io.specs.OffenceLaws.{FormatLaws}
 use Rattle.span_io.specs.Cuts.{some_length}
 use Rattle.proto_wire.specs.Messages.{messages, NoRecord, inner_size}
 use Rattle.proto_wire.specs.Records.{Held, varint, fixed64, bytes, fixed32, Record}
-use Rattle.proto_wire.specs.Wire.{SpellsHeld, Begins, Wire}
+use Rattle.proto_wire.specs.Wire.{SpellsHeld, BeginsRecord, Wire}
 use Rattle.proto_wire.specs.Reading.{record_at}
 use Rattle.span_io.specs.VarintLaws.{VarintLaws}
 use Rattle.proto_wire.proofs.Spellings.{record_none, begins_read, bad_key_read, overlong_read, spelled_some}
@@ -25,7 +25,7 @@ held_room payload (fixed64 n) h = omega (arith, h.0)
 held_room payload (bytes held) h = omega (arith, some_length h.0 (spelled_some h.0 (length held) h.1), length-append h.0 held, ap length h.2)
 held_room payload (fixed32 n) h = omega (arith, h.0)
 
-pub record_room : (r : Record) (rest after : List ℕ) → Begins r rest after → length after + inner_size r.held + 2 ≤ length rest
+pub record_room : (r : Record) (rest after : List ℕ) → BeginsRecord r rest after → length after + inner_size r.held + 2 ≤ length rest
 record_room r rest after h =
     let s = h.spelled in
     omega (arith, some_length s.key (spelled_some s.key _ s.key_spelled), held_room s.payload r.held s.payload_spelled, length-append s.key s.payload, length-append h.text after, ap length s.parts, ap length h.parts)
@@ -52,7 +52,7 @@ module _ (L : VarintLaws) where
   one_of n m read (inr (inr h)) (inr (inl k)) = cc
   one_of n m read (inr (inr h)) (inr (inr k)) = cc
 
-  one_record : (r s : Record) (rest after other : List ℕ) → Begins r rest after → Begins s rest other → (r ≡ s) × (after ≡ other)
+  one_record : (r s : Record) (rest after other : List ℕ) → BeginsRecord r rest after → BeginsRecord s rest other → (r ≡ s) × (after ≡ other)
   one_record r s rest after other h k =
       let both : Given (Some r, after) ≡ Given (Some s, other) = sym (begins_read L rest after r h) ∙ begins_read L rest other s k in
       let next : Some r ≡ Some s = same_next (Some r, after) (Some s, other) both in

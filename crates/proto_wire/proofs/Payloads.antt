@@ -8,13 +8,13 @@ use Rattle.span_io.specs.declared.cause.Cause.TheVariants as causes
 use Rattle.span_io.specs.Varint.{SpellsVarint, SpellsWithin, BeginsVarint, IsInsideVarint, BeginsOverlong}
 use Rattle.proto_wire.specs.Records.{Held, varint, fixed64, bytes, fixed32, wire_type}
 use Rattle.proto_wire.specs.Wire.{SpellsHeld}
-use Rattle.proto_wire.specs.Reading.{number_at, bytes_at, held_at, ◌>>=◌}
+use Rattle.proto_wire.specs.Reading.{number_at, held_bytes_at, held_at, ◌>>=◌}
 use Rattle.span_io.specs.VarintLaws.{VarintLaws}
 use Rattle.proto_wire.proofs.Varints.{NumberIs, number_is, number_read}
 
 -- ---- the next bytes
 
-pub bytes_read : (size : ℕ) (text rest : List ℕ) → length text ≡ size → bytes_at size (text ++ rest) ≡ Ok (text, rest)
+pub bytes_read : (size : ℕ) (text rest : List ℕ) → length text ≡ size → held_bytes_at size (text ++ rest) ≡ Ok (text, rest)
 bytes_read size text rest e =
     let fits : size ≤ length (text ++ rest) = omega (arith, length-append text rest) in
     rw (le-ltb (length (text ++ rest)) size fits, take_at text rest size e, drop_at text rest size e) refl
@@ -28,7 +28,7 @@ bytes_cases : (size : ℕ) (text : List ℕ) (b : Bool) → ltb (length text) si
 bytes_cases size text true e = ltb-true (length text) size e
 bytes_cases size text false e = (omega (arith, length-take size text, ltb-false (length text) size e), sym (take-append-drop size text))
 
-pub bytes_are : (size : ℕ) (text : List ℕ) → BytesAre size text (bytes_at size text)
+pub bytes_are : (size : ℕ) (text : List ℕ) → BytesAre size text (held_bytes_at size text)
 bytes_are size text = bytes_cases size text (ltb (length text) size) refl
 
 -- ---- by wire type
@@ -37,15 +37,15 @@ pub held_0 : (text : List ℕ) → held_at 0 text ≡ (number_at text >>= λ n. 
 unfolding held_at
 held_0 text = refl
 
-held_1 : (text : List ℕ) → held_at 1 text ≡ (bytes_at 8 text >>= λ b. Ok (fixed64 (from_le_bytes w64 b.0), b.1))
+held_1 : (text : List ℕ) → held_at 1 text ≡ (held_bytes_at 8 text >>= λ b. Ok (fixed64 (from_le_bytes w64 b.0), b.1))
 unfolding held_at
 held_1 text = refl
 
-pub held_2 : (text : List ℕ) → held_at 2 text ≡ (number_at text >>= λ n. bytes_at n.0 n.1 >>= λ b. Ok (bytes b.0, b.1))
+pub held_2 : (text : List ℕ) → held_at 2 text ≡ (number_at text >>= λ n. held_bytes_at n.0 n.1 >>= λ b. Ok (bytes b.0, b.1))
 unfolding held_at
 held_2 text = refl
 
-held_5 : (text : List ℕ) → held_at 5 text ≡ (bytes_at 4 text >>= λ b. Ok (fixed32 (from_le_bytes w32 b.0), b.1))
+held_5 : (text : List ℕ) → held_at 5 text ≡ (held_bytes_at 4 text >>= λ b. Ok (fixed32 (from_le_bytes w32 b.0), b.1))
 unfolding held_at
 held_5 text = refl
 
@@ -186,8 +186,8 @@ size_unended : (text : List ℕ) → IsInsideVarint text → HeldFront 2 text �
 size_unended [] h = inl (record { more = 0 ∷ []; held = bytes []; some = λ e. cc; wire_is = refl; spelled = (0 ∷ [], zero_spelled, refl) })
 size_unended (b ∷ text) h = inr (record { with_varint = inr refl; inside = h; some = omega arith })
 
-bytes_held : (text : List ℕ) (r : Result (ℕ × List ℕ) Cause) → NumberIs text r → HeldIs 2 text (r >>= λ n. bytes_at n.0 n.1 >>= λ b. Ok (bytes b.0, b.1))
-bytes_held text (Ok x) h = sized_is text x.1 x.0 h (bytes_at x.0 x.1) (bytes_are x.0 x.1)
+bytes_held : (text : List ℕ) (r : Result (ℕ × List ℕ) Cause) → NumberIs text r → HeldIs 2 text (r >>= λ n. held_bytes_at n.0 n.1 >>= λ b. Ok (bytes b.0, b.1))
+bytes_held text (Ok x) h = sized_is text x.1 x.0 h (held_bytes_at x.0 x.1) (bytes_are x.0 x.1)
 bytes_held text (Err causes.Truncated) h = size_unended text h
 bytes_held text (Err causes.BadVarint) h = (inr refl, h)
 bytes_held text (Err other) h = absurd h
@@ -195,9 +195,9 @@ bytes_held text (Err other) h = absurd h
 module _ (L : VarintLaws) where
   held_wire : (wire : ℕ) (text : List ℕ) → WireIs wire → HeldIs wire text (held_at wire text)
   held_wire wire text is_0 = rw (held_0 text) (varint_is text (number_at text) (number_is L text))
-  held_wire wire text is_1 = rw (held_1 text) (fixed64_is text (bytes_at 8 text) (bytes_are 8 text))
+  held_wire wire text is_1 = rw (held_1 text) (fixed64_is text (held_bytes_at 8 text) (bytes_are 8 text))
   held_wire wire text is_2 = rw (held_2 text) (bytes_held text (number_at text) (number_is L text))
-  held_wire wire text is_5 = rw (held_5 text) (fixed32_is text (bytes_at 4 text) (bytes_are 4 text))
+  held_wire wire text is_5 = rw (held_5 text) (fixed32_is text (held_bytes_at 4 text) (bytes_are 4 text))
 
   pub held_is : (wire : ℕ) (text : List ℕ) → HeldIs wire text (held_at wire text)
   held_is wire text = elim (wire_cases wire) [

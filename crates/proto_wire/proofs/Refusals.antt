@@ -8,7 +8,7 @@ use Rattle.span_io.specs.declared.cause.Cause.TheVariants as causes
 use Rattle.span_io.specs.Frames.{IsProperFront, IsRefused}
 use Rattle.span_io.specs.Varint.{SpellsVarint, SpellsWithin, IsInsideVarint, IsOverlong}
 use Rattle.proto_wire.specs.Records.{Held, varint, fixed64, bytes, fixed32, Record, wire_type, IsFieldNumber}
-use Rattle.proto_wire.specs.Wire.{SpellsHeld, Begins, IsKeyThenVarint, IsOpenRecord, records, HasOverlong, HasBadKey}
+use Rattle.proto_wire.specs.Wire.{SpellsHeld, BeginsRecord, IsKeyThenVarint, IsOpenRecord, records, HasOverlong, HasBadKey}
 use Rattle.proto_wire.specs.Reading.{number_at, held_at, record_at, ◌>>=◌}
 use Rattle.span_io.specs.Cuts.{two_cuts, append_empty_right, all_front}
 use Rattle.span_io.specs.FramingLaws.{proper_front}
@@ -99,7 +99,7 @@ overlong_inside text short more h e some = elim (two_cuts short more h.front (h.
 
 abbrev pub NextIs : List ℕ → Option Record → List ℕ → Type 0
 NextIs text None rest = (text ≡ []) × (rest ≡ [])
-NextIs text (Some r) rest = Begins r text rest
+NextIs text (Some r) rest = BeginsRecord r text rest
 
 abbrev pub RecordIs : List ℕ → Result (Option Record × List ℕ) Cause → Type 0
 RecordIs text (Ok x) = NextIs text x.0 x.1

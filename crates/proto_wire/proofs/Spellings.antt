@@ -8,8 +8,8 @@ use Rattle.span_io.specs.declared.cause.Cause.TheVariants as causes
 use Rattle.span_io.specs.Frames.{EndsInVarint}
 use Rattle.span_io.specs.Varint.{SpellsVarint, SpellsWithin, IsInsideVarint, IsOverlong}
 use Rattle.proto_wire.specs.Records.{Held, varint, bytes, Record, wire_type, IsFieldNumber, last_number}
-use Rattle.proto_wire.specs.Wire.{SpellsRecord, Begins, IsKeyThenVarint, records}
-use Rattle.proto_wire.specs.Reading.{number_at, bytes_at, held_at, field_number, record_at, ◌>>=◌}
+use Rattle.proto_wire.specs.Wire.{SpellsRecord, BeginsRecord, IsKeyThenVarint, records}
+use Rattle.proto_wire.specs.Reading.{number_at, held_bytes_at, held_at, field_number, record_at, ◌>>=◌}
 use Rattle.span_io.specs.VarintLaws.{VarintLaws}
 use Rattle.proto_wire.proofs.Varints.{number_read, number_short, number_bad}
 use Rattle.proto_wire.proofs.Payloads.{WireIs, is_0, is_1, is_2, is_5, IsNoWire, wire_type_is, held_0, held_2, held_none, held_read, WithVarint}
@@ -136,7 +136,7 @@ module _ (L : VarintLaws) where
       ∙ parted_key h.key (h.payload ++ rest) r.number (wire_type r.held) h.number (wire_type_is r.held) h.key_spelled
       ∙ ap (λ x. x >>= with_number r.number) (held_read L r.held h.payload rest h.payload_spelled)
 
-  pub begins_read : (text rest : List ℕ) (r : Record) → Begins r text rest → record_at text ≡ Ok (Some r, rest)
+  pub begins_read : (text rest : List ℕ) (r : Record) → BeginsRecord r text rest → record_at text ≡ Ok (Some r, rest)
   begins_read text rest r h = ap record_at h.parts ∙ spelled_read h.text rest r h.spelled
 
   pub bad_key_read : (text : List ℕ) → BadKeyAt text → record_at text ≡ Err causes.BadWire
@@ -151,11 +151,11 @@ module _ (L : VarintLaws) where
   -- behind a key with a varint
   held_short : (wire : ℕ) (text : List ℕ) → WithVarint wire → IsInsideVarint text → held_at wire text ≡ Err causes.Truncated
   held_short wire text (inl e) h = ap (λ w. held_at w text) e ∙ held_0 text ∙ ap (λ r. r >>= λ n. Ok (varint n.0, n.1)) (number_short L text h)
-  held_short wire text (inr e) h = ap (λ w. held_at w text) e ∙ held_2 text ∙ ap (λ r. r >>= λ n. bytes_at n.0 n.1 >>= λ b. Ok (bytes b.0, b.1)) (number_short L text h)
+  held_short wire text (inr e) h = ap (λ w. held_at w text) e ∙ held_2 text ∙ ap (λ r. r >>= λ n. held_bytes_at n.0 n.1 >>= λ b. Ok (bytes b.0, b.1)) (number_short L text h)
 
   held_overlong : (wire : ℕ) (text rest : List ℕ) → WithVarint wire → IsOverlong text → held_at wire (text ++ rest) ≡ Err causes.BadVarint
   held_overlong wire text rest (inl e) h = ap (λ w. held_at w (text ++ rest)) e ∙ held_0 (text ++ rest) ∙ ap (λ r. r >>= λ n. Ok (varint n.0, n.1)) (number_bad L text rest h)
-  held_overlong wire text rest (inr e) h = ap (λ w. held_at w (text ++ rest)) e ∙ held_2 (text ++ rest) ∙ ap (λ r. r >>= λ n. bytes_at n.0 n.1 >>= λ b. Ok (bytes b.0, b.1)) (number_bad L text rest h)
+  held_overlong wire text rest (inr e) h = ap (λ w. held_at w (text ++ rest)) e ∙ held_2 (text ++ rest) ∙ ap (λ r. r >>= λ n. held_bytes_at n.0 n.1 >>= λ b. Ok (bytes b.0, b.1)) (number_bad L text rest h)
 
   with_varint_is : (wire : ℕ) → WithVarint wire → WireIs wire
   with_varint_is wire (inl e) = subst WireIs (sym e) is_0

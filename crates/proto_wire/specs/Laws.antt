@@ -10,7 +10,7 @@ use Rattle.proto_wire.specs.Wire.{SpellsRecord, Wire, IsOpenRecord, HasOverlong,
 use Rattle.proto_wire.specs.Reading.{record_at}
 
 -- No record's text is a proper front of another's, and a text has one reading.
-pub record OneReading : Type 0 where
+pub record OneWireReading : Type 0 where
   pub one_record : (text other more : List ℕ) (r s : Record) → SpellsRecord text r → SpellsRecord other s → other ≡ text ++ more → (more ≡ []) × (r ≡ s)
   pub message : (text : List ℕ) (first second : List Record) → Wire first text → Wire second text → first ≡ second
 
@@ -21,7 +21,7 @@ pub record ShortestRecord : Type 0 where
   pub opened : (number : ℕ) (held : List ℕ) → record_text (record { number = number; held = bytes held }) ≡ opening_text number (length held) ++ held
 
 -- Open bytes can be completed to a record once a varint that isn't ended is dropped at their end, and their fronts are open.
-pub record OpenFronts : Type 0 where
+pub record OpenWireFronts : Type 0 where
   pub walked : (text : List ℕ) → (text ≡ []) ⊎ (record_at text ≡ Err causes.Truncated) → CanBeCompleted records text
   pub completed : (text : List ℕ) → IsOpenRecord text → CanBeCompleted records text
   pub all : (text : List ℕ) → IsOpenRecord text ⊎ (BeginsWhole records text ⊎ (HasOverlong text ⊎ HasBadKey text))

@@ -2,7 +2,7 @@
 use Rattle.std.specs.Prelude.{◌≡◌, ◌≢◌, ℕ, ◌⊎◌, List, [], length}
 use Rattle.span_io.specs.Offences.{Format}
 use Rattle.proto_wire.specs.Records.{Held, varint, fixed64, bytes, fixed32, Record}
-use Rattle.proto_wire.specs.Wire.{Begins, IsOpenRecord, HasOverlong, HasBadKey}
+use Rattle.proto_wire.specs.Wire.{BeginsRecord, IsOpenRecord, HasOverlong, HasBadKey}
 
 -- No record begins, and this is why: it is 1 where one may yet come of the bytes, else 2 or 3 by the item that is refused.
 abbrev pub NoRecord : List ℕ → ℕ → Type 0
@@ -20,7 +20,7 @@ messages = record {
   Item = Record;
   Rest = List ℕ;
   size = λ rest. length rest;
-  Begins = λ r rest after. Begins r rest after;
+  Begins = λ r rest after. BeginsRecord r rest after;
   IsEnd = λ rest. rest ≡ [];
   Unread = λ rest number. NoRecord rest number;
   held = λ r. inner_size r.held;

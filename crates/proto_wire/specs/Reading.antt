@@ -29,14 +29,14 @@ abbrev pub number_at : List ℕ → Result (ℕ × List ℕ) Cause
 number_at text = with_cause (varint_at text)
 
 -- the next size bytes
-abbrev pub bytes_at : ℕ → List ℕ → Result (List ℕ × List ℕ) Cause
-bytes_at size text = if nat_lt (length text) size then Err causes.Truncated else Ok (take size text, drop size text)
+abbrev pub held_bytes_at : ℕ → List ℕ → Result (List ℕ × List ℕ) Cause
+held_bytes_at size text = if nat_lt (length text) size then Err causes.Truncated else Ok (take size text, drop size text)
 
 unfoldable pub held_at : ℕ → List ℕ → Result (Held × List ℕ) Cause
 held_at wire text = if wire == 0 then (number_at text >>= λ n. Ok (varint n.0, n.1))
-    else (if wire == 1 then (bytes_at 8 text >>= λ b. Ok (fixed64 (from_le_bytes w64 b.0), b.1))
-    else (if wire == 2 then (number_at text >>= λ n. bytes_at n.0 n.1 >>= λ b. Ok (bytes b.0, b.1))
-    else (if wire == 5 then (bytes_at 4 text >>= λ b. Ok (fixed32 (from_le_bytes w32 b.0), b.1))
+    else (if wire == 1 then (held_bytes_at 8 text >>= λ b. Ok (fixed64 (from_le_bytes w64 b.0), b.1))
+    else (if wire == 2 then (number_at text >>= λ n. held_bytes_at n.0 n.1 >>= λ b. Ok (bytes b.0, b.1))
+    else (if wire == 5 then (held_bytes_at 4 text >>= λ b. Ok (fixed32 (from_le_bytes w32 b.0), b.1))
     else Err causes.BadWire)))
 
 -- the number of a field in a key

@@ -30,7 +30,7 @@ pub record SpellsRecord (text : List ℕ) (r : Record) : Type 0 where
   pub parts : text ≡ key ++ payload
 
 -- a spelling of the record, and then rest
-pub record Begins (r : Record) (whole rest : List ℕ) : Type 0 where
+pub record BeginsRecord (r : Record) (whole rest : List ℕ) : Type 0 where
   pub text : List ℕ
   pub spelled : SpellsRecord text r
   pub parts : whole ≡ text ++ rest
@@ -38,7 +38,7 @@ pub record Begins (r : Record) (whole rest : List ℕ) : Type 0 where
 -- the bytes are the text of these records, in order
 unfoldable pub Wire : List Record → List ℕ → Type 0
 Wire [] text = text ≡ []
-Wire (r ∷ more) text = (rest : List ℕ) × Begins r text rest × Wire more rest
+Wire (r ∷ more) text = (rest : List ℕ) × BeginsRecord r text rest × Wire more rest
 
 -- ---- where no record begins
 

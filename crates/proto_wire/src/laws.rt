@@ -1,11 +1,11 @@
 //! Laws of the wire format, as contracts of functions that do nothing.
 ghost use Rattle.span_io.specs.Framings.{OneFraming, OneStep};
-ghost use Rattle.proto_wire.specs.Laws.{OneReading, ShortestRecord, OpenFronts, MessageCuts};
+ghost use Rattle.proto_wire.specs.Laws.{OneWireReading, ShortestRecord, OpenWireFronts, MessageCuts};
 ghost use Rattle.proto_wire.specs.Wire.{records, RefusedBy};
 
 /// No record's text is a proper front of another's, and a text has one reading.
 pub fn one_reading()
-    ensures { OneReading }
+    ensures { OneWireReading }
 {
     span_io::laws::varint_readings();
 }
@@ -20,7 +20,7 @@ pub fn shortest_record()
 /// Where reading bytes as a record has neither ended nor refused them, they can be completed to a
 /// record once a varint that isn't ended is dropped at their end.
 pub fn open_fronts()
-    ensures { OpenFronts }
+    ensures { OpenWireFronts }
 {
     span_io::laws::varint_readings();
 }

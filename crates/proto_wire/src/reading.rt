@@ -2,8 +2,8 @@ ghost use Rattle.std.specs.Prelude.{◌≡◌, ◌≢◌, ◌+◌, ◌*◌, ◌/
 ghost use Rattle.span_io.specs.Causes.{cause_number};
 ghost use Rattle.proto_wire.specs.Messages.{NoRecord};
 ghost use Rattle.proto_wire.specs.Records.{Record, plain_record};
-ghost use Rattle.proto_wire.specs.Wire.{Begins, IsOpenRecord, HasOverlong, HasBadKey};
-ghost use Rattle.proto_wire.specs.Reading.{number_at, bytes_at, field_number, held_at, record_at, GivesNumber, GivesBytes, GivesHeld, GivesRecord, GivesNext, IsNext, IsEnd};
+ghost use Rattle.proto_wire.specs.Wire.{BeginsRecord, IsOpenRecord, HasOverlong, HasBadKey};
+ghost use Rattle.proto_wire.specs.Reading.{number_at, held_bytes_at, field_number, held_at, record_at, GivesNumber, GivesBytes, GivesHeld, GivesRecord, GivesNext, IsNext, IsEnd};
 
 use crate::record::{Payload, WireRecord};
 use span_io::{Cause, Cursor, Lack, Short};
@@ -24,7 +24,7 @@ pub(crate) fn number(c: &mut Cursor<'_>) -> Result<u64, Cause>
 // The next bytes.
 #[inline(always)]
 fn held_bytes<'a>(c: &mut Cursor<'a>, size: u64) -> Result<&'a [u8], Cause>
-    ensures exact { GivesBytes result c.new.rest (bytes_at size c.old.rest) }
+    ensures exact { GivesBytes result c.new.rest (held_bytes_at size c.old.rest) }
     ensures place { c.new.place + length c.new.rest ≡ c.old.place + length c.old.rest }
 {
     match c.take(size as usize) {
@@ -140,8 +140,8 @@ pub(crate) fn next<'a>(c: &mut Cursor<'a>) -> Result<Option<WireRecord<'a>>, Cau
 /// types 6 and 7, and field numbers outside 1 to 536,870,911 are BadWire (proto3 wire format).
 pub fn next_record<'a>(c: &mut Cursor<'a>) -> Result<Option<WireRecord<'a>>, Cause>
     // What is read begins the bytes, and what begins the bytes is read, whatever follows.
-    ensures found { IfOk result (λ next. IfSome next (λ r. Begins (plain_record r) c.old.rest c.new.rest)) }
-    ensures only { (r : Record) (rest : List ℕ) → Begins r c.old.rest rest → IsNext result r × (c.new.rest ≡ rest) }
+    ensures found { IfOk result (λ next. IfSome next (λ r. BeginsRecord (plain_record r) c.old.rest c.new.rest)) }
+    ensures only { (r : Record) (rest : List ℕ) → BeginsRecord r c.old.rest rest → IsNext result r × (c.new.rest ≡ rest) }
     ensures exact { GivesNext result c.new.rest (record_at c.old.rest) }
 
     // When each refusal comes.

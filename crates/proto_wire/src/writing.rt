@@ -37,45 +37,15 @@ fn long_size(n: u64) -> u64
     10
 }
 
-// Appends the shortest varint.
-#[inline(always)]
-fn write_varint(out: &mut Blob, n: u64) -> Result<(), OutOfMemory>
-    ensures ok { OnOk result (out.new ≡ out.old ++ varint_text n) }
-    ensures err { OnErr result (GrowsFront out.old out.new (varint_text n)) }
-{
-    if n < 128 {
-        return out.append(&[n as u8]);
-    }
-    if n < 16_384 {
-        return out.append(&[(128 + n % 128) as u8, (n / 128) as u8]);
-    }
-    write_long(out, n)
-}
-
-#[inline(never)]
-fn write_long(out: &mut Blob, n: u64) -> Result<(), OutOfMemory>
-    ensures ok { OnOk result (out.new ≡ out.old ++ varint_text n) }
-    ensures err { OnErr result (GrowsFront out.old out.new (varint_text n)) }
-{
-    let mut rest = n;
-    'groups: for _passed in 0..9_u64 {
-        if rest < 128 {
-            return out.append(&[rest as u8]);
-        }
-        out.append(&[(128 + rest % 128) as u8])?;
-        rest /= 128;
-    }
-    out.append(&[rest as u8])
-}
-
 // Appends the varint that begins a record.
 #[inline(always)]
+#[tactic(auto, using(crate::proofs::Shortest::in_pieces))]
 fn write_key(out: &mut Blob, number: u32, wire_type: u64) -> Result<(), OutOfMemory>
     requires { wire_type < 8 }
     ensures ok { OnOk result (out.new ≡ out.old ++ varint_text (number * 8 + wire_type)) }
     ensures err { OnErr result (GrowsFront out.old out.new (varint_text (number * 8 + wire_type))) }
 {
-    write_varint(out, u64::from(number) * 8 + wire_type)
+    out.append_varint(u64::from(number) * 8 + wire_type)
 }
 
 // The number of bytes of the varint that begins a record.
@@ -116,7 +86,7 @@ pub fn write_record(out: &mut Blob, number: u32, payload: Payload<'_>) -> Result
     match payload {
         Payload::Varint(n) => {
             write_key(out, number, 0)?;
-            write_varint(out, n)
+            out.append_varint(n)
         }
         Payload::Fixed64(n) => {
             write_key(out, number, 1)?;
@@ -151,7 +121,7 @@ fn write_opening(out: &mut Blob, number: u32, size: u64) -> Result<(), OutOfMemo
     ensures err { OnErr result (GrowsFront out.old out.new (opening_text number size)) }
 {
     write_key(out, number, 2)?;
-    write_varint(out, size)
+    out.append_varint(size)
 }
 
 /// Opens a record of wire type 2: appends its key and the length of no bytes, or nothing. Its bytes

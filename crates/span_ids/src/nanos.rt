@@ -1,5 +1,5 @@
 ghost use Rattle.std.specs.Prelude.{◌≡◌, ◌<◌, ◌≤◌, ◌↔◌, None, IfSome};
-ghost use Rattle.span_ids.specs.Times.{micros, floor, nanos, last_micros};
+ghost use Rattle.span_ids.specs.Times.{micros, floor, nanos, last_micros, IsWhole};
 
 use std::marker::Model;
 
@@ -36,6 +36,7 @@ impl Nanos {
         ensures value { result ≡ floor self }
         // It is what `of_micros` gives of the whole microseconds.
         ensures whole { result ≡ nanos (micros self) }
+        ensures again { IsWhole result }
     {
         Nanos(self.0 - self.0 % 1000)
     }

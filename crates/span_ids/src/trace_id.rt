@@ -1,6 +1,7 @@
 ghost use Rattle.std.specs.Prelude.{◌≡◌, ℕ, List, ◌<◌, ◌^◌, ◌↔◌, IsOk, IfOk, IsErr, Ok, IsUtf8};
 ghost use Rattle.std.specs.Int.{w128, to_be_bytes};
 ghost use Rattle.hex.specs.Hex.{encode_lower};
+ghost use Rattle.span_ids.specs.Proper.{IsProperTraceId};
 ghost use Rattle.span_ids.specs.HexTexts.{IsIdHexText, SpellsInHex};
 ghost use Rattle.span_ids.specs.declared.hex_text.IdRule.{IdRule};
 ghost use Rattle.span_ids.specs.Identifiers.{IsTraceIdText, SpellsTraceId, HasHalves};
@@ -116,6 +117,8 @@ impl TraceId {
     pub fn known(self)
         ensures positive { 0 < self }
         ensures fits { self < 2 ^ 128 }
+        // Both in one word.
+        ensures proper { IsProperTraceId self }
     {
         // The type keeps it.
     }

@@ -1,5 +1,5 @@
 pub mod Copies
 pub mod Gains
 pub mod Places
-pub mod VarintLemmas
+pub mod VarintText
 pub mod VarintWalk

@@ -20,11 +20,15 @@ pub mod PathLaws
 pub mod Paths
 pub mod RowLaws
 pub mod RowsSoFar
+pub mod ShortestVarints
 pub mod Steps
 pub mod TableDecisions
 pub mod TableLaws
 pub mod Tables
 pub mod Varint
+pub mod VarintFacts
 pub mod VarintLaws
 pub mod Walks
 pub mod formers
+pub mod Zigzag
+pub mod ZigzagFacts

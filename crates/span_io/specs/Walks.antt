@@ -11,6 +11,6 @@ abbrev pub further : Walk → ℕ → Walk
 further w n = record { place = w.place + n; rest = drop n w.rest }
 
 -- what a reader answered and left is what reading the rest gives
-abbrev pub Gives : Result ℕ Lack → List ℕ → Result (ℕ × List ℕ) Lack → Type 0
-Gives (Ok n) rest read = read ≡ Ok (n, rest)
+abbrev pub Gives : {A : Type 0} → Result A Lack → List ℕ → Result (A × List ℕ) Lack → Type 0
+Gives (Ok x) rest read = read ≡ Ok (x, rest)
 Gives (Err e) rest read = read ≡ Err e

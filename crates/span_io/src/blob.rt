@@ -1,6 +1,8 @@
 ghost use Rattle.std.specs.Prelude.{◌≡◌, ◌+◌, ◌<◌, ◌≤◌, [], ◌∷◌, ◌++◌, length, take, drop, IfOk, OnOk, OnErr};
+ghost use Rattle.span_io.specs.Varint.{varint_text};
 
 use crate::halt::OutOfMemory;
+use crate::varint::Varint;
 use std::alloc::Global;
 use std::marker::Model;
 use std::mem;
@@ -81,6 +83,29 @@ impl Blob {
                 Err(refused.into())
             }
         }
+    }
+
+    /// Adds the shortest varint of a number, or nothing.
+    #[inline(always)]
+    pub fn append_varint(&mut self, n: u64) -> Result<(), OutOfMemory>
+        ensures ok { OnOk result (self.new ≡ self.old ++ varint_text n) }
+        ensures err { OnErr result (self.new ≡ self.old) }
+    {
+        if n < 128 {
+            return self.append(&[n as u8]);
+        }
+        if n < 16_384 {
+            return self.append(&[(128 + n % 128) as u8, (n / 128) as u8]);
+        }
+        self.append_long(n)
+    }
+
+    #[inline(never)]
+    fn append_long(&mut self, n: u64) -> Result<(), OutOfMemory>
+        ensures ok { OnOk result (self.new ≡ self.old ++ varint_text n) }
+        ensures err { OnErr result (self.new ≡ self.old) }
+    {
+        self.append(Varint::new(n).as_slice())
     }
 
     /// Puts a byte in the place of the one that stands there.

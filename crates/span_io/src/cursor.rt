@@ -1,8 +1,10 @@
-ghost use Rattle.std.specs.Prelude.{◌≡◌, ◌+◌, ◌<◌, ◌≤◌, ◌↔◌, ℕ, List, length, take, IfOk, OnErr, IsErr, MatchResult, Ok, Err, ◌∷◌};
+ghost use Rattle.std.specs.Prelude.{◌≡◌, ◌+◌, ◌<◌, ◌≤◌, ◌↔◌, ℕ, ℤ, List, length, take, IfOk, OnErr, IsErr, MatchResult, Ok, Err, ◌∷◌};
 ghost use Rattle.std.specs.Int.{w16, w32, w64, from_be_bytes, from_le_bytes};
 ghost use Rattle.span_io.specs.Varint.{BeginsVarint, IsInsideVarint, BeginsOverlong, varint_at};
+ghost use Rattle.span_io.specs.Zigzag.{BeginsZigzag, zigzag_at};
 ghost use Rattle.span_io.specs.Walks.{further, Gives};
 
+use crate::varint::unzigzag;
 use std::marker::Model;
 
 /// Fewer bytes remain than a read asks for.
@@ -209,6 +211,22 @@ impl<'a> Cursor<'a> {
                 self.rest = rest;
                 Ok(number)
             }
+            Err(lack) => Err(lack),
+        }
+    }
+
+    /// A number that has a sign, as the varint of its zigzag.
+    #[inline(always)]
+    pub fn zigzag(&mut self) -> Result<i64, Lack>
+        ensures found { IfOk result (λ z. BeginsZigzag z self.old.rest self.new.rest) }
+        ensures only { (z : ℤ) (rest : List ℕ) → BeginsZigzag z self.old.rest rest → (result ≡ Ok z) × (self.new.rest ≡ rest) }
+        ensures exact { Gives result self.new.rest (zigzag_at self.old.rest) }
+
+        ensures place { self.new.place + length self.new.rest ≡ self.old.place + length self.old.rest }
+        ensures err { OnErr result (self.new ≡ self.old) }
+    {
+        match self.varint() {
+            Ok(number) => Ok(unzigzag(number)),
             Err(lack) => Err(lack),
         }
     }

@@ -9,6 +9,8 @@ pub enum Form {
     OtlpProto,
     /// Batches of `jaeger.thrift`, one after the other, in the Thrift binary protocol.
     JaegerBinary,
+    /// The same batches in the Thrift compact protocol.
+    JaegerCompact,
 }
 
 impl Form {
@@ -16,10 +18,15 @@ impl Form {
     pub fn of_word(word: &[u8]) -> Option<Form>
         ensures { (form : Form) → (result ≡ Some form) ↔ (word.now ≡ form_word form) }
     {
-        match word {
-            b"otlp-proto" => Some(Form::OtlpProto),
-            b"jaeger-binary" => Some(Form::JaegerBinary),
-            _ => None,
+        if word == b"otlp-proto".as_slice() {
+            return Some(Form::OtlpProto);
         }
+        if word == b"jaeger-binary".as_slice() {
+            return Some(Form::JaegerBinary);
+        }
+        if word == b"jaeger-compact".as_slice() {
+            return Some(Form::JaegerCompact);
+        }
+        None
     }
 }

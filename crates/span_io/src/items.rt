@@ -31,6 +31,15 @@ impl<T> Items<T> {
         }
     }
 
+    /// An empty list with room for so many elements, which the caller has in hand.
+    pub fn with_room(alloc: Global, room: usize) -> Result<Items<T>, OutOfMemory>
+        ensures { IfOk result (λ items. items ≡ []) }
+    {
+        Ok(Items {
+            items: Vec::with_capacity(alloc, room)?,
+        })
+    }
+
     pub fn len(&self) -> usize
         ensures { result ≡ length self.now }
     {

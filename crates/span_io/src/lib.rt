@@ -20,6 +20,7 @@ mod sink;
 mod source;
 mod step;
 mod text;
+mod varint;
 mod writer_sink;
 
 pub use blob::Blob;
@@ -39,6 +40,7 @@ pub use sink::{Sink, write_all};
 pub use source::{Failed, Source};
 pub use step::Step;
 pub use text::Text;
+pub use varint::{Varint, zigzag};
 pub use writer_sink::WriterSink;
 
 #[cfg(test)]

@@ -4,7 +4,7 @@ ghost use Rattle.span_io.specs.declared.cause.Cause.{Cause};
 
 use crate::{
     Blob, Cause, CountSink, Failed, Form, Halt, Items, Limits, MemSink, MemSource, OutOfMemory,
-    ReaderSource, Refusal, Sink, Source, Step, Text, WriterSink, write_all,
+    ReaderSource, Refusal, Sink, Source, Step, Text, Varint, WriterSink, write_all, zigzag,
 };
 use std::alloc::Global;
 use std::io::{self, Read, Write};
@@ -87,6 +87,30 @@ fn calls_of(alloc: Global, calls: &[u64]) -> Result<Items<u64>, OutOfMemory> {
         items.push(*call)?;
     }
     Ok(items)
+}
+
+#[test]
+fn writes_varints(rt: HostRuntime) -> Result<(), Fail> {
+    let cases: [(u64, &[u8]); 7] = [
+        (0, b"\x00"),
+        (127, b"\x7f"),
+        (128, b"\x80\x01"),
+        (300, b"\xac\x02"),
+        (16_384, b"\x80\x80\x01"),
+        (zigzag(-0x8000_0000), b"\xff\xff\xff\xff\x0f"),
+        (
+            zigzag(i64::MIN),
+            b"\xff\xff\xff\xff\xff\xff\xff\xff\xff\x01",
+        ),
+    ];
+    for (number, text) in cases {
+        let mut blob = Blob::new(rt.alloc());
+        blob.append_varint(number)?;
+        assert_eq!(rt; blob.as_slice(), text, "of {number}");
+        assert_eq!(rt; Varint::new(number).as_slice(), text, "of {number}");
+    }
+    assert_eq!(rt; zigzag(1), 2);
+    Ok(())
 }
 
 #[test]

@@ -34,9 +34,9 @@ impl Text {
     pub fn of(alloc: Global, piece: &str) -> Result<Text, OutOfMemory>
         ensures { IfOk result (λ text. text ≡ piece.now) }
     {
-        let mut text = Text::new(alloc);
-        text.append(piece)?;
-        Ok(text)
+        Ok(Text {
+            text: String::from_str(alloc, piece)?,
+        })
     }
 
     /// The text of a string, which is taken over.

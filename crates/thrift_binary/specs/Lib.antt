@@ -1,7 +1,6 @@
 pub mod TypeCodes
 pub mod Spelling
 pub mod Reading
-pub mod Judged
 pub mod JudgedBytes
 pub mod JudgedHeads
 pub mod Laws

@@ -7,25 +7,15 @@ use Rattle.span_io.specs.declared.cause.Cause.TheVariants as causes
 use Rattle.thrift_core.specs.declared.field.Field.{Field}
 use Rattle.thrift_core.specs.declared.field.ListHead.{ListHead}
 use Rattle.thrift_core.specs.declared.field.MapHead.{MapHead}
-use Rattle.thrift_core.specs.declared.type_code.TypeCode.{TypeCode}
 use Rattle.thrift_core.specs.Parts.{header, truth, byte, short, int, long, eight, size, list_head, map_head}
-use Rattle.thrift_core.specs.Reading.{ReadingOf}
-use Rattle.thrift_binary.specs.TypeCodes.{kind_of_code, why_none, why_no_pair}
-use Rattle.thrift_binary.specs.Spelling.{signed, is_true, as_they_are}
-
-infixl 10 ◌>>=◌
-abbrev pub ◌>>=◌ : {A B : Type 0} → Result A Cause → (A → Result B Cause) → Result B Cause
-(Ok x) >>= f = f x
-(Err e) >>= f = Err e
+use Rattle.thrift_core.specs.Levels.{why_none, why_no_pair}
+use Rattle.thrift_core.specs.Reading.{ReadingOf, ◌>>=◌, unless, known}
+use Rattle.thrift_binary.specs.TypeCodes.{binary_kind_of_code}
+use Rattle.thrift_binary.specs.Spelling.{signed, binary_is_true, as_they_are}
 
 -- a word of so many bytes
 abbrev pub fixed_at : (A : Type 0) → ℕ → (List ℕ → A) → List ℕ → Result (A × List ℕ) Cause
 fixed_at A many value text = if nat_lt (length text) many then Err causes.Truncated else Ok (value (take many text), drop many text)
-
--- this, where nothing speaks against it
-abbrev pub unless : {A : Type 0} → Option Cause → A → Result A Cause
-unless None x = Ok x
-unless (Some cause) x = Err cause
 
 -- ---- sizes
 
@@ -46,8 +36,8 @@ judged_at why [] = Err causes.Truncated
 judged_at why (b ∷ rest) = unless (why b) (b, rest)
 
 -- a size behind what may have no elements, for this cause
-unfoldable pub size_at : Option Cause → List ℕ → Result (ℕ × List ℕ) Cause
-size_at why text = do
+unfoldable pub binary_size_at : Option Cause → List ℕ → Result (ℕ × List ℕ) Cause
+binary_size_at why text = do
   a ← judged_at (why_first why) text
   b ← judged_at (why_later why) a.1
   c ← judged_at (why_later why) b.1
@@ -56,42 +46,37 @@ size_at why text = do
 
 -- ---- heads
 
--- the type that a field's code says
-abbrev pub known : Option TypeCode → Result TypeCode Cause
-known None = Err causes.BadWire
-known (Some kind) = Ok kind
-
-unfoldable pub header_at : ℕ → List ℕ → Result (Option Field × List ℕ) Cause
-header_at left [] = Err causes.Truncated
-header_at left (zero ∷ rest) = Ok (None, rest)
-header_at left (suc n ∷ rest) = do
-  kind ← known (kind_of_code (suc n))
+unfoldable pub binary_header_at : ℕ → List ℕ → Result (Option Field × List ℕ) Cause
+binary_header_at left [] = Err causes.Truncated
+binary_header_at left (zero ∷ rest) = Ok (None, rest)
+binary_header_at left (suc n ∷ rest) = do
+  kind ← known (binary_kind_of_code (suc n))
   stands ← unless (why_none left (Some kind)) kind
   id ← fixed_at ℤ 2 (signed w16) rest
   Ok (Some (record { id = id.0; kind = stands; held = None }), id.1)
 
-unfoldable pub list_at : ℕ → List ℕ → Result (ListHead × List ℕ) Cause
-list_at left [] = Err causes.Truncated
-list_at left (code ∷ rest) = do
-  number ← size_at (why_none left (kind_of_code code)) rest
-  Ok (record { element = kind_of_code code; size = number.0 }, number.1)
+unfoldable pub binary_list_at : ℕ → List ℕ → Result (ListHead × List ℕ) Cause
+binary_list_at left [] = Err causes.Truncated
+binary_list_at left (code ∷ rest) = do
+  number ← binary_size_at (why_none left (binary_kind_of_code code)) rest
+  Ok (record { element = binary_kind_of_code code; size = number.0 }, number.1)
 
-unfoldable pub map_at : ℕ → List ℕ → Result (MapHead × List ℕ) Cause
-map_at left [] = Err causes.Truncated
-map_at left (key ∷ []) = Err causes.Truncated
-map_at left (key ∷ value ∷ rest) = do
-  number ← size_at (why_no_pair left (kind_of_code key) (kind_of_code value)) rest
-  Ok (record { key = kind_of_code key; value = kind_of_code value; size = number.0 }, number.1)
+unfoldable pub binary_map_at : ℕ → List ℕ → Result (MapHead × List ℕ) Cause
+binary_map_at left [] = Err causes.Truncated
+binary_map_at left (key ∷ []) = Err causes.Truncated
+binary_map_at left (key ∷ value ∷ rest) = do
+  number ← binary_size_at (why_no_pair left (binary_kind_of_code key) (binary_kind_of_code value)) rest
+  Ok (record { key = binary_kind_of_code key; value = binary_kind_of_code value; size = number.0 }, number.1)
 
-abbrev pub reads : ReadingOf
-reads (header left last) text = header_at left text
-reads (truth (Some held)) text = Ok (held, text)
-reads (truth None) text = fixed_at Bool 1 is_true text
-reads byte text = fixed_at ℤ 1 (signed w8) text
-reads short text = fixed_at ℤ 2 (signed w16) text
-reads int text = fixed_at ℤ 4 (signed w32) text
-reads long text = fixed_at ℤ 8 (signed w64) text
-reads eight text = fixed_at (List ℕ) 8 as_they_are text
-reads size text = size_at None text
-reads (list_head left) text = list_at left text
-reads (map_head left) text = map_at left text
+abbrev pub binary_reads : ReadingOf
+binary_reads (header left last) text = binary_header_at left text
+binary_reads (truth (Some held)) text = Ok (held, text)
+binary_reads (truth None) text = fixed_at Bool 1 binary_is_true text
+binary_reads byte text = fixed_at ℤ 1 (signed w8) text
+binary_reads short text = fixed_at ℤ 2 (signed w16) text
+binary_reads int text = fixed_at ℤ 4 (signed w32) text
+binary_reads long text = fixed_at ℤ 8 (signed w64) text
+binary_reads eight text = fixed_at (List ℕ) 8 as_they_are text
+binary_reads size text = binary_size_at None text
+binary_reads (list_head left) text = binary_list_at left text
+binary_reads (map_head left) text = binary_map_at left text

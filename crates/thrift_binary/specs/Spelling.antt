@@ -10,7 +10,8 @@ use Rattle.thrift_core.specs.declared.field.MapHead.{MapHead}
 use Rattle.thrift_core.specs.declared.type_code.TypeCode.{TypeCode}
 use Rattle.thrift_core.specs.Parts.{Part, header, truth, byte, short, int, long, eight, size, list_head, map_head, Spelling, HasLevel}
 use Rattle.thrift_core.specs.Protocols.{WritingOf}
-use Rattle.thrift_binary.specs.TypeCodes.{code_of, kind_of_code, why_none, why_no_pair}
+use Rattle.thrift_core.specs.Levels.{MayStand, why_none, why_no_pair}
+use Rattle.thrift_binary.specs.TypeCodes.{binary_code_of, binary_kind_of_code}
 
 -- ---- what so many bytes say
 
@@ -18,9 +19,9 @@ abbrev pub signed : Width → List ℕ → ℤ
 signed w bytes = cast_signed w (from_be_bytes w bytes)
 
 -- a byte of any value is a truth value, true where it isn't 0
-abbrev pub is_true : List ℕ → Bool
-is_true (zero ∷ rest) = false
-is_true other = true
+abbrev pub binary_is_true : List ℕ → Bool
+binary_is_true (zero ∷ rest) = false
+binary_is_true other = true
 
 abbrev pub as_they_are : List ℕ → List ℕ
 as_they_are bytes = bytes
@@ -30,52 +31,48 @@ abbrev pub IsFixed : (A : Type 0) → ℕ → (List ℕ → A) → A → List �
 IsFixed A many value word text = (length text ≡ many) × (word ≡ value text)
 
 -- a size is an i32 that isn't negative
-abbrev pub IsSize : ℕ → List ℕ → Type 0
-IsSize n (a ∷ b ∷ c ∷ d ∷ []) = (a < 128) × (n ≡ from_be_bytes w32 (a ∷ b ∷ c ∷ d ∷ []))
-IsSize n other = ⊥
+abbrev pub IsBinarySize : ℕ → List ℕ → Type 0
+IsBinarySize n (a ∷ b ∷ c ∷ d ∷ []) = (a < 128) × (n ≡ from_be_bytes w32 (a ∷ b ∷ c ∷ d ∷ []))
+IsBinarySize n other = ⊥
 
 -- ---- the spellings
 
 -- a field is the code of its type, its id as an i16, and its value; 0 is the stop
-abbrev pub IsHeader : ℕ → Option Field → List ℕ → Type 0
-IsHeader left None (zero ∷ []) = Unit {0}
-IsHeader left (Some f) (code ∷ id) =
-    (kind_of_code code ≡ Some f.kind) × HasLevel left f.kind × IsFixed ℤ 2 (signed w16) f.id id × (f.held ≡ None)
-IsHeader left word other = ⊥
-
--- values of this type may stand where so many levels are left
-abbrev pub MayStand : ℕ → Option TypeCode → Type 0
-MayStand left element = (kind : TypeCode) × (element ≡ Some kind) × HasLevel left kind
+abbrev pub IsBinaryHeader : ℕ → Option Field → List ℕ → Type 0
+IsBinaryHeader left None (zero ∷ []) = Unit {0}
+IsBinaryHeader left (Some f) (code ∷ id) =
+    (binary_kind_of_code code ≡ Some f.kind) × HasLevel left f.kind × IsFixed ℤ 2 (signed w16) f.id id × (f.held ≡ None)
+IsBinaryHeader left word other = ⊥
 
 -- a list or set is the code of its elements' type, which means nothing where it is empty, its size, and the elements
-abbrev pub IsListHead : ℕ → ListHead → List ℕ → Type 0
-IsListHead left head (code ∷ number) =
-    (head.element ≡ kind_of_code code) × IsSize head.size number × (1 ≤ head.size → MayStand left head.element)
-IsListHead left head [] = ⊥
+abbrev pub IsBinaryListHead : ℕ → ListHead → List ℕ → Type 0
+IsBinaryListHead left head (code ∷ number) =
+    (head.element ≡ binary_kind_of_code code) × IsBinarySize head.size number × (1 ≤ head.size → MayStand left head.element)
+IsBinaryListHead left head [] = ⊥
 
 -- a map is the codes of its keys' and its values' type, its size, and the pairs
-abbrev pub IsMapHead : ℕ → MapHead → List ℕ → Type 0
-IsMapHead left head (key ∷ value ∷ number) =
-    (head.key ≡ kind_of_code key) × (head.value ≡ kind_of_code value) × IsSize head.size number
+abbrev pub IsBinaryMapHead : ℕ → MapHead → List ℕ → Type 0
+IsBinaryMapHead left head (key ∷ value ∷ number) =
+    (head.key ≡ binary_kind_of_code key) × (head.value ≡ binary_kind_of_code value) × IsBinarySize head.size number
     × (1 ≤ head.size → MayStand left head.key × MayStand left head.value)
-IsMapHead left head other = ⊥
+IsBinaryMapHead left head other = ⊥
 
-abbrev pub spells : Spelling
-spells (header left last) word text = IsHeader left word text
-spells (truth (Some held)) word text = (word ≡ held) × (text ≡ [])
-spells (truth None) word text = IsFixed Bool 1 is_true word text
-spells byte word text = IsFixed ℤ 1 (signed w8) word text
-spells short word text = IsFixed ℤ 2 (signed w16) word text
-spells int word text = IsFixed ℤ 4 (signed w32) word text
-spells long word text = IsFixed ℤ 8 (signed w64) word text
-spells eight word text = IsFixed (List ℕ) 8 as_they_are word text
-spells size word text = IsSize word text
-spells (list_head left) word text = IsListHead left word text
-spells (map_head left) word text = IsMapHead left word text
+abbrev pub binary_spells : Spelling
+binary_spells (header left last) word text = IsBinaryHeader left word text
+binary_spells (truth (Some held)) word text = (word ≡ held) × (text ≡ [])
+binary_spells (truth None) word text = IsFixed Bool 1 binary_is_true word text
+binary_spells byte word text = IsFixed ℤ 1 (signed w8) word text
+binary_spells short word text = IsFixed ℤ 2 (signed w16) word text
+binary_spells int word text = IsFixed ℤ 4 (signed w32) word text
+binary_spells long word text = IsFixed ℤ 8 (signed w64) word text
+binary_spells eight word text = IsFixed (List ℕ) 8 as_they_are word text
+binary_spells size word text = IsBinarySize word text
+binary_spells (list_head left) word text = IsBinaryListHead left word text
+binary_spells (map_head left) word text = IsBinaryMapHead left word text
 
 -- no part has a varint
-abbrev pub then_varint : Part → List ℕ → Type 0
-then_varint part front = ⊥
+abbrev pub binary_then_varint : Part → List ℕ → Type 0
+binary_then_varint part front = ⊥
 
 -- ---- what is refused, in the shortest front that is
 
@@ -94,60 +91,60 @@ SaysNegative other = ⊥
 
 -- A size behind what may have no elements, for this cause, is refused where it says that there are some; any other where it is
 -- negative.
-abbrev pub IsSizeRefused : Option Cause → Cause → List ℕ → Type 0
-IsSizeRefused (Some why) cause front = (cause ≡ why) × SaysSome front
-IsSizeRefused None cause front = (cause ≡ causes.BadSize) × SaysNegative front
+abbrev pub IsBinarySizeRefused : Option Cause → Cause → List ℕ → Type 0
+IsBinarySizeRefused (Some why) cause front = (cause ≡ why) × SaysSome front
+IsBinarySizeRefused None cause front = (cause ≡ causes.BadSize) × SaysNegative front
 
 -- a field is refused at the code of its type
-abbrev pub IsHeaderRefused : ℕ → Cause → List ℕ → Type 0
-IsHeaderRefused left cause (code ∷ []) = (code ≢ 0) × (why_none left (kind_of_code code) ≡ Some cause)
-IsHeaderRefused left cause other = ⊥
+abbrev pub IsBinaryHeaderRefused : ℕ → Cause → List ℕ → Type 0
+IsBinaryHeaderRefused left cause (code ∷ []) = (code ≢ 0) × (why_none left (binary_kind_of_code code) ≡ Some cause)
+IsBinaryHeaderRefused left cause other = ⊥
 
-abbrev pub IsListRefused : ℕ → Cause → List ℕ → Type 0
-IsListRefused left cause (code ∷ number) = IsSizeRefused (why_none left (kind_of_code code)) cause number
-IsListRefused left cause [] = ⊥
+abbrev pub IsBinaryListRefused : ℕ → Cause → List ℕ → Type 0
+IsBinaryListRefused left cause (code ∷ number) = IsBinarySizeRefused (why_none left (binary_kind_of_code code)) cause number
+IsBinaryListRefused left cause [] = ⊥
 
-abbrev pub IsMapRefused : ℕ → Cause → List ℕ → Type 0
-IsMapRefused left cause (key ∷ value ∷ number) = IsSizeRefused (why_no_pair left (kind_of_code key) (kind_of_code value)) cause number
-IsMapRefused left cause other = ⊥
+abbrev pub IsBinaryMapRefused : ℕ → Cause → List ℕ → Type 0
+IsBinaryMapRefused left cause (key ∷ value ∷ number) = IsBinarySizeRefused (why_no_pair left (binary_kind_of_code key) (binary_kind_of_code value)) cause number
+IsBinaryMapRefused left cause other = ⊥
 
-abbrev pub refuses : Part → Cause → List ℕ → Type 0
-refuses (header left last) cause front = IsHeaderRefused left cause front
-refuses size cause front = IsSizeRefused None cause front
-refuses (list_head left) cause front = IsListRefused left cause front
-refuses (map_head left) cause front = IsMapRefused left cause front
-refuses other cause front = ⊥
+abbrev pub binary_refuses : Part → Cause → List ℕ → Type 0
+binary_refuses (header left last) cause front = IsBinaryHeaderRefused left cause front
+binary_refuses size cause front = IsBinarySizeRefused None cause front
+binary_refuses (list_head left) cause front = IsBinaryListRefused left cause front
+binary_refuses (map_head left) cause front = IsBinaryMapRefused left cause front
+binary_refuses other cause front = ⊥
 
 -- ---- writing
 
--- the head of a field keeps no truth value
-abbrev pub keeps : Option Bool → Option Bool
-keeps given = None
+-- the head of a field binary_keeps no truth value
+abbrev pub binary_keeps : Option Bool → Option Bool
+binary_keeps given = None
 
 abbrev pub signed_text : Width → ℤ → List ℕ
 signed_text w n = to_be_bytes w (cast_unsigned w n)
 
 -- a type that an empty list or map lacks is written as 0
-abbrev pub element_code : Option TypeCode → ℕ
-element_code None = 0
-element_code (Some kind) = code_of kind
+abbrev pub binary_element_code : Option TypeCode → ℕ
+binary_element_code None = 0
+binary_element_code (Some kind) = binary_code_of kind
 
-abbrev pub header_text : Option Field → List ℕ
-header_text None = 0 ∷ []
-header_text (Some f) = code_of f.kind ∷ signed_text w16 f.id
+abbrev pub binary_header_text : Option Field → List ℕ
+binary_header_text None = 0 ∷ []
+binary_header_text (Some f) = binary_code_of f.kind ∷ signed_text w16 f.id
 
-abbrev pub truth_text : Option Bool → Bool → List ℕ
-truth_text (Some held) word = []
-truth_text None word = from_bool word ∷ []
+abbrev pub binary_truth_text : Option Bool → Bool → List ℕ
+binary_truth_text (Some held) word = []
+binary_truth_text None word = from_bool word ∷ []
 
-abbrev pub writes : WritingOf
-writes (header left last) word = header_text word
-writes (truth held) word = truth_text held word
-writes byte word = signed_text w8 word
-writes short word = signed_text w16 word
-writes int word = signed_text w32 word
-writes long word = signed_text w64 word
-writes eight word = word
-writes size word = to_be_bytes w32 word
-writes (list_head left) word = element_code word.element ∷ to_be_bytes w32 word.size
-writes (map_head left) word = element_code word.key ∷ element_code word.value ∷ to_be_bytes w32 word.size
+abbrev pub binary_writes : WritingOf
+binary_writes (header left last) word = binary_header_text word
+binary_writes (truth held) word = binary_truth_text held word
+binary_writes byte word = signed_text w8 word
+binary_writes short word = signed_text w16 word
+binary_writes int word = signed_text w32 word
+binary_writes long word = signed_text w64 word
+binary_writes eight word = word
+binary_writes size word = to_be_bytes w32 word
+binary_writes (list_head left) word = binary_element_code word.element ∷ to_be_bytes w32 word.size
+binary_writes (map_head left) word = binary_element_code word.key ∷ binary_element_code word.value ∷ to_be_bytes w32 word.size

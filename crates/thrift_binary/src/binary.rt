@@ -14,17 +14,17 @@ use thrift_core::{Field, ListHead, MapHead, Protocol, TypeCode};
 pub struct Binary;
 
 impl Protocol for Binary {
-    ghost spells = { spelling.spells };
+    ghost spells = { spelling.binary_spells };
 
-    ghost reads = { reading.reads };
+    ghost reads = { reading.binary_reads };
 
-    ghost then_varint = { spelling.then_varint };
+    ghost then_varint = { spelling.binary_then_varint };
 
-    ghost refuses = { spelling.refuses };
+    ghost refuses = { spelling.binary_refuses };
 
-    ghost keeps = { spelling.keeps };
+    ghost keeps = { spelling.binary_keeps };
 
-    ghost writes = { spelling.writes };
+    ghost writes = { spelling.binary_writes };
 
     #[inline(always)]
     fn field(c: &mut Cursor<'_>, _last: i16, left: u8) -> Result<Option<Field>, Cause> {
@@ -146,9 +146,9 @@ impl Protocol for Binary {
         out.append(&[code(element), a, b, c, d])
     }
 
-    ghost reads_exactly = { binary_laws.reads_exactly };
+    ghost reads_exactly = { binary_laws.binary_reads_exactly };
 
-    ghost part_laws = { binary_laws.part_laws };
+    ghost part_laws = { binary_laws.binary_part_laws };
 
-    ghost writes_shortest = { binary_laws.writes_shortest };
+    ghost writes_shortest = { binary_laws.binary_writes_shortest };
 }

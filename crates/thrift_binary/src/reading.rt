@@ -1,18 +1,18 @@
 ghost use Rattle.std.specs.Prelude.{◌≡◌, ◌+◌, ◌<◌, ◌≤◌, ℕ, ℤ, Bool, Option, Some, None, List, length, OnErr, Err, Any, true, ◌↔◌, ◌≢◌};
 ghost use Rattle.std.specs.Int.{w8, w16, w32, w64};
-ghost use Rattle.thrift_core.specs.Reading.{Gives, Stays};
-ghost use Rattle.thrift_binary.specs.Spelling.{signed, is_true, as_they_are};
-ghost use Rattle.thrift_binary.specs.Reading.{fixed_at, size_at, header_at, list_at, map_at};
+ghost use Rattle.thrift_core.specs.Reading.{GivesWord, Stays};
+ghost use Rattle.thrift_binary.specs.Spelling.{signed, binary_is_true, as_they_are};
+ghost use Rattle.thrift_binary.specs.Reading.{fixed_at, binary_size_at, binary_header_at, binary_list_at, binary_map_at};
 
-use crate::type_codes::{type_of, why_not, why_not_both};
+use crate::type_codes::type_of;
 use span_io::{Cause, Cursor, Short};
-use thrift_core::{Field, ListHead, MapHead};
+use thrift_core::{Field, ListHead, MapHead, why_not, why_not_both};
 
 // A byte.
 #[inline(always)]
 #[tactic(auto, using(crate::proofs::Fixed::of_byte))]
 pub(crate) fn byte_of(c: &mut Cursor<'_>) -> Result<i8, Cause>
-    ensures exact { Gives result c.new.rest (fixed_at ℤ 1 (signed w8) c.old.rest) }
+    ensures exact { GivesWord result c.new.rest (fixed_at ℤ 1 (signed w8) c.old.rest) }
     ensures place { Stays c.old c.new }
     ensures err { OnErr result (c.new ≡ c.old) }
 {
@@ -25,7 +25,7 @@ pub(crate) fn byte_of(c: &mut Cursor<'_>) -> Result<i8, Cause>
 #[inline(always)]
 #[tactic(auto, using(crate::proofs::Fixed::of_byte))]
 pub(crate) fn truth_of(c: &mut Cursor<'_>) -> Result<bool, Cause>
-    ensures exact { Gives result c.new.rest (fixed_at Bool 1 is_true c.old.rest) }
+    ensures exact { GivesWord result c.new.rest (fixed_at Bool 1 binary_is_true c.old.rest) }
     ensures place { Stays c.old c.new }
     ensures err { OnErr result (c.new ≡ c.old) }
 {
@@ -38,7 +38,7 @@ pub(crate) fn truth_of(c: &mut Cursor<'_>) -> Result<bool, Cause>
 #[inline(always)]
 #[tactic(auto, using(crate::proofs::Fixed::of_bytes))]
 pub(crate) fn short_of(c: &mut Cursor<'_>) -> Result<i16, Cause>
-    ensures exact { Gives result c.new.rest (fixed_at ℤ 2 (signed w16) c.old.rest) }
+    ensures exact { GivesWord result c.new.rest (fixed_at ℤ 2 (signed w16) c.old.rest) }
     ensures place { Stays c.old c.new }
     ensures err { OnErr result (c.new ≡ c.old) }
 {
@@ -51,7 +51,7 @@ pub(crate) fn short_of(c: &mut Cursor<'_>) -> Result<i16, Cause>
 #[inline(always)]
 #[tactic(auto, using(crate::proofs::Fixed::of_bytes))]
 pub(crate) fn int_of(c: &mut Cursor<'_>) -> Result<i32, Cause>
-    ensures exact { Gives result c.new.rest (fixed_at ℤ 4 (signed w32) c.old.rest) }
+    ensures exact { GivesWord result c.new.rest (fixed_at ℤ 4 (signed w32) c.old.rest) }
     ensures place { Stays c.old c.new }
     ensures err { OnErr result (c.new ≡ c.old) }
 {
@@ -64,7 +64,7 @@ pub(crate) fn int_of(c: &mut Cursor<'_>) -> Result<i32, Cause>
 #[inline(always)]
 #[tactic(auto, using(crate::proofs::Fixed::of_bytes))]
 pub(crate) fn long_of(c: &mut Cursor<'_>) -> Result<i64, Cause>
-    ensures exact { Gives result c.new.rest (fixed_at ℤ 8 (signed w64) c.old.rest) }
+    ensures exact { GivesWord result c.new.rest (fixed_at ℤ 8 (signed w64) c.old.rest) }
     ensures place { Stays c.old c.new }
     ensures err { OnErr result (c.new ≡ c.old) }
 {
@@ -77,7 +77,7 @@ pub(crate) fn long_of(c: &mut Cursor<'_>) -> Result<i64, Cause>
 #[inline(always)]
 #[tactic(auto, using(crate::proofs::Fixed::of_bytes))]
 pub(crate) fn eight_of(c: &mut Cursor<'_>) -> Result<[u8; 8], Cause>
-    ensures exact { Gives result c.new.rest (fixed_at (List ℕ) 8 as_they_are c.old.rest) }
+    ensures exact { GivesWord result c.new.rest (fixed_at (List ℕ) 8 as_they_are c.old.rest) }
     ensures place { Stays c.old c.new }
     ensures err { OnErr result (c.new ≡ c.old) }
 {
@@ -97,7 +97,7 @@ pub(crate) fn eight_of(c: &mut Cursor<'_>) -> Result<[u8; 8], Cause>
 #[inline(never)]
 fn why_short(bytes: &[u8], why: Option<Cause>) -> Cause
     requires { length bytes.now < 4 }
-    ensures exact { size_at why bytes.now ≡ Err result }
+    ensures exact { binary_size_at why bytes.now ≡ Err result }
 {
     let Some(first) = bytes.first() else {
         return Cause::Truncated;
@@ -121,7 +121,7 @@ fn has_some(bytes: &[u8]) -> bool
 #[tactic(auto, using(crate::proofs::Sizes::where_whole))]
 #[inline(always)]
 pub(crate) fn size_of(c: &mut Cursor<'_>, why: Option<Cause>) -> Result<u32, Cause>
-    ensures exact { Gives result c.new.rest (size_at why c.old.rest) }
+    ensures exact { GivesWord result c.new.rest (binary_size_at why c.old.rest) }
     ensures place { Stays c.old c.new }
 {
     let whole = c.rest();
@@ -147,7 +147,7 @@ pub(crate) fn size_of(c: &mut Cursor<'_>, why: Option<Cause>) -> Result<u32, Cau
 #[tactic(auto, using(crate::proofs::Heads::of_header))]
 #[inline(always)]
 pub(crate) fn header_of(c: &mut Cursor<'_>, left: u8) -> Result<Option<Field>, Cause>
-    ensures exact { Gives result c.new.rest (header_at left c.old.rest) }
+    ensures exact { GivesWord result c.new.rest (binary_header_at left c.old.rest) }
     ensures place { Stays c.old c.new }
 {
     let code = match c.byte() {
@@ -176,7 +176,7 @@ pub(crate) fn header_of(c: &mut Cursor<'_>, left: u8) -> Result<Option<Field>, C
 #[tactic(auto, using(crate::proofs::Heads::of_list))]
 #[inline(always)]
 pub(crate) fn list_of(c: &mut Cursor<'_>, left: u8) -> Result<ListHead, Cause>
-    ensures exact { Gives result c.new.rest (list_at left c.old.rest) }
+    ensures exact { GivesWord result c.new.rest (binary_list_at left c.old.rest) }
     ensures place { Stays c.old c.new }
 {
     let element = match c.byte() {
@@ -192,7 +192,7 @@ pub(crate) fn list_of(c: &mut Cursor<'_>, left: u8) -> Result<ListHead, Cause>
 #[tactic(auto, using(crate::proofs::Heads::of_map))]
 #[inline(always)]
 pub(crate) fn map_of(c: &mut Cursor<'_>, left: u8) -> Result<MapHead, Cause>
-    ensures exact { Gives result c.new.rest (map_at left c.old.rest) }
+    ensures exact { GivesWord result c.new.rest (binary_map_at left c.old.rest) }
     ensures place { Stays c.old c.new }
 {
     let key = match c.byte() {

@@ -12,7 +12,7 @@ use Rattle.thrift_core.specs.Protocols.{ReadsExactly, PartLaws, WritingOf, Write
 use Rattle.thrift_core.specs.Trees.{Fields, StructText, outer_levels}
 use Rattle.thrift_core.specs.Walks.{Open, in_struct, in_value, first_of, opened_by_header, Turn, Turns, Passes, outer_struct}
 use Rattle.thrift_core.specs.Values.{struct_frames, RefusedStruct}
-use Rattle.thrift_core.specs.Laws.{OneReading, ReadsBack, OpenFronts}
+use Rattle.thrift_core.specs.Laws.{OneReading, PartsReadBack, OpenFronts}
 use Rattle.thrift_core.proofs.Determined.{front_of, one_turn, one_word, one_end, passes_more, passes_on, ended_there}
 use Rattle.thrift_core.proofs.Completed.{stack_filled, walk_suits}
 use Rattle.thrift_core.proofs.Meanings.{whole_walk, fields_on}
@@ -129,7 +129,7 @@ module _ (Spells : Spelling) (reads : ReadingOf) (ThenVarint : Part → List ℕ
 
   -- ---- what is written
 
-  pub reads_back : (keeps : Option Bool → Option Bool) (writes : WritingOf) → WritesShortest Spells keeps writes → ReadsBack reads keeps writes
+  pub reads_back : (keeps : Option Bool → Option Bool) (writes : WritingOf) → WritesShortest Spells keeps writes → PartsReadBack reads keeps writes
   reads_back keeps writes W = record {
     read_back = λ part word rest may. R.only part word (writes part word ++ rest) rest (record { text = writes part word; spelled = W.spelled part word may; parts = refl });
   }

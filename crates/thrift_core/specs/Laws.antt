@@ -23,7 +23,7 @@ pub record OneReading (Spells : Spelling) : Type 0 where
       → StructText Spells left b longer → longer ≡ text ++ more → (more ≡ []) × (a ≡ b)
 
 -- What is written is read back, whatever follows.
-pub record ReadsBack (reads : ReadingOf) (keeps : Option Bool → Option Bool) (writes : WritingOf) : Type 0 where
+pub record PartsReadBack (reads : ReadingOf) (keeps : Option Bool → Option Bool) (writes : WritingOf) : Type 0 where
   pub read_back : (part : Part) (word : WordOf part) (rest : List ℕ) → MayWrite keeps part word
       → reads part (writes part word ++ rest) ≡ Ok (word, rest)
 

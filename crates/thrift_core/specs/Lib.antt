@@ -12,3 +12,7 @@ pub mod Messages
 pub mod StructLaws
 pub mod Written
 pub mod WrittenLaws
+pub mod Levels
+pub mod Judged
+pub mod JudgedSteps
+pub mod Standing

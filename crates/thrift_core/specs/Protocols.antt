@@ -91,4 +91,5 @@ MayWrite keeps (map_head left) head = ⊥
 -- What is written is a spelling, and none is shorter.
 pub record WritesShortest (Spells : Spelling) (keeps : Option Bool → Option Bool) (writes : WritingOf) : Type 0 where
   pub spelled : (part : Part) (word : WordOf part) → MayWrite keeps part word → Spells part word (writes part word)
-  pub shortest : (part : Part) (word : WordOf part) (text : List ℕ) → MayWrite keeps part word → Spells part word text → length (writes part word) ≤ length text
+  pub shortest : (part : Part) (word : WordOf part) (text : List ℕ) → MayWrite keeps part word → All (λ b. b < 256) text → Spells part word text
+      → length (writes part word) ≤ length text

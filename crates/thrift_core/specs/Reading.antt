@@ -1,18 +1,19 @@
 -- Reading a part as a computation: what stands at the front, and the bytes after it, or the cause.
-use Rattle.std.specs.Prelude.{◌≡◌, ℕ, ◌+◌, List, length, take, drop, Result, Ok, Err, nat_lt, if◌then◌else◌}
+use Rattle.std.specs.Prelude.{◌≡◌, ℕ, ◌+◌, List, length, take, drop, Option, Some, None, Result, Ok, Err, nat_lt, if◌then◌else◌}
 use Rattle.std.specs.Borrow.{Bor}
 use Rattle.span_io.specs.declared.cause.Cause.{Cause}
 use Rattle.span_io.specs.declared.cause.Cause.TheVariants as causes
 use Rattle.span_io.specs.Walks.{Walk}
+use Rattle.thrift_core.specs.declared.type_code.TypeCode.{TypeCode}
 use Rattle.thrift_core.specs.Parts.{Part, size, WordOf}
 
 abbrev pub ReadingOf : Type 0
 ReadingOf = (part : Part) → List ℕ → Result (WordOf part × List ℕ) Cause
 
 -- what a reader answered and left is what reading gives
-abbrev pub Gives : {A : Type 0} → Result A Cause → List ℕ → Result (A × List ℕ) Cause → Type 0
-Gives (Ok word) rest read = read ≡ Ok (word, rest)
-Gives (Err cause) rest read = read ≡ Err cause
+abbrev pub GivesWord : {A : Type 0} → Result A Cause → List ℕ → Result (A × List ℕ) Cause → Type 0
+GivesWord (Ok word) rest read = read ≡ Ok (word, rest)
+GivesWord (Err cause) rest read = read ≡ Err cause
 
 -- a cursor goes on over the same bytes
 abbrev pub Stays : Walk → Walk → Type 0
@@ -39,3 +40,20 @@ Lends (Err cause) rest read = read ≡ Err cause
 abbrev pub IsLent : Result (Bor (List ℕ)) Cause → List ℕ → Type 0
 IsLent (Ok lent) bytes = lent.now ≡ bytes
 IsLent (Err cause) bytes = ⊥
+
+-- ---- one step after the other
+
+infixl 10 ◌>>=◌
+abbrev pub ◌>>=◌ : {A B : Type 0} → Result A Cause → (A → Result B Cause) → Result B Cause
+(Ok x) >>= f = f x
+(Err e) >>= f = Err e
+
+-- this, where nothing speaks against it
+abbrev pub unless : {A : Type 0} → Option Cause → A → Result A Cause
+unless None x = Ok x
+unless (Some cause) x = Err cause
+
+-- the type that a field's code says
+abbrev pub known : Option TypeCode → Result TypeCode Cause
+known None = Err causes.BadWire
+known (Some kind) = Ok kind

@@ -1,6 +1,6 @@
 //! Laws of the wire format over any protocol, as contracts of functions that do nothing.
 ghost use Rattle.span_io.specs.Framings.{OneFraming, OneStep};
-ghost use Rattle.thrift_core.specs.Laws.{OneReading, OpenFronts, ReadsBack};
+ghost use Rattle.thrift_core.specs.Laws.{OneReading, OpenFronts, PartsReadBack};
 ghost use Rattle.thrift_core.specs.Values.{struct_frames, RefusedStruct};
 ghost use Rattle.thrift_core.specs.WrittenLaws.{WrittenStructs};
 
@@ -13,7 +13,7 @@ pub fn one_reading<P: Protocol>()
 
 /// What is written is read back, whatever follows.
 pub fn reads_back<P: Protocol>()
-    ensures { ReadsBack P.reads P.keeps P.writes }
+    ensures { PartsReadBack P.reads P.keeps P.writes }
 {}
 
 /// What is written of the fields of a struct, part by part, is their text, whatever follows.

@@ -5,6 +5,7 @@
 mod field;
 mod frame;
 pub mod laws;
+mod levels;
 mod passing;
 mod protocol;
 mod skipping;
@@ -12,6 +13,7 @@ mod type_code;
 
 pub use field::{Field, ListHead, MapHead};
 pub use frame::{OUTER_LEVELS, first_frame};
+pub use levels::{why_not, why_not_both};
 pub use protocol::Protocol;
 pub use skipping::{bytes, skip};
 pub use type_code::TypeCode;

@@ -1,7 +1,7 @@
 ghost use Rattle.std.specs.Prelude.{◌≡◌, ◌≤◌, ◌<ℤ◌, ℕ, ℤ, Bool, Option, Some, None, List, ◌+◌, ◌++◌, length, OnOk, OnErr};
 ghost use Rattle.span_io.specs.declared.cause.Cause.{Cause};
 ghost use Rattle.thrift_core.specs.Parts.{Part, Spelling, header, truth, byte, short, int, long, eight, size, list_head, map_head};
-ghost use Rattle.thrift_core.specs.Reading.{ReadingOf, Gives, Stays};
+ghost use Rattle.thrift_core.specs.Reading.{ReadingOf, GivesWord, Stays};
 ghost use Rattle.thrift_core.specs.Protocols.{ReadsExactly, PartLaws, WritingOf, WritesShortest, IsGiven, field_head, list_of_type, last_size};
 
 use crate::field::{Field, ListHead, MapHead};
@@ -26,56 +26,56 @@ pub trait Protocol {
 
     /// The head of the next field behind the field of id `last`, or None at the stop byte.
     fn field(c: &mut Cursor<'_>, last: i16, left: u8) -> Result<Option<Field>, Cause>
-        ensures exact { Gives result c.new.rest (reads (header left last) c.old.rest) }
+        ensures exact { GivesWord result c.new.rest (reads (header left last) c.old.rest) }
         ensures place { Stays c.old c.new }
         ensures err { OnErr result (c.new ≡ c.old) };
 
     /// A truth value, which the head of its field may hold already.
     fn truth(c: &mut Cursor<'_>, held: Option<bool>) -> Result<bool, Cause>
-        ensures exact { Gives result c.new.rest (reads (truth held) c.old.rest) }
+        ensures exact { GivesWord result c.new.rest (reads (truth held) c.old.rest) }
         ensures place { Stays c.old c.new }
         ensures err { OnErr result (c.new ≡ c.old) };
 
     fn byte(c: &mut Cursor<'_>) -> Result<i8, Cause>
-        ensures exact { Gives result c.new.rest (reads byte c.old.rest) }
+        ensures exact { GivesWord result c.new.rest (reads byte c.old.rest) }
         ensures place { Stays c.old c.new }
         ensures err { OnErr result (c.new ≡ c.old) };
 
     fn short(c: &mut Cursor<'_>) -> Result<i16, Cause>
-        ensures exact { Gives result c.new.rest (reads short c.old.rest) }
+        ensures exact { GivesWord result c.new.rest (reads short c.old.rest) }
         ensures place { Stays c.old c.new }
         ensures err { OnErr result (c.new ≡ c.old) };
 
     fn int(c: &mut Cursor<'_>) -> Result<i32, Cause>
-        ensures exact { Gives result c.new.rest (reads int c.old.rest) }
+        ensures exact { GivesWord result c.new.rest (reads int c.old.rest) }
         ensures place { Stays c.old c.new }
         ensures err { OnErr result (c.new ≡ c.old) };
 
     fn long(c: &mut Cursor<'_>) -> Result<i64, Cause>
-        ensures exact { Gives result c.new.rest (reads long c.old.rest) }
+        ensures exact { GivesWord result c.new.rest (reads long c.old.rest) }
         ensures place { Stays c.old c.new }
         ensures err { OnErr result (c.new ≡ c.old) };
 
     /// The eight bytes of a double, the most significant first.
     fn eight(c: &mut Cursor<'_>) -> Result<[u8; 8], Cause>
-        ensures exact { Gives result c.new.rest (reads eight c.old.rest) }
+        ensures exact { GivesWord result c.new.rest (reads eight c.old.rest) }
         ensures place { Stays c.old c.new }
         ensures err { OnErr result (c.new ≡ c.old) };
 
     /// The number of bytes of a binary, which follow it.
     fn length(c: &mut Cursor<'_>) -> Result<u32, Cause>
-        ensures exact { Gives result c.new.rest (reads size c.old.rest) }
+        ensures exact { GivesWord result c.new.rest (reads size c.old.rest) }
         ensures place { Stays c.old c.new }
         ensures err { OnErr result (c.new ≡ c.old) };
 
     /// The head of a list or set.
     fn list(c: &mut Cursor<'_>, left: u8) -> Result<ListHead, Cause>
-        ensures exact { Gives result c.new.rest (reads (list_head left) c.old.rest) }
+        ensures exact { GivesWord result c.new.rest (reads (list_head left) c.old.rest) }
         ensures place { Stays c.old c.new }
         ensures err { OnErr result (c.new ≡ c.old) };
 
     fn map(c: &mut Cursor<'_>, left: u8) -> Result<MapHead, Cause>
-        ensures exact { Gives result c.new.rest (reads (map_head left) c.old.rest) }
+        ensures exact { GivesWord result c.new.rest (reads (map_head left) c.old.rest) }
         ensures place { Stays c.old c.new }
         ensures err { OnErr result (c.new ≡ c.old) };
 

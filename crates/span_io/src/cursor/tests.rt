@@ -52,6 +52,29 @@ fn refuses_varints(rt: HostRuntime) {
     }
 }
 
+// The numbers of the documentation ("Signed Integers"), and the limits.
+#[test]
+fn reads_signed_numbers(rt: HostRuntime) {
+    let cases: [(&[u8], i64, usize); 8] = [
+        (b"\x00\xff", 0, 1),
+        (b"\x01", -1, 1),
+        (b"\x02", 1, 1),
+        (b"\x03", -2, 1),
+        (b"\x82\x00", 1, 2),
+        (b"\xff\xff\xff\xff\x0f", -0x8000_0000, 5),
+        (b"\xfe\xff\xff\xff\xff\xff\xff\xff\xff\x01", i64::MAX, 10),
+        (b"\xff\xff\xff\xff\xff\xff\xff\xff\xff\x01", i64::MIN, 10),
+    ];
+    for (bytes, number, place) in cases {
+        let mut cursor = Cursor::new(bytes);
+        assert_eq!(rt; cursor.zigzag(), Ok(number), "of {bytes:?}");
+        assert_eq!(rt; cursor.place(), place, "after {bytes:?}");
+    }
+    let mut cursor = Cursor::new(b"\x96");
+    assert_eq!(rt; cursor.zigzag(), Err(Lack::Short));
+    assert_eq!(rt; cursor.place(), 0);
+}
+
 #[test]
 fn walks(rt: HostRuntime) {
     let mut cursor = Cursor::new(b"\x08\x01\x02\x03\x04\x01\x00\x00\x00\x00\x00\x00\x80ab");

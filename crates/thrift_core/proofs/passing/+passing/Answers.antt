@@ -5,8 +5,7 @@ use Rattle.thrift_core.specs.Parts.{header, truth, byte, short, int, long, eight
 use Rattle.thrift_core.specs.Walks.{in_struct, in_value, in_elements, in_pairs, first_of, no_level, nothing_more, opened_elements, opened_pairs, Passes}
 use Rattle.thrift_core.specs.declared.type_code.TypeCode.TheVariants as kinds
 use Rattle.thrift_core.proofs.Determined.{no_turns}
-use Rattle.thrift_core.proofs.WalkSteps.{first_refused, part_read, passed_in, passed_last, part_shortens, field_read, stop_read, list_read, map_read, halted_in, element_opened, no_element_left, pair_opened, no_pair_left, onward}
-use Rattle.thrift_core.proofs.WalkSteps.{value_first, value_below, value_without_level, level_refused, made_of_one}
+use Rattle.thrift_core.proofs.WalkSteps.{first_refused, part_read, passed_in, passed_last, part_shortens, field_read, stop_read, list_read, map_read, halted_in, element_opened, no_element_left, pair_opened, no_pair_left, onward, value_first, value_below, value_without_level, level_refused, made_of_one}
 use Rattle.thrift_core.proofs.passing.+passing.Goals as goal
 
 -- ---- values

@@ -1,5 +1,5 @@
-use Rattle.proto_wire.proofs.Shortest.{one_byte, two_bytes}
-use Rattle.proto_wire.proofs.writing.write_varint.Goals as goal
+use Rattle.span_io.specs.ShortestVarints.{one_byte, two_bytes}
+use Rattle.span_io.proofs.blob.Blob.append_varint.Goals as goal
 
 pub returns-then-n-lt128-clause-ok : goal.returns-then-n-lt128-clause-ok
 returns-then-n-lt128-clause-ok c = rw (one_byte c.args.n c.if-n-lt128.true) c.append.ensures.ok

@@ -4,8 +4,18 @@ use Rattle.std.proofs.Common.{◌≡◌, ◌≢◌, ◌++◌, ◌∷◌, ◌↔�
 use Rattle.std.proofs.lemmas.List.{append_assoc, append-nil}
 use Rattle.span_io.specs.declared.cause.Cause.{Cause}
 use Rattle.span_io.specs.declared.cause.Cause.TheVariants as causes
+use Rattle.span_io.specs.Varint.{IsInsideVarint}
 use Rattle.span_io.specs.Frames.{Framing, IsOpen, IsRefused, ShortestRefused, IsRefusedAt}
+use Rattle.span_io.specs.FramingLaws.{open_front}
 use Rattle.span_io.specs.Cuts.{two_cuts, append_empty_right}
+
+-- the judged_texts of words as items, and behind which first bytes of one a varint stands
+abbrev pub judged_texts : (W : Type 0) → (W → List ℕ → Type 0) → (List ℕ → Type 0) → Framing
+judged_texts W S V = record { Whole = λ text. (word : W) × S word text; ThenVarint = V; EndsPast = λ limit text. ⊥ }
+
+-- more bytes make a word of them, or they end inside a varint of one
+abbrev pub Opens : (W : Type 0) → (W → List ℕ → Type 0) → (List ℕ → Type 0) → List ℕ → Type 0
+Opens W S V bytes = IsOpen (judged_texts W S V) bytes
 
 -- more bytes make a word of them
 pub record MayCome (W : Type 0) (S : W → List ℕ → Type 0) (bytes : List ℕ) : Type 0 where
@@ -14,36 +24,45 @@ pub record MayCome (W : Type 0) (S : W → List ℕ → Type 0) (bytes : List �
   pub some : more ≢ []
   pub spelled : S word (bytes ++ more)
 
+pub opens : (W : Type 0) (S : W → List ℕ → Type 0) (V : List ℕ → Type 0) (bytes : List ℕ) → MayCome W S bytes → Opens W S V bytes
+opens W S V bytes m = inl (record { more = m.more; some = m.some; whole = (m.word, m.spelled) })
+
 -- no spelling of a word agrees with these bytes and what follows them
 abbrev pub Clashes : (W : Type 0) → (W → List ℕ → Type 0) → List ℕ → Type 0
 Clashes W S front = (word : W) (text tail more : List ℕ) → S word text → text ++ tail ≡ front ++ more → ⊥
 
-pub record Refusal (W : Type 0) (S : W → List ℕ → Type 0) (R : Cause → List ℕ → Type 0) (bytes : List ℕ) (cause : Cause) : Type 0 where
+-- nothing that begins with these bytes ends inside a varint
+abbrev pub HasEnded : (List ℕ → Type 0) → List ℕ → Type 0
+HasEnded V text = (rest front inside : List ℕ) → V front → IsInsideVarint inside → text ++ rest ≡ front ++ inside → ⊥
+
+pub record Refusal (W : Type 0) (S : W → List ℕ → Type 0) (V : List ℕ → Type 0) (R : Cause → List ℕ → Type 0) (bytes : List ℕ) (cause : Cause) : Type 0 where
   pub front : List ℕ
   pub rest : List ℕ
   pub parts : bytes ≡ front ++ rest
   pub because : R cause front
   pub clashes : Clashes W S front
-  pub before : (shorter more : List ℕ) → front ≡ shorter ++ more → more ≢ [] → MayCome W S shorter
+  pub ended : HasEnded V front
+  pub before : (shorter more : List ℕ) → front ≡ shorter ++ more → more ≢ [] → Opens W S V shorter
   pub not_short : cause ≢ causes.Truncated
   pub not_long : cause ≢ causes.UnitTooLong
 
-pub data Judged (W : Type 0) (S : W → List ℕ → Type 0) (R : Cause → List ℕ → Type 0) (bytes : List ℕ) (read : Result (W × List ℕ) Cause) : Type 0 where
-  found : (word : W) (text rest : List ℕ) → S word text → bytes ≡ text ++ rest → read ≡ Ok (word, rest) → Judged W S R bytes read
-  may_come : MayCome W S bytes → read ≡ Err causes.Truncated → Judged W S R bytes read
-  refused : (cause : Cause) → Refusal W S R bytes cause → read ≡ Err cause → Judged W S R bytes read
+pub data Judged (W : Type 0) (S : W → List ℕ → Type 0) (V : List ℕ → Type 0) (R : Cause → List ℕ → Type 0) (bytes : List ℕ) (read : Result (W × List ℕ) Cause) : Type 0 where
+  found : (word : W) (text rest : List ℕ) → S word text → bytes ≡ text ++ rest → read ≡ Ok (word, rest) → Judged W S V R bytes read
+  may_come : Opens W S V bytes → read ≡ Err causes.Truncated → Judged W S V R bytes read
+  refused : (cause : Cause) → Refusal W S V R bytes cause → read ≡ Err cause → Judged W S V R bytes read
 
-pub record Judges (W : Type 0) (S : W → List ℕ → Type 0) (R : Cause → List ℕ → Type 0) (reads : List ℕ → Result (W × List ℕ) Cause) : Type 0 where
-  pub judged : (bytes : List ℕ) → Judged W S R bytes (reads bytes)
+pub record JudgesReading (W : Type 0) (S : W → List ℕ → Type 0) (V : List ℕ → Type 0) (R : Cause → List ℕ → Type 0) (reads : List ℕ → Result (W × List ℕ) Cause) : Type 0 where
+  pub judged : (bytes : List ℕ) → Judged W S V R bytes (reads bytes)
   -- two spellings of which one may go on are one
   pub one : (w v : W) (text other tail more : List ℕ) → S w text → S v other → text ++ tail ≡ other ++ more → (w ≡ v) × (tail ≡ more)
+  pub ended : (word : W) (text : List ℕ) → S word text → HasEnded V text
   pub one_cause : (front : List ℕ) (a b : Cause) → R a front → R b front → a ≡ b
 
 -- ---- what follows
 
-module _ (W : Type 0) (S : W → List ℕ → Type 0) (R : Cause → List ℕ → Type 0) (reads : List ℕ → Result (W × List ℕ) Cause) (laws : Judges W S R reads) where
+module _ (W : Type 0) (S : W → List ℕ → Type 0) (V : List ℕ → Type 0) (R : Cause → List ℕ → Type 0) (reads : List ℕ → Result (W × List ℕ) Cause) (laws : JudgesReading W S V R reads) where
   abbrev F : Framing
-  F = record { Whole = λ text. (word : W) × S word text; ThenVarint = λ front. ⊥; EndsPast = λ limit text. ⊥ }
+  F = judged_texts W S V
 
   abbrev Begun : W → List ℕ → List ℕ → Type 0
   Begun word bytes rest = (text : List ℕ) × S word text × (bytes ≡ text ++ rest)
@@ -60,7 +79,7 @@ module _ (W : Type 0) (S : W → List ℕ → Type 0) (R : Cause → List ℕ �
   err_same : (a b : Cause) (read : Read) → read ≡ Err a → read ≡ Err b → a ≡ b
   err_same a b read e f = (let x : Read = Err a in let y : Read = Err b in let same : x ≡ y = sym e ∙ f in cc)
 
-  found_in : (word : W) (bytes rest : List ℕ) → Judged W S R bytes (reads bytes) → reads bytes ≡ Ok (word, rest) → Begun word bytes rest
+  found_in : (word : W) (bytes rest : List ℕ) → Judged W S V R bytes (reads bytes) → reads bytes ≡ Ok (word, rest) → Begun word bytes rest
   found_in word bytes rest (found w text r s p e) h =
       let same : (w ≡ word) × (r ≡ rest) = ok_same w word r rest (reads bytes) e h in
       (text, subst (λ x. S x text) same.0 s, p ∙ ap (λ l. text ++ l) same.1)
@@ -76,54 +95,54 @@ module _ (W : Type 0) (S : W → List ℕ → Type 0) (R : Cause → List ℕ �
       let whole : text ++ (rest ++ more) ≡ (bytes ++ more) ++ [] = sym (append_assoc text rest more) ∙ ap (λ l. l ++ more) (sym e) ∙ sym (append-nil (bytes ++ more)) in
       some (append_empty_right rest more (laws.one word other text (bytes ++ more) (rest ++ more) [] s t whole).1)
 
-  clash_open : (front rest bytes more : List ℕ) (other : W) → Clashes W S front → bytes ≡ front ++ rest → S other (bytes ++ more) → ⊥
-  clash_open front rest bytes more other clash e t = clash other (bytes ++ more) [] (rest ++ more) t (append-nil (bytes ++ more) ∙ ap (λ l. l ++ more) e ∙ append_assoc front rest more)
+  open_ends : (word : W) (text rest bytes : List ℕ) → S word text → bytes ≡ text ++ rest → IsOpen F bytes → ⊥
+  open_ends word text rest bytes s e (inl h) = ends word h.whole.0 text rest bytes h.more s e h.some h.whole.1
+  open_ends word text rest bytes s e (inr h) = laws.ended word text s rest h.front h.inside h.then_varint h.unended (sym e ∙ h.parts)
 
-  only_in : (word : W) (text bytes rest : List ℕ) → Judged W S R bytes (reads bytes) → S word text → bytes ≡ text ++ rest → reads bytes ≡ Ok (word, rest)
+  open_clashes : (front rest bytes : List ℕ) → Clashes W S front → HasEnded V front → bytes ≡ front ++ rest → IsOpen F bytes → ⊥
+  open_clashes front rest bytes clash ended e (inl h) = clash h.whole.0 (bytes ++ h.more) [] (rest ++ h.more) h.whole.1 (append-nil (bytes ++ h.more) ∙ ap (λ l. l ++ h.more) e ∙ append_assoc front rest h.more)
+  open_clashes front rest bytes clash ended e (inr h) = ended rest h.front h.inside h.then_varint h.unended (sym e ∙ h.parts)
+
+  only_in : (word : W) (text bytes rest : List ℕ) → Judged W S V R bytes (reads bytes) → S word text → bytes ≡ text ++ rest → reads bytes ≡ Ok (word, rest)
   only_in word text bytes rest (found w t r s p e) h q =
       let same : (w ≡ word) × (r ≡ rest) = laws.one w word t text r rest s h (sym p ∙ q) in
       e ∙ ap (λ x. Ok (x, r)) same.0 ∙ ap (λ x. Ok (word, x)) same.1
-  only_in word text bytes rest (may_come m e) h q = absurd (ends word m.word text rest bytes m.more h q m.some m.spelled)
+  only_in word text bytes rest (may_come m e) h q = absurd (open_ends word text rest bytes h q m)
   only_in word text bytes rest (refused cause r e) h q = absurd (r.clashes word text rest r.rest h (sym q ∙ r.parts))
 
   pub reads_only : (word : W) (text bytes rest : List ℕ) → S word text → bytes ≡ text ++ rest → reads bytes ≡ Ok (word, rest)
   reads_only word text bytes rest h q = only_in word text bytes rest (laws.judged bytes) h q
 
-  is_open : (bytes : List ℕ) → MayCome W S bytes → IsOpen F bytes
-  is_open bytes m = inl (record { more = m.more; some = m.some; whole = (m.word, m.spelled) })
-
-  short_in : (bytes : List ℕ) → Judged W S R bytes (reads bytes) → reads bytes ≡ Err causes.Truncated → IsOpen F bytes
+  short_in : (bytes : List ℕ) → Judged W S V R bytes (reads bytes) → reads bytes ≡ Err causes.Truncated → IsOpen F bytes
   short_in bytes (found w t r s p e) h = absurd (ok_err w r causes.Truncated (reads bytes) e h)
-  short_in bytes (may_come m e) h = is_open bytes m
+  short_in bytes (may_come m e) h = m
   short_in bytes (refused cause r e) h = absurd (r.not_short (err_same cause causes.Truncated (reads bytes) e h))
 
-  open_in : (bytes : List ℕ) → Judged W S R bytes (reads bytes) → IsOpen F bytes → reads bytes ≡ Err causes.Truncated
-  open_in bytes (found w t r s p e) (inl h) = absurd (ends w h.whole.0 t r bytes h.more s p h.some h.whole.1)
-  open_in bytes (may_come m e) (inl h) = e
-  open_in bytes (refused cause r e) (inl h) = absurd (clash_open r.front r.rest bytes h.more h.whole.0 r.clashes r.parts h.whole.1)
-  open_in bytes j (inr h) = absurd h.then_varint
+  open_in : (bytes : List ℕ) → Judged W S V R bytes (reads bytes) → IsOpen F bytes → reads bytes ≡ Err causes.Truncated
+  open_in bytes (found w t r s p e) h = absurd (open_ends w t r bytes s p h)
+  open_in bytes (may_come m e) h = e
+  open_in bytes (refused cause r e) h = absurd (open_clashes r.front r.rest bytes r.clashes r.ended r.parts h)
 
   pub reads_short : (bytes : List ℕ) → (reads bytes ≡ Err causes.Truncated) ↔ IsOpen F bytes
   reads_short bytes = (λ e. short_in bytes (laws.judged bytes) e, λ h. open_in bytes (laws.judged bytes) h)
 
   -- ---- refusals
 
-  closed : (front : List ℕ) → Clashes W S front → IsOpen F front → ⊥
-  closed front clash (inl h) = clash h.whole.0 (front ++ h.more) [] h.more h.whole.1 (append-nil (front ++ h.more))
-  closed front clash (inr h) = absurd h.then_varint
-
-  is_refused : (front : List ℕ) → Clashes W S front → IsRefused F front
-  is_refused front clash = record { closed = λ h. closed front clash h; none = λ h. clash h.whole.0 h.text h.rest [] h.whole.1 (sym h.parts ∙ sym (append-nil front)) }
-
-  shortest : (bytes : List ℕ) (cause : Cause) (r : Refusal W S R bytes cause) → ShortestRefused F r.front bytes
-  shortest bytes cause r = record {
-    refused = is_refused r.front r.clashes;
-    rest = r.rest;
-    parts = r.parts;
-    least = λ shorter more e some h. h.closed (is_open shorter (r.before shorter more e some));
+  is_refused : (front : List ℕ) → Clashes W S front → HasEnded V front → IsRefused F front
+  is_refused front clash ended = record {
+    closed = λ h. open_clashes front [] front clash ended (sym (append-nil front)) h;
+    none = λ h. clash h.whole.0 h.text h.rest [] h.whole.1 (sym h.parts ∙ sym (append-nil front));
   }
 
-  bad_in : (bytes : List ℕ) (cause : Cause) → Judged W S R bytes (reads bytes) → cause ≢ causes.Truncated → reads bytes ≡ Err cause → IsRefusedAt F (R cause) bytes
+  shortest : (bytes : List ℕ) (cause : Cause) (r : Refusal W S V R bytes cause) → ShortestRefused F r.front bytes
+  shortest bytes cause r = record {
+    refused = is_refused r.front r.clashes r.ended;
+    rest = r.rest;
+    parts = r.parts;
+    least = λ shorter more e some h. h.closed (r.before shorter more e some);
+  }
+
+  bad_in : (bytes : List ℕ) (cause : Cause) → Judged W S V R bytes (reads bytes) → cause ≢ causes.Truncated → reads bytes ≡ Err cause → IsRefusedAt F (R cause) bytes
   bad_in bytes cause (found w t r s p e) other h = absurd (ok_err w r cause (reads bytes) e h)
   bad_in bytes cause (may_come m e) other h = absurd (other (err_same cause causes.Truncated (reads bytes) h e))
   bad_in bytes cause (refused c r e) other h = record {
@@ -153,10 +172,9 @@ module _ (W : Type 0) (S : W → List ℕ → Type 0) (R : Cause → List ℕ �
     | inr w ↦ same_refused bytes other front w.between w.front b.refused a.least
   ]
 
-  refused_in : (bytes : List ℕ) (cause : Cause) → Judged W S R bytes (reads bytes) → IsRefusedAt F (R cause) bytes → reads bytes ≡ Err cause
+  refused_in : (bytes : List ℕ) (cause : Cause) → Judged W S V R bytes (reads bytes) → IsRefusedAt F (R cause) bytes → reads bytes ≡ Err cause
   refused_in bytes cause (found w t r s p e) h = absurd (no_word w t r bytes h.front h.shortest.rest s p h.shortest.parts h.shortest.refused)
-  refused_in bytes cause (may_come m e) h =
-      absurd (no_word m.word (bytes ++ m.more) [] (bytes ++ m.more) h.front (h.shortest.rest ++ m.more) m.spelled (sym (append-nil (bytes ++ m.more))) (ap (λ l. l ++ m.more) h.shortest.parts ∙ append_assoc h.front h.shortest.rest m.more) h.shortest.refused)
+  refused_in bytes cause (may_come m e) h = absurd (h.shortest.refused.closed (open_front F h.front h.shortest.rest (subst (λ l. IsOpen F l) h.shortest.parts m)))
   refused_in bytes cause (refused c r e) h =
       let same : h.front ≡ r.front = one_refused bytes h.front r.front h.shortest (shortest bytes c r) in
       e ∙ ap (λ x. Err x) (laws.one_cause r.front c cause r.because (subst (λ l. R cause l) same h.ends_in))
@@ -164,7 +182,7 @@ module _ (W : Type 0) (S : W → List ℕ → Type 0) (R : Cause → List ℕ �
   pub reads_bad : (bytes : List ℕ) (cause : Cause) → cause ≢ causes.Truncated → (reads bytes ≡ Err cause) ↔ IsRefusedAt F (R cause) bytes
   reads_bad bytes cause other = (λ e. bad_in bytes cause (laws.judged bytes) other e, λ h. refused_in bytes cause (laws.judged bytes) h)
 
-  within_in : (bytes : List ℕ) → Judged W S R bytes (reads bytes) → reads bytes ≡ Err causes.UnitTooLong → ⊥
+  within_in : (bytes : List ℕ) → Judged W S V R bytes (reads bytes) → reads bytes ≡ Err causes.UnitTooLong → ⊥
   within_in bytes (found w t r s p e) h = ok_err w r causes.UnitTooLong (reads bytes) e h
   within_in bytes (may_come m e) h = (let same : causes.Truncated ≡ causes.UnitTooLong = err_same causes.Truncated causes.UnitTooLong (reads bytes) e h in cc)
   within_in bytes (refused cause r e) h = r.not_long (err_same cause causes.UnitTooLong (reads bytes) e h)

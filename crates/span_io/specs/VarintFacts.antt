@@ -1,12 +1,13 @@
--- Varints over the room that is left: how many more bytes one may have.
-use Rattle.std.proofs.Common.{◌≡◌, ◌≤◌, ◌<◌, ◌↔◌, ◌++◌, ◌∷◌, ◌+◌, ◌-◌, ◌*◌, ◌/◌, ◌%◌, ◌^◌, All, inl, inr, ℕ, zero, suc, List, [], length, Result, Ok, Err, IfOk, refl, ap, subst, sym, ◌∙◌, append_assoc, arith}
+-- What varints keep, over the room that is left: how many more bytes one may have.
+use Rattle.std.proofs.Common.{◌≡◌, ◌≤◌, ◌<◌, ◌↔◌, ◌++◌, ◌∷◌, ◌+◌, ◌-◌, ◌*◌, ◌/◌, ◌%◌, ◌^◌, All, inl, inr, ℕ, zero, suc, List, [], length, Result, Ok, Err, IfOk, ◌≢◌, refl, ap, subst, sym, ◌∙◌, append_assoc, arith}
 use Rattle.std.proofs.lemmas.Bool.{lt-ltb, le-ltb, cases_lt}
 use Rattle.std.proofs.lemmas.List.Elements.{All-head, All-tail}
 use Rattle.std.proofs.Math.Nat.{pow-suc}
 use Rattle.std.specs.List.{AllByRecursion}
 use Rattle.span_io.specs.declared.cursor.Lack.{Lack}
 use Rattle.span_io.specs.declared.cursor.Lack.TheVariants.{Short, BadVarint}
-use Rattle.span_io.specs.Varint.{end_below, SpellsWithin, SpellsVarint, BeginsVarint, IsInsideVarint, BeginsOverlong, varint_within, varint_at, ◌>>=◌, shortest_within}
+use Rattle.span_io.specs.Varint.{end_below, SpellsWithin, SpellsVarint, BeginsVarint, IsInsideVarint, BeginsOverlong, varint_within, varint_at, ◌>>=◌, shortest_within, varint_text}
+use Rattle.span_io.specs.VarintLaws.{VarintLaws, ShortestLaws}
 use Rattle.span_io.specs.Walks.{Gives}
 
 -- ---- one step of the reading function
@@ -327,3 +328,29 @@ shortest_only (suc more) n (b ∷ c ∷ text) bytes h least =
 pub byte_read : (b : ℕ) (bytes rest : List ℕ) → bytes ≡ b ∷ rest → b < 128 → varint_at bytes ≡ Ok (b, rest)
 unfolding varint_at
 byte_read b bytes rest parts below = rw parts (within_end 9 b rest below)
+
+-- ---- the laws
+
+spelling_front : (n : ℕ) (front more : List ℕ) → SpellsVarint (front ++ more) n → more ≢ [] → IsInsideVarint front
+unfolding SpellsVarint
+spelling_front n front more h some =
+    let inside = front_inside 10 n front more h some in
+    record { short = inside.short; go_on = inside.go_on }
+
+pub varint_laws : VarintLaws
+varint_laws = record { read = begins_read; found = read_begins; short = short_is_inside; bad = bad_is_overlong; fronts = spelling_front }
+
+text_spelled : (n : ℕ) → n < 2 ^ 64 → SpellsVarint (varint_text n) n
+unfolding SpellsVarint varint_text
+text_spelled n below = shortest_spelled 9 n below
+
+text_shortest : (n : ℕ) (text : List ℕ) → All (λ b. b < 256) text → SpellsVarint text n → length (varint_text n) ≤ length text
+unfolding SpellsVarint varint_text
+text_shortest n text bytes is = shortest_least 9 n text bytes is
+
+text_only : (n : ℕ) (text : List ℕ) → All (λ b. b < 256) text → SpellsVarint text n → length text ≤ length (varint_text n) → text ≡ varint_text n
+unfolding SpellsVarint varint_text
+text_only n text bytes is least = shortest_only 9 n text bytes is least
+
+pub shortest_laws : ShortestLaws
+shortest_laws = record { spelled = text_spelled; shortest = text_shortest; only = text_only }
