@@ -1,0 +1,11 @@
+pub mod TypeCodes
+pub mod Spelling
+pub mod Reading
+pub mod JudgedVarints
+pub mod JudgedNumbers
+pub mod JudgedSizes
+pub mod JudgedLists
+pub mod JudgedMaps
+pub mod JudgedFields
+pub mod ReadsExactly
+pub mod Laws
