@@ -12,7 +12,7 @@ use Rattle.otlp_proto.specs.Event.{IsEvent, event_table, event_padded}
 use Rattle.trace_model.specs.Remarks.{Keys}
 use Rattle.otlp_proto.specs.Notes.{Noted}
 use Rattle.otlp_proto.specs.Rows.{bytes_of, varints_of, fixed64s_of, MeansMessage}
-use Rattle.otlp_proto.specs.Texts.{event_text}
+use Rattle.otlp_proto.specs.Texts.{otlp_event_text}
 use Rattle.otlp_proto.proofs.Bridges.{Bridge, read_back}
 use Rattle.otlp_proto.proofs.CanonicalLaws.{Laws}
 use Rattle.otlp_proto.proofs.FieldLemmas.{Fits}
@@ -46,8 +46,8 @@ event_proof K = proved K event_table event_padded no_ends IsEvent 3 3 (omega ari
 
 -- ---- as it is written
 
-pub event_again : Laws → (e : Event) → IsSoundEvent e → IsProperEvent e → Fits (event_text e) → MeansMessage IsEvent (event_text e) (quiet e)
-unfolding event_text event_bridge
+pub event_again : Laws → (e : Event) → IsSoundEvent e → IsProperEvent e → Fits (otlp_event_text e) → MeansMessage IsEvent (otlp_event_text e) (quiet e)
+unfolding otlp_event_text event_bridge
 event_again L e sound proper fits =
     let rows : AllWritten event_table =
     time_written L.spelled 1 refl e.time proper.time and

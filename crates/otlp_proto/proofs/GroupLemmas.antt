@@ -23,8 +23,7 @@ use Rattle.trace_model.specs.Remarks.{equal_keys}
 use Rattle.otlp_proto.specs.Remarks.{scope_remarks, scopes_remarks}
 use Rattle.otlp_proto.specs.Rows.{bytes_of, MeansMessage}
 use Rattle.otlp_proto.specs.Scope.{IsScope}
-use Rattle.span_io.specs.RowLaws.{all_zip_push}
-use Rattle.span_io.specs.RowLaws.{singular_or, singular_read}
+use Rattle.span_io.specs.RowLaws.{all_zip_push, singular_or, singular_read}
 
 -- ---- scopes
 

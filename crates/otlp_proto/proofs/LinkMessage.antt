@@ -4,7 +4,8 @@ use Rattle.std.specs.Prelude.{IsUtf8}
 use Rattle.std.specs.List.{AllZip, AllByRecursion}
 use Rattle.std.proofs.lemmas.List.Elements.{All-nil, All-cons}
 use Rattle.span_io.specs.Tables.{Values, no_ends}
-use Rattle.trace_model.specs.Proper.{AreProper, IsProperParent, IsProperLink}
+use Rattle.span_ids.specs.Proper.{IsProperParent}
+use Rattle.trace_model.specs.Proper.{AreProper, IsProperLink}
 use Rattle.trace_model.specs.Soundness.{IsSoundLink}
 use Rattle.trace_model.specs.declared.span.Link.{Link}
 use Rattle.trace_model.specs.declared.value.Value.{Value}

@@ -3,7 +3,7 @@ use Rattle.std.proofs.Common.{◌≡◌, ℕ, ◌⊎◌, inl, inr, List, [], ref
 use Rattle.span_io.specs.declared.cause.Cause.TheVariants as causes
 use Rattle.span_io.specs.Frames.{BeginsWhole}
 use Rattle.span_io.specs.TableDecisions.{Next, ended, stopped, begun}
-use Rattle.proto_wire.specs.Laws.{OpenFronts}
+use Rattle.proto_wire.specs.Laws.{OpenWireFronts}
 use Rattle.proto_wire.specs.Messages.{messages}
 use Rattle.proto_wire.specs.Wire.{IsOpenRecord, HasOverlong, HasBadKey, records}
 use Rattle.otlp_proto.proofs.RowDecisions.{empty_or}
@@ -15,5 +15,5 @@ next_of rest (inr some) (inr (inl whole)) = begun whole.whole.0 whole.rest (reco
 next_of rest (inr some) (inr (inr (inl overlong))) = stopped causes.BadVarint (inr (inl (refl, overlong)))
 next_of rest (inr some) (inr (inr (inr bad))) = stopped causes.BadWire (inr (inr (refl, bad)))
 
-pub next_record : OpenFronts → (rest : List ℕ) → Next messages rest
+pub next_record : OpenWireFronts → (rest : List ℕ) → Next messages rest
 next_record fronts rest = next_of rest (empty_or rest) (fronts.all rest)

@@ -14,7 +14,7 @@ use Rattle.trace_model.specs.declared.value.Value.TheVariants as values
 use Rattle.otlp_proto.specs.Attributes.{levels_below, attribute_at, AttributesOf}
 use Rattle.otlp_proto.specs.Rows.{bytes_of, MeansCount, MeansNumber}
 use Rattle.otlp_proto.specs.Identifiers.{MeansTraceId, MeansSpanId}
-use Rattle.trace_model.specs.Proper.{IsProperTraceId, IsProperParent}
+use Rattle.span_ids.specs.Proper.{IsProperTraceId, IsProperParent}
 use Rattle.otlp_proto.specs.Values.{Member, string_value, bool_value, int_value, double_value, array_value, kvlist_value, bytes_value, member_in, members_of, NotedValue, KeyValue, leaf, entry, IsListText, IsMapText, MeansMember, IsValueText, IsKeyValueText, value_in, key_value_in}
 use Rattle.otlp_proto.proofs.Ranges.{AreBytes, InRange, AllInRange, wire_in_range, all_bytes, in_each, chosen, span_below, trace_below, span_above, trace_above}
 use Rattle.otlp_proto.proofs.SoundLemmas.{kept_all}

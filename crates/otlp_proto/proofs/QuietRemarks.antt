@@ -8,9 +8,8 @@ use Rattle.trace_model.specs.declared.remark.Remark.{Remark}
 use Rattle.trace_model.specs.declared.span.Link.{Link}
 use Rattle.trace_model.specs.declared.span.Span.{Span}
 use Rattle.trace_model.specs.declared.trace.Scope.{Scope}
-use Rattle.trace_model.specs.Remarks.{Keys}
+use Rattle.trace_model.specs.Remarks.{Keys, equal_keys, numbered}
 use Rattle.otlp_proto.specs.Notes.{Noted, SpanNotes, ScopeNotes}
-use Rattle.trace_model.specs.Remarks.{equal_keys, numbered}
 use Rattle.otlp_proto.specs.Remarks.{link_remarks, span_remarks, scopes_remarks}
 use Rattle.otlp_proto.specs.Span.{kept_link, kept_links}
 

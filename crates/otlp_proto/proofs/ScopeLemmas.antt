@@ -21,8 +21,7 @@ use Rattle.otlp_proto.specs.Rows.{bytes_of, MeansMessage}
 use Rattle.otlp_proto.specs.Scope.{IsInstrumentationScope, no_instrumentation_scope, scope_table}
 use Rattle.otlp_proto.specs.ScopeSoFar.{GatheredSpans, GatheredScope}
 use Rattle.otlp_proto.specs.Span.{IsSpan}
-use Rattle.span_io.specs.RowLaws.{all_zip_push}
-use Rattle.span_io.specs.RowLaws.{singular_or, singular_read}
+use Rattle.span_io.specs.RowLaws.{all_zip_push, singular_or, singular_read}
 
 -- ---- spans
 

@@ -2,7 +2,7 @@
 use Rattle.std.proofs.Common.{◌≡◌, ℕ, List, ◌++◌, sym, ap, subst, ◌∙◌, append_assoc}
 use Rattle.span_io.specs.Outside.{GrowsFront}
 use Rattle.trace_model.specs.declared.span.Span.{Span}
-use Rattle.otlp_proto.specs.Texts.{kind_number, filled_field, count_field, time_field, flags_field, trace_field, span_field, parent_field, list_text, attributes_text, status_text, event_text, link_text, span_text}
+use Rattle.otlp_proto.specs.Texts.{kind_number, filled_field, count_field, time_field, flags_field, trace_field, span_field, parent_field, list_text, attributes_text, status_text, otlp_event_text, link_text, span_text}
 use Rattle.otlp_proto.proofs.Growth.{joins_three, grows_first, grows_at_two, grows_at_three, grows_past_three, on_err_from}
 
 abbrev fields_1_to_4 : Span → List ℕ
@@ -12,7 +12,7 @@ abbrev fields_5_to_8 : Span → List ℕ
 fields_5_to_8 span = filled_field 5 span.name ++ (count_field 6 (kind_number span.kind) ++ (time_field 7 span.start ++ time_field 8 span.end))
 
 abbrev fields_9_to_12 : Span → List ℕ
-fields_9_to_12 span = attributes_text 9 span.attributes ++ (count_field 10 span.dropped_attributes ++ (list_text 11 event_text span.events ++ count_field 12 span.dropped_events))
+fields_9_to_12 span = attributes_text 9 span.attributes ++ (count_field 10 span.dropped_attributes ++ (list_text 11 otlp_event_text span.events ++ count_field 12 span.dropped_events))
 
 abbrev fields_13_to_16 : Span → List ℕ
 fields_13_to_16 span = list_text 13 link_text span.links ++ (count_field 14 span.dropped_links ++ (filled_field 15 (status_text span.status) ++ flags_field 16 span.flags))

@@ -14,10 +14,9 @@ use Rattle.otlp_proto.specs.declared.span.events.EventList.{EventList}
 use Rattle.otlp_proto.specs.declared.span.links.LinkList.{LinkList}
 use Rattle.otlp_proto.specs.Event.{IsEvent}
 use Rattle.otlp_proto.specs.Link.{IsLink}
-use Rattle.trace_model.specs.Remarks.{Keys}
+use Rattle.trace_model.specs.Remarks.{Keys, equal_keys, link_dropped, numbered}
 use Rattle.otlp_proto.specs.Notes.{Noted, SpanNotes}
 use Rattle.otlp_proto.specs.ReadParts.{IsReadSpan}
-use Rattle.trace_model.specs.Remarks.{equal_keys, link_dropped, numbered}
 use Rattle.otlp_proto.specs.Remarks.{event_remarks, link_remarks, span_remarks}
 use Rattle.otlp_proto.specs.Span.{kept_link, kept_links}
 use Rattle.otlp_proto.specs.SpanSoFar.{GatheredEvents, GatheredLinks, ReadsSpan}

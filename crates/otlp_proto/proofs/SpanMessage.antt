@@ -24,7 +24,7 @@ use Rattle.otlp_proto.specs.Notes.{Noted, SpanNotes}
 use Rattle.otlp_proto.specs.Rows.{bytes_of, varints_of, fixed64s_of, fixed32s_of, MeansMessage}
 use Rattle.otlp_proto.specs.Span.{kept_links, IsSpan, span_table, span_padded, span_ends}
 use Rattle.otlp_proto.specs.Status.{IsStatus, no_status}
-use Rattle.otlp_proto.specs.Texts.{kind_number, status_text, event_text, link_text, span_text}
+use Rattle.otlp_proto.specs.Texts.{kind_number, status_text, otlp_event_text, link_text, span_text}
 use Rattle.otlp_proto.proofs.Bridges.{Bridge, read_back}
 use Rattle.otlp_proto.proofs.CanonicalLaws.{Laws}
 use Rattle.otlp_proto.proofs.Enums.{kind_laws, kind_named}
@@ -207,7 +207,7 @@ span_written L s sound proper =
     time_written L.spelled 8 refl s.end proper.end and
     attributes_written L 9 refl s.attributes sound.attributes proper.attributes and
     count_written L.spelled 10 refl s.dropped_attributes proper.dropped_attributes and
-    messages_written L.spelled 11 refl _ (MeansMessage IsEvent) _ event_text quiet s.events (λ k d lt. event_again L (get_or s.events k d) (sound.events k d lt) (proper.events k d lt)) and
+    messages_written L.spelled 11 refl _ (MeansMessage IsEvent) _ otlp_event_text quiet s.events (λ k d lt. event_again L (get_or s.events k d) (sound.events k d lt) (proper.events k d lt)) and
     count_written L.spelled 12 refl s.dropped_events proper.dropped_events and
     messages_written L.spelled 13 refl _ (MeansMessage IsLink) _ link_text quiet_link s.links (λ k d lt. link_again L (get_or s.links k d) (sound.links k d lt) (proper.links k d lt)) and
     count_written L.spelled 14 refl s.dropped_links proper.dropped_links and

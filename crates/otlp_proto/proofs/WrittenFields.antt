@@ -9,7 +9,7 @@ use Rattle.span_io.specs.Tables.{Singular, MeansText}
 use Rattle.span_ids.specs.Laws.{IdentifiersReadBack}
 use Rattle.proto_wire.specs.Records.{varint, fixed64, fixed32, Record, IsProper}
 use Rattle.proto_wire.specs.Wire.{SpellsRecord, record_text}
-use Rattle.trace_model.specs.Proper.{IsProperTraceId, IsProperParent}
+use Rattle.span_ids.specs.Proper.{IsProperTraceId, IsProperParent}
 use Rattle.otlp_proto.specs.Identifiers.{MeansSpanId}
 use Rattle.otlp_proto.specs.Rows.{varint_in, fixed64_in, fixed32_in, MeansNumber, MeansCount, text, time, flags, count, enum, trace_id, span_id, message, messages_of}
 use Rattle.otlp_proto.specs.Texts.{filled_field, count_field, time_field, flags_field, trace_field, parent_field, list_text}

@@ -99,8 +99,8 @@ abbrev pub status_text : Status → List ℕ
 status_text status = filled_field 2 status.message ++ count_field 3 (code_number status.code)
 
 -- `Event`: time_unix_nano 1, name 2, attributes 3, dropped_attributes_count 4
-unfoldable pub event_text : Event → List ℕ
-event_text event = time_field 1 event.time ++ (filled_field 2 event.name ++ (attributes_text 3 event.attributes ++ count_field 4 event.dropped))
+unfoldable pub otlp_event_text : Event → List ℕ
+otlp_event_text event = time_field 1 event.time ++ (filled_field 2 event.name ++ (attributes_text 3 event.attributes ++ count_field 4 event.dropped))
 
 abbrev pub trace_field : ℕ → ℕ → List ℕ
 trace_field number id = bytes_field number (to_be_bytes w128 id)
@@ -123,7 +123,7 @@ link_text link = trace_field 1 link.trace ++ (span_field 2 link.span ++ (filled_
 unfoldable pub span_text : Span → List ℕ
 span_text span = trace_field 1 span.trace ++ (span_field 2 span.id ++ (filled_field 3 span.state ++ (parent_field 4 span.parent
     ++ (filled_field 5 span.name ++ (count_field 6 (kind_number span.kind) ++ (time_field 7 span.start ++ (time_field 8 span.end
-    ++ (attributes_text 9 span.attributes ++ (count_field 10 span.dropped_attributes ++ (list_text 11 event_text span.events
+    ++ (attributes_text 9 span.attributes ++ (count_field 10 span.dropped_attributes ++ (list_text 11 otlp_event_text span.events
     ++ (count_field 12 span.dropped_events ++ (list_text 13 link_text span.links ++ (count_field 14 span.dropped_links
     ++ (filled_field 15 (status_text span.status) ++ flags_field 16 span.flags))))))))))))))
 

@@ -1,9 +1,8 @@
 //! Rows of a message's table, as a reader sets them.
 ghost use Rattle.std.specs.Prelude.{ℕ, List, IfOk, OnOk};
 ghost use Rattle.span_io.specs.Tables.{Twice};
-ghost use Rattle.otlp_proto.specs.Identifiers.{MeansTraceId, MeansSpanId, WrongLength};
+ghost use Rattle.otlp_proto.specs.Identifiers.{MeansTraceId, MeansSpanId, WrongLength, JudgesIdentifier};
 ghost use Rattle.otlp_proto.specs.Rows.{MeansNumber, MeansCount};
-ghost use Rattle.otlp_proto.specs.Identifiers.{JudgesIdentifier};
 ghost use Rattle.span_io.specs.RowsSoFar.{Gave, Sets, JudgesCause};
 
 use span_ids::{SpanId, TraceId};

@@ -6,11 +6,8 @@ ghost use Rattle.proto_wire.specs.Records.{plain_record};
 ghost use Rattle.proto_wire.specs.Messages.{messages};
 ghost use Rattle.otlp_proto.specs.ReadParts.{value_read, key_value_read};
 ghost use Rattle.span_io.specs.RowsSoFar.{Adds, JudgesCause};
-ghost use Rattle.otlp_proto.specs.Values.{array_value, kvlist_value, IsListText, IsMapText};
-ghost use Rattle.otlp_proto.specs.Values.{value_in, key_value_in, value_at, key_value_at};
-ghost use Rattle.otlp_proto.specs.Values.{list_rules, map_rules, value_rules, key_value_rules};
-ghost use Rattle.otlp_proto.specs.ValuesSoFar.{GatheredList, GatheredMap, GatheredMembers, GatheredValue, GatheredKeyValue};
-ghost use Rattle.otlp_proto.specs.ValuesSoFar.{JudgesMember};
+ghost use Rattle.otlp_proto.specs.Values.{array_value, kvlist_value, IsListText, IsMapText, value_in, key_value_in, value_at, key_value_at, list_rules, map_rules, value_rules, key_value_rules};
+ghost use Rattle.otlp_proto.specs.ValuesSoFar.{GatheredList, GatheredMap, GatheredMembers, GatheredValue, GatheredKeyValue, JudgesMember};
 ghost use Rattle.span_io.specs.Gathering.{JudgesNext};
 
 use crate::noted::{ReadKeyValue, ReadValue};

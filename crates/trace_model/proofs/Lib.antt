@@ -1,8 +1,17 @@
 pub mod AllLemmas
 pub mod AttributesOf
 pub mod DoubleRows
+pub mod EventBack
+pub mod EventBytes
+pub mod EventDepths
+pub mod EventLemmas
+pub mod EventOnce
+pub mod EventOptions
+pub mod EventRows
+pub mod EventSome
 pub mod Existence
 pub mod Gathered
+pub mod JsonValues
 pub mod LeastOf
 pub mod Order
 pub mod Places

@@ -73,7 +73,7 @@ text_utf8 Nothing h = IsUtf8-nil
 -- ---- read back
 
 mutual
-  has_numbers : (value : Value) → IsProperValue value → tree.HasNumbers (json_of value)
+  pub has_numbers : (value : Value) → IsProperValue value → tree.HasNumbers (json_of value)
   has_numbers (Text text) h = tt
   has_numbers (Truth truth) h = tt
   has_numbers (Number n) h = IsNumber-signed_decimal n h.sfits
@@ -92,7 +92,7 @@ mutual
   pairs_numbers n (more_of-Value-Map-0-2 key value rest) h = (has_numbers value h.1, pairs_numbers _ rest h.2)
 
 mutual
-  no_deeper : (value : Value) → tree.depth (json_of value) ≤ depth value
+  pub no_deeper : (value : Value) → tree.depth (json_of value) ≤ depth value
   no_deeper (Text text) = omega arith
   no_deeper (Truth truth) = omega arith
   no_deeper (Number n) = omega arith

@@ -1,11 +1,12 @@
 -- What the laws of attributes and values say.
-use Rattle.std.specs.Prelude.{◌≡◌, ◌↔◌, ℕ, ◌+◌, ◌≤◌, List, [], All, Contains, Some, IsUtf8}
+use Rattle.std.specs.Prelude.{◌≡◌, ◌≢◌, ◌↔◌, ◌⊎◌, ℕ, false, ◌+◌, ◌≤◌, List, [], All, Contains, Some, IsUtf8}
 use Rattle.std.specs.List.{list_any}
 use Rattle.json.specs.Json.{document}
 use Rattle.trace_model.specs.Attributes.{Rise, keys, AreKeysInOrder, AreAttributes, AreRepeated}
+use Rattle.trace_model.specs.EventTexts.{IsEventText, bytes_as_texts, event_text, holds_double, with_texts}
 use Rattle.trace_model.specs.Proper.{IsProperValue, AreProper}
 use Rattle.trace_model.specs.ValueTexts.{has_double, json_of, json_text, value_text}
-use Rattle.trace_model.specs.Values.{depth, MapsRise}
+use Rattle.trace_model.specs.Values.{depth, MapsRise, AreSound}
 use Rattle.trace_model.specs.declared.value.Value.{Value}
 use Rattle.trace_model.specs.declared.value.Value.TheVariants as values
 
@@ -46,3 +47,31 @@ pub record TextsOfValues : Type 0 where
   pub map_double : (pairs : List (List ℕ × Value)) → has_double (values.Map pairs) ≡ list_any (λ pair. has_double pair.1) pairs
   pub utf8 : (value : Value) → IsProperValue value → IsUtf8 (value_text value)
   pub read_back : (value : Value) → IsProperValue value → depth value ≤ 16 → document (json_text value) ≡ Some (json_of value)
+
+-- a text has one name and one list of attributes at most, which hold neither bytes nor doubles
+pub record EventTextsOnce : Type 0 where
+  pub one_name : (text name other : List ℕ) (attributes others : List (List ℕ × Value)) → IsEventText text name attributes → IsEventText text other others → name ≡ other
+  pub one_list : (text name other : List ℕ) (attributes others : List (List ℕ × Value)) → IsEventText text name attributes → IsEventText text other others
+      → attributes ≡ others
+  pub no_bytes : (text name : List ℕ) (attributes : List (List ℕ × Value)) → IsEventText text name attributes → with_texts attributes ≡ attributes
+  pub no_double : (text name : List ℕ) (attributes : List (List ℕ × Value)) → IsEventText text name attributes → holds_double attributes ≡ false
+
+-- each text is that of an event, or of none
+pub record EventTextsOrNone : Type 0 where
+  pub some_or_none : (text : List ℕ)
+      → ((name : List ℕ) × (attributes : List (List ℕ × Value)) × IsEventText text name attributes)
+      ⊎ ((name : List ℕ) (attributes : List (List ℕ × Value)) → ¬ IsEventText text name attributes)
+
+-- what is written is read back, with texts for bytes
+pub record EventTextsReadBack : Type 0 where
+  pub read_back : (name : List ℕ) (attributes : List (List ℕ × Value)) → AreProper attributes → AreSound attributes → attributes ≢ []
+      → holds_double attributes ≡ false → IsEventText (event_text name attributes) name (with_texts attributes)
+
+-- texts in the place of bytes stay, and change nothing else
+pub record TextsForBytes : Type 0 where
+  pub again : (attributes : List (List ℕ × Value)) → with_texts (with_texts attributes) ≡ with_texts attributes
+  pub map : (attributes : List (List ℕ × Value)) → bytes_as_texts (values.Map attributes) ≡ values.Map (with_texts attributes)
+  pub sound : (attributes : List (List ℕ × Value)) → AreSound attributes → AreSound (with_texts attributes)
+  pub proper : (attributes : List (List ℕ × Value)) → AreProper attributes → AreProper (with_texts attributes)
+  pub double : (attributes : List (List ℕ × Value)) → holds_double (with_texts attributes) ≡ holds_double attributes
+  pub same_text : (name : List ℕ) (attributes : List (List ℕ × Value)) → event_text name (with_texts attributes) ≡ event_text name attributes

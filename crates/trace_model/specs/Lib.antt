@@ -1,4 +1,6 @@
 pub mod Attributes
+pub mod EventReading
+pub mod EventTexts
 pub mod Faults
 pub mod Flat
 pub mod Gathering

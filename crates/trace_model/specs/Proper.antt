@@ -1,6 +1,7 @@
 -- Parts of a trace that are proper: each number lies in the range of its type, each text is UTF-8, and no identifier is zero.
 use Rattle.std.specs.Prelude.{◌≡◌, ℕ, ◌<◌, ◌^◌, List, length, All, Option, Some, None, IsUtf8, FitsSigned, ⊤}
 use Rattle.std.specs.Int.{w64}
+use Rattle.span_ids.specs.Proper.{IsProperTraceId, IsProperSpanId, IsProperParent}
 use Rattle.trace_model.specs.declared.span.Status.{Status}
 use Rattle.trace_model.specs.declared.span.Event.{Event}
 use Rattle.trace_model.specs.declared.span.Link.{Link}
@@ -34,16 +35,6 @@ pub record IsProperPair (pair : List ℕ × Value) : Type 0 where
 
 abbrev pub AreProper : List (List ℕ × Value) → Type 0
 AreProper attributes = All IsProperPair attributes
-
-abbrev pub IsProperTraceId : ℕ → Type 0
-IsProperTraceId id = (0 < id) × (id < 2 ^ 128)
-
-abbrev pub IsProperSpanId : ℕ → Type 0
-IsProperSpanId id = (0 < id) × (id < 2 ^ 64)
-
-abbrev pub IsProperParent : Option ℕ → Type 0
-IsProperParent None = ⊤
-IsProperParent (Some id) = IsProperSpanId id
 
 pub record IsProperStatus (status : Status) : Type 0 where
   pub message : IsUtf8 status.message

@@ -1,6 +1,6 @@
 //! Laws of attributes and values, as contracts of functions that do nothing.
 ghost use Rattle.trace_model.specs.LeastOf.{LeastOfEither};
-ghost use Rattle.trace_model.specs.Laws.{AttributesOnce, AttributesExist, MembersOfValues, MembersOfProperValues, RisingAttributes, TextsOfValues};
+ghost use Rattle.trace_model.specs.Laws.{AttributesOnce, AttributesExist, MembersOfValues, MembersOfProperValues, RisingAttributes, TextsOfValues, EventTextsOnce, EventTextsOrNone, EventTextsReadBack, TextsForBytes};
 
 /// A list of pairs makes one list of attributes at most, and one list of repeated keys.
 pub fn attributes_once()
@@ -42,6 +42,34 @@ pub fn rising_attributes()
 /// the JSON of a proper one that is shallow is read as that JSON (RFC 8259).
 pub fn texts_of_values()
     ensures { TextsOfValues }
+{
+    // The clause is the law.
+}
+
+/// A text is that of one event at most, in which stand neither bytes nor doubles.
+pub fn event_texts_once()
+    ensures { EventTextsOnce }
+{
+    // The clause is the law.
+}
+
+/// Each text is that of an event, or of none. No memory is wanted for it.
+pub fn event_texts_or_none()
+    ensures { EventTextsOrNone }
+{
+    // The clause is the law.
+}
+
+/// The text of an event with attributes is read back as that event, with base64 texts for bytes.
+pub fn event_texts_read_back()
+    ensures { EventTextsReadBack }
+{
+    // The clause is the law.
+}
+
+/// Base64 texts in the place of bytes stay, and change nothing else of attributes.
+pub fn texts_for_bytes()
+    ensures { TextsForBytes }
 {
     // The clause is the law.
 }

@@ -2,7 +2,10 @@
 #![tactic(auto)]
 
 mod attributes;
+mod event_reading;
+mod event_texts;
 mod fault;
+mod json_values;
 pub mod laws;
 mod lookup;
 mod place;
@@ -16,7 +19,10 @@ mod trace;
 mod value;
 
 pub use attributes::attrs_of;
+pub use event_reading::read_event_text;
+pub use event_texts::event_text;
 pub use fault::Fault;
+pub use json_values::value_json;
 pub use lookup::find;
 pub use place::Place;
 pub use proper::proper_group;
@@ -27,5 +33,7 @@ pub use texts::value_text;
 pub use trace::{Group, Scope};
 pub use value::{Attrs, Value, attrs_copy};
 
+#[cfg(test)]
+mod event_tests;
 #[cfg(test)]
 mod tests;

@@ -1,12 +1,12 @@
 //! Each part of a trace in hand is proper, as its type keeps it. The functions read their argument,
 //! and do nothing else.
 ghost use Rattle.std.specs.Prelude.{◌≡◌, ◌<◌, ◌^◌, length, All};
-ghost use Rattle.trace_model.specs.Proper.{IsProperValue, AreProper, IsProperEvent, IsProperLink, IsProperParent, IsProperSpan, IsProperScope, IsProperGroup};
+ghost use Rattle.trace_model.specs.Proper.{IsProperValue, AreProper, IsProperEvent, IsProperLink, IsProperSpan, IsProperScope, IsProperGroup};
 
 use crate::span::{Event, Link, Span};
 use crate::trace::{Group, Scope};
 use crate::value::{Attrs, Value};
-use span_ids::{Nanos, SpanId};
+use span_ids::{Nanos, proper_parent};
 use span_io::{Blob, Items};
 
 fn proper_double(double: [u8; 8])
@@ -101,14 +101,6 @@ fn proper_links(links: &Items<Link>)
 {
     'links: for link in links.as_slice() {
         proper_link(link);
-    }
-}
-
-fn proper_parent(parent: Option<SpanId>)
-    ensures { IsProperParent parent }
-{
-    if let Some(id) = parent {
-        id.known();
     }
 }
 

@@ -65,7 +65,11 @@ fn write_list(alloc: Global, out: &mut Writer, members: &[Value]) -> Result<(), 
 }
 
 #[cycle(writes)]
-fn write_map(alloc: Global, out: &mut Writer, pairs: &[(Text, Value)]) -> Result<(), OutOfMemory>
+pub fn write_map(
+    alloc: Global,
+    out: &mut Writer,
+    pairs: &[(Text, Value)],
+) -> Result<(), OutOfMemory>
     ensures { OnOk result (Wrote out.old out.new (map_tokens pairs.now)) }
 {
     out.begin_object()?;

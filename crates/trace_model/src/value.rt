@@ -68,7 +68,7 @@ fn holds_double_in(members: &[Value]) -> bool
 }
 
 #[cycle(doubles)]
-fn holds_double_under(pairs: &[(Text, Value)]) -> bool
+pub fn holds_double_under(pairs: &[(Text, Value)]) -> bool
     ensures { result ≡ list_any (λ pair. has_double pair.1) pairs.now }
 {
     'pairs: for pair in pairs {

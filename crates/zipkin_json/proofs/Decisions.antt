@@ -9,11 +9,11 @@ use Rattle.span_io.specs.Causes.{cause_number}
 use Rattle.span_io.specs.Paths.{Faults, here, ◌▹◌, optional, each, valued, Given, Never, OfKind, Quiet}
 use Rattle.span_io.specs.PathLaws.{clean_nothing, clean_here, counts_here, counts_only, least_here, first_of_parts, quiet_nothing, quiet_parts, quiet_each}
 use Rattle.span_io.specs.PathDecisions.{IsSettled, one, none, decided_as, also, no_more, decided_required, decided_optional, decided_each, decided_valued, decided_plain, pair}
-use Rattle.zipkin_json.specs.Members.{member, elements, values, IsText, text_faults, IsTruth, truth_faults, IsCount, IsPort, port_faults, count_faults, count_in}
+use Rattle.zipkin_json.specs.Members.{member, elements, member_values, IsText, text_faults, IsTruth, truth_faults, IsCount, IsPort, port_faults, count_faults, count_or_zero}
 use Rattle.zipkin_json.specs.Identifiers.{SpellsTrace, SpellsSpan, SpellsParent}
 use Rattle.zipkin_json.specs.declared.span.ZKind.{ZKind}
 use Rattle.zipkin_json.specs.declared.span.ZKind.TheVariants as kinds
-use Rattle.zipkin_json.specs.Span.{Spelled, SpellsKind, unspelled, trace_faults, id_faults, parent_faults, kind_faults, IsEndpoint, endpoint_members, endpoint_faults, no_endpoint, IsAnnotation, annotation_members, annotation_faults, AreAnnotations, annotations_faults, texts_in, AreTags, tag_faults, tags_faults, IsSpan, span_members, span_faults, AreSpans, spans_faults}
+use Rattle.zipkin_json.specs.Span.{Spelled, SpellsKind, unspelled, trace_faults, id_faults, parent_faults, kind_faults, IsEndpoint, endpoint_members, endpoint_faults, no_endpoint, IsAnnotation, annotation_members, annotation_faults, AreAnnotations, annotations_faults, texts_in, AreTags, tag_faults, tags_faults, IsZSpan, span_members, span_faults, AreSpans, spans_faults}
 use Rattle.zipkin_json.proofs.Choices.{either_side, SpellsOne, trace_chosen, span_chosen, parent_chosen, kind_chosen}
 use Rattle.zipkin_json.specs.declared.span.Endpoint.{Endpoint}
 use Rattle.zipkin_json.specs.declared.span.ZSpan.{ZSpan}
@@ -173,12 +173,12 @@ no_tags : {Others : Faults} → Quiet Others → IsSettled (λ (tags : List (Lis
 no_tags {Others} quiet =
     none causes.BadShape (record { path = _; is_least = first_of_parts _ Others quiet _ 11 (least_here _ 11 refl (λ n h. omega arith)) }) (λ y h. cc)
 
-tags_in : (ms : Members) → IsSettled (λ tags. texts_in ms ≡ Some tags) (each tag_faults (values ms))
+tags_in : (ms : Members) → IsSettled (λ tags. texts_in ms ≡ Some tags) (each tag_faults (member_values ms))
 tags_in no_members = one [] refl (λ y h. cc) clean_nothing
 tags_in (has key null more) =
-    decided_as (λ tags. texts_in more ≡ Some tags) (λ p. p.1) (λ p h. h.1) (λ z h. ((tt, z), (tt, h), refl)) (also (quiet_each tag_faults (values more)) no_more (λ x h. tags_in more))
+    decided_as (λ tags. texts_in more ≡ Some tags) (λ p. p.1) (λ p h. h.1) (λ z h. ((tt, z), (tt, h), refl)) (also (quiet_each tag_faults (member_values more)) no_more (λ x h. tags_in more))
 tags_in (has key (string text) more) =
-    decided_as (λ tags. texts_in (has key (string text) more) ≡ Some tags) made there back (also (quiet_each tag_faults (values more)) no_more (λ x h. tags_in more))
+    decided_as (λ tags. texts_in (has key (string text) more) ≡ Some tags) made there back (also (quiet_each tag_faults (member_values more)) no_more (λ x h. tags_in more))
   where
     made : Unit {0} × List (List ℕ × List ℕ) → List (List ℕ × List ℕ)
     made p = (key, text) ∷ p.1
@@ -192,13 +192,13 @@ tags_in (has key (string text) more) =
 
     back : (z : List (List ℕ × List ℕ)) → texts_in (has key (string text) more) ≡ Some z → (p : Unit {0} × List (List ℕ × List ℕ)) × (Unit {0} × (texts_in more ≡ Some p.1)) × (made p ≡ z)
     back z h = let made_of = behind (texts_in more) z h in ((tt, made_of.0), (tt, made_of.1), made_of.2)
-tags_in (has key (boolean b) more) = no_tags (quiet_each tag_faults (values more))
-tags_in (has key (number n) more) = no_tags (quiet_each tag_faults (values more))
-tags_in (has key (array ds) more) = no_tags (quiet_each tag_faults (values more))
-tags_in (has key (object os) more) = no_tags (quiet_each tag_faults (values more))
+tags_in (has key (boolean b) more) = no_tags (quiet_each tag_faults (member_values more))
+tags_in (has key (number n) more) = no_tags (quiet_each tag_faults (member_values more))
+tags_in (has key (array ds) more) = no_tags (quiet_each tag_faults (member_values more))
+tags_in (has key (object os) more) = no_tags (quiet_each tag_faults (member_values more))
 
 tags_decided : (d : Data) → IsSettled (λ tags. AreTags tags d) (tags_faults d)
-tags_decided d = decided_valued _ (λ members. each tag_faults (values members)) tags_in (as_object d)
+tags_decided d = decided_valued _ (λ members. each tag_faults (member_values members)) tags_in (as_object d)
 
 -- ---- spans
 
@@ -210,18 +210,18 @@ count_in_decided : (start : ℕ) → start ≤ last_micros → (o : Option Data)
 count_in_decided start low None = one 0 (refl, omega arith) (λ y h. sym h.0) clean_nothing
 count_in_decided start low (Some d) = count_decided start d
 
-count_given : (count : ℕ) (o : Option Data) → Given IsCount (λ c. c ≡ 0) count o → count_in o ≡ count
+count_given : (count : ℕ) (o : Option Data) → Given IsCount (λ c. c ≡ 0) count o → count_or_zero o ≡ count
 count_given count None h = sym h
 count_given count (Some d) h = ap (λ o. unwrap_or o 0) h
 
-timestamp_fits : (timestamp : ℕ) (o : Option Data) → CountIn 0 o timestamp → count_in o ≤ last_micros
+timestamp_fits : (timestamp : ℕ) (o : Option Data) → CountIn 0 o timestamp → count_or_zero o ≤ last_micros
 timestamp_fits timestamp o h = let e = count_given timestamp o h.0 in let fits = h.1 in omega arith
 
 abbrev pub SpanParts : Type 0
 SpanParts = ℕ × (ℕ × (Option ℕ × (List ℕ × (ZKind × (ℕ × (ℕ × (Bool × (Bool × (Endpoint × (Endpoint × (List (ℕ × List ℕ) × (List (List ℕ × List ℕ) × Unit {0}))))))))))))
 
 abbrev pub AreSpanParts : Data → SpanParts → Type 0
-AreSpanParts d p = Given (Spelled SpellsTrace) Never p.0 (member (codes "traceId") d) × (Given (Spelled SpellsSpan) Never p.1.0 (member (codes "id") d) × (Given (Spelled SpellsParent) (λ x. x ≡ None) p.1.1.0 (member (codes "parentId") d) × (Given IsText (λ x. x ≡ []) p.1.1.1.0 (member (codes "name") d) × (Given (Spelled SpellsKind) (λ x. x ≡ kinds.Absent) p.1.1.1.1.0 (member (codes "kind") d) × (CountIn 0 (member (codes "timestamp") d) p.1.1.1.1.1.0 × (CountIn (count_in (member (codes "timestamp") d)) (member (codes "duration") d) p.1.1.1.1.1.1.0 × (Given IsTruth (λ x. x ≡ false) p.1.1.1.1.1.1.1.0 (member (codes "debug") d) × (Given IsTruth (λ x. x ≡ false) p.1.1.1.1.1.1.1.1.0 (member (codes "shared") d) × (Given IsEndpoint (λ x. x ≡ no_endpoint) p.1.1.1.1.1.1.1.1.1.0 (member (codes "localEndpoint") d) × (Given IsEndpoint (λ x. x ≡ no_endpoint) p.1.1.1.1.1.1.1.1.1.1.0 (member (codes "remoteEndpoint") d) × (Given AreAnnotations (λ x. x ≡ []) p.1.1.1.1.1.1.1.1.1.1.1.0 (member (codes "annotations") d) × (Given AreTags (λ x. x ≡ []) p.1.1.1.1.1.1.1.1.1.1.1.1.0 (member (codes "tags") d) × Unit {0}))))))))))))
+AreSpanParts d p = Given (Spelled SpellsTrace) Never p.0 (member (codes "traceId") d) × (Given (Spelled SpellsSpan) Never p.1.0 (member (codes "id") d) × (Given (Spelled SpellsParent) (λ x. x ≡ None) p.1.1.0 (member (codes "parentId") d) × (Given IsText (λ x. x ≡ []) p.1.1.1.0 (member (codes "name") d) × (Given (Spelled SpellsKind) (λ x. x ≡ kinds.Absent) p.1.1.1.1.0 (member (codes "kind") d) × (CountIn 0 (member (codes "timestamp") d) p.1.1.1.1.1.0 × (CountIn (count_or_zero (member (codes "timestamp") d)) (member (codes "duration") d) p.1.1.1.1.1.1.0 × (Given IsTruth (λ x. x ≡ false) p.1.1.1.1.1.1.1.0 (member (codes "debug") d) × (Given IsTruth (λ x. x ≡ false) p.1.1.1.1.1.1.1.1.0 (member (codes "shared") d) × (Given IsEndpoint (λ x. x ≡ no_endpoint) p.1.1.1.1.1.1.1.1.1.0 (member (codes "localEndpoint") d) × (Given IsEndpoint (λ x. x ≡ no_endpoint) p.1.1.1.1.1.1.1.1.1.1.0 (member (codes "remoteEndpoint") d) × (Given AreAnnotations (λ x. x ≡ []) p.1.1.1.1.1.1.1.1.1.1.1.0 (member (codes "annotations") d) × (Given AreTags (λ x. x ≡ []) p.1.1.1.1.1.1.1.1.1.1.1.1.0 (member (codes "tags") d) × Unit {0}))))))))))))
 
 span_parts : (d : Data) → IsSettled (AreSpanParts d) (span_members d)
 unfolding span_members
@@ -232,7 +232,7 @@ span_parts d =
     also (search (quiet_parts, quiet_nothing) depth 24) (decided_optional IsText text_faults text_decided [] (member (codes "name") d)) (λ x h3.
     also (search (quiet_parts, quiet_nothing) depth 24) (decided_optional (Spelled SpellsKind) kind_faults (spelled_decided SpellsKind causes.BadEnum kind_chosen) kinds.Absent (member (codes "kind") d)) (λ x h4.
     also (search (quiet_parts, quiet_nothing) depth 24) (count_in_decided 0 (omega arith) (member (codes "timestamp") d)) (λ timestamp h5.
-    also (search (quiet_parts, quiet_nothing) depth 24) (count_in_decided (count_in (member (codes "timestamp") d)) (timestamp_fits timestamp _ h5) (member (codes "duration") d)) (λ x h6.
+    also (search (quiet_parts, quiet_nothing) depth 24) (count_in_decided (count_or_zero (member (codes "timestamp") d)) (timestamp_fits timestamp _ h5) (member (codes "duration") d)) (λ x h6.
     also (search (quiet_parts, quiet_nothing) depth 24) (decided_optional IsTruth truth_faults truth_decided false (member (codes "debug") d)) (λ x h7.
     also (search (quiet_parts, quiet_nothing) depth 24) (decided_optional IsTruth truth_faults truth_decided false (member (codes "shared") d)) (λ x h8.
     also (search (quiet_parts, quiet_nothing) depth 24) (decided_optional IsEndpoint endpoint_faults endpoint_decided no_endpoint (member (codes "localEndpoint") d)) (λ x h9.
@@ -244,20 +244,20 @@ span_parts d =
 ends : (z : ZSpan) (start end : ℕ) → start ≡ z.start → end ≡ z.end → record z { start = start; end = end } ≡ z
 ends z start end e k = rw (e, k) refl
 
-pub span_decided : (d : Data) → IsSettled (λ s. IsSpan s d) (span_faults d)
-span_decided d = decided_as (λ s. IsSpan s d) made there back (objects_decided {M = AreSpanParts d} d (span_parts d))
+pub span_decided : (d : Data) → IsSettled (λ s. IsZSpan s d) (span_faults d)
+span_decided d = decided_as (λ s. IsZSpan s d) made there back (objects_decided {M = AreSpanParts d} d (span_parts d))
   where
     made : SpanParts → ZSpan
     made p = record { trace = p.0; id = p.1.0; parent = p.1.1.0; name = p.1.1.1.0; kind = p.1.1.1.1.0; debug = p.1.1.1.1.1.1.1.0; shared = p.1.1.1.1.1.1.1.1.0; local = p.1.1.1.1.1.1.1.1.1.0; remote = p.1.1.1.1.1.1.1.1.1.1.0; annotations = p.1.1.1.1.1.1.1.1.1.1.1.0; tags = p.1.1.1.1.1.1.1.1.1.1.1.1.0; start = nanos p.1.1.1.1.1.0; end = nanos (p.1.1.1.1.1.0 + p.1.1.1.1.1.1.0) }
 
-    there : (p : SpanParts) → OfKind (λ y members. AreSpanParts d y) p (as_object d) → IsSpan (made p) d
+    there : (p : SpanParts) → OfKind (λ y members. AreSpanParts d y) p (as_object d) → IsZSpan (made p) d
     there p h =
         let m = h.means in
         let e = count_given p.1.1.1.1.1.0 _ m.1.1.1.1.1.0.0 in
         let fits = m.1.1.1.1.1.1.0.1 in
         record { shape = ap is_some h.shape; trace = m.0; id = m.1.0; parent = m.1.1.0; name = m.1.1.1.0; kind = m.1.1.1.1.0; debug = m.1.1.1.1.1.1.1.0; shared = m.1.1.1.1.1.1.1.1.0; local = m.1.1.1.1.1.1.1.1.1.0; remote = m.1.1.1.1.1.1.1.1.1.1.0; annotations = m.1.1.1.1.1.1.1.1.1.1.1.0; tags = m.1.1.1.1.1.1.1.1.1.1.1.1.0; timestamp = p.1.1.1.1.1.0; its_timestamp = m.1.1.1.1.1.0.0; start = refl; duration = p.1.1.1.1.1.1.0; its_duration = m.1.1.1.1.1.1.0.0; sum = omega arith; end = refl }
 
-    back : (z : ZSpan) → IsSpan z d → (p : SpanParts) × OfKind (λ y members. AreSpanParts d y) p (as_object d) × (made p ≡ z)
+    back : (z : ZSpan) → IsZSpan z d → (p : SpanParts) × OfKind (λ y members. AreSpanParts d y) p (as_object d) × (made p ≡ z)
     back z h =
         let e = count_given h.timestamp _ h.its_timestamp in
         let fits = h.sum in (
@@ -267,4 +267,4 @@ span_decided d = decided_as (λ s. IsSpan s d) made there back (objects_decided 
         )
 
 pub spans_decided : (d : Data) → IsSettled (λ spans. AreSpans spans d) (spans_faults d)
-spans_decided d = decided_valued _ (λ held. each span_faults (elements held)) (λ held. decided_each IsSpan span_faults span_decided (elements held)) (as_array d)
+spans_decided d = decided_valued _ (λ held. each span_faults (elements held)) (λ held. decided_each IsZSpan span_faults span_decided (elements held)) (as_array d)

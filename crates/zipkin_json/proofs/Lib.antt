@@ -4,4 +4,10 @@ pub mod ElementLemmas
 pub mod MemberLemmas
 pub mod TagLemmas
 pub mod WritingLemmas
+pub mod MeaningLemmas
+pub mod ReadBack
+pub mod TextLemmas
+pub mod Utf8Texts
+pub mod SoundValues
+pub mod ProperLemmas
 pub mod ReadingLemmas

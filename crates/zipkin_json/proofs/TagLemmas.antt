@@ -10,8 +10,8 @@ use Rattle.serde_json.specs.View.{view, members_view}
 use Rattle.serde_json.proofs.Views.{Entry}
 use Rattle.span_io.specs.Paths.{each, NothingOffends, Counts}
 use Rattle.span_io.specs.PathLaws.{clean_nothing, counts_only, clean_one_more, least_at}
-use Rattle.zipkin_json.specs.Members.{values}
-use Rattle.zipkin_json.specs.Span.{texts_in, tag_faults, Rise}
+use Rattle.zipkin_json.specs.Members.{member_values}
+use Rattle.zipkin_json.specs.Span.{texts_in, tag_faults, TagsRise}
 
 -- ---- one tag
 
@@ -41,20 +41,20 @@ no_text (object ms) h k = counts_only 11
 
 -- ---- the members
 
-values_all : (es : List Entry) (e : Entry) (more : List Entry) → values (members_view (es ++ e ∷ more)) ≡ values (members_view es) ++ view e.1 ∷ values (members_view more)
+values_all : (es : List Entry) (e : Entry) (more : List Entry) → member_values (members_view (es ++ e ∷ more)) ≡ member_values (members_view es) ++ view e.1 ∷ member_values (members_view more)
 values_all [] e more = refl
 values_all (x ∷ es) e more = ap (λ ds. view x.1 ∷ ds) (values_all es e more)
 
-pub clean_member : (es : List Entry) (e : Entry) → NothingOffends (each tag_faults (values (members_view es))) → NothingOffends (tag_faults (view e.1)) → NothingOffends (each tag_faults (values (members_view (es ++ e ∷ []))))
+pub clean_member : (es : List Entry) (e : Entry) → NothingOffends (each tag_faults (member_values (members_view es))) → NothingOffends (tag_faults (view e.1)) → NothingOffends (each tag_faults (member_values (members_view (es ++ e ∷ []))))
 clean_member es e all last = subst (λ ds. NothingOffends (each tag_faults ds)) (sym (values_all es e [])) (clean_one_more tag_faults _ (view e.1) all last)
 
 counts_at : (ds : List Data) (d : Data) (more : List Data) (cause : ℕ) → NothingOffends (each tag_faults ds) → Counts (tag_faults d) cause → Counts (each tag_faults (ds ++ d ∷ more)) cause
 counts_at ds d more cause all h = record { path = _; is_least = least_at tag_faults ds d more all h.path cause h.is_least }
 
-pub counts_member : (entries es : List Entry) (e : Entry) (more : List Entry) (cause : ℕ) → entries ≡ es ++ e ∷ more → NothingOffends (each tag_faults (values (members_view es)))
-    → Counts (tag_faults (view e.1)) cause → Counts (each tag_faults (values (members_view entries))) cause
+pub counts_member : (entries es : List Entry) (e : Entry) (more : List Entry) (cause : ℕ) → entries ≡ es ++ e ∷ more → NothingOffends (each tag_faults (member_values (members_view es)))
+    → Counts (tag_faults (view e.1)) cause → Counts (each tag_faults (member_values (members_view entries))) cause
 counts_member entries es e more cause all clean h =
-    subst (λ ds. Counts (each tag_faults ds) cause) (sym (ap (λ l. values (members_view l)) all ∙ values_all es e more)) (counts_at _ (view e.1) _ cause clean h)
+    subst (λ ds. Counts (each tag_faults ds) cause) (sym (ap (λ l. member_values (members_view l)) all ∙ values_all es e more)) (counts_at _ (view e.1) _ cause clean h)
 
 null_read : (key : List ℕ) (d : Data) (ms : Members) → is_some (as_null d) ≡ true → texts_in (has key d ms) ≡ texts_in ms
 null_read key null ms h = refl
@@ -141,20 +141,20 @@ below k (e ∷ es) tags h is = on (view e.1) is (λ more rest. below k es more h
     on (array ds) made later = cc
     on (object ms) made later = cc
 
-pub tags_rise : (es : List Entry) (tags : List (List ℕ × List ℕ)) → IsStrictlySortedBy string_cmp (keys_of es) → texts_in (members_view es) ≡ Some tags → Rise tags
+pub tags_rise : (es : List Entry) (tags : List (List ℕ × List ℕ)) → IsStrictlySortedBy string_cmp (keys_of es) → texts_in (members_view es) ≡ Some tags → TagsRise tags
 unfolding IsStrictlySortedBy
 tags_rise [] [] h is = tt
 tags_rise [] (t ∷ tags) h is = cc
 tags_rise (e ∷ es) tags h is = on (view e.1) is (λ more rest. tags_rise es more h.1 rest)
   where
     first : (text : List ℕ) (o : Option (List (List ℕ × List ℕ))) → texts_in (members_view es) ≡ o → option_map (λ texts. (string_bytes e.0, text) ∷ texts) o ≡ Some tags
-        → ((more : List (List ℕ × List ℕ)) → texts_in (members_view es) ≡ Some more → Rise more) → Rise tags
+        → ((more : List (List ℕ × List ℕ)) → texts_in (members_view es) ≡ Some more → TagsRise more) → TagsRise tags
     first text None rest made later = cc
     first text (Some more) rest made later =
         let all : (string_bytes e.0, text) ∷ more ≡ tags = cc in
-        subst Rise all (below (string_bytes e.0) es more h.0 rest, later more rest)
+        subst TagsRise all (below (string_bytes e.0) es more h.0 rest, later more rest)
 
-    on : (d : Data) → texts_in (has (string_bytes e.0) d (members_view es)) ≡ Some tags → ((more : List (List ℕ × List ℕ)) → texts_in (members_view es) ≡ Some more → Rise more) → Rise tags
+    on : (d : Data) → texts_in (has (string_bytes e.0) d (members_view es)) ≡ Some tags → ((more : List (List ℕ × List ℕ)) → texts_in (members_view es) ≡ Some more → TagsRise more) → TagsRise tags
     on null made later = later tags made
     on (string text) made later = first text (texts_in (members_view es)) refl made later
     on (boolean b) made later = cc
@@ -162,6 +162,6 @@ tags_rise (e ∷ es) tags h is = on (view e.1) is (λ more rest. tags_rise es mo
     on (array ds) made later = cc
     on (object ms) made later = cc
 
-pub none_rise : Rise []
+pub none_rise : TagsRise []
 unfolding IsStrictlySortedBy
 none_rise = tt

@@ -9,7 +9,7 @@ use Rattle.json.specs.Written.{Written}
 use Rattle.serde_json.specs.Data.{string, number, unsigned, object}
 use Rattle.serde_json.specs.View.{items_of}
 use Rattle.serde_json.specs.Written.{members_outline, items_outline}
-use Rattle.zipkin_json.specs.Canonical.{MemberRow, members_given, text_given, count_given, endpoint_rows, endpoint_given, annotation_json, tag_members, annotations_given, tags_given, span_rows, span_json, span_text}
+use Rattle.zipkin_json.specs.Canonical.{MemberRow, members_given, text_data, count_data, endpoint_rows, endpoint_data, annotation_json, tag_members, annotations_data, tags_data, zspan_rows, span_json, zspan_text}
 use Rattle.zipkin_json.specs.Writing.{Appends, GrewFront, given_tokens, rows_tokens, pieces, tag_piece, annotation_piece}
 use Rattle.zipkin_json.specs.declared.span.Endpoint.{Endpoint}
 use Rattle.zipkin_json.specs.declared.span.ZSpan.{ZSpan}
@@ -41,11 +41,11 @@ landed u a b piece h = record { before = h.before; ok = h.ok; err = tt }
 -- ---- what isn't left out
 
 module _ {E : Type 0} (r : Result (Unit {0}) E) (a b : Written) (name : List ℕ) where
-  pub text_written : (text : List ℕ) → (length text == 0) ≡ false → Appends r a b (given_tokens name (Some (string text))) → Appends r a b (given_tokens name (text_given text))
+  pub text_written : (text : List ℕ) → (length text == 0) ≡ false → Appends r a b (given_tokens name (Some (string text))) → Appends r a b (given_tokens name (text_data text))
   text_written [] some h = cc
   text_written (x ∷ text) some h = h
 
-  pub count_written : (count : ℕ) → (count ≡ 0 → ⊥) → Appends r a b (given_tokens name (Some (number (unsigned count)))) → Appends r a b (given_tokens name (count_given count))
+  pub count_written : (count : ℕ) → (count ≡ 0 → ⊥) → Appends r a b (given_tokens name (Some (number (unsigned count)))) → Appends r a b (given_tokens name (count_data count))
   count_written zero some h = absurd (some refl)
   count_written (suc n) some h = h
 
@@ -70,7 +70,7 @@ annotations_written (a ∷ more) = ap (λ l. annotation_piece a ++ l) (annotatio
 
 -- an endpoint of which something is given
 pub endpoint_there : (ipv4 ipv6 : List ℕ) (port : ℕ) (service : List ℕ) → ((ipv4 ≡ []) × (ipv6 ≡ []) × (port ≡ 0) × (service ≡ []) → ⊥)
-    → (let e : Endpoint = record { service = service; ipv4 = ipv4; ipv6 = ipv6; port = port } in endpoint_given e ≡ Some (object (members_given (endpoint_rows e))))
+    → (let e : Endpoint = record { service = service; ipv4 = ipv4; ipv6 = ipv6; port = port } in endpoint_data e ≡ Some (object (members_given (endpoint_rows e))))
 endpoint_there (x ∷ ipv4) ipv6 port service some = refl
 endpoint_there [] (x ∷ ipv6) port service some = refl
 endpoint_there [] [] (suc port) service some = refl
@@ -103,22 +103,22 @@ module _ {A : Type 0} (piece : A → List Token) (xs : List A) (i : ℕ) (x : A)
 
 module _ {E : Type 0} (r : Result (Unit {0}) E) (a b : Written) (name : List ℕ) where
   pub annotations_there : (list : List (ℕ × List ℕ)) → (length list == 0) ≡ false → Appends r a b (key name ∷ begin_array ∷ (pieces annotation_piece list ++ end_array ∷ []))
-      → Appends r a b (given_tokens name (annotations_given list))
+      → Appends r a b (given_tokens name (annotations_data list))
   annotations_there [] some h = cc
   annotations_there (x ∷ more) some h = subst (λ l. Appends r a b (key name ∷ begin_array ∷ l)) (sym (annotations_written (x ∷ more))) h
 
   pub tags_there : (tags : List (List ℕ × List ℕ)) → (length tags == 0) ≡ false → Appends r a b (key name ∷ begin_object ∷ (pieces tag_piece tags ++ end_object ∷ []))
-      → Appends r a b (given_tokens name (tags_given tags))
+      → Appends r a b (given_tokens name (tags_data tags))
   tags_there [] some h = cc
   tags_there (x ∷ more) some h = subst (λ l. Appends r a b (key name ∷ begin_object ∷ l)) (sym (tags_written (x ∷ more))) h
 
   pub endpoint_written : (e : Endpoint) → ((e.ipv4 ≡ []) × (e.ipv6 ≡ []) × (e.port ≡ 0) × (e.service ≡ []) → ⊥) → Appends r a b (key name ∷ begin_object ∷ rows_tokens (endpoint_rows e))
-      → Appends r a b (given_tokens name (endpoint_given e))
+      → Appends r a b (given_tokens name (endpoint_data e))
   endpoint_written e some h =
       subst (λ o. Appends r a b (given_tokens name o)) (sym (endpoint_there e.ipv4 e.ipv6 e.port e.service some))
       (subst (λ l. Appends r a b (key name ∷ begin_object ∷ l)) (sym (rows_written (endpoint_rows e))) h)
 
-pub endpoint_absent : {E : Type 0} (a : Written) (name : List ℕ) (e : Endpoint) → (e.ipv4 ≡ []) × (e.ipv6 ≡ []) × (e.port ≡ 0) × (e.service ≡ []) → Appends {E = E} (Ok tt) a a (given_tokens name (endpoint_given e))
+pub endpoint_absent : {E : Type 0} (a : Written) (name : List ℕ) (e : Endpoint) → (e.ipv4 ≡ []) × (e.ipv6 ≡ []) × (e.port ≡ 0) × (e.service ≡ []) → Appends {E = E} (Ok tt) a a (given_tokens name (endpoint_data e))
 endpoint_absent {E} a name e h = let i = h.0 in let j = h.1 in let p = h.2 in let s = h.3 in rw (i, j, p, s) (nothing_written a)
 
 pub ruleset lists = (annotations_there, tags_there, nothing_written)
@@ -127,9 +127,9 @@ pub ruleset endpoints = (endpoint_written, endpoint_absent)
 
 -- ---- the bytes that the tokens print
 
-span_tokens : (s : ZSpan) → print (begin_object ∷ rows_tokens (span_rows s)) ≡ span_text s
-unfolding span_text
-span_tokens s = ap (λ l. print (begin_object ∷ l)) (sym (rows_written (span_rows s))) ∙ print-outline (span_json s)
+span_tokens : (s : ZSpan) → print (begin_object ∷ rows_tokens (zspan_rows s)) ≡ zspan_text s
+unfolding zspan_text
+span_tokens s = ap (λ l. print (begin_object ∷ l)) (sym (rows_written (zspan_rows s))) ∙ print-outline (span_json s)
 
 printed_on : (later : Bool) (front rest : List Token) → (more : List ℕ) × (print_from later (front ++ rest) ≡ print_from later front ++ more)
 unfolding print_from
@@ -142,13 +142,13 @@ printed_on later (t ∷ front) rest =
     )
 
 module _ {E : Type 0} (s : ZSpan) (old new : List ℕ) (a b : Written) (before : a.before ≡ old) (none : a.tokens ≡ []) (items : new ≡ b.before ++ print b.tokens) where
-  pub span_ok : (r : Result (Unit {0}) E) → Appends r a b (begin_object ∷ rows_tokens (span_rows s)) → OnOk r (new ≡ old ++ span_text s)
+  pub span_ok : (r : Result (Unit {0}) E) → Appends r a b (begin_object ∷ rows_tokens (zspan_rows s)) → OnOk r (new ≡ old ++ zspan_text s)
   span_ok (Ok u) h =
-      let tokens : b.tokens ≡ begin_object ∷ rows_tokens (span_rows s) = h.ok ∙ ap (λ l. l ++ (begin_object ∷ rows_tokens (span_rows s))) none in
+      let tokens : b.tokens ≡ begin_object ∷ rows_tokens (zspan_rows s) = h.ok ∙ ap (λ l. l ++ (begin_object ∷ rows_tokens (zspan_rows s))) none in
       items ∙ ap (λ l. l ++ print b.tokens) (h.before ∙ before) ∙ ap (λ l. old ++ print l) tokens ∙ ap (λ l. old ++ l) (span_tokens s)
   span_ok (Err e) h = tt
 
-  pub span_front : (r : Result (Unit {0}) E) → Appends r a b (begin_object ∷ rows_tokens (span_rows s)) → OnErr r (GrewFront old new (span_text s))
+  pub span_front : (r : Result (Unit {0}) E) → Appends r a b (begin_object ∷ rows_tokens (zspan_rows s)) → OnErr r (GrewFront old new (zspan_text s))
   span_front (Ok u) h = tt
   span_front (Err e) h =
       let f = h.err in

@@ -1,8 +1,9 @@
 -- The one canonical text of a span of Zipkin v2: compact JSON (RFC 8259), the members of each object in the order of their names' bytes. A
 -- member that holds its default is left out, and so is an object of which all is default; `traceId`, `id`, both members of an annotation
 -- and every tag are always written. Identifiers have all their digits, in lower case.
-use Rattle.std.specs.Prelude.{ℕ, zero, suc, ◌-◌, List, [], ◌∷◌, map, Bool, true, false, Option, Some, None, option_map, codes}
+use Rattle.std.specs.Prelude.{ℕ, zero, suc, ◌-◌, List, [], ◌∷◌, ◌++◌, map, Bool, true, false, Option, Some, None, option_map, codes}
 use Rattle.std.specs.Int.{w64, w128, to_be_bytes}
+use Rattle.std.specs.List.{join_with_byte}
 use Rattle.hex.specs.Hex.{encode_lower}
 use Rattle.serde_json.specs.Data.{Data, boolean, number, string, array, object, unsigned, Members, no_members, member}
 use Rattle.serde_json.specs.View.{items_of}
@@ -15,17 +16,17 @@ use Rattle.zipkin_json.specs.declared.span.ZSpan.{ZSpan}
 
 -- ---- members that are left out where they hold their default
 
-abbrev pub text_given : List ℕ → Option Data
-text_given [] = None
-text_given (x ∷ more) = Some (string (x ∷ more))
+abbrev pub text_data : List ℕ → Option Data
+text_data [] = None
+text_data (x ∷ more) = Some (string (x ∷ more))
 
-abbrev pub count_given : ℕ → Option Data
-count_given zero = None
-count_given (suc n) = Some (number (unsigned (suc n)))
+abbrev pub count_data : ℕ → Option Data
+count_data zero = None
+count_data (suc n) = Some (number (unsigned (suc n)))
 
-abbrev pub truth_given : Bool → Option Data
-truth_given false = None
-truth_given true = Some (boolean true)
+abbrev pub truth_data : Bool → Option Data
+truth_data false = None
+truth_data true = Some (boolean true)
 
 abbrev pub MemberRow : Type 0
 MemberRow = List ℕ × Option Data
@@ -44,51 +45,59 @@ unless_empty (member name d more) = Some (object (member name d more))
 -- ---- `Endpoint`, `Annotation` and `tags`
 
 abbrev pub endpoint_rows : Endpoint → List MemberRow
-endpoint_rows e = (codes "ipv4", text_given e.ipv4) ∷ (codes "ipv6", text_given e.ipv6) ∷ (codes "port", count_given e.port)
-    ∷ (codes "serviceName", text_given e.service) ∷ []
+endpoint_rows e = (codes "ipv4", text_data e.ipv4) ∷ (codes "ipv6", text_data e.ipv6) ∷ (codes "port", count_data e.port)
+    ∷ (codes "serviceName", text_data e.service) ∷ []
 
-abbrev pub endpoint_given : Endpoint → Option Data
-endpoint_given e = unless_empty (members_given (endpoint_rows e))
+abbrev pub endpoint_data : Endpoint → Option Data
+endpoint_data e = unless_empty (members_given (endpoint_rows e))
 
 abbrev pub annotation_json : ℕ × List ℕ → Data
 annotation_json a = object (member (codes "timestamp") (number (unsigned (micros a.0))) (member (codes "value") (string a.1) no_members))
 
-abbrev pub annotations_given : List (ℕ × List ℕ) → Option Data
-annotations_given [] = None
-annotations_given (a ∷ more) = Some (array (items_of (map annotation_json (a ∷ more))))
+abbrev pub annotations_data : List (ℕ × List ℕ) → Option Data
+annotations_data [] = None
+annotations_data (a ∷ more) = Some (array (items_of (map annotation_json (a ∷ more))))
 
 abbrev pub tag_members : List (List ℕ × List ℕ) → Members
 tag_members [] = no_members
 tag_members (tag ∷ tags) = member tag.0 (string tag.1) (tag_members tags)
 
-abbrev pub tags_given : List (List ℕ × List ℕ) → Option Data
-tags_given tags = unless_empty (tag_members tags)
+abbrev pub tags_data : List (List ℕ × List ℕ) → Option Data
+tags_data tags = unless_empty (tag_members tags)
 
 -- ---- `Span`
 
-abbrev pub kind_given : ZKind → Option Data
-kind_given kinds.Absent = None
-kind_given kinds.Client = Some (string (codes "CLIENT"))
-kind_given kinds.Server = Some (string (codes "SERVER"))
-kind_given kinds.Producer = Some (string (codes "PRODUCER"))
-kind_given kinds.Consumer = Some (string (codes "CONSUMER"))
+abbrev pub kind_data : ZKind → Option Data
+kind_data kinds.Absent = None
+kind_data kinds.Client = Some (string (codes "CLIENT"))
+kind_data kinds.Server = Some (string (codes "SERVER"))
+kind_data kinds.Producer = Some (string (codes "PRODUCER"))
+kind_data kinds.Consumer = Some (string (codes "CONSUMER"))
 
-abbrev pub trace_text : ℕ → List ℕ
-trace_text id = encode_lower (to_be_bytes w128 id)
+abbrev pub trace_id_text : ℕ → List ℕ
+trace_id_text id = encode_lower (to_be_bytes w128 id)
 
-abbrev pub id_text : ℕ → List ℕ
-id_text id = encode_lower (to_be_bytes w64 id)
+abbrev pub span_id_text : ℕ → List ℕ
+span_id_text id = encode_lower (to_be_bytes w64 id)
 
-abbrev pub span_rows : ZSpan → List MemberRow
-span_rows s = (codes "annotations", annotations_given s.annotations) ∷ (codes "debug", truth_given s.debug)
-    ∷ (codes "duration", count_given (micros s.end - micros s.start)) ∷ (codes "id", Some (string (id_text s.id)))
-    ∷ (codes "kind", kind_given s.kind) ∷ (codes "localEndpoint", endpoint_given s.local) ∷ (codes "name", text_given s.name)
-    ∷ (codes "parentId", option_map (λ id. string (id_text id)) s.parent) ∷ (codes "remoteEndpoint", endpoint_given s.remote)
-    ∷ (codes "shared", truth_given s.shared) ∷ (codes "tags", tags_given s.tags) ∷ (codes "timestamp", count_given (micros s.start))
-    ∷ (codes "traceId", Some (string (trace_text s.trace))) ∷ []
+abbrev pub zspan_rows : ZSpan → List MemberRow
+zspan_rows s = (codes "annotations", annotations_data s.annotations) ∷ (codes "debug", truth_data s.debug)
+    ∷ (codes "duration", count_data (micros s.end - micros s.start)) ∷ (codes "id", Some (string (span_id_text s.id)))
+    ∷ (codes "kind", kind_data s.kind) ∷ (codes "localEndpoint", endpoint_data s.local) ∷ (codes "name", text_data s.name)
+    ∷ (codes "parentId", option_map (λ id. string (span_id_text id)) s.parent) ∷ (codes "remoteEndpoint", endpoint_data s.remote)
+    ∷ (codes "shared", truth_data s.shared) ∷ (codes "tags", tags_data s.tags) ∷ (codes "timestamp", count_data (micros s.start))
+    ∷ (codes "traceId", Some (string (trace_id_text s.trace))) ∷ []
 
 abbrev pub span_json : ZSpan → Data
-span_json s = object (members_given (span_rows s))
+span_json s = object (members_given (zspan_rows s))
 
-unfoldable pub span_text : ZSpan → List ℕ
-span_text s = compact_text (span_json s)
+unfoldable pub zspan_text : ZSpan → List ℕ
+zspan_text s = compact_text (span_json s)
+
+-- ---- the whole text: the spans' texts in brackets, with commas between them
+
+abbrev pub spans_json : List ZSpan → Data
+spans_json spans = array (items_of (map span_json spans))
+
+unfoldable pub spans_text : List ZSpan → List ℕ
+spans_text spans = codes "[" ++ (join_with_byte 44 (map zspan_text spans) ++ codes "]")

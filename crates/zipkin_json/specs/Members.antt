@@ -19,9 +19,9 @@ abbrev pub elements : Items → List Data
 elements no_items = []
 elements (item d more) = d ∷ elements more
 
-abbrev pub values : Members → List Data
-values no_members = []
-values (has key d more) = d ∷ values more
+abbrev pub member_values : Members → List Data
+member_values no_members = []
+member_values (has key d more) = d ∷ member_values more
 
 -- ---- texts and truth values
 
@@ -59,6 +59,6 @@ abbrev pub count_faults : ℕ → Data → Faults
 count_faults start d = valued (micros_faults start) (as_number d)
 
 -- the count that a member gives, and 0 without one
-abbrev pub count_in : Option Data → ℕ
-count_in None = 0
-count_in (Some d) = unwrap_or (option_and_then as_u64 (as_number d)) 0
+abbrev pub count_or_zero : Option Data → ℕ
+count_or_zero None = 0
+count_or_zero (Some d) = unwrap_or (option_and_then as_u64 (as_number d)) 0

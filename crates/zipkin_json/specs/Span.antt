@@ -14,7 +14,7 @@ use Rattle.zipkin_json.specs.declared.span.ZKind.{ZKind}
 use Rattle.zipkin_json.specs.declared.span.ZKind.TheVariants as kinds
 use Rattle.zipkin_json.specs.declared.span.ZSpan.{ZSpan}
 use Rattle.zipkin_json.specs.Identifiers.{SpellsTrace, SpellsSpan, SpellsParent}
-use Rattle.zipkin_json.specs.Members.{unless_null, member, elements, values, IsText, text_faults, IsTruth, truth_faults, IsCount, IsPort, port_faults, count_faults, count_in}
+use Rattle.zipkin_json.specs.Members.{unless_null, member, elements, member_values, IsText, text_faults, IsTruth, truth_faults, IsCount, IsPort, port_faults, count_faults, count_or_zero}
 
 -- ---- identifiers and the kind, which are texts
 
@@ -103,12 +103,12 @@ abbrev pub tag_faults : Data → Faults
 tag_faults d = optional text_faults (unless_null (Some d))
 
 abbrev pub tags_faults : Data → Faults
-tags_faults d = valued (λ members. each tag_faults (values members)) (as_object d)
+tags_faults d = valued (λ members. each tag_faults (member_values members)) (as_object d)
 
 -- ---- `Span`
 
 -- the members of this span
-pub record IsSpan (s : ZSpan) (d : Data) : Type 0 where
+pub record IsZSpan (s : ZSpan) (d : Data) : Type 0 where
   pub shape : is_some (as_object d) ≡ true
   pub trace : Given (Spelled SpellsTrace) Never s.trace (member (codes "traceId") d)
   pub id : Given (Spelled SpellsSpan) Never s.id (member (codes "id") d)
@@ -134,7 +134,7 @@ unfoldable pub span_members : Data → Faults
 span_members d = required trace_faults (member (codes "traceId") d) ▹ required id_faults (member (codes "id") d)
     ▹ optional parent_faults (member (codes "parentId") d) ▹ optional text_faults (member (codes "name") d)
     ▹ optional kind_faults (member (codes "kind") d) ▹ optional (count_faults 0) (member (codes "timestamp") d)
-    ▹ optional (count_faults (count_in (member (codes "timestamp") d))) (member (codes "duration") d)
+    ▹ optional (count_faults (count_or_zero (member (codes "timestamp") d))) (member (codes "duration") d)
     ▹ optional truth_faults (member (codes "debug") d) ▹ optional truth_faults (member (codes "shared") d)
     ▹ optional endpoint_faults (member (codes "localEndpoint") d) ▹ optional endpoint_faults (member (codes "remoteEndpoint") d)
     ▹ optional annotations_faults (member (codes "annotations") d) ▹ optional tags_faults (member (codes "tags") d) ▹ nothing
@@ -143,16 +143,16 @@ abbrev pub span_faults : Data → Faults
 span_faults d = valued (λ members. span_members d) (as_object d)
 
 -- what is read has rising keys, since an object has each name once, in their order
-abbrev pub Rise : List (List ℕ × List ℕ) → Type 0
-Rise tags = IsStrictlySortedBy (slice_cmp nat_cmp) (map (λ tag. tag.0) tags)
+abbrev pub TagsRise : List (List ℕ × List ℕ) → Type 0
+TagsRise tags = IsStrictlySortedBy (slice_cmp nat_cmp) (map (λ tag. tag.0) tags)
 
 abbrev pub HasRisingTags : ZSpan → Type 0
-HasRisingTags s = Rise s.tags
+HasRisingTags s = TagsRise s.tags
 
 -- ---- the whole text: an array of spans
 
 abbrev pub AreSpans : List ZSpan → Data → Type 0
-AreSpans spans d = OfKind (λ list held. AllZip (λ d x. IsSpan x d) (elements held) list) spans (as_array d)
+AreSpans spans d = OfKind (λ list held. AllZip (λ d x. IsZSpan x d) (elements held) list) spans (as_array d)
 
 abbrev pub spans_faults : Data → Faults
 spans_faults d = valued (λ held. each span_faults (elements held)) (as_array d)

@@ -13,28 +13,28 @@ use Rattle.zipkin_json.specs.Span.{AreSpans, spans_faults}
 use Rattle.zipkin_json.specs.declared.span.ZSpan.{ZSpan}
 
 -- the bytes are a text of this value
-pub record IsValueText (d : Data) (bytes : List ℕ) : Type 0 where
+pub record IsJsonText (d : Data) (bytes : List ℕ) : Type 0 where
   pub utf8 : IsUtf8 bytes
   pub reading : read bytes ≡ Some d
 
 pub record AreSpansText (spans : List ZSpan) (bytes : List ℕ) : Type 0 where
   pub value : Data
-  pub is_text : IsValueText value bytes
+  pub is_text : IsJsonText value bytes
   pub are_spans : AreSpans spans value
 
 -- BadJson: the bytes are no text of a value; else what offends in the value
 pub record BadJson (bytes path : List ℕ) (number : ℕ) : Type 0 where
   pub whole : path ≡ []
   pub bad : number ≡ 10
-  pub none : (d : Data) → ¬ IsValueText d bytes
+  pub none : (d : Data) → ¬ IsJsonText d bytes
 
 pub record InValue (bytes path : List ℕ) (number : ℕ) : Type 0 where
   pub value : Data
-  pub is_text : IsValueText value bytes
+  pub is_text : IsJsonText value bytes
   pub offends : spans_faults value path number
 
-abbrev pub text_faults : List ℕ → Faults
-text_faults bytes path number = BadJson bytes path number ⊎ InValue bytes path number
+abbrev pub document_faults : List ℕ → Faults
+document_faults bytes path number = BadJson bytes path number ⊎ InValue bytes path number
 
 -- what is answered of bytes that gave no value
 abbrev pub IsUnread : Error → Halt Refusal → Type 0

@@ -1,5 +1,5 @@
 //! Laws of what JSON values mean, as contracts of functions that do nothing.
-ghost use Rattle.zipkin_json.specs.Laws.{OneList, SomeList};
+ghost use Rattle.zipkin_json.specs.Laws.{OneList, SomeList, SpansWrittenAgain, EqualSpansTexts, ReadsWritable};
 
 /// A value has one list of spans at most, and nothing offends in one that has a list.
 pub fn one_list()
@@ -11,6 +11,28 @@ pub fn one_list()
 /// A value has a list of spans, or an offence in it counts, and it has a cause.
 pub fn some_list()
     ensures { SomeList }
+{
+    // The clause is the law.
+}
+
+/// What is written of writable spans means these spans.
+pub fn written_again()
+    ensures { SpansWrittenAgain }
+{
+    span_ids::laws::identifiers_read_back();
+}
+
+/// Two lists of writable spans have one text just where they are the same.
+pub fn equal_texts()
+    ensures { EqualSpansTexts }
+{
+    one_list();
+    written_again();
+}
+
+/// What is read of a text can be written: it is proper and timely, and the keys of its tags rise.
+pub fn reads_proper()
+    ensures { ReadsWritable }
 {
     // The clause is the law.
 }

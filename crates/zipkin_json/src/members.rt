@@ -4,8 +4,7 @@ ghost use Rattle.serde_json.specs.Find.{as_number, as_u64};
 ghost use Rattle.serde_json.specs.View.{view};
 ghost use Rattle.span_io.specs.Paths.{required, optional, JudgesValue, Given, Never};
 ghost use Rattle.span_ids.specs.Times.{last_micros};
-ghost use Rattle.zipkin_json.specs.Members.{member, IsText, text_faults, IsTruth, truth_faults, IsCount};
-ghost use Rattle.zipkin_json.specs.Members.{IsPort, port_faults, count_faults};
+ghost use Rattle.zipkin_json.specs.Members.{member, IsText, text_faults, IsTruth, truth_faults, IsCount, IsPort, port_faults, count_faults};
 
 use serde_json::Value;
 use span_io::{Cause, Halt, OutOfMemory, Text};

@@ -5,15 +5,16 @@ ghost use Rattle.span_io.specs.Paths.{each, optional, JudgesValue, JudgesInput, 
 ghost use Rattle.span_io.specs.Offences.{OnlyReads};
 ghost use Rattle.std.specs.List.{AllZip};
 ghost use Rattle.span_ids.specs.Times.{last_micros};
-ghost use Rattle.zipkin_json.specs.Members.{member, IsCount, count_in, count_faults};
-ghost use Rattle.zipkin_json.specs.Texts.{AreSpansText, IsUnread, text_faults};
+ghost use Rattle.zipkin_json.specs.Members.{member, IsCount, count_or_zero, count_faults};
+ghost use Rattle.zipkin_json.specs.Proper.{IsWritableZSpan};
+ghost use Rattle.zipkin_json.specs.Texts.{AreSpansText, IsUnread, document_faults};
 ghost use Rattle.zipkin_json.specs.declared.span.ZSpan.{ZSpan};
-ghost use Rattle.zipkin_json.specs.Span.{IsSpan, HasRisingTags, span_members, span_faults, AreSpans, spans_faults};
+ghost use Rattle.zipkin_json.specs.Span.{IsZSpan, HasRisingTags, span_members, span_faults, AreSpans, spans_faults};
 
 use crate::annotation::annotations;
 use crate::endpoint::endpoint_of;
 use crate::identifiers::{kind, parent, required_span, required_trace};
-use crate::laws::one_list;
+use crate::laws::{one_list, reads_proper};
 use crate::members::{micros, text, truth};
 use crate::span::ZSpan;
 use crate::tags::tags_of;
@@ -25,12 +26,12 @@ use std::alloc::Global;
 // The duration, which is counted from the timestamp.
 fn duration(v: &Value, timestamp: u64) -> Result<u64, Halt<Cause>>
     requires fits { timestamp ≤ last_micros }
-    requires given { count_in (member (codes "timestamp") (view v.now)) ≡ timestamp }
+    requires given { count_or_zero (member (codes "timestamp") (view v.now)) ≡ timestamp }
     ensures value { IfOk result (λ count. Given IsCount (λ c. c ≡ 0) count
         (member (codes "duration") (view v.now))) }
     ensures sum { IfOk result (λ count. timestamp + count ≤ last_micros) }
     ensures judged { JudgesValue result
-        (optional (count_faults (count_in (member (codes "timestamp") (view v.now))))
+        (optional (count_faults (count_or_zero (member (codes "timestamp") (view v.now))))
         (member (codes "duration") (view v.now))) }
 {
     micros(v, "duration", timestamp)
@@ -38,7 +39,7 @@ fn duration(v: &Value, timestamp: u64) -> Result<u64, Halt<Cause>>
 
 #[tactic(auto, using(span_io::specs::PathLaws::in_order), unfolding(crate::specs::Span::span_members))]
 fn read_span(alloc: Global, v: &Value) -> Result<ZSpan, Halt<Cause>>
-    ensures value { IfOk result (λ s. IsSpan s (view v.now)) }
+    ensures value { IfOk result (λ s. IsZSpan s (view v.now)) }
     ensures rising { IfOk result HasRisingTags }
     ensures judged { JudgesValue result (span_faults (view v.now)) }
 {
@@ -76,7 +77,7 @@ fn read_span(alloc: Global, v: &Value) -> Result<ZSpan, Halt<Cause>>
 }
 
 fn read_each(alloc: Global, elements: &Vec<Value>) -> Result<Items<ZSpan>, Halt<Refusal>>
-    ensures value { IfOk result (λ spans. AllZip (λ d x. IsSpan x d) (map view elements.now.items) spans) }
+    ensures value { IfOk result (λ spans. AllZip (λ d x. IsZSpan x d) (map view elements.now.items) spans) }
     ensures rising { IfOk result (All HasRisingTags) }
     ensures judged { JudgesInput result (each span_faults (map view elements.now.items)) }
 {
@@ -123,10 +124,13 @@ pub fn read_spans(alloc: Global, v: &Value) -> Result<Items<ZSpan>, Halt<Refusal
 pub fn read_text(alloc: Global, bytes: &[u8]) -> Result<Items<ZSpan>, Halt<Refusal>>
     ensures value { IfOk result (λ spans. AreSpansText spans bytes.now) }
     ensures rising { IfOk result (All HasRisingTags) }
-    ensures judged { JudgesInput result (text_faults bytes.now) }
+    // They can be written.
+    ensures writable { IfOk result (All IsWritableZSpan) }
+    ensures judged { JudgesInput result (document_faults bytes.now) }
     // Whatever spans the bytes are a text of are the answer.
     ensures only { (spans : List ZSpan) → AreSpansText spans bytes.now → OnlyReads result spans }
 {
+    reads_proper();
     match Value::from_slice(alloc, bytes) {
         Ok(v) => read_spans(alloc, &v),
         Err(error) => Err(unread(&error)),

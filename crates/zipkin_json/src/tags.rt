@@ -2,8 +2,8 @@
 ghost use Rattle.std.specs.Prelude.{◌≡◌, [], Some, IfOk};
 ghost use Rattle.serde_json.specs.View.{view, members_view};
 ghost use Rattle.span_io.specs.Paths.{optional, each, JudgesValue, Given};
-ghost use Rattle.zipkin_json.specs.Members.{member, values};
-ghost use Rattle.zipkin_json.specs.Span.{texts_in, AreTags, Rise, tag_faults, tags_faults};
+ghost use Rattle.zipkin_json.specs.Members.{member, member_values};
+ghost use Rattle.zipkin_json.specs.Span.{texts_in, AreTags, TagsRise, tag_faults, tags_faults};
 
 use crate::members::member_of;
 use serde_json::{Map, Value};
@@ -15,9 +15,9 @@ fn read_tags(
     members: &Map<String, Value>,
 ) -> Result<Items<(Text, Text)>, Halt<Cause>>
     ensures value { IfOk result (λ tags. texts_in (members_view members.now.entries) ≡ Some tags) }
-    ensures rising { IfOk result Rise }
+    ensures rising { IfOk result TagsRise }
     ensures judged { JudgesValue result
-        (each tag_faults (values (members_view members.now.entries))) }
+        (each tag_faults (member_values (members_view members.now.entries))) }
 {
     let mut tags = Items::new(alloc);
     'tags: for (key, value) in members.iter() {
@@ -36,7 +36,7 @@ fn read_tags(
 
 fn tags_in(alloc: Global, v: &Value) -> Result<Items<(Text, Text)>, Halt<Cause>>
     ensures value { IfOk result (λ tags. AreTags tags (view v.now)) }
-    ensures rising { IfOk result Rise }
+    ensures rising { IfOk result TagsRise }
     ensures judged { JudgesValue result (tags_faults (view v.now)) }
 {
     let Some(members) = v.as_object() else {
@@ -51,7 +51,7 @@ fn tags_in(alloc: Global, v: &Value) -> Result<Items<(Text, Text)>, Halt<Cause>>
 pub fn tags_of(alloc: Global, v: &Value, name: &str) -> Result<Items<(Text, Text)>, Halt<Cause>>
     ensures value { IfOk result (λ tags. Given AreTags (λ t. t ≡ []) tags
         (member name.now (view v.now))) }
-    ensures rising { IfOk result Rise }
+    ensures rising { IfOk result TagsRise }
     ensures judged { JudgesValue result (optional tags_faults (member name.now (view v.now))) }
 {
     match member_of(v, name) {

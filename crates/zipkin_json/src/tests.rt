@@ -1,3 +1,5 @@
+mod samples;
+
 use crate::{ZKind, read_spans, read_text, write_span};
 use serde_json::Value;
 use span_ids::Nanos;

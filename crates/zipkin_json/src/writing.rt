@@ -3,7 +3,7 @@ ghost use Rattle.std.specs.Prelude.{◌≡◌, ◌-◌, ◌++◌, ◌∷◌, [],
 ghost use Rattle.json.specs.Token.{begin_object, end_object, begin_array, end_array, key};
 ghost use Rattle.serde_json.specs.Data.{number, string, unsigned, boolean};
 ghost use Rattle.span_ids.specs.Times.{micros};
-ghost use Rattle.zipkin_json.specs.Canonical.{text_given, count_given, truth_given, kind_given, trace_text, id_text, endpoint_rows, endpoint_given, annotations_given, tags_given, span_rows, span_text};
+ghost use Rattle.zipkin_json.specs.Canonical.{text_data, count_data, truth_data, kind_data, trace_id_text, span_id_text, endpoint_rows, endpoint_data, annotations_data, tags_data, zspan_rows, zspan_text};
 ghost use Rattle.zipkin_json.specs.Writing.{Appends, GrewFront, given_tokens, rows_tokens, pieces, tag_piece, annotation_piece};
 
 use crate::span::{Endpoint, ZKind, ZSpan};
@@ -51,7 +51,7 @@ fn whole_text_member(out: &mut Writer, name: &str, text: &str) -> Result<(), Out
 // A text, unless it is empty.
 #[tactic(auto, using(crate::proofs::WritingLemmas::written))]
 fn text_member(out: &mut Writer, name: &str, text: &str) -> Result<(), OutOfMemory>
-    ensures { Appends result out.old out.new (given_tokens name.now (text_given text.now)) }
+    ensures { Appends result out.old out.new (given_tokens name.now (text_data text.now)) }
 {
     if text.is_empty() {
         return Ok(());
@@ -71,7 +71,7 @@ fn whole_count_member(out: &mut Writer, name: &str, count: u64) -> Result<(), Ou
 // A number, unless it is 0.
 #[tactic(auto, using(crate::proofs::WritingLemmas::written))]
 fn count_member(out: &mut Writer, name: &str, count: u64) -> Result<(), OutOfMemory>
-    ensures { Appends result out.old out.new (given_tokens name.now (count_given count)) }
+    ensures { Appends result out.old out.new (given_tokens name.now (count_data count)) }
 {
     if count == 0 {
         return Ok(());
@@ -89,7 +89,7 @@ fn true_member(out: &mut Writer, name: &str) -> Result<(), OutOfMemory>
 
 // A truth value, unless it is false.
 fn truth_member(out: &mut Writer, name: &str, truth: bool) -> Result<(), OutOfMemory>
-    ensures { Appends result out.old out.new (given_tokens name.now (truth_given truth)) }
+    ensures { Appends result out.old out.new (given_tokens name.now (truth_data truth)) }
 {
     if truth {
         true_member(out, name)
@@ -100,7 +100,7 @@ fn truth_member(out: &mut Writer, name: &str, truth: bool) -> Result<(), OutOfMe
 
 // A kind, unless it is absent.
 fn kind_member(out: &mut Writer, name: &str, kind: ZKind) -> Result<(), OutOfMemory>
-    ensures { Appends result out.old out.new (given_tokens name.now (kind_given kind)) }
+    ensures { Appends result out.old out.new (given_tokens name.now (kind_data kind)) }
 {
     match kind {
         ZKind::Absent => Ok(()),
@@ -126,21 +126,21 @@ fn own_text_member(out: &mut Writer, name: &str, text: &Text) -> Result<(), OutO
 
 // A text, unless it is empty.
 fn given_text_member(out: &mut Writer, name: &str, text: &Text) -> Result<(), OutOfMemory>
-    ensures { Appends result out.old out.new (given_tokens name.now (text_given text.now)) }
+    ensures { Appends result out.old out.new (given_tokens name.now (text_data text.now)) }
 {
     text_member(out, name, text.as_str())
 }
 
 // A port, unless it is 0.
 fn port_member(out: &mut Writer, name: &str, port: u16) -> Result<(), OutOfMemory>
-    ensures { Appends result out.old out.new (given_tokens name.now (count_given port)) }
+    ensures { Appends result out.old out.new (given_tokens name.now (count_data port)) }
 {
     count_member(out, name, u64::from(port))
 }
 
 // A time in microseconds, unless it is 0.
 fn time_member(out: &mut Writer, name: &str, time: Nanos) -> Result<(), OutOfMemory>
-    ensures { Appends result out.old out.new (given_tokens name.now (count_given (micros time))) }
+    ensures { Appends result out.old out.new (given_tokens name.now (count_data (micros time))) }
 {
     count_member(out, name, time.micros())
 }
@@ -148,13 +148,13 @@ fn time_member(out: &mut Writer, name: &str, time: Nanos) -> Result<(), OutOfMem
 // The microseconds from one time to another, unless they are 0.
 fn length_member(out: &mut Writer, name: &str, start: Nanos, end: Nanos) -> Result<(), OutOfMemory>
     ensures { Appends result out.old out.new (given_tokens name.now
-        (count_given (micros end - micros start))) }
+        (count_data (micros end - micros start))) }
 {
     count_member(out, name, end.micros().saturating_sub(start.micros()))
 }
 
 fn id_member(out: &mut Writer, name: &str, id: SpanId) -> Result<(), OutOfMemory>
-    ensures { Appends result out.old out.new (given_tokens name.now (Some (string (id_text id)))) }
+    ensures { Appends result out.old out.new (given_tokens name.now (Some (string (span_id_text id)))) }
 {
     let mut digits = [0; 16];
     id.write_hex(&mut digits);
@@ -162,20 +162,20 @@ fn id_member(out: &mut Writer, name: &str, id: SpanId) -> Result<(), OutOfMemory
     whole_text_member(out, name, text)
 }
 
-fn trace_member(out: &mut Writer, name: &str, id: TraceId) -> Result<(), OutOfMemory>
+fn trace_member(out: &mut Writer, name: &str, trace: TraceId) -> Result<(), OutOfMemory>
     ensures { Appends result out.old out.new (given_tokens name.now
-        (Some (string (trace_text id)))) }
+        (Some (string (trace_id_text trace)))) }
 {
-    let mut digits = [0; 32];
-    id.write_hex(&mut digits);
-    let text = str::from_utf8(&digits).unwrap();
+    let mut hex = [0; 32];
+    trace.write_hex(&mut hex);
+    let text = str::from_utf8(&hex).unwrap();
     whole_text_member(out, name, text)
 }
 
 // A parent, unless there is none.
 fn parent_member(out: &mut Writer, name: &str, id: Option<SpanId>) -> Result<(), OutOfMemory>
     ensures { Appends result out.old out.new (given_tokens name.now
-        (option_map (λ i. string (id_text i)) id)) }
+        (option_map (λ i. string (span_id_text i)) id)) }
 {
     match id {
         None => Ok(()),
@@ -254,7 +254,7 @@ fn named_endpoint(out: &mut Writer, name: &str, endpoint: &Endpoint) -> Result<(
 // An endpoint, unless all of it is absent.
 #[tactic(auto, using(crate::proofs::WritingLemmas::endpoints))]
 fn endpoint_member(out: &mut Writer, name: &str, endpoint: &Endpoint) -> Result<(), OutOfMemory>
-    ensures { Appends result out.old out.new (given_tokens name.now (endpoint_given endpoint.now)) }
+    ensures { Appends result out.old out.new (given_tokens name.now (endpoint_data endpoint.now)) }
 {
     if is_absent(endpoint) {
         return Ok(());
@@ -285,7 +285,7 @@ fn annotations_member(
     list: &[(Nanos, Text)],
 ) -> Result<(), OutOfMemory>
     ensures { Appends result out.old out.new
-        (given_tokens name.now (annotations_given list.now)) }
+        (given_tokens name.now (annotations_data list.now)) }
 {
     if list.is_empty() {
         return Ok(());
@@ -307,7 +307,7 @@ fn named_tags(out: &mut Writer, name: &str, tags: &[(Text, Text)]) -> Result<(),
 // Tags, unless there are none.
 #[tactic(auto, using(crate::proofs::WritingLemmas::lists))]
 fn tags_member(out: &mut Writer, name: &str, tags: &[(Text, Text)]) -> Result<(), OutOfMemory>
-    ensures { Appends result out.old out.new (given_tokens name.now (tags_given tags.now)) }
+    ensures { Appends result out.old out.new (given_tokens name.now (tags_data tags.now)) }
 {
     if tags.is_empty() {
         return Ok(());
@@ -317,7 +317,7 @@ fn tags_member(out: &mut Writer, name: &str, tags: &[(Text, Text)]) -> Result<()
 
 // The members of a span, with their braces.
 fn write_members(out: &mut Writer, span: &ZSpan) -> Result<(), OutOfMemory>
-    ensures { Appends result out.old out.new (begin_object ∷ rows_tokens (span_rows span.now)) }
+    ensures { Appends result out.old out.new (begin_object ∷ rows_tokens (zspan_rows span.now)) }
 {
     open_object(out)?;
     annotations_member(out, "annotations", span.annotations.as_slice())?;
@@ -339,9 +339,9 @@ fn write_members(out: &mut Writer, span: &ZSpan) -> Result<(), OutOfMemory>
 
 /// Appends the canonical text of a span.
 pub fn write_span(out: &mut Blob, span: &ZSpan) -> Result<(), OutOfMemory>
-    ensures ok { OnOk result (out.new ≡ out.old ++ span_text span.now) }
+    ensures ok { OnOk result (out.new ≡ out.old ++ zspan_text span.now) }
     // After want of memory a front of it was appended.
-    ensures front { OnErr result (GrewFront out.old out.new (span_text span.now)) }
+    ensures front { OnErr result (GrewFront out.old out.new (zspan_text span.now)) }
 {
     let mut writer = Writer::new(out.take());
     let written = write_members(&mut writer, span);

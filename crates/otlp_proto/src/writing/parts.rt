@@ -33,11 +33,11 @@ impl Message for Status {
 }
 
 impl Message for Event {
-    ghost use Rattle.otlp_proto.specs.Texts.{event_text};
+    ghost use Rattle.otlp_proto.specs.Texts.{otlp_event_text};
 
-    ghost text = { event_text };
+    ghost text = { otlp_event_text };
 
-    #[tactic(auto, using(crate::proofs::Growth::in_pieces), unfolding(crate::specs::Texts::event_text))]
+    #[tactic(auto, using(crate::proofs::Growth::in_pieces), unfolding(crate::specs::Texts::otlp_event_text))]
     fn write(&self, out: &mut Blob) -> Result<(), OutOfMemory> {
         write_time(out, 1, self.time)?;
         write_text(out, 2, &self.name)?;

@@ -1,21 +1,26 @@
 use Rattle.serde_json.specs.View.{view}
-use Rattle.zipkin_json.proofs.ReadingLemmas.{judged_text, value_text, only_text, unread_halts, unread_only}
-use Rattle.zipkin_json.specs.Texts.{IsValueText}
+use Rattle.zipkin_json.proofs.ReadingLemmas.{judged_text, value_text, writable_text, only_text, unread_halts, unread_only}
+use Rattle.zipkin_json.specs.Texts.{IsJsonText}
 use Rattle.zipkin_json.proofs.reading.read_text.Goals as goal
 
 pub returns-in-Ok-clause-judged : goal.returns-in-Ok-clause-judged
 returns-in-Ok-clause-judged c =
-    let is : IsValueText (view c.in-Ok.v) c.args.bytes.now = record { utf8 = c.in-Ok.ensures.ok.0; reading = c.in-Ok.ensures.ok.1 } in
+    let is : IsJsonText (view c.in-Ok.v) c.args.bytes.now = record { utf8 = c.in-Ok.ensures.ok.0; reading = c.in-Ok.ensures.ok.1 } in
     judged_text c.args.bytes.now (view c.in-Ok.v) is c.read_spans.result c.read_spans.ensures.judged
 
 pub returns-in-Ok-clause-value : goal.returns-in-Ok-clause-value
 returns-in-Ok-clause-value c =
-    let is : IsValueText (view c.in-Ok.v) c.args.bytes.now = record { utf8 = c.in-Ok.ensures.ok.0; reading = c.in-Ok.ensures.ok.1 } in
+    let is : IsJsonText (view c.in-Ok.v) c.args.bytes.now = record { utf8 = c.in-Ok.ensures.ok.0; reading = c.in-Ok.ensures.ok.1 } in
     value_text c.args.bytes.now (view c.in-Ok.v) is c.read_spans.result c.read_spans.ensures.value
+
+pub returns-in-Ok-clause-writable : goal.returns-in-Ok-clause-writable
+returns-in-Ok-clause-writable c =
+    let is : IsJsonText (view c.in-Ok.v) c.args.bytes.now = record { utf8 = c.in-Ok.ensures.ok.0; reading = c.in-Ok.ensures.ok.1 } in
+    writable_text c.args.bytes.now (view c.in-Ok.v) is c.reads_proper.ensures c.read_spans.result c.read_spans.ensures.value
 
 pub returns-in-Ok-clause-only : goal.returns-in-Ok-clause-only
 returns-in-Ok-clause-only c =
-    let is : IsValueText (view c.in-Ok.v) c.args.bytes.now = record { utf8 = c.in-Ok.ensures.ok.0; reading = c.in-Ok.ensures.ok.1 } in
+    let is : IsJsonText (view c.in-Ok.v) c.args.bytes.now = record { utf8 = c.in-Ok.ensures.ok.0; reading = c.in-Ok.ensures.ok.1 } in
     only_text c.args.bytes.now (view c.in-Ok.v) is c.read_spans.result c.read_spans.ensures.only
 
 pub returns-in-Err-clause-judged : goal.returns-in-Err-clause-judged

@@ -2,7 +2,7 @@ use Rattle.std.proofs.Common.{◌≡◌, List, ◌++◌, Some}
 use Rattle.serde_json.specs.View.{members_view}
 use Rattle.serde_json.proofs.Views.{Entry}
 use Rattle.span_io.specs.Paths.{each, NothingOffends}
-use Rattle.zipkin_json.specs.Members.{values}
+use Rattle.zipkin_json.specs.Members.{member_values}
 use Rattle.zipkin_json.specs.Span.{texts_in, tag_faults}
 use Rattle.zipkin_json.proofs.tags.read_tags.Given as goal
 
@@ -11,5 +11,5 @@ invariant-tags l = record {
   done : List Entry;
   all : l.members.entries ≡ done ++ l.key-iterator;
   read : texts_in (members_view done) ≡ Some l.tags;
-  clean : NothingOffends (each tag_faults (values (members_view done)));
+  clean : NothingOffends (each tag_faults (member_values (members_view done)));
 }

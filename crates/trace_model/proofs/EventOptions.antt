@@ -1,0 +1,10 @@
+-- Options that hold something, taken apart.
+use Rattle.std.proofs.Common.{◌≡◌, Option, Some, None, option_map, option_and_then, refl}
+
+pub map_some : {A B : Type 0} (f : A → B) (o : Option A) (b : B) → option_map f o ≡ Some b → (a : A) × (o ≡ Some a) × (f a ≡ b)
+map_some f None b e = absurd (cc)
+map_some f (Some a) b e = (a, refl, cc)
+
+pub then_some : {A B : Type 0} (f : A → Option B) (o : Option A) (b : B) → option_and_then f o ≡ Some b → (a : A) × (o ≡ Some a) × (f a ≡ Some b)
+then_some f None b e = absurd (cc)
+then_some f (Some a) b e = (a, refl, e)

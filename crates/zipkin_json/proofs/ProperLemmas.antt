@@ -1,0 +1,256 @@
+-- What is read of a text can be written.
+use Rattle.std.proofs.Common.{◌≡◌, ℕ, ◌+◌, ◌<◌, ◌≤◌, ◌^◌, List, [], ◌∷◌, length, map, Option, Some, None, option_map, codes, IsUtf8, refl, sym, subst, arith, Ordering, Less, Equal, Greater}
+use Rattle.std.proofs.Math.Nat as nat
+use Rattle.std.proofs.lemmas.Int.Digits.{digits_value-lt}
+use Rattle.std.proofs.lemmas.List.Elements.{All-cons, All-head, All-nil, All-tail}
+use Rattle.std.proofs.lemmas.Str.{IsUtf8-nil}
+use Rattle.std.specs.Char.{IsAsciiHexdigit, digit_value}
+use Rattle.std.specs.Cmp.Lexicographic.{slice_cmp}
+use Rattle.std.specs.List.{All, AllZip, AllByRecursion}
+use Rattle.std.specs.List.Sorted.{IsStrictlySortedBy}
+use Rattle.std.specs.Ordering.{nat_cmp, match_ordering}
+use Rattle.std.specs.Str.Parse.{AllDigits, digits_value}
+use Rattle.serde_json.specs.Data.{Data, null, boolean, number, string, array, object, Items, no_items, item, Members, no_members, member as has}
+use Rattle.serde_json.specs.Find.{get_member, as_str, as_array, as_object}
+use Rattle.span_ids.specs.Times.{last_micros, nanos, IsWhole}
+use Rattle.span_io.specs.Paths.{Given, Never}
+use Rattle.zipkin_json.specs.Identifiers.{SpellsTrace, SpellsSpan, SpellsParent}
+use Rattle.zipkin_json.specs.Laws.{ReadsWritable}
+use Rattle.zipkin_json.specs.Members.{unless_null, member, elements, IsText, IsPort}
+use Rattle.span_ids.specs.Proper.{IsProperTraceId, IsProperSpanId, IsProperParent}
+use Rattle.zipkin_json.specs.Proper.{IsProperEndpoint, IsProperAnnotation, IsProperZTag, IsTimelyAnnotation, IsWritableZSpan}
+use Rattle.zipkin_json.specs.Span.{Spelled, IsEndpoint, no_endpoint, IsAnnotation, AreAnnotations, texts_in, AreTags, IsZSpan, TagsRise}
+use Rattle.zipkin_json.specs.declared.span.Endpoint.{Endpoint}
+use Rattle.zipkin_json.specs.declared.span.ZSpan.{ZSpan}
+use Rattle.zipkin_json.proofs.ReadBack.{Follow}
+use Rattle.zipkin_json.proofs.SoundValues.{Sound, ItemsSound, MembersSound, before_behind, read_sound}
+use Rattle.zipkin_json.proofs.Utf8Texts.{HoldsOf}
+
+-- ---- the members of a sound value are sound
+
+found_sound : (name : List ℕ) (ms : Members) → MembersSound ms → HoldsOf Sound (get_member name ms)
+found_sound name no_members h = tt
+found_sound name (has k d ms) h = on (slice_cmp nat_cmp name k) (get_member name ms) (found_sound name ms h.1.1.1)
+  where
+    on : (o : Ordering) (later : Option Data) → HoldsOf Sound later → HoldsOf Sound (match_ordering o later (Some d) later)
+    on Less later l = l
+    on Equal later l = h.1.0
+    on Greater later l = l
+
+there_sound : (o : Option Data) → HoldsOf Sound o → HoldsOf Sound (unless_null o)
+there_sound None h = tt
+there_sound (Some null) h = tt
+there_sound (Some (boolean b)) h = tt
+there_sound (Some (number n)) h = tt
+there_sound (Some (string s)) h = h
+there_sound (Some (array ds)) h = h
+there_sound (Some (object ms)) h = h
+
+member_sound : (name : List ℕ) (d : Data) → Sound d → HoldsOf Sound (member name d)
+unfolding member
+member_sound name null h = tt
+member_sound name (boolean b) h = tt
+member_sound name (number n) h = tt
+member_sound name (string s) h = tt
+member_sound name (array ds) h = tt
+member_sound name (object ms) h = there_sound (get_member name ms) (found_sound name ms h)
+
+-- ---- texts
+
+text_sound : (d : Data) (text : List ℕ) → Sound d → as_str d ≡ Some text → IsUtf8 text
+text_sound null text h is = cc
+text_sound (boolean b) text h is = cc
+text_sound (number n) text h is = cc
+text_sound (string s) text h is = let e : s ≡ text = cc in subst IsUtf8 e h
+text_sound (array ds) text h is = cc
+text_sound (object ms) text h is = cc
+
+given_text : (text : List ℕ) (o : Option Data) → HoldsOf Sound o → Given IsText (λ t. t ≡ []) text o → IsUtf8 text
+given_text text None h is = subst IsUtf8 (sym is) IsUtf8-nil
+given_text text (Some d) h is = text_sound d text h is
+
+needed_text : (text : List ℕ) (o : Option Data) → HoldsOf Sound o → Given IsText Never text o → IsUtf8 text
+needed_text text None h is = absurd is
+needed_text text (Some d) h is = text_sound d text h is
+
+array_sound : (d : Data) (ds : Items) → Sound d → as_array d ≡ Some ds → ItemsSound ds
+array_sound null ds h is = cc
+array_sound (boolean b) ds h is = cc
+array_sound (number n) ds h is = cc
+array_sound (string s) ds h is = cc
+array_sound (array held) ds h is = let e : held ≡ ds = cc in subst ItemsSound e h
+array_sound (object ms) ds h is = cc
+
+object_sound : (d : Data) (ms : Members) → Sound d → as_object d ≡ Some ms → MembersSound ms
+object_sound null ms h is = cc
+object_sound (boolean b) ms h is = cc
+object_sound (number n) ms h is = cc
+object_sound (string s) ms h is = cc
+object_sound (array ds) ms h is = cc
+object_sound (object held) ms h is = let e : held ≡ ms = cc in subst MembersSound e h
+
+-- ---- identifiers
+
+digit_below : (c : ℕ) → IsAsciiHexdigit c → digit_value c < 16
+digit_below c h = grind (arith)
+
+all_digits : (text : List ℕ) → All IsAsciiHexdigit text → AllDigits 16 text
+all_digits [] h = tt
+all_digits (c ∷ text) h = (digit_below c (All-head IsAsciiHexdigit c text h), all_digits text (All-tail IsAsciiHexdigit c text h))
+
+number_below : (text : List ℕ) (k : ℕ) → All IsAsciiHexdigit text → length text ≤ k → digits_value 16 text < 16 ^ k
+number_below text k h fits =
+    let below = digits_value-lt 16 text (all_digits text h) in
+    let wider = nat.pow-le-pow_right {n = 16} (omega arith) {i = length text} {j = k} fits in
+    omega arith
+
+trace_proper : (text : List ℕ) (id : ℕ) → SpellsTrace text id → IsProperTraceId id
+trace_proper text id h =
+    let below = number_below text 32 h.0.0.2 h.0.0.1 in
+    let some = h.0.1 in
+    let is = h.1 in
+    (omega (arith, some, is), omega (arith, below, is))
+
+id_proper : (text : List ℕ) (id : ℕ) → SpellsSpan text id → IsProperSpanId id
+id_proper text id h =
+    let below = number_below text 16 h.0.0.2 h.0.0.1 in
+    let some = h.0.1 in
+    let is = h.1 in
+    (omega (arith, some, is), omega (arith, below, is))
+
+given_trace : (id : ℕ) (o : Option Data) → Given (Spelled SpellsTrace) Never id o → IsProperTraceId id
+given_trace id None h = absurd h
+given_trace id (Some d) h = trace_proper h.held id h.means
+
+given_id : (id : ℕ) (o : Option Data) → Given (Spelled SpellsSpan) Never id o → IsProperSpanId id
+given_id id None h = absurd h
+given_id id (Some d) h = id_proper h.held id h.means
+
+given_parent : (parent : Option ℕ) (o : Option Data) → Given (Spelled SpellsParent) (λ p. p ≡ None) parent o → IsProperParent parent
+given_parent None o h = tt
+given_parent (Some id) None h = cc
+given_parent (Some id) (Some d) h = id_proper h.held id h.means
+
+-- ---- endpoints
+
+given_port : (port : ℕ) (o : Option Data) → Given IsPort (λ p. p ≡ 0) port o → port < 65536
+given_port port None h = omega (arith, h)
+given_port port (Some d) h = let fits = h.1 in omega (arith, fits)
+
+given_endpoint : (e : Endpoint) (o : Option Data) → HoldsOf Sound o → Given IsEndpoint (λ e. e ≡ no_endpoint) e o → IsProperEndpoint e
+given_endpoint e None h is = subst IsProperEndpoint (sym is) (record { service = IsUtf8-nil; ipv4 = IsUtf8-nil; ipv6 = IsUtf8-nil; port = omega arith })
+given_endpoint e (Some d) h is = record {
+  service = given_text e.service _ (member_sound (codes "serviceName") d h) is.service;
+  ipv4 = given_text e.ipv4 _ (member_sound (codes "ipv4") d h) is.ipv4;
+  ipv6 = given_text e.ipv6 _ (member_sound (codes "ipv6") d h) is.ipv6;
+  port = given_port e.port _ is.port;
+}
+
+-- ---- annotations
+
+time_fits : (time count : ℕ) → time ≡ nanos count → count ≤ last_micros → time < 18446744073709551616
+time_fits time count is fits = omega (arith, is, fits)
+
+time_whole : (time count : ℕ) → time ≡ nanos count → IsWhole time
+time_whole time count is = omega (arith, is)
+
+abbrev FineAnnotations : List (ℕ × List ℕ) → Type 0
+FineAnnotations list = All IsProperAnnotation list × All IsTimelyAnnotation list
+
+each_annotation : (ds : Items) (list : List (ℕ × List ℕ)) → ItemsSound ds → AllZip (λ d x. IsAnnotation x d) (elements ds) list → FineAnnotations list
+each_annotation no_items [] h are = (All-nil IsProperAnnotation, All-nil IsTimelyAnnotation)
+each_annotation no_items (a ∷ list) h are = absurd are
+each_annotation (item d ds) [] h are = absurd are
+each_annotation (item d ds) (a ∷ list) h are =
+    let more = each_annotation ds list h.1 are.1 in
+    let is = are.0 in
+    let text = needed_text a.1 (member (codes "value") d) (member_sound (codes "value") d h.0) is.value in (
+      All-cons IsProperAnnotation a list (time_fits a.0 is.timestamp is.time is.fits, text) more.0,
+      All-cons IsTimelyAnnotation a list (time_whole a.0 is.timestamp is.time) more.1,
+    )
+
+given_annotations : (list : List (ℕ × List ℕ)) (o : Option Data) → HoldsOf Sound o → Given AreAnnotations (λ l. l ≡ []) list o → FineAnnotations list
+given_annotations list None h are = subst FineAnnotations (sym are) (All-nil IsProperAnnotation, All-nil IsTimelyAnnotation)
+given_annotations list (Some d) h are = each_annotation are.held list (array_sound d are.held h are.shape) are.means
+
+-- ---- tags
+
+record FineTags (ms : Members) (tags : List (List ℕ × List ℕ)) : Type 0 where
+  proper : All IsProperZTag tags
+  rise : TagsRise tags
+  follow : (key : List ℕ) → Follow key ms → AllByRecursion (λ k. slice_cmp nat_cmp key k ≡ Less) (map (λ tag. tag.0) tags)
+
+first_text : (key text : List ℕ) (more : Members) (o : Option (List (List ℕ × List ℕ))) (tags : List (List ℕ × List ℕ)) → IsUtf8 key → IsUtf8 text → Follow key more
+    → ((texts : List (List ℕ × List ℕ)) → o ≡ Some texts → FineTags more texts) → option_map (λ texts. (key, text) ∷ texts) o ≡ Some tags → FineTags (has key (string text) more) tags
+unfolding IsStrictlySortedBy
+first_text key text more None tags first second follow fine is = cc
+first_text key text more (Some texts) tags first second follow fine is =
+    let rest = fine texts refl in
+    let e : (key, text) ∷ texts ≡ tags = cc in
+    subst (FineTags (has key (string text) more)) e (record {
+      proper = All-cons IsProperZTag (key, text) texts (first, second) rest.proper;
+      rise = (rest.follow key follow, rest.rise);
+      follow = λ k h. (before_behind key k h.0, rest.follow k h.1);
+    })
+
+tags_fine : (ms : Members) (tags : List (List ℕ × List ℕ)) → MembersSound ms → texts_in ms ≡ Some tags → FineTags ms tags
+unfolding IsStrictlySortedBy
+tags_fine no_members tags h is =
+    let e : [] ≡ tags = cc in
+    subst (FineTags no_members) e (record { proper = All-nil IsProperZTag; rise = tt; follow = λ key k. tt })
+tags_fine (has key null more) tags h is =
+    let rest = tags_fine more tags h.1.1.1 is in
+    record { proper = rest.proper; rise = rest.rise; follow = λ k f. rest.follow k f.1 }
+tags_fine (has key (string text) more) tags h is = first_text key text more (texts_in more) tags h.0 h.1.0 h.1.1.0 (λ texts e. tags_fine more texts h.1.1.1 e) is
+tags_fine (has key (boolean b) more) tags h is = cc
+tags_fine (has key (number n) more) tags h is = cc
+tags_fine (has key (array ds) more) tags h is = cc
+tags_fine (has key (object ms) more) tags h is = cc
+
+given_tags : (tags : List (List ℕ × List ℕ)) (o : Option Data) → HoldsOf Sound o → Given AreTags (λ t. t ≡ []) tags o → All IsProperZTag tags × TagsRise tags
+unfolding IsStrictlySortedBy
+given_tags tags None h are = subst (λ t. All IsProperZTag t × TagsRise t) (sym are) (All-nil IsProperZTag, tt)
+given_tags tags (Some d) h are = let fine = tags_fine are.held tags (object_sound d are.held h are.shape) are.means in (fine.proper, fine.rise)
+
+-- ---- spans
+
+span_writable : (s : ZSpan) (d : Data) → Sound d → IsZSpan s d → IsWritableZSpan s
+span_writable s d h is =
+    let sum = is.sum in
+    let starts = is.start in
+    let ends = is.end in
+    let low : is.timestamp ≤ last_micros = omega (arith, sum) in
+    let annotations = given_annotations s.annotations _ (member_sound (codes "annotations") d h) is.annotations in
+    let tags = given_tags s.tags _ (member_sound (codes "tags") d h) is.tags in
+    record {
+      proper = record {
+        trace = given_trace s.trace _ is.trace;
+        id = given_id s.id _ is.id;
+        parent = given_parent s.parent _ is.parent;
+        name = given_text s.name _ (member_sound (codes "name") d h) is.name;
+        start = time_fits s.start is.timestamp is.start low;
+        end = time_fits s.end (is.timestamp + is.duration) is.end is.sum;
+        local = given_endpoint s.local _ (member_sound (codes "localEndpoint") d h) is.local;
+        remote = given_endpoint s.remote _ (member_sound (codes "remoteEndpoint") d h) is.remote;
+        annotations = annotations.0;
+        tags = tags.0;
+      };
+      timely = record {
+        start = time_whole s.start is.timestamp is.start;
+        end = time_whole s.end (is.timestamp + is.duration) is.end;
+        order = omega (arith, starts, ends);
+        annotations = annotations.1;
+        rising = tags.1;
+      };
+    }
+
+each_writable : (ds : Items) (spans : List ZSpan) → ItemsSound ds → AllZip (λ d x. IsZSpan x d) (elements ds) spans → All IsWritableZSpan spans
+each_writable no_items [] h are = All-nil IsWritableZSpan
+each_writable no_items (s ∷ spans) h are = absurd are
+each_writable (item d ds) [] h are = absurd are
+each_writable (item d ds) (s ∷ spans) h are = All-cons IsWritableZSpan s spans (span_writable s d h.0 are.0) (each_writable ds spans h.1 are.1)
+
+pub text_writable : ReadsWritable
+text_writable spans bytes h =
+    let sound = read_sound bytes h.value h.is_text.utf8 h.is_text.reading in
+    each_writable h.are_spans.held spans (array_sound h.value h.are_spans.held sound h.are_spans.shape) h.are_spans.means
