@@ -29,14 +29,14 @@ use Rattle.jaeger_model.specs.ListsSoFar.{MeansOne}
 use Rattle.jaeger_model.specs.Meanings.{Required}
 use Rattle.jaeger_model.specs.Processes.{process_rules}
 use Rattle.jaeger_model.specs.Rows.{given_to}
-use Rattle.jaeger_model.specs.Spans.{span_rules}
+use Rattle.jaeger_model.specs.Spans.{jspan_rules}
 
 module _ (Spells : Spelling) (laws : (m : ℕ) → FormatLaws (structs Spells m)) (left : ℕ) where
   pub batch_shape : TableShape (structs Spells left) (batch_table Spells left) 0
   batch_shape = (
     structure_shape Spells laws left 0 (left - 1) (process_rules Spells (left - 1)) (process_laws Spells laws (left - 1)) 1 _ _ _,
     (
-      structures_shape Spells laws left 0 (left - 2) (span_rules Spells (left - 2)) (span_laws Spells laws (left - 2)) 2 _ _ _,
+      structures_shape Spells laws left 0 (left - 2) (jspan_rules Spells (left - 2)) (span_laws Spells laws (left - 2)) 2 _ _ _,
       (long_shape Spells left 0 3 _ _ _ _, (plain_shape Spells left 0 (λ item. given_to struct_in 4 item) _ _ _ _ (λ item. given_few struct_in struct_few 4 item), tt)),
     ),
   )

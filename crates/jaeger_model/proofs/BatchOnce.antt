@@ -20,8 +20,8 @@ use Rattle.jaeger_model.specs.Logs.{MeansTags, IsLog}
 use Rattle.jaeger_model.specs.Meanings.{Required, Means, MeansTime, MeansEnum}
 use Rattle.jaeger_model.specs.Processes.{IsProcess, MeansProcess}
 use Rattle.jaeger_model.specs.References.{reference_number, IsPointed, IsSpanRef}
-use Rattle.jaeger_model.specs.Spans.{kept_reference, MeansReferences, MeansLogs, IsSpan}
-use Rattle.jaeger_model.specs.Tags.{type_of, no_double, Held, IsNamed, IsTag}
+use Rattle.jaeger_model.specs.Spans.{kept_reference, MeansReferences, MeansLogs, IsJSpan}
+use Rattle.jaeger_model.specs.Tags.{type_of, no_double, HeldByTag, IsNamed, IsTag}
 
 -- ---- what a field means
 
@@ -74,14 +74,14 @@ module _ {X : Type 0} (Is : X → Fields → Type 0) (one : (fields : Fields) (x
 -- ---- tags
 
 -- the value of a type, by what is held
-value_of : ℕ → Held → TagValue
+value_of : ℕ → HeldByTag → TagValue
 value_of zero held = values.Text held.text
 value_of (suc zero) held = values.Eight held.double
 value_of (suc (suc zero)) held = values.Truth held.truth
 value_of (suc (suc (suc zero))) held = values.Number held.number
 value_of (suc (suc (suc (suc n)))) held = values.Bytes held.bytes
 
-is_value_of : (value : TagValue) (held : Held) → IsNamed value held → value ≡ value_of (type_of value) held
+is_value_of : (value : TagValue) (held : HeldByTag) → IsNamed value held → value ≡ value_of (type_of value) held
 unfolding value_of
 is_value_of (values.Text text) held is = ap values.Text is
 is_value_of (values.Eight bytes) held is = ap values.Eight is
@@ -155,7 +155,7 @@ process_once fields a b h k =
     let tags = singular_once MeansTags [] tags_once (values_of list_in 2 fields) a.tags b.tags h.tags k.tags in
     λ i. record { service = service i; tags = tags i }
 
-span_once : (fields : Fields) (a b : JSpan) → IsSpan a fields → IsSpan b fields → a ≡ b
+span_once : (fields : Fields) (a b : JSpan) → IsJSpan a fields → IsJSpan b fields → a ≡ b
 span_once fields a b h k =
     let low = same_held (values_of i64_in 1 fields) h.trace.low k.trace.low h.trace.its_low k.trace.its_low in
     let high = same_held (values_of i64_in 2 fields) h.trace.high k.trace.high h.trace.its_high k.trace.its_high in
@@ -190,5 +190,5 @@ span_once fields a b h k =
 pub batch_once : (fields : Fields) (a b : Batch) → IsBatch a fields → IsBatch b fields → a ≡ b
 batch_once fields a b h k =
     let process = required_once MeansProcess process_once (values_of struct_in 1 fields) (record { service = a.service; tags = a.tags }) (record { service = b.service; tags = b.tags }) h.process k.process in
-    let spans = required_once MeansSpans (λ trees xs ys e f. each_once IsSpan span_once trees xs ys e f) (values_of list_in 2 fields) a.spans b.spans h.spans k.spans in
+    let spans = required_once MeansSpans (λ trees xs ys e f. each_once IsJSpan span_once trees xs ys e f) (values_of list_in 2 fields) a.spans b.spans h.spans k.spans in
     λ i. record { service = (process i).service; tags = (process i).tags; spans = spans i }

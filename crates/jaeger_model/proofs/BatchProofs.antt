@@ -33,7 +33,7 @@ use Rattle.jaeger_model.specs.Laws.{BatchOffends, OneBatch, SomeBatch}
 use Rattle.jaeger_model.specs.Meanings.{Means}
 use Rattle.jaeger_model.specs.Processes.{IsProcess, MeansProcess, process_rules}
 use Rattle.jaeger_model.specs.Rows.{nothing_wrong, given_to, required, or_else}
-use Rattle.jaeger_model.specs.Spans.{IsSpan, span_rules}
+use Rattle.jaeger_model.specs.Spans.{IsJSpan, jspan_rules}
 
 -- ---- fields that mean nothing
 
@@ -104,7 +104,7 @@ module _ (Spells : Spelling) (reads : ReadingOf) (ThenVarint : Part → List ℕ
     batch_rows = (
       structure_proof Spells reads ThenVarint Refuses R P IsProcess (process_rules Spells (left - 1)) left 1 (process_struct Spells reads ThenVarint Refuses R P (left - 1)) required,
       (
-        structures_proof Spells reads ThenVarint Refuses R P IsSpan (span_rules Spells (left - 2)) left 2 (span_struct Spells reads ThenVarint Refuses R P (left - 2)) required,
+        structures_proof Spells reads ThenVarint Refuses R P IsJSpan (jspan_rules Spells (left - 2)) left 2 (span_struct Spells reads ThenVarint Refuses R P (left - 2)) required,
         (
           long_proof Spells left 3 Means nothing_wrong (or_else (pos 0)) (means_kind Spells left _),
           (

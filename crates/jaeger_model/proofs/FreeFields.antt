@@ -23,13 +23,13 @@ use Rattle.jaeger_model.specs.declared.span.SpanRef.{SpanRef}
 use Rattle.jaeger_model.specs.declared.tag.Tag.{Tag}
 use Rattle.jaeger_model.specs.Identifiers.{span_id_of}
 use Rattle.jaeger_model.specs.InnerRows.{with_text}
-use Rattle.jaeger_model.specs.Laws.{SameButFree, no_more, on_both, on_this, on_that, PassesFree, FreeFields}
+use Rattle.jaeger_model.specs.Laws.{SameButFree, no_more, on_both, on_this, on_that, PassesFreeFields, FreeFields}
 use Rattle.jaeger_model.specs.Logs.{MeansTags, IsLog, log_table}
 use Rattle.jaeger_model.specs.Meanings.{Means, MeansTime, MeansEnum}
 use Rattle.jaeger_model.specs.Processes.{IsProcess, MeansProcess, process_table}
 use Rattle.jaeger_model.specs.References.{reference_number, IsSpanRef, reference_table}
 use Rattle.jaeger_model.specs.Rows.{given_to}
-use Rattle.jaeger_model.specs.Spans.{MeansReferences, MeansLogs, IsSpan, span_table}
+use Rattle.jaeger_model.specs.Spans.{MeansReferences, MeansLogs, IsJSpan, jspan_table}
 use Rattle.jaeger_model.specs.Tags.{no_double, IsTag, tag_table}
 
 -- ---- what is given to a row
@@ -115,7 +115,7 @@ module _ (a b : Fields) where
     tags : Holds list_in 10 a b
     logs : Holds list_in 11 a b
 
-  span_moved : (span : JSpan) → SpanHolds → IsSpan span a → IsSpan span b
+  span_moved : (span : JSpan) → SpanHolds → IsJSpan span a → IsJSpan span b
   span_moved span e is = record {
     trace = record {
       low = is.trace.low;
@@ -162,50 +162,50 @@ other_way table _ _ (on_both item items others same) = on_both item others items
 other_way table _ _ (on_this free items others is same) = on_that free others items is (other_way table items others same)
 other_way table _ _ (on_that free items others is same) = on_this free others items is (other_way table items others same)
 
-both_ways : {X : Type 0} (table : List (Row FieldItem)) (Is : X → Fields → Type 0) → ((items others : List FieldItem) → SameButFree table items others → (x : X) → Is x (fields_of items) → Is x (fields_of others)) → PassesFree table Is
+both_ways : {X : Type 0} (table : List (Row FieldItem)) (Is : X → Fields → Type 0) → ((items others : List FieldItem) → SameButFree table items others → (x : X) → Is x (fields_of items) → Is x (fields_of others)) → PassesFreeFields table Is
 both_ways table Is moves items others same x = (moves items others same x, moves others items (other_way table items others same) x)
 
-tag_passes : PassesFree tag_table IsTag
+tag_passes : PassesFreeFields tag_table IsTag
 tag_passes = both_ways tag_table IsTag (λ items others s tag is.
     tag_moved (fields_of items) (fields_of others) tag (same_values tag_table items others s binary_in 1 (λ item free. free.0)) (same_values tag_table items others s i32_in 2 (λ item free. free.1.0))
     (same_values tag_table items others s binary_in 3 (λ item free. free.1.1.0)) (same_values tag_table items others s double_in 4 (λ item free. free.1.1.1.0))
     (same_values tag_table items others s truth_in 5 (λ item free. free.1.1.1.1.0)) (same_values tag_table items others s i64_in 6 (λ item free. free.1.1.1.1.1.0))
     (same_values tag_table items others s binary_in 7 (λ item free. free.1.1.1.1.1.1.0)) is)
 
-reference_passes : PassesFree reference_table IsSpanRef
+reference_passes : PassesFreeFields reference_table IsSpanRef
 reference_passes = both_ways reference_table IsSpanRef (λ items others s reference is.
     reference_moved (fields_of items) (fields_of others) reference (same_values reference_table items others s i32_in 1 (λ item free. free.0)) (same_values reference_table items others s i64_in 2 (λ item free. free.1.0))
     (same_values reference_table items others s i64_in 3 (λ item free. free.1.1.0)) (same_values reference_table items others s i64_in 4 (λ item free. free.1.1.1.0)) is)
 
 module _ (Spells : Spelling) (left : ℕ) where
-  log_passes : PassesFree (log_table Spells left) IsLog
+  log_passes : PassesFreeFields (log_table Spells left) IsLog
   log_passes = both_ways (log_table Spells left) IsLog (λ items others s log is.
       log_moved (fields_of items) (fields_of others) log (same_values (log_table Spells left) items others s i64_in 1 (λ item free. free.0)) (same_inner (log_table Spells left) items others s list_in 2 (λ item free. free.1.0)) is)
 
-  process_passes : PassesFree (process_table Spells left) IsProcess
+  process_passes : PassesFreeFields (process_table Spells left) IsProcess
   process_passes = both_ways (process_table Spells left) IsProcess (λ items others s process is.
       process_moved (fields_of items) (fields_of others) process (same_values (process_table Spells left) items others s binary_in 1 (λ item free. free.0))
       (same_inner (process_table Spells left) items others s list_in 2 (λ item free. free.1.0)) is)
 
-  span_holds : (items others : List FieldItem) → SameButFree (span_table Spells left) items others → SpanHolds (fields_of items) (fields_of others)
+  span_holds : (items others : List FieldItem) → SameButFree (jspan_table Spells left) items others → SpanHolds (fields_of items) (fields_of others)
   span_holds items others s = record {
-    low = same_values (span_table Spells left) items others s i64_in 1 (λ item free. free.0);
-    high = same_values (span_table Spells left) items others s i64_in 2 (λ item free. free.1.0);
-    id = same_values (span_table Spells left) items others s i64_in 3 (λ item free. free.1.1.0);
-    parent = same_values (span_table Spells left) items others s i64_in 4 (λ item free. free.1.1.1.0);
-    name = same_values (span_table Spells left) items others s binary_in 5 (λ item free. free.1.1.1.1.0);
-    references = same_inner (span_table Spells left) items others s list_in 6 (λ item free. free.1.1.1.1.1.0);
-    flags = same_values (span_table Spells left) items others s i32_in 7 (λ item free. free.1.1.1.1.1.1.0);
-    start = same_values (span_table Spells left) items others s i64_in 8 (λ item free. free.1.1.1.1.1.1.1.0);
-    duration = same_values (span_table Spells left) items others s i64_in 9 (λ item free. free.1.1.1.1.1.1.1.1.0);
-    tags = same_inner (span_table Spells left) items others s list_in 10 (λ item free. free.1.1.1.1.1.1.1.1.1.0);
-    logs = same_inner (span_table Spells left) items others s list_in 11 (λ item free. free.1.1.1.1.1.1.1.1.1.1.0);
+    low = same_values (jspan_table Spells left) items others s i64_in 1 (λ item free. free.0);
+    high = same_values (jspan_table Spells left) items others s i64_in 2 (λ item free. free.1.0);
+    id = same_values (jspan_table Spells left) items others s i64_in 3 (λ item free. free.1.1.0);
+    parent = same_values (jspan_table Spells left) items others s i64_in 4 (λ item free. free.1.1.1.0);
+    name = same_values (jspan_table Spells left) items others s binary_in 5 (λ item free. free.1.1.1.1.0);
+    references = same_inner (jspan_table Spells left) items others s list_in 6 (λ item free. free.1.1.1.1.1.0);
+    flags = same_values (jspan_table Spells left) items others s i32_in 7 (λ item free. free.1.1.1.1.1.1.0);
+    start = same_values (jspan_table Spells left) items others s i64_in 8 (λ item free. free.1.1.1.1.1.1.1.0);
+    duration = same_values (jspan_table Spells left) items others s i64_in 9 (λ item free. free.1.1.1.1.1.1.1.1.0);
+    tags = same_inner (jspan_table Spells left) items others s list_in 10 (λ item free. free.1.1.1.1.1.1.1.1.1.0);
+    logs = same_inner (jspan_table Spells left) items others s list_in 11 (λ item free. free.1.1.1.1.1.1.1.1.1.1.0);
   }
 
-  span_passes : PassesFree (span_table Spells left) IsSpan
-  span_passes = both_ways (span_table Spells left) IsSpan (λ items others s span is. span_moved (fields_of items) (fields_of others) span (span_holds items others s) is)
+  span_passes : PassesFreeFields (jspan_table Spells left) IsJSpan
+  span_passes = both_ways (jspan_table Spells left) IsJSpan (λ items others s span is. span_moved (fields_of items) (fields_of others) span (span_holds items others s) is)
 
-  batch_passes : PassesFree (batch_table Spells left) IsBatch
+  batch_passes : PassesFreeFields (batch_table Spells left) IsBatch
   batch_passes = both_ways (batch_table Spells left) IsBatch (λ items others s batch is.
       batch_moved (fields_of items) (fields_of others) batch (same_inner (batch_table Spells left) items others s struct_in 1 (λ item free. free.0))
       (same_inner (batch_table Spells left) items others s list_in 2 (λ item free. free.1.0)) (same_values (batch_table Spells left) items others s i64_in 3 (λ item free. free.1.1.0))

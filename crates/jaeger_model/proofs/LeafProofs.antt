@@ -22,7 +22,7 @@ use Rattle.jaeger_model.specs.Identifiers.{span_id_of, trace_id_of}
 use Rattle.jaeger_model.specs.Meanings.{Required, Means, MeansEnum}
 use Rattle.jaeger_model.specs.References.{reference_number, IsPointed, IsSpanRef, reference_table, reference_ends, reference_rules}
 use Rattle.jaeger_model.specs.Rows.{nothing_wrong, BadEnum, SomeMissing, given_to, required, or_else}
-use Rattle.jaeger_model.specs.Tags.{type_of, no_double, Held, IsNamed, IsTag, tag_type_number, tag_required, tag_table, tag_ends, tag_rules}
+use Rattle.jaeger_model.specs.Tags.{type_of, no_double, HeldByTag, IsNamed, IsTag, tag_type_number, tag_required, tag_table, tag_ends, tag_rules}
 
 -- ---- tags
 
@@ -49,7 +49,7 @@ type_of_small (values.Number number) = omega arith
 type_of_small (values.Bytes bytes) = omega arith
 
 -- the value that a type names
-named : (t : TagType) (held : Held) → (value : TagValue) × (type_of value ≡ tag_type_number t) × IsNamed value held
+named : (t : TagType) (held : HeldByTag) → (value : TagValue) × (type_of value ≡ tag_type_number t) × IsNamed value held
 named types.Text held = (values.Text held.text, refl, refl)
 named types.Double held = (values.Eight held.double, refl, refl)
 named types.Truth held = (values.Truth held.truth, refl, refl)
@@ -104,7 +104,7 @@ module _ (Spells : Spelling) (left : ℕ) where
       let its_truth = found_or Means false (flat_map (λ (item : FieldItem). given_to truth_in 5 item) items) truth in
       let its_number = found_or Means (pos 0) (flat_map (λ (item : FieldItem). given_to i64_in 6 item) items) number in
       let its_bytes = found_or Means [] (flat_map (λ (item : FieldItem). given_to binary_in 7 item) items) bytes in
-      let held : Held = record { text = its_text.0; double = its_double.0; truth = its_truth.0; number = its_number.0; bytes = its_bytes.0 } in
+      let held : HeldByTag = record { text = its_text.0; double = its_double.0; truth = its_truth.0; number = its_number.0; bytes = its_bytes.0 } in
       let value = named kind.0 held in
       inl (
         record { key = key.0; value = value.0 },

@@ -28,3 +28,8 @@ pub mod AllLemmas
 pub mod WrittenTexts
 pub mod ReadTimes
 pub mod ReadProper
+pub mod TwoTexts
+pub mod RowPairs
+pub mod RowPairKinds
+pub mod TreePairs
+pub mod EqualTexts

@@ -22,10 +22,11 @@ use Rattle.jaeger_model.specs.declared.span.SpanRef.{SpanRef}
 use Rattle.jaeger_model.specs.declared.tag.Tag.{Tag}
 use Rattle.jaeger_model.specs.declared.tag.TagValue.{TagValue}
 use Rattle.jaeger_model.specs.declared.tag.TagValue.TheVariants as values
-use Rattle.jaeger_model.specs.Canonical.{number_tree, id_tree, micros_tree, parent_tree, enum_tree, low_tree, high_tree, list_tree, filled_list, value_row, tag_rows, log_rows, reference_rows, reference_and_flag_rows, time_rows, tag_and_log_rows, span_rows, process_rows, batch_fields}
+use Rattle.jaeger_model.specs.Canonical.{number_tree, id_tree, micros_tree, parent_tree, enum_tree, low_tree, high_tree, list_tree, filled_list, value_row, tag_rows, log_rows, reference_rows, reference_and_flag_rows, time_rows, tag_and_log_rows, jspan_rows, process_rows, batch_fields}
 use Rattle.jaeger_model.specs.References.{reference_number}
 use Rattle.jaeger_model.specs.Tags.{type_of}
-use Rattle.jaeger_model.specs.Proper.{IsProperValue, IsProperTag, IsProperLog, IsProperReference, IsProperParent, IsProperSpan, IsProperBatch}
+use Rattle.span_ids.specs.Proper.{IsProperParent}
+use Rattle.jaeger_model.specs.Proper.{IsProperTagValue, IsProperTag, IsProperLog, IsProperReference, IsProperJSpan, IsProperBatch}
 use Rattle.jaeger_model.specs.Writable.{IsShort, IsShortValue, IsWritableTag, IsWritableLog, IsWritableSpan, IsWritable, AreWritable}
 
 is_given : (tree : Tree) → IsGiven (kind_of tree) (given tree)
@@ -149,7 +150,7 @@ high_small : (trace : ℕ) → trace < 2 ^ 128 → trace / 2 ^ 64 < 2 ^ 64
 high_small trace lt = (div-lt_iff_lt-mul {k = 2 ^ 64} {x = trace} {y = 2 ^ 64} (omega arith)).1 lt
 
 module _ (keeps : Keeping) where
-  value_may : (value : TagValue) (left : ℕ) → IsShortValue value → IsProperValue value → MayWriteFields keeps (fields_of_rows (value_row value ∷ [])) left (pos 2)
+  value_may : (value : TagValue) (left : ℕ) → IsShortValue value → IsProperTagValue value → MayWriteFields keeps (fields_of_rows (value_row value ∷ [])) left (pos 2)
   value_may (values.Text text) left sized proper = binary_may keeps text [] left (pos 2) (pos 3) (up 2 3 (omega arith) (omega arith)) sized (none_may keeps left (pos 3))
   value_may (values.Eight bytes) left sized proper =
       row_may keeps (leaf (double bytes)) [] left (pos 2) (pos 4) (up 2 4 (omega arith) (omega arith)) (λ e. absurd e) (double_may keeps bytes left proper) (none_may keeps left (pos 4))
@@ -188,7 +189,7 @@ module _ (keeps : Keeping) where
       subst (λ l. MayWriteFields keeps (fields_of_rows l) (suc (suc left)) last) (append-nil (filled_list id rows xs))
       (filled_may keeps rows left xs [] last id r sized all (none_may keeps (suc (suc left)) last) (none_may keeps (suc (suc left)) id))
 
-  module _ (left : ℕ) (s : JSpan) (w : IsWritableSpan s) (p : IsProperSpan s) where
+  module _ (left : ℕ) (s : JSpan) (w : IsWritableSpan s) (p : IsProperJSpan s) where
     abbrev levels : ℕ
     levels = suc (suc (suc (suc left)))
 
@@ -228,7 +229,7 @@ module _ (keeps : Keeping) where
         subst (λ t. MayWriteFields keeps (fields_of_rows ((pos 4, t) ∷ others)) levels (pos 3)) (sym parent.1)
         (long_may keeps parent.0 others levels (pos 3) (pos 4) (up 3 4 (omega arith) (omega arith)) parent.2 name_may)
 
-    span_may : MayWriteFields keeps (fields_of_rows (span_rows s)) levels (pos 0)
+    span_may : MayWriteFields keeps (fields_of_rows (jspan_rows s)) levels (pos 0)
     span_may =
         let others = (pos 4, parent_tree s.parent) ∷ (pos 5, binary s.name) ∷ (reference_and_flag_rows s ++ (time_rows s ++ tag_and_log_rows s)) in
         long_may keeps (cast_signed w64 (s.trace % 2 ^ 64)) ((pos 2, high_tree s.trace) ∷ (pos 3, id_tree s.id) ∷ others) levels (pos 0) (pos 1) (up 0 1 (omega arith) (omega arith)) (fits_id (s.trace % 2 ^ 64) (low_small s.trace))
@@ -248,8 +249,8 @@ module _ (keeps : Keeping) where
 
   pub batch_may : (batch : Batch) → IsWritable batch → IsProperBatch batch → MayWriteFields keeps (batch_fields batch) outer_levels (pos 0)
   batch_may batch w p =
-      row_may keeps (structure (fields_of_rows (process_rows batch.service batch.tags))) ((pos 2, list_tree span_rows batch.spans) ∷ []) 31 (pos 0) (pos 1) (up 0 1 (omega arith) (omega arith)) (λ e. omega arith)
+      row_may keeps (structure (fields_of_rows (process_rows batch.service batch.tags))) ((pos 2, list_tree jspan_rows batch.spans) ∷ []) 31 (pos 0) (pos 1) (up 0 1 (omega arith) (omega arith)) (λ e. omega arith)
       (process_value_may 28 batch.service batch.tags w.service w.tags p.tags)
-      (row_may keeps (list_tree span_rows batch.spans) [] 31 (pos 1) (pos 2) (up 1 2 (omega arith) (omega arith)) (λ e. omega arith)
-      (list_may keeps span_rows 29 batch.spans (keeps None) w.spans.sized
-      (all_both IsWritableSpan IsProperSpan (λ span. MayWriteFields keeps (fields_of_rows (span_rows span)) 29 (pos 0)) (span_may 25) batch.spans w.spans.each p.spans)) (none_may keeps 31 (pos 2)))
+      (row_may keeps (list_tree jspan_rows batch.spans) [] 31 (pos 1) (pos 2) (up 1 2 (omega arith) (omega arith)) (λ e. omega arith)
+      (list_may keeps jspan_rows 29 batch.spans (keeps None) w.spans.sized
+      (all_both IsWritableSpan IsProperJSpan (λ span. MayWriteFields keeps (fields_of_rows (jspan_rows span)) 29 (pos 0)) (span_may 25) batch.spans w.spans.each p.spans)) (none_may keeps 31 (pos 2)))

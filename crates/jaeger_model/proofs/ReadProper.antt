@@ -17,9 +17,10 @@ use Rattle.jaeger_model.specs.Laws.{IsProperLong, SpellsProper}
 use Rattle.jaeger_model.specs.Logs.{IsLog}
 use Rattle.jaeger_model.specs.Meanings.{Required, Means, MeansTime}
 use Rattle.jaeger_model.specs.Processes.{IsProcess, MeansProcess}
-use Rattle.jaeger_model.specs.Proper.{IsProperValue, IsProperTag, IsProperLog, IsProperTraceId, IsProperSpanId, IsProperParent, IsProperReference, IsProperSpan, IsProperBatch}
+use Rattle.span_ids.specs.Proper.{IsProperTraceId, IsProperSpanId, IsProperParent}
+use Rattle.jaeger_model.specs.Proper.{IsProperTagValue, IsProperTag, IsProperLog, IsProperReference, IsProperJSpan, IsProperBatch}
 use Rattle.jaeger_model.specs.References.{IsSpanRef}
-use Rattle.jaeger_model.specs.Spans.{IsSpan, kept_reference}
+use Rattle.jaeger_model.specs.Spans.{IsJSpan, kept_reference}
 use Rattle.jaeger_model.specs.Tags.{IsTag, IsNamed, no_double}
 use Rattle.jaeger_model.specs.WrittenAgain.{all_kept, all_counted}
 use Rattle.jaeger_model.specs.declared.batch.Batch.{Batch}
@@ -265,7 +266,7 @@ module _ (tag : Tag) (inner : Fields) (proper : AreProperFields inner) (h : IsTa
   tag_bytes = singly Means (λ b. b ≡ []) AreBytes (AreBytes h.held.bytes) (values_of binary_in 7 inner) h.held.bytes
       (λ held its e. subst AreBytes (sym e) its) (λ e. subst AreBytes (sym e) (All-nil (λ b. b < 256))) (held_by binary_in AreBytes binaries 7 inner proper) h.bytes
 
-  named : (value : TagValue) → IsNamed value h.held → IsProperValue value
+  named : (value : TagValue) → IsNamed value h.held → IsProperTagValue value
   named (values.Text text) e = subst IsUtf8 (sym e) tag_text
   named (values.Eight bytes) e = subst IsProperDouble (sym e) tag_double
   named (values.Truth told) e = tt
@@ -301,7 +302,7 @@ kept_proper (Some reference ∷ all) proper =
 
 -- ---- spans and the batch
 
-span_proper : (span : JSpan) (inner : Fields) → AreProperFields inner → IsSpan span inner → IsProperSpan (all_kept span)
+span_proper : (span : JSpan) (inner : Fields) → AreProperFields inner → IsJSpan span inner → IsProperJSpan (all_kept span)
 span_proper span inner proper h = record {
   trace = trace_id_proper h.trace.high h.trace.low span.trace (long_proper 2 inner h.trace.high proper h.trace.its_high) (long_proper 1 inner h.trace.low proper h.trace.its_low) h.trace.joined;
   id = singly (λ n id. span_id_of n ≡ Some id) (λ id. ⊥) IsProperLong (IsProperSpanId span.id) (values_of i64_in 3 inner) span.id
@@ -326,15 +327,15 @@ process_proper : (process : Process) (inner : Fields) → AreProperFields inner 
 process_proper process inner proper h = record { service = text_utf8 1 inner process.service proper h.service; tags = optional IsTag IsProperTag tag_proper 2 inner process.tags proper h.tags }
 
 abbrev IsProperKept : JSpan → Type 0
-IsProperKept span = IsProperSpan (all_kept span)
+IsProperKept span = IsProperJSpan (all_kept span)
 
 batch_proper : (batch : Batch) (inner : Fields) → AreProperFields inner → IsBatch batch inner → IsProperBatch (all_counted batch)
 batch_proper batch inner proper h =
     let its : Process = record { service = batch.service; tags = batch.tags } in
     let process : IsProperProcess its = singly MeansProcess (λ p. ⊥) AreProperFields (IsProperProcess its) (values_of struct_in 1 inner) its
     (λ fields holds is. process_proper its fields holds is) (λ no. absurd no) (held_by struct_in AreProperFields structures 1 inner proper) h.process in
-    let spans : All IsProperKept batch.spans = given IsSpan IsProperKept span_proper 2 inner batch.spans proper h.spans in
-    record { service = process.service; tags = process.tags; spans = All-map IsProperSpan all_kept batch.spans spans }
+    let spans : All IsProperKept batch.spans = given IsJSpan IsProperKept span_proper 2 inner batch.spans proper h.spans in
+    record { service = process.service; tags = process.tags; spans = All-map IsProperJSpan all_kept batch.spans spans }
 
 pub read_proper : (Spells : Spelling) → SpellsProper Spells → (batch : Batch) (text : List ℕ) → AreBytes text → IsBatchText Spells batch text → IsProperBatch (all_counted batch)
 read_proper Spells S batch text all is = batch_proper batch is.fields (fields_read Spells S is.fields outer_levels (pos 0) text [] is.struct_text all).0 is.means

@@ -7,8 +7,9 @@ use Rattle.span_io.specs.Tables.{Singular}
 use Rattle.jaeger_model.specs.Batches.{IsBatch, MeansSpans}
 use Rattle.jaeger_model.specs.Logs.{IsLog}
 use Rattle.jaeger_model.specs.Meanings.{Required, MeansTime}
-use Rattle.jaeger_model.specs.Spans.{IsSpan, MeansLogs, HasTimes}
-use Rattle.jaeger_model.specs.Writable.{IsWhole, IsTimed}
+use Rattle.jaeger_model.specs.Spans.{IsJSpan, MeansLogs, HasTimes}
+use Rattle.span_ids.specs.Times.{IsWhole}
+use Rattle.jaeger_model.specs.Writable.{IsTimed}
 use Rattle.jaeger_model.specs.declared.batch.Batch.{Batch}
 use Rattle.jaeger_model.specs.declared.span.JSpan.{JSpan}
 use Rattle.jaeger_model.specs.declared.span.Log.{Log}
@@ -51,7 +52,7 @@ end_whole inner start end h =
 in_order : (fields : Fields) (start end : ℕ) → HasTimes fields start end → start ≤ end
 in_order inner start end h = omega (arith, h.sum)
 
-span_timed : (span : JSpan) (fields : Fields) → IsSpan span fields → IsTimed span
+span_timed : (span : JSpan) (fields : Fields) → IsJSpan span fields → IsTimed span
 span_timed span inner h = record {
   start = time_whole _ span.start h.times.its_start;
   end = end_whole inner span.start span.end h.times;
@@ -61,7 +62,7 @@ span_timed span inner h = record {
 
 spans_timed : (held : List Trees) (spans : List JSpan) → Required MeansSpans held spans → All IsTimed spans
 spans_timed [] spans h = absurd h
-spans_timed (trees ∷ []) spans h = of_trees IsSpan IsTimed span_timed trees spans h
+spans_timed (trees ∷ []) spans h = of_trees IsJSpan IsTimed span_timed trees spans h
 spans_timed (trees ∷ other ∷ more) spans h = absurd h
 
 pub batch_timed : (batch : Batch) (fields : Fields) → IsBatch batch fields → All IsTimed batch.spans

@@ -21,7 +21,7 @@ use Rattle.jaeger_model.specs.InnerRows.{with_text}
 use Rattle.jaeger_model.specs.Meanings.{Required, Means, MeansTime}
 use Rattle.jaeger_model.specs.ReferenceSoFar.{KeepsOf, KeepsReferences}
 use Rattle.jaeger_model.specs.Rows.{SomeMissing, given_to}
-use Rattle.jaeger_model.specs.Spans.{HasReferences, MeansReferences, NoTrace, NoId, EndsLate, span_ends, span_required}
+use Rattle.jaeger_model.specs.Spans.{HasReferences, MeansReferences, NoTrace, NoId, EndsLate, jspan_ends, span_required}
 use Rattle.jaeger_model.specs.SpanSoFar.{HasParts}
 
 -- ---- a required field means one value
@@ -78,33 +78,33 @@ module _ (parts : SpanParts) where
 
   -- ---- what it offends with at its end
 
-  pub no_trace : (items : List FieldItem) → HasParts parts (fields_of items) → trace_id_of parts.high parts.low ≡ None → span_ends items 12 × ((n : ℕ) → span_ends items n → 12 ≤ n)
+  pub no_trace : (items : List FieldItem) → HasParts parts (fields_of items) → trace_id_of parts.high parts.low ≡ None → jspan_ends items 12 × ((n : ℕ) → jspan_ends items n → 12 ≤ n)
   no_trace items h none = (inr (inl (refl, inl (record { low = parts.low; its_low = h.low; high = parts.high; its_high = h.high; zero = none }))), λ n e. least n e)
     where
-      least : (n : ℕ) → span_ends items n → 12 ≤ n
+      least : (n : ℕ) → jspan_ends items n → 12 ≤ n
       least n (inl e) = absurd (none_missing items h e.1)
       least n (inr (inl e)) = omega (arith, e.0)
       least n (inr (inr e)) = omega (arith, e.0)
 
-  pub no_id : (items : List FieldItem) → HasParts parts (fields_of items) → span_id_of parts.id ≡ None → span_ends items 12 × ((n : ℕ) → span_ends items n → 12 ≤ n)
+  pub no_id : (items : List FieldItem) → HasParts parts (fields_of items) → span_id_of parts.id ≡ None → jspan_ends items 12 × ((n : ℕ) → jspan_ends items n → 12 ≤ n)
   no_id items h none = (inr (inl (refl, inr (parts.id, h.id, none))), λ n e. least n e)
     where
-      least : (n : ℕ) → span_ends items n → 12 ≤ n
+      least : (n : ℕ) → jspan_ends items n → 12 ≤ n
       least n (inl e) = absurd (none_missing items h e.1)
       least n (inr (inl e)) = omega (arith, e.0)
       least n (inr (inr e)) = omega (arith, e.0)
 
   module _ (trace id : ℕ) (is_trace : trace_id_of parts.high parts.low ≡ Some trace) (is_id : span_id_of parts.id ≡ Some id) where
-    pub ends_late : (items : List FieldItem) → HasParts parts (fields_of items) → nanos last_micros < parts.start + parts.duration → span_ends items 16 × ((n : ℕ) → span_ends items n → 16 ≤ n)
+    pub ends_late : (items : List FieldItem) → HasParts parts (fields_of items) → nanos last_micros < parts.start + parts.duration → jspan_ends items 16 × ((n : ℕ) → jspan_ends items n → 16 ≤ n)
     ends_late items h late = (inr (inr (refl, record { start = parts.start; its_start = h.start; duration = parts.duration; its_duration = h.duration; late = late })), λ n e. least n e)
       where
-        least : (n : ℕ) → span_ends items n → 16 ≤ n
+        least : (n : ℕ) → jspan_ends items n → 16 ≤ n
         least n (inl e) = absurd (none_missing items h e.1)
         least n (inr (inl (e, inl bad))) = absurd (some_trace (fields_of items) trace h is_trace bad)
         least n (inr (inl (e, inr bad))) = absurd (some_id (fields_of items) id h is_id bad)
         least n (inr (inr e)) = omega (arith, e.0)
 
-    pub ends_well : (items : List FieldItem) → HasParts parts (fields_of items) → parts.start + parts.duration ≤ nanos last_micros → (n : ℕ) → span_ends items n → ⊥
+    pub ends_well : (items : List FieldItem) → HasParts parts (fields_of items) → parts.start + parts.duration ≤ nanos last_micros → (n : ℕ) → jspan_ends items n → ⊥
     ends_well items h within n (inl e) = none_missing items h e.1
     ends_well items h within n (inr (inl (e, inl bad))) = some_trace (fields_of items) trace h is_trace bad
     ends_well items h within n (inr (inl (e, inr bad))) = some_id (fields_of items) id h is_id bad
@@ -176,10 +176,10 @@ references_held items row default value e none gave =
     of (x ∷ w ∷ more) row e gave = absurd gave
 
 -- a missing field goes before what else offends at the end
-pub some_missing : (items : List FieldItem) → SomeMissing span_required items → span_ends items 8 × ((n : ℕ) → span_ends items n → 8 ≤ n)
+pub some_missing : (items : List FieldItem) → SomeMissing span_required items → jspan_ends items 8 × ((n : ℕ) → jspan_ends items n → 8 ≤ n)
 some_missing items missing = (inl (refl, missing), λ n e. least n e)
   where
-    least : (n : ℕ) → span_ends items n → 8 ≤ n
+    least : (n : ℕ) → jspan_ends items n → 8 ≤ n
     least n (inl e) = omega (arith, e.0)
     least n (inr (inl e)) = omega (arith, e.0)
     least n (inr (inr e)) = omega (arith, e.0)

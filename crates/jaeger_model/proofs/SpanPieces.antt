@@ -6,7 +6,7 @@ use Rattle.thrift_core.specs.Written.{Keeping, rows_written, last_id}
 use Rattle.thrift_core.specs.WrittenLaws.{rows_behind}
 use Rattle.jaeger_model.specs.declared.span.JSpan.{JSpan}
 use Rattle.jaeger_model.specs.declared.span.SpanRef.{SpanRef}
-use Rattle.jaeger_model.specs.Canonical.{filled_list, reference_rows, identity_rows, reference_and_flag_rows, time_rows, tag_and_log_rows, span_rows}
+use Rattle.jaeger_model.specs.Canonical.{filled_list, reference_rows, identity_rows, reference_and_flag_rows, time_rows, tag_and_log_rows, jspan_rows}
 
 flags_last : (references : List SpanRef) (flags : Tree) → last_id (filled_list (pos 6) reference_rows references ++ (pos 7, flags) ∷ []) (pos 5) ≡ pos 7
 unfolding last_id
@@ -20,7 +20,7 @@ module _ (keeps : Keeping) (writes : WritingOf) (span : JSpan) (left : ℕ) wher
   abbrev pub from_references : List ℕ
   from_references = rows_written keeps writes (reference_and_flag_rows span) left (pos 5) ++ from_times
 
-  pub span_pieces : rows_written keeps writes (span_rows span) left (pos 0) ≡ rows_written keeps writes (identity_rows span) left (pos 0) ++ from_references
+  pub span_pieces : rows_written keeps writes (jspan_rows span) left (pos 0) ≡ rows_written keeps writes (identity_rows span) left (pos 0) ++ from_references
   unfolding last_id
   span_pieces =
       let identity = rows_written keeps writes (identity_rows span) left (pos 0) in

@@ -29,13 +29,13 @@ use Rattle.jaeger_model.specs.Logs.{MeansTags, IsLog, log_rules}
 use Rattle.jaeger_model.specs.Meanings.{Means, MeansTime}
 use Rattle.jaeger_model.specs.References.{IsSpanRef, reference_rules}
 use Rattle.jaeger_model.specs.Rows.{nothing_wrong, BadTime, SomeMissing, given_to, required}
-use Rattle.jaeger_model.specs.Spans.{kept_reference, MeansReferences, MeansLogs, IsSpan, or_empty, span_required, span_table, span_ends, span_rules}
+use Rattle.jaeger_model.specs.Spans.{kept_reference, MeansReferences, MeansLogs, IsJSpan, or_empty, span_required, jspan_table, jspan_ends, jspan_rules}
 use Rattle.jaeger_model.specs.SpanSoFar.{HasParts}
 use Rattle.jaeger_model.specs.Tags.{IsTag, tag_rules}
 
 -- ---- the parts of a span
 
-parts_of : (span : JSpan) (fields : Fields) → IsSpan span fields → (parts : SpanParts) × HasParts parts fields
+parts_of : (span : JSpan) (fields : Fields) → IsJSpan span fields → (parts : SpanParts) × HasParts parts fields
 parts_of span fields is =
     let id = held_value (λ n id. span_id_of n ≡ Some id) (values_of i64_in 3 fields) span.id is.id in
     let parent = held_value (λ n parent. span_id_of n ≡ parent) (values_of i64_in 4 fields) span.parent is.parent in (
@@ -67,7 +67,7 @@ parts_of span fields is =
       },
     )
 
-span_clean : (span : JSpan) (items : List FieldItem) → IsSpan span (fields_of items) → (n : ℕ) → span_ends items n → ⊥
+span_clean : (span : JSpan) (items : List FieldItem) → IsJSpan span (fields_of items) → (n : ℕ) → jspan_ends items n → ⊥
 unfolding parts_of
 span_clean span items is =
     let id = held_value (λ n id. span_id_of n ≡ Some id) (values_of i64_in 3 (fields_of items)) span.id is.id in
@@ -92,7 +92,7 @@ span_of parts trace id = record {
 }
 
 made_span : (parts : SpanParts) (fields : Fields) → HasParts parts fields → (trace id : ℕ) → trace_id_of parts.high parts.low ≡ Some trace → span_id_of parts.id ≡ Some id
-    → parts.start + parts.duration ≤ nanos last_micros → IsSpan (span_of parts trace id) fields
+    → parts.start + parts.duration ≤ nanos last_micros → IsJSpan (span_of parts trace id) fields
 unfolding span_of
 made_span parts fields h trace id is_trace is_id within = record {
   trace = record { low = parts.low; its_low = h.low; high = parts.high; its_high = h.high; joined = is_trace };
@@ -108,7 +108,7 @@ made_span parts fields h trace id is_trace is_id within = record {
 
 module _ (Spells : Spelling) (left : ℕ) where
   abbrev SpanEnd : List FieldItem → Type 0
-  SpanEnd items = AtEnd Spells left (λ l. (x : JSpan) × IsSpan x (fields_of l)) span_ends items
+  SpanEnd items = AtEnd Spells left (λ l. (x : JSpan) × IsJSpan x (fields_of l)) jspan_ends items
 
   by_parts : (parts : SpanParts) (items : List FieldItem) → HasParts parts (fields_of items) → SpanEnd items
   by_parts parts items h = of_trace (trace_id_of parts.high parts.low) refl
@@ -130,10 +130,10 @@ module _ (Spells : Spelling) (left : ℕ) where
 
   -- ---- by its rows
 
-  span_values : (span : JSpan) (items : List FieldItem) → IsSpan span (fields_of items) → (v : Values (span_table Spells left)) × Mean (span_table Spells left) (givens (span_table Spells left) items) v
+  span_values : (span : JSpan) (items : List FieldItem) → IsJSpan span (fields_of items) → (v : Values (jspan_table Spells left)) × Mean (jspan_table Spells left) (givens (jspan_table Spells left) items) v
   span_values span items is = of (parts_of span (fields_of items) is).0 (parts_of span (fields_of items) is).1
     where
-      of : (parts : SpanParts) → HasParts parts (fields_of items) → (v : Values (span_table Spells left)) × Mean (span_table Spells left) (givens (span_table Spells left) items) v
+      of : (parts : SpanParts) → HasParts parts (fields_of items) → (v : Values (jspan_table Spells left)) × Mean (jspan_table Spells left) (givens (jspan_table Spells left) items) v
       of parts h = (
         (parts.low, (parts.high, (parts.id, (parts.parent, (parts.name, (h.references.all, (parts.flags, (parts.start, (parts.duration, (parts.tags, (parts.logs, tt))))))))))),
         (
@@ -169,7 +169,7 @@ module _ (Spells : Spelling) (left : ℕ) where
   abbrev Lists : ℕ → List FieldItem → List (Trees × List ℕ)
   Lists id items = flat_map (λ (item : FieldItem). with_text item.text (given_to list_in id item)) items
 
-  span_end : (items : List FieldItem) → TableFound (span_table Spells left) items → SpanEnd items
+  span_end : (items : List FieldItem) → TableFound (jspan_table Spells left) items → SpanEnd items
   span_end items (inl none, others) = missing items (inl none)
   span_end items (inr low, (inl none, others)) = missing items (inr (inl none))
   span_end items (inr low, (inr high, (inl none, others))) = missing items (inr (inr (inl none)))
@@ -212,7 +212,7 @@ module _ (Spells : Spelling) (reads : ReadingOf) (ThenVarint : Part → List ℕ
   laws : (m : ℕ) → FormatLaws (structs Spells m)
   laws m = struct_laws Spells reads ThenVarint Refuses R P m
 
-  abbrev span_rows : TableProof Spells left (span_table Spells left)
+  abbrev span_rows : TableProof Spells left (jspan_table Spells left)
   span_rows = (
     long_proof Spells left 1 Means nothing_wrong required (means_kind Spells left _),
     (
@@ -245,6 +245,6 @@ module _ (Spells : Spelling) (reads : ReadingOf) (ThenVarint : Part → List ℕ
     ),
   )
 
-  pub span_struct : StructProof Spells left IsSpan (span_rules Spells left)
+  pub span_struct : StructProof Spells left IsJSpan (jspan_rules Spells left)
   span_struct =
-      struct_proof Spells left (laws left) (span_table Spells left) span_rows refl span_ends (span_laws Spells laws left) IsSpan (record { values = span_values Spells left; clean = span_clean }) (span_end Spells left)
+      struct_proof Spells left (laws left) (jspan_table Spells left) span_rows refl jspan_ends (span_laws Spells laws left) IsJSpan (record { values = span_values Spells left; clean = span_clean }) (span_end Spells left)

@@ -7,7 +7,7 @@ use Rattle.std.proofs.lemmas.Int.{of_z-to_z}
 use Rattle.std.proofs.lemmas.Nat.{mod_below, shr_split}
 use Rattle.std.proofs.lemmas.List.{map-id}
 use Rattle.std.proofs.lemmas.List.Elements.{All-head, All-tail}
-use Rattle.span_ids.specs.Times.{micros, nanos, last_micros}
+use Rattle.span_ids.specs.Times.{micros, nanos, last_micros, IsWhole}
 use Rattle.span_io.specs.Tables.{Singular, MeansText}
 use Rattle.thrift_core.specs.FieldValues.{values_of, i32_in, i64_in, binary_in, list_in, EachStruct}
 use Rattle.thrift_core.specs.Trees.{i32, Tree, leaf, binary, Fields, Trees}
@@ -20,16 +20,17 @@ use Rattle.jaeger_model.specs.declared.tag.Tag.{Tag}
 use Rattle.jaeger_model.specs.declared.tag.TagValue.{TagValue}
 use Rattle.jaeger_model.specs.declared.tag.TagValue.TheVariants as values
 use Rattle.jaeger_model.specs.Batches.{IsBatch}
-use Rattle.jaeger_model.specs.Canonical.{number_tree, id_tree, parent_tree, low_tree, high_tree, filled_list, tag_rows, log_rows, reference_rows, reference_and_flag_rows, time_rows, tag_and_log_rows, span_rows, process_rows, batch_fields}
+use Rattle.jaeger_model.specs.Canonical.{number_tree, id_tree, parent_tree, low_tree, high_tree, filled_list, tag_rows, log_rows, reference_rows, reference_and_flag_rows, time_rows, tag_and_log_rows, jspan_rows, process_rows, batch_fields}
 use Rattle.jaeger_model.specs.Identifiers.{some_id, span_id_of, trace_id_of}
 use Rattle.jaeger_model.specs.Logs.{IsLog, MeansTags}
 use Rattle.jaeger_model.specs.Meanings.{Required, MeansTime}
 use Rattle.jaeger_model.specs.Processes.{IsProcess}
-use Rattle.jaeger_model.specs.Proper.{IsProperValue, IsProperTag, IsProperLog, IsProperReference, IsProperParent, IsProperSpanId, IsProperTraceId, IsProperSpan, IsProperBatch}
+use Rattle.span_ids.specs.Proper.{IsProperParent, IsProperSpanId, IsProperTraceId}
+use Rattle.jaeger_model.specs.Proper.{IsProperTagValue, IsProperTag, IsProperLog, IsProperReference, IsProperJSpan, IsProperBatch}
 use Rattle.jaeger_model.specs.References.{IsSpanRef}
-use Rattle.jaeger_model.specs.Spans.{IsSpan, MeansLogs, MeansReferences, kept_reference}
-use Rattle.jaeger_model.specs.Tags.{IsTag, Held, no_double}
-use Rattle.jaeger_model.specs.Writable.{IsWhole, IsWritableLog, IsWritableSpan, IsWritable}
+use Rattle.jaeger_model.specs.Spans.{IsJSpan, MeansLogs, MeansReferences, kept_reference}
+use Rattle.jaeger_model.specs.Tags.{IsTag, HeldByTag, no_double}
+use Rattle.jaeger_model.specs.Writable.{IsWritableLog, IsWritableSpan, IsWritable}
 use Rattle.jaeger_model.specs.WrittenAgain.{all_kept, all_counted, HasAllKept}
 
 -- ---- numbers
@@ -76,7 +77,7 @@ given_list rows (x ∷ xs) = struct_trees rows (x ∷ xs) ∷ []
 -- ---- tags, logs and references
 
 -- what its fields hold
-abbrev held_by : TagValue → Held
+abbrev held_by : TagValue → HeldByTag
 held_by (values.Text text) = record { text = text; double = no_double; truth = false; number = pos 0; bytes = [] }
 held_by (values.Eight eight) = record { text = []; double = eight; truth = false; number = pos 0; bytes = [] }
 held_by (values.Truth truth) = record { text = []; double = no_double; truth = truth; number = pos 0; bytes = [] }
@@ -87,7 +88,7 @@ abbrev tag_of : List ℕ → TagValue → Tag
 tag_of key value = record { key = key; value = value }
 
 -- by the fields of a value, of which but one is absent
-parts_mean : (key : List ℕ) (value : TagValue) → IsUtf8 key → IsProperValue value → IsTag (tag_of key value) (fields_of_rows (tag_rows (tag_of key value)))
+parts_mean : (key : List ℕ) (value : TagValue) → IsUtf8 key → IsProperTagValue value → IsTag (tag_of key value) (fields_of_rows (tag_rows (tag_of key value)))
 unfolding values_of fields_of_rows
 parts_mean key (values.Text text) k v = record { key = (k, refl); kind = refl; held = held_by (values.Text text); text = (v, refl); double = refl; truth = refl; number = refl; bytes = refl; value = refl }
 parts_mean key (values.Eight eight) k v = record { key = (k, refl); kind = refl; held = held_by (values.Eight eight); text = refl; double = refl; truth = refl; number = refl; bytes = refl; value = refl }
@@ -203,7 +204,7 @@ whole_sum start end a b le = omega arith
 whole_small : (end : ℕ) → IsWhole end → micros end ≤ last_micros → end ≤ nanos last_micros
 whole_small end whole le = omega arith
 
-module _ (s : JSpan) (w : IsWritableSpan s) (p : IsProperSpan s) (n : ℤ) (is_parent : span_id_of n ≡ s.parent) where
+module _ (s : JSpan) (w : IsWritableSpan s) (p : IsProperJSpan s) (n : ℤ) (is_parent : span_id_of n ≡ s.parent) where
   abbrev span_low : ℤ
   span_low = cast_signed w64 (s.trace % 2 ^ 64)
 
@@ -216,7 +217,7 @@ module _ (s : JSpan) (w : IsWritableSpan s) (p : IsProperSpan s) (n : ℤ) (is_p
   abbrev fields_by_values : Fields
   fields_by_values = fields_of_rows (rows_by_values span_low span_high (cast_signed w64 s.id) n (pos (micros s.start)) (pos span_duration) s.flags s.name s.references s.tags s.logs)
 
-  by_values : IsSpan (all_kept s) fields_by_values
+  by_values : IsJSpan (all_kept s) fields_by_values
   by_values =
       let g = gives span_low span_high (cast_signed w64 s.id) n (pos (micros s.start)) (pos span_duration) s.flags s.name s.references s.tags s.logs in
       let end_small : micros s.end ≤ last_micros = omega (arith, p.end) in
@@ -249,10 +250,10 @@ module _ (s : JSpan) (w : IsWritableSpan s) (p : IsProperSpan s) (n : ℤ) (is_p
         logs = subst (λ l. Singular MeansLogs (λ list. list ≡ []) l s.logs) (sym g.its_logs) (given_logs s.logs (λ k d lt. (w.logs.each k d lt, p.logs k d lt)));
       }
 
-span_means : (s : JSpan) → IsWritableSpan s × IsProperSpan s → IsSpan (all_kept s) (fields_of_rows (span_rows s))
+span_means : (s : JSpan) → IsWritableSpan s × IsProperJSpan s → IsJSpan (all_kept s) (fields_of_rows (jspan_rows s))
 span_means s h =
     let parent = parent_number s.parent h.1.parent in
-    subst (λ t. IsSpan (all_kept s) (fields_of_rows (rows_with t s))) (sym parent.1) (by_values s h.0 h.1 parent.0 parent.2)
+    subst (λ t. IsJSpan (all_kept s) (fields_of_rows (rows_with t s))) (sym parent.1) (by_values s h.0 h.1 parent.0 parent.2)
 
 -- ---- batches
 
@@ -260,7 +261,7 @@ pub batch_means : (batch : Batch) → IsWritable batch → IsProperBatch batch �
 unfolding values_of fields_of_rows
 batch_means batch w p = record {
   process = process_means batch.service batch.tags p.service p.tags;
-  spans = each_means span_rows all_kept IsSpan (λ span. IsWritableSpan span × IsProperSpan span) span_means batch.spans (λ k d lt. (w.spans.each k d lt, p.spans k d lt));
+  spans = each_means jspan_rows all_kept IsJSpan (λ span. IsWritableSpan span × IsProperJSpan span) span_means batch.spans (λ k d lt. (w.spans.each k d lt, p.spans k d lt));
   sequence = omega arith;
   stats = omega arith;
 }

@@ -13,10 +13,10 @@ use Rattle.jaeger_model.specs.declared.process.Process.{Process}
 use Rattle.jaeger_model.specs.InnerRows.{structure, structures}
 use Rattle.jaeger_model.specs.Processes.{MeansProcess, process_rules}
 use Rattle.jaeger_model.specs.Rows.{given_to, required, or_else, number, singular, nothing_wrong}
-use Rattle.jaeger_model.specs.Spans.{IsSpan, span_rules}
+use Rattle.jaeger_model.specs.Spans.{IsJSpan, jspan_rules}
 
 abbrev pub MeansSpans : Trees → List JSpan → Type 0
-MeansSpans trees spans = EachStruct IsSpan trees spans
+MeansSpans trees spans = EachStruct IsJSpan trees spans
 
 -- it has one at most
 abbrev pub AtMostOne : {A : Type 0} → List A → Type 0
@@ -49,7 +49,7 @@ passed id = singular (λ item. given_to struct_in id item) (Unit {0}) MeansNothi
 abbrev pub batch_table : Spelling → ℕ → List (Row FieldItem)
 batch_table Spells left =
     structure Spells (left - 1) (process_rules Spells (left - 1)) 1 Process MeansProcess required
-    ∷ structures Spells (left - 2) (span_rules Spells (left - 2)) 2 (List JSpan) MeansSpans required
+    ∷ structures Spells (left - 2) (jspan_rules Spells (left - 2)) 2 (List JSpan) MeansSpans required
     ∷ number 3 (or_else (pos 0))
     ∷ passed 4
     ∷ []

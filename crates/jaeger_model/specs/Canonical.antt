@@ -99,8 +99,8 @@ time_rows span = (pos 8, micros_tree (micros span.start)) ∷ (pos 9, micros_tre
 abbrev pub tag_and_log_rows : JSpan → List FieldRow
 tag_and_log_rows span = filled_list (pos 10) tag_rows span.tags ++ filled_list (pos 11) log_rows span.logs
 
-abbrev pub span_rows : JSpan → List FieldRow
-span_rows span = identity_rows span ++ (reference_and_flag_rows span ++ (time_rows span ++ tag_and_log_rows span))
+abbrev pub jspan_rows : JSpan → List FieldRow
+jspan_rows span = identity_rows span ++ (reference_and_flag_rows span ++ (time_rows span ++ tag_and_log_rows span))
 
 -- by the service's name and the tags
 abbrev pub process_rows : List ℕ → List Tag → List FieldRow
@@ -110,7 +110,7 @@ abbrev pub process_tree : List ℕ → List Tag → Tree
 process_tree service tags = structure (fields_of_rows (process_rows service tags))
 
 abbrev pub batch_rows : Batch → List FieldRow
-batch_rows batch = (pos 1, process_tree batch.service batch.tags) ∷ (pos 2, list_tree span_rows batch.spans) ∷ []
+batch_rows batch = (pos 1, process_tree batch.service batch.tags) ∷ (pos 2, list_tree jspan_rows batch.spans) ∷ []
 
 -- ---- and their structs
 
@@ -124,7 +124,7 @@ abbrev pub reference_fields : SpanRef → Fields
 reference_fields reference = fields_of_rows (reference_rows reference)
 
 abbrev pub span_fields : JSpan → Fields
-span_fields span = fields_of_rows (span_rows span)
+span_fields span = fields_of_rows (jspan_rows span)
 
 abbrev pub process_fields : List ℕ → List Tag → Fields
 process_fields service tags = fields_of_rows (process_rows service tags)

@@ -13,7 +13,7 @@ use Rattle.jaeger_model.specs.declared.batch.Batch.{Batch}
 use Rattle.jaeger_model.specs.Logs.{IsLog, log_table}
 use Rattle.jaeger_model.specs.Processes.{IsProcess, process_table}
 use Rattle.jaeger_model.specs.References.{IsSpanRef, reference_table}
-use Rattle.jaeger_model.specs.Spans.{IsSpan, span_table}
+use Rattle.jaeger_model.specs.Spans.{IsJSpan, jspan_table}
 use Rattle.jaeger_model.specs.Tags.{IsTag, tag_table}
 use Rattle.jaeger_model.specs.Proper.{IsProperBatch}
 use Rattle.jaeger_model.specs.Writable.{IsTimed}
@@ -33,6 +33,13 @@ abbrev pub SomeBatch : Spelling → Type 0
 SomeBatch Spells = (fields : Fields) (text : List ℕ) → StructText Spells outer_levels fields text
     → ((batch : Batch) × IsBatchText Spells batch text) ⊎ ((cause : Cause) × Least (BatchOffends Spells text) (cause_number cause))
 
+-- Two texts of one tree, each in a protocol of its own, are of the same batch, or what counts in them has the same cause.
+pub record OneTree (Spells Others : Spelling) : Type 0 where
+  pub same_batch : (fields : Fields) (text other : List ℕ) → StructText Spells outer_levels fields text → StructText Others outer_levels fields other
+      → (batch : Batch) → IsBatchText Spells batch text ↔ IsBatchText Others batch other
+  pub same_cause : (fields : Fields) (text other : List ℕ) → StructText Spells outer_levels fields text → StructText Others outer_levels fields other
+      → (cause : Cause) → Least (BatchOffends Spells text) (cause_number cause) ↔ Least (BatchOffends Others other) (cause_number cause)
+
 -- ---- free fields
 
 -- The same fields, but for fields on either side that are of no row of the table.
@@ -43,8 +50,8 @@ pub data SameButFree (table : List (Row FieldItem)) : List FieldItem → List Fi
   on_that : (free : FieldItem) (items others : List FieldItem) → IsFree table free → SameButFree table items others → SameButFree table items (free ∷ others)
 
 -- such fields mean the same things
-abbrev pub PassesFree : {X : Type 0} → List (Row FieldItem) → (X → Fields → Type 0) → Type 0
-PassesFree {X} table Is = (items others : List FieldItem) → SameButFree table items others → (x : X) → Is x (fields_of items) ↔ Is x (fields_of others)
+abbrev pub PassesFreeFields : {X : Type 0} → List (Row FieldItem) → (X → Fields → Type 0) → Type 0
+PassesFreeFields {X} table Is = (items others : List FieldItem) → SameButFree table items others → (x : X) → Is x (fields_of items) ↔ Is x (fields_of others)
 
 -- so of texts
 abbrev pub PassesFreeText : {X : Type 0} → Spelling → ℕ → List (Row FieldItem) → (X → List ℕ → Type 0) → Type 0
@@ -52,12 +59,12 @@ PassesFreeText {X} Spells left table Is = (items others : List FieldItem) (text 
     → StructText Spells left (fields_of items) text → StructText Spells left (fields_of others) other → (x : X) → Is x text ↔ Is x other
 
 pub record FreeFields (Spells : Spelling) : Type 0 where
-  pub tag : PassesFree tag_table IsTag
-  pub reference : PassesFree reference_table IsSpanRef
-  pub log : (left : ℕ) → PassesFree (log_table Spells left) IsLog
-  pub process : (left : ℕ) → PassesFree (process_table Spells left) IsProcess
-  pub span : (left : ℕ) → PassesFree (span_table Spells left) IsSpan
-  pub batch : (left : ℕ) → PassesFree (batch_table Spells left) IsBatch
+  pub tag : PassesFreeFields tag_table IsTag
+  pub reference : PassesFreeFields reference_table IsSpanRef
+  pub log : (left : ℕ) → PassesFreeFields (log_table Spells left) IsLog
+  pub process : (left : ℕ) → PassesFreeFields (process_table Spells left) IsProcess
+  pub span : (left : ℕ) → PassesFreeFields (jspan_table Spells left) IsJSpan
+  pub batch : (left : ℕ) → PassesFreeFields (batch_table Spells left) IsBatch
   pub text : PassesFreeText Spells outer_levels (batch_table Spells outer_levels) (IsBatchText Spells)
 
 -- what is read of a text has times of whole microseconds, and no span in it ends before its start

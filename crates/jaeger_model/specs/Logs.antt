@@ -10,7 +10,7 @@ use Rattle.jaeger_model.specs.declared.span.Log.{Log}
 use Rattle.jaeger_model.specs.declared.tag.Tag.{Tag}
 use Rattle.jaeger_model.specs.Meanings.{Required, MeansTime}
 use Rattle.jaeger_model.specs.InnerRows.{structures}
-use Rattle.jaeger_model.specs.Rows.{required, time}
+use Rattle.jaeger_model.specs.Rows.{required, time_of_id}
 use Rattle.jaeger_model.specs.Tags.{IsTag, tag_rules}
 
 -- a list of tags
@@ -24,7 +24,7 @@ pub record IsLog (log : Log) (fields : Fields) : Type 0 where
 -- ---- its table, by the levels that are left in the log: a list takes one, and a struct in it another
 
 abbrev pub log_table : Spelling → ℕ → List (Row FieldItem)
-log_table Spells left = time 1 required ∷ structures Spells (left - 2) tag_rules 2 (List Tag) MeansTags required ∷ []
+log_table Spells left = time_of_id 1 required ∷ structures Spells (left - 2) tag_rules 2 (List Tag) MeansTags required ∷ []
 
 -- Missing: there is no timestamp, or no list of fields
 abbrev pub log_ends : List FieldItem → ℕ → Type 0

@@ -11,7 +11,7 @@ use Rattle.jaeger_model.specs.declared.tag.Tag.{Tag}
 use Rattle.jaeger_model.specs.InnerRows.{structures}
 use Rattle.jaeger_model.specs.Logs.{MeansTags}
 use Rattle.jaeger_model.specs.Meanings.{Required}
-use Rattle.jaeger_model.specs.Rows.{required, or_else, text, Missing}
+use Rattle.jaeger_model.specs.Rows.{required, or_else, text_of_id, Missing}
 use Rattle.jaeger_model.specs.Tags.{tag_rules}
 
 -- the fields, in any order, are those of this process
@@ -25,10 +25,10 @@ MeansProcess fields process = IsProcess process fields
 -- ---- its table, by the levels that are left in the process: a list takes one, and a struct in it another
 
 abbrev pub process_table : Spelling → ℕ → List (Row FieldItem)
-process_table Spells left = text 1 required ∷ structures Spells (left - 2) tag_rules 2 (List Tag) MeansTags (or_else []) ∷ []
+process_table Spells left = text_of_id 1 required ∷ structures Spells (left - 2) tag_rules 2 (List Tag) MeansTags (or_else []) ∷ []
 
 abbrev pub process_ends : List FieldItem → ℕ → Type 0
-process_ends seen number = Missing (text 1 required ∷ []) seen number
+process_ends seen number = Missing (text_of_id 1 required ∷ []) seen number
 
 abbrev pub process_rules : Spelling → ℕ → Rules FieldItem
 process_rules Spells left = rules_by (process_table Spells left) process_ends

@@ -1,6 +1,7 @@
 -- Parts of a batch that are proper: each number lies in the range of its type, each text is UTF-8, and no identifier is zero.
 use Rattle.std.specs.Prelude.{◌≡◌, ℕ, ◌<◌, ◌^◌, length, All, Option, Some, None, IsUtf8, FitsSigned, ⊤}
 use Rattle.std.specs.Int.{w32, w64}
+use Rattle.span_ids.specs.Proper.{IsProperTraceId, IsProperSpanId, IsProperParent}
 use Rattle.jaeger_model.specs.declared.batch.Batch.{Batch}
 use Rattle.jaeger_model.specs.declared.span.JSpan.{JSpan}
 use Rattle.jaeger_model.specs.declared.span.Log.{Log}
@@ -10,36 +11,26 @@ use Rattle.jaeger_model.specs.declared.tag.TagValue.{TagValue}
 use Rattle.jaeger_model.specs.declared.tag.TagValue.TheVariants as values
 
 -- a text is UTF-8, a double eight bytes, an integer has 64 bits, and bytes are bytes
-abbrev pub IsProperValue : TagValue → Type 0
-IsProperValue (values.Text text) = IsUtf8 text
-IsProperValue (values.Eight double) = (length double ≡ 8) × All (λ b. b < 256) double
-IsProperValue (values.Truth truth) = ⊤
-IsProperValue (values.Number number) = FitsSigned w64 number
-IsProperValue (values.Bytes bytes) = All (λ b. b < 256) bytes
+abbrev pub IsProperTagValue : TagValue → Type 0
+IsProperTagValue (values.Text text) = IsUtf8 text
+IsProperTagValue (values.Eight double) = (length double ≡ 8) × All (λ b. b < 256) double
+IsProperTagValue (values.Truth truth) = ⊤
+IsProperTagValue (values.Number number) = FitsSigned w64 number
+IsProperTagValue (values.Bytes bytes) = All (λ b. b < 256) bytes
 
 pub record IsProperTag (tag : Tag) : Type 0 where
   pub key : IsUtf8 tag.key
-  pub value : IsProperValue tag.value
+  pub value : IsProperTagValue tag.value
 
 pub record IsProperLog (log : Log) : Type 0 where
   pub time : log.time < 2 ^ 64
   pub fields : All IsProperTag log.fields
 
-abbrev pub IsProperTraceId : ℕ → Type 0
-IsProperTraceId id = (0 < id) × (id < 2 ^ 128)
-
-abbrev pub IsProperSpanId : ℕ → Type 0
-IsProperSpanId id = (0 < id) × (id < 2 ^ 64)
-
-abbrev pub IsProperParent : Option ℕ → Type 0
-IsProperParent None = ⊤
-IsProperParent (Some id) = IsProperSpanId id
-
 pub record IsProperReference (reference : SpanRef) : Type 0 where
   pub trace : IsProperTraceId reference.trace
   pub span : IsProperSpanId reference.span
 
-pub record IsProperSpan (span : JSpan) : Type 0 where
+pub record IsProperJSpan (span : JSpan) : Type 0 where
   pub trace : IsProperTraceId span.trace
   pub id : IsProperSpanId span.id
   pub parent : IsProperParent span.parent
@@ -55,4 +46,4 @@ pub record IsProperSpan (span : JSpan) : Type 0 where
 pub record IsProperBatch (batch : Batch) : Type 0 where
   pub service : IsUtf8 batch.service
   pub tags : All IsProperTag batch.tags
-  pub spans : All IsProperSpan batch.spans
+  pub spans : All IsProperJSpan batch.spans

@@ -8,7 +8,7 @@ use Rattle.thrift_core.specs.FieldValues.{values_of, i32_in, i64_in}
 use Rattle.jaeger_model.specs.declared.span.SpanRef.{SpanRef}
 use Rattle.jaeger_model.specs.Identifiers.{span_id_of, trace_id_of}
 use Rattle.thrift_core.specs.Messages.{FieldItem}
-use Rattle.jaeger_model.specs.Rows.{required, enum, number, Missing}
+use Rattle.jaeger_model.specs.Rows.{required, enum_of_id, number, Missing}
 use Rattle.jaeger_model.specs.Meanings.{Required, Means, MeansEnum}
 
 -- the number of a reference's type, by whether it is CHILD_OF
@@ -36,7 +36,7 @@ pub record IsSpanRef (reference : Option SpanRef) (fields : Fields) : Type 0 whe
 -- ---- its table
 
 abbrev pub reference_table : List (Row FieldItem)
-reference_table = enum 1 1 Bool reference_number required ∷ number 2 required ∷ number 3 required ∷ number 4 required ∷ []
+reference_table = enum_of_id 1 1 Bool reference_number required ∷ number 2 required ∷ number 3 required ∷ number 4 required ∷ []
 
 abbrev pub reference_ends : List FieldItem → ℕ → Type 0
 reference_ends seen n = Missing reference_table seen n

@@ -53,8 +53,8 @@ singular {A} give B Means IsAbsent Wrong Inside = record {
 }
 
 -- binary, a text
-abbrev pub text : ℕ → (List ℕ → Type 0) → Row FieldItem
-text id IsAbsent = singular (λ item. given_to binary_in id item) (List ℕ) MeansText IsAbsent NotText nothing_inside
+abbrev pub text_of_id : ℕ → (List ℕ → Type 0) → Row FieldItem
+text_of_id id IsAbsent = singular (λ item. given_to binary_in id item) (List ℕ) MeansText IsAbsent NotText nothing_inside
 
 -- binary
 abbrev pub bytes : ℕ → (List ℕ → Type 0) → Row FieldItem
@@ -65,16 +65,16 @@ abbrev pub number : ℕ → (ℤ → Type 0) → Row FieldItem
 number id IsAbsent = singular (λ item. given_to i64_in id item) ℤ Means IsAbsent nothing_wrong nothing_inside
 
 -- i64, a time
-abbrev pub time : ℕ → (ℕ → Type 0) → Row FieldItem
-time id IsAbsent = singular (λ item. given_to i64_in id item) ℕ MeansTime IsAbsent BadTime nothing_inside
+abbrev pub time_of_id : ℕ → (ℕ → Type 0) → Row FieldItem
+time_of_id id IsAbsent = singular (λ item. given_to i64_in id item) ℕ MeansTime IsAbsent BadTime nothing_inside
 
 -- i32
 abbrev pub int : ℕ → (ℤ → Type 0) → Row FieldItem
 int id IsAbsent = singular (λ item. given_to i32_in id item) ℤ Means IsAbsent nothing_wrong nothing_inside
 
 -- an enum of 0 to `last`, by the number of each of its values
-abbrev pub enum : ℕ → ℕ → (E : Type 0) → (E → ℕ) → (E → Type 0) → Row FieldItem
-enum id last E number_of IsAbsent = singular (λ item. given_to i32_in id item) E (MeansEnum number_of) IsAbsent (BadEnum last) nothing_inside
+abbrev pub enum_of_id : ℕ → ℕ → (E : Type 0) → (E → ℕ) → (E → Type 0) → Row FieldItem
+enum_of_id id last E number_of IsAbsent = singular (λ item. given_to i32_in id item) E (MeansEnum number_of) IsAbsent (BadEnum last) nothing_inside
 
 -- bool
 abbrev pub truth : ℕ → (Bool → Type 0) → Row FieldItem

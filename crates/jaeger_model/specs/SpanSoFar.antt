@@ -12,10 +12,10 @@ use Rattle.jaeger_model.specs.ListsSoFar.{MeansEach}
 use Rattle.jaeger_model.specs.Logs.{IsLog, MeansTags}
 use Rattle.jaeger_model.specs.Meanings.{Required, Means, MeansTime}
 use Rattle.jaeger_model.specs.ReferenceSoFar.{KeepsReferences}
-use Rattle.jaeger_model.specs.Spans.{span_table, HasReferences, MeansLogs}
+use Rattle.jaeger_model.specs.Spans.{jspan_table, HasReferences, MeansLogs}
 use Rattle.jaeger_model.specs.Tags.{IsTag}
 
-pub record GatheredSpan (Spells : Spelling) (left : ℕ) (rows : SpanRows) (given : Givens (span_table Spells left)) : Type 0 where
+pub record GatheredJSpan (Spells : Spelling) (left : ℕ) (rows : SpanRows) (given : Givens (jspan_table Spells left)) : Type 0 where
   pub low : Gave Means given.0 rows.low
   pub high : Gave Means given.1.0 rows.high
   pub id : Gave Means given.1.1.0 rows.id
@@ -29,8 +29,8 @@ pub record GatheredSpan (Spells : Spelling) (left : ℕ) (rows : SpanRows) (give
   pub logs : Gave (MeansEach IsLog) given.1.1.1.1.1.1.1.1.1.1.0 rows.logs
 
 -- these fields gave them
-abbrev pub GaveSpan : Spelling → ℕ → SpanRows → List FieldItem → Type 0
-GaveSpan Spells left rows items = GatheredSpan Spells left rows (givens (span_table Spells left) items)
+abbrev pub GaveJSpan : Spelling → ℕ → SpanRows → List FieldItem → Type 0
+GaveJSpan Spells left rows items = GatheredJSpan Spells left rows (givens (jspan_table Spells left) items)
 
 -- the fields, in any order, give these parts
 pub record HasParts (parts : SpanParts) (fields : Fields) : Type 0 where

@@ -18,7 +18,7 @@ use Rattle.jaeger_model.specs.InnerRows.{structures}
 use Rattle.jaeger_model.specs.Logs.{MeansTags, IsLog, log_rules}
 use Rattle.jaeger_model.specs.Meanings.{Required, Means, MeansTime}
 use Rattle.jaeger_model.specs.References.{IsSpanRef, reference_rules}
-use Rattle.jaeger_model.specs.Rows.{required, or_else, text, number, int, time, Missing}
+use Rattle.jaeger_model.specs.Rows.{required, or_else, text_of_id, number, int, time_of_id, Missing}
 use Rattle.jaeger_model.specs.Tags.{tag_rules}
 
 -- the references that point to a span
@@ -57,7 +57,7 @@ pub record HasReferences (fields : Fields) (references : List SpanRef) (invalid 
   pub others : invalid ≡ count_by (λ r. is_none r) all
 
 -- the fields, in any order, are those of this span
-pub record IsSpan (span : JSpan) (fields : Fields) : Type 0 where
+pub record IsJSpan (span : JSpan) (fields : Fields) : Type 0 where
   pub trace : HasTrace fields span.trace
   pub id : Required (λ n id. span_id_of n ≡ Some id) (values_of i64_in 3 fields) span.id
   pub parent : Required (λ n parent. span_id_of n ≡ parent) (values_of i64_in 4 fields) span.parent
@@ -76,20 +76,20 @@ or_empty list = or_else [] list
 
 -- the fields that a span must have
 abbrev pub span_required : List (Row FieldItem)
-span_required = number 1 required ∷ number 2 required ∷ number 3 required ∷ number 4 required ∷ text 5 required ∷ int 7 required ∷ time 8 required ∷ time 9 required ∷ []
+span_required = number 1 required ∷ number 2 required ∷ number 3 required ∷ number 4 required ∷ text_of_id 5 required ∷ int 7 required ∷ time_of_id 8 required ∷ time_of_id 9 required ∷ []
 
 -- by the levels that are left in the span: a list takes one, and the structs in it another
-abbrev pub span_table : Spelling → ℕ → List (Row FieldItem)
-span_table Spells left =
+abbrev pub jspan_table : Spelling → ℕ → List (Row FieldItem)
+jspan_table Spells left =
     number 1 required
     ∷ number 2 required
     ∷ number 3 required
     ∷ number 4 required
-    ∷ text 5 required
+    ∷ text_of_id 5 required
     ∷ structures Spells (left - 2) reference_rules 6 (List (Option SpanRef)) MeansReferences or_empty
     ∷ int 7 required
-    ∷ time 8 required
-    ∷ time 9 required
+    ∷ time_of_id 8 required
+    ∷ time_of_id 9 required
     ∷ structures Spells (left - 2) tag_rules 10 (List Tag) MeansTags or_empty
     ∷ structures Spells (left - 2) (log_rules Spells (left - 2)) 11 (List Log) MeansLogs or_empty
     ∷ []
@@ -124,8 +124,8 @@ BadIds fields number = (number ≡ 12) × (NoTrace fields ⊎ NoId fields)
 abbrev pub BadEnd : Fields → ℕ → Type 0
 BadEnd fields number = (number ≡ 16) × EndsLate fields
 
-abbrev pub span_ends : List FieldItem → ℕ → Type 0
-span_ends seen number = Missing span_required seen number ⊎ (BadIds (fields_of seen) number ⊎ BadEnd (fields_of seen) number)
+abbrev pub jspan_ends : List FieldItem → ℕ → Type 0
+jspan_ends seen number = Missing span_required seen number ⊎ (BadIds (fields_of seen) number ⊎ BadEnd (fields_of seen) number)
 
-abbrev pub span_rules : Spelling → ℕ → Rules FieldItem
-span_rules Spells left = rules_by (span_table Spells left) span_ends
+abbrev pub jspan_rules : Spelling → ℕ → Rules FieldItem
+jspan_rules Spells left = rules_by (jspan_table Spells left) jspan_ends

@@ -10,7 +10,7 @@ use Rattle.jaeger_model.specs.declared.tag_rows.TagType.{TagType}
 use Rattle.jaeger_model.specs.declared.tag_rows.TagType.TheVariants as types
 use Rattle.jaeger_model.specs.declared.tag.TagValue.{TagValue}
 use Rattle.jaeger_model.specs.declared.tag.TagValue.TheVariants as values
-use Rattle.jaeger_model.specs.Rows.{required, or_else, text, enum, double, truth, number, bytes, Missing}
+use Rattle.jaeger_model.specs.Rows.{required, or_else, text_of_id, enum_of_id, double, truth, number, bytes, Missing}
 use Rattle.thrift_core.specs.Messages.{FieldItem}
 use Rattle.jaeger_model.specs.Meanings.{Required, Means}
 
@@ -26,14 +26,14 @@ abbrev pub no_double : List ℕ
 no_double = 0 ∷ 0 ∷ 0 ∷ 0 ∷ 0 ∷ 0 ∷ 0 ∷ 0 ∷ []
 
 -- the values that the fields hold, of which vType names one
-pub record Held : Type 0 where
+pub record HeldByTag : Type 0 where
   pub text : List ℕ
   pub double : List ℕ
   pub truth : Bool
   pub number : ℤ
   pub bytes : List ℕ
 
-abbrev pub IsNamed : TagValue → Held → Type 0
+abbrev pub IsNamed : TagValue → HeldByTag → Type 0
 IsNamed (values.Text text) held = text ≡ held.text
 IsNamed (values.Eight bytes) held = bytes ≡ held.double
 IsNamed (values.Truth truth) held = truth ≡ held.truth
@@ -44,7 +44,7 @@ IsNamed (values.Bytes bytes) held = bytes ≡ held.bytes
 pub record IsTag (tag : Tag) (fields : Fields) : Type 0 where
   pub key : Required MeansText (values_of binary_in 1 fields) tag.key
   pub kind : Required (λ n k. n ≡ pos k) (values_of i32_in 2 fields) (type_of tag.value)
-  pub held : Held
+  pub held : HeldByTag
   pub text : Singular MeansText (λ t. t ≡ []) (values_of binary_in 3 fields) held.text
   pub double : Singular Means (λ d. d ≡ no_double) (values_of double_in 4 fields) held.double
   pub truth : Singular Means (λ b. b ≡ false) (values_of truth_in 5 fields) held.truth
@@ -63,13 +63,13 @@ tag_type_number types.Long = 3
 tag_type_number types.Bytes = 4
 
 abbrev pub tag_required : List (Row FieldItem)
-tag_required = text 1 required ∷ enum 2 4 TagType tag_type_number required ∷ []
+tag_required = text_of_id 1 required ∷ enum_of_id 2 4 TagType tag_type_number required ∷ []
 
 abbrev pub tag_table : List (Row FieldItem)
 tag_table =
-    text 1 required
-    ∷ enum 2 4 TagType tag_type_number required
-    ∷ text 3 (or_else [])
+    text_of_id 1 required
+    ∷ enum_of_id 2 4 TagType tag_type_number required
+    ∷ text_of_id 3 (or_else [])
     ∷ double 4 (or_else no_double)
     ∷ truth 5 (or_else false)
     ∷ number 6 (or_else (pos 0))

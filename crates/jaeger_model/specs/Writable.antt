@@ -1,7 +1,7 @@
 -- What may be written of batches: each text and list has at most 2147483647 members, times are whole microseconds, and no end is before
 -- its start.
 use Rattle.std.specs.Prelude.{◌≡◌, ◌≤◌, ℕ, List, length, All, ⊤}
-use Rattle.span_ids.specs.Times.{floor}
+use Rattle.span_ids.specs.Times.{IsWhole}
 use Rattle.thrift_core.specs.Protocols.{last_size}
 use Rattle.jaeger_model.specs.declared.batch.Batch.{Batch}
 use Rattle.jaeger_model.specs.declared.span.JSpan.{JSpan}
@@ -9,10 +9,6 @@ use Rattle.jaeger_model.specs.declared.span.Log.{Log}
 use Rattle.jaeger_model.specs.declared.tag.Tag.{Tag}
 use Rattle.jaeger_model.specs.declared.tag.TagValue.{TagValue}
 use Rattle.jaeger_model.specs.declared.tag.TagValue.TheVariants as values
-
--- whole microseconds
-abbrev pub IsWhole : ℕ → Type 0
-IsWhole time = floor time ≡ time
 
 -- its size can be written
 abbrev pub IsShort : {A : Type 0} → List A → Type 0

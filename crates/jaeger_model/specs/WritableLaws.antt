@@ -4,7 +4,8 @@ use Rattle.std.proofs.lemmas.List.Elements.{All-nil, All-cons, All-head, All-tai
 use Rattle.jaeger_model.specs.declared.batch.Batch.{Batch}
 use Rattle.jaeger_model.specs.declared.span.JSpan.{JSpan}
 use Rattle.jaeger_model.specs.declared.span.Log.{Log}
-use Rattle.jaeger_model.specs.Writable.{IsWhole, IsWritable, IsWritableSpan, IsWritableLog, HasLogSizes, HasSpanSizes, HasSizes, IsTimed}
+use Rattle.span_ids.specs.Times.{IsWhole}
+use Rattle.jaeger_model.specs.Writable.{IsWritable, IsWritableSpan, IsWritableLog, HasLogSizes, HasSpanSizes, HasSizes, IsTimed}
 
 logs_writable : (logs : List Log) → All HasLogSizes logs → All (λ log. IsWhole log.time) logs → All IsWritableLog logs
 logs_writable [] sizes times = All-nil IsWritableLog

@@ -1,5 +1,5 @@
 -- What is written of a batch is a text of it. References to no span aren't written, so that none of them is counted there.
-use Rattle.std.specs.Prelude.{◌≡◌, map, All}
+use Rattle.std.specs.Prelude.{◌≡◌, ◌↔◌, map, All}
 use Rattle.thrift_core.specs.Parts.{Spelling}
 use Rattle.thrift_core.specs.Protocols.{WritingOf}
 use Rattle.thrift_core.specs.Written.{Keeping}
@@ -36,3 +36,8 @@ HasAllKept span = span.invalid_refs ≡ 0
 pub record WrittenAgain (Spells : Spelling) (keeps : Keeping) (writes : WritingOf) : Type 0 where
   pub whole : (batch : Batch) → IsWritable batch → IsProperBatch batch → All HasAllKept batch.spans → IsBatchText Spells batch (batch_text keeps writes batch)
   pub counted : (batch : Batch) → IsWritable batch → IsProperBatch batch → IsBatchText Spells (all_counted batch) (batch_text keeps writes batch)
+
+-- batches in which no reference to no span is counted have equal texts where they are equal, and only there
+abbrev pub EqualBatchTexts : Keeping → WritingOf → Type 0
+EqualBatchTexts keeps writes = (a b : Batch) → IsWritable a → IsProperBatch a → All HasAllKept a.spans → IsWritable b → IsProperBatch b
+    → All HasAllKept b.spans → (batch_text keeps writes a ≡ batch_text keeps writes b) ↔ (a ≡ b)

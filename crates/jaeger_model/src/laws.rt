@@ -1,5 +1,5 @@
 //! Laws of what structs mean, as contracts of functions that do nothing.
-ghost use Rattle.jaeger_model.specs.Laws.{OneBatch, SomeBatch, FreeFields, ReadsTimes, ReadsProper};
+ghost use Rattle.jaeger_model.specs.Laws.{OneBatch, SomeBatch, OneTree, FreeFields, ReadsTimes, ReadsProper};
 
 use thrift_core::Protocol;
 
@@ -13,6 +13,14 @@ pub fn one_batch<P: Protocol>()
 /// The text of any struct is that of a batch, or an offence in it counts, and it has a cause.
 pub fn some_batch<P: Protocol>()
     ensures { SomeBatch P.spells }
+{
+    // The clause is the law.
+}
+
+/// Two texts of one tree, each in a protocol of its own, are of the same batch, or what counts in
+/// them has the same cause.
+pub fn one_tree<P: Protocol, Q: Protocol>()
+    ensures { OneTree P.spells Q.spells }
 {
     // The clause is the law.
 }

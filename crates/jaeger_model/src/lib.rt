@@ -28,3 +28,6 @@ pub use proper::proper_batch;
 pub use span::{JSpan, Log, SpanRef};
 pub use tag::{Tag, TagValue};
 pub use writing::{has_sizes, write_batch};
+
+#[cfg(test)]
+mod tests;

@@ -1,11 +1,11 @@
 //! Each part of a batch in hand is proper, as its type keeps it. The functions read their argument, and do nothing else.
 ghost use Rattle.std.specs.Prelude.{◌≡◌, ◌<◌, ◌^◌, length, All};
-ghost use Rattle.jaeger_model.specs.Proper.{IsProperValue, IsProperTag, IsProperLog, IsProperReference, IsProperParent, IsProperSpan, IsProperBatch};
+ghost use Rattle.jaeger_model.specs.Proper.{IsProperTagValue, IsProperTag, IsProperLog, IsProperReference, IsProperJSpan, IsProperBatch};
 
 use crate::batch::Batch;
 use crate::span::{JSpan, Log, SpanRef};
 use crate::tag::{Tag, TagValue};
-use span_ids::{Nanos, SpanId};
+use span_ids::{Nanos, proper_parent};
 use span_io::{Blob, Items};
 
 fn proper_double(double: [u8; 8])
@@ -24,7 +24,7 @@ fn proper_bytes(bytes: &Blob)
 }
 
 fn proper_value(value: &TagValue)
-    ensures { IsProperValue value.now }
+    ensures { IsProperTagValue value.now }
 {
     match value {
         TagValue::Text(text) => {
@@ -90,16 +90,8 @@ fn proper_references(references: &Items<SpanRef>)
     }
 }
 
-fn proper_parent(parent: Option<SpanId>)
-    ensures { IsProperParent parent }
-{
-    if let Some(id) = parent {
-        id.known();
-    }
-}
-
 fn proper_span(span: &JSpan)
-    ensures { IsProperSpan span.now }
+    ensures { IsProperJSpan span.now }
 {
     span.trace.known();
     span.id.known();
@@ -115,7 +107,7 @@ fn proper_span(span: &JSpan)
 }
 
 fn proper_spans(spans: &Items<JSpan>)
-    ensures { All IsProperSpan spans.now }
+    ensures { All IsProperJSpan spans.now }
 {
     'spans: for span in spans.as_slice() {
         proper_span(span);

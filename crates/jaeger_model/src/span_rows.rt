@@ -6,8 +6,8 @@ ghost use Rattle.span_io.specs.declared.cause.Cause.TheVariants as causes;
 ghost use Rattle.thrift_core.specs.Messages.{FieldItem, fields_of, structs, whole_struct};
 ghost use Rattle.thrift_core.specs.Trees.{Fields, StructText};
 ghost use Rattle.jaeger_model.specs.Rows.{SomeMissing};
-ghost use Rattle.jaeger_model.specs.Spans.{IsSpan, span_ends, span_required, span_rules};
-ghost use Rattle.jaeger_model.specs.SpanSoFar.{GaveSpan, HasParts};
+ghost use Rattle.jaeger_model.specs.Spans.{IsJSpan, jspan_ends, span_required, jspan_rules};
+ghost use Rattle.jaeger_model.specs.SpanSoFar.{GaveJSpan, HasParts};
 
 use crate::identifiers::{span_of, trace_of};
 use crate::leaves::{pass_over, sure_bytes, sure_int, sure_long};
@@ -57,7 +57,7 @@ pub(crate) struct SpanParts {
 impl SpanRows {
     // Nothing was read.
     fn none<P: Protocol>() -> SpanRows
-        ensures { (left : ℕ) → GaveSpan P.spells left result [] }
+        ensures { (left : ℕ) → GaveJSpan P.spells left result [] }
     {
         SpanRows {
             low: None,
@@ -76,14 +76,14 @@ impl SpanRows {
 }
 
 impl<P: Protocol> Rows<P> for SpanRows {
-    ghost use Rattle.jaeger_model.specs.Spans.{span_table, span_ends};
-    ghost use Rattle.jaeger_model.specs.SpanSoFar.{GaveSpan};
+    ghost use Rattle.jaeger_model.specs.Spans.{jspan_table, jspan_ends};
+    ghost use Rattle.jaeger_model.specs.SpanSoFar.{GaveJSpan};
 
-    ghost table = { λ left. span_table P.spells left };
+    ghost table = { λ left. jspan_table P.spells left };
 
-    ghost ends = { span_ends };
+    ghost ends = { jspan_ends };
 
-    ghost gathered = { λ left first rows seen. GaveSpan P.spells left rows seen };
+    ghost gathered = { λ left first rows seen. GaveJSpan P.spells left rows seen };
 
     fn gather(
         &mut self,
@@ -114,9 +114,9 @@ impl<P: Protocol> Rows<P> for SpanRows {
 
 // The parts of the rows.
 fn parts_of<P: Protocol>(alloc: Global, rows: SpanRows) -> Result<SpanParts, Cause>
-    ensures value { (left : ℕ) (items : List FieldItem) → GaveSpan P.spells left rows items
+    ensures value { (left : ℕ) (items : List FieldItem) → GaveJSpan P.spells left rows items
         → IfOk result (λ parts. HasParts parts (fields_of items)) }
-    ensures missing { (left : ℕ) (items : List FieldItem) → GaveSpan P.spells left rows items
+    ensures missing { (left : ℕ) (items : List FieldItem) → GaveJSpan P.spells left rows items
         → OnErr result ((result ≡ Err causes.Missing) × SomeMissing span_required items) }
 {
     let SpanRows {
@@ -158,8 +158,8 @@ fn end_of(start: Nanos, duration: Nanos) -> Option<Nanos>
 
 // The span of the parts.
 fn span_of_parts(parts: SpanParts) -> Result<JSpan, Cause>
-    ensures value { (fields : Fields) → HasParts parts fields → IfOk result (λ span. IsSpan span fields) }
-    ensures ended { (items : List FieldItem) → HasParts parts (fields_of items) → JudgesCause result (span_ends items) }
+    ensures value { (fields : Fields) → HasParts parts fields → IfOk result (λ span. IsJSpan span fields) }
+    ensures ended { (items : List FieldItem) → HasParts parts (fields_of items) → JudgesCause result (jspan_ends items) }
 {
     let Some(trace) = trace_of(parts.high, parts.low) else {
         return Err(Cause::BadId);
@@ -188,10 +188,10 @@ fn span_of_parts(parts: SpanParts) -> Result<JSpan, Cause>
 
 // The span of the rows.
 fn span_of_rows<P: Protocol>(alloc: Global, rows: SpanRows) -> Result<JSpan, Cause>
-    ensures value { (left : ℕ) (items : List FieldItem) → GaveSpan P.spells left rows items
-        → IfOk result (λ span. IsSpan span (fields_of items)) }
-    ensures ended { (left : ℕ) (items : List FieldItem) → GaveSpan P.spells left rows items
-        → JudgesCause result (span_ends items) }
+    ensures value { (left : ℕ) (items : List FieldItem) → GaveJSpan P.spells left rows items
+        → IfOk result (λ span. IsJSpan span (fields_of items)) }
+    ensures ended { (left : ℕ) (items : List FieldItem) → GaveJSpan P.spells left rows items
+        → JudgesCause result (jspan_ends items) }
 {
     match parts_of::<P>(alloc, rows) {
         Ok(parts) => span_of_parts(parts),
@@ -206,9 +206,9 @@ pub(crate) fn read_span<P: Protocol>(
     left: u8,
 ) -> Result<JSpan, Halt<Cause>>
     ensures value { (text tail : List ℕ) (fields : Fields) → c.old.rest ≡ text ++ tail → StructText P.spells left fields text
-        → IfOk result (λ span. (c.new.rest ≡ tail) × IsSpan span fields) }
+        → IfOk result (λ span. (c.new.rest ≡ tail) × IsJSpan span fields) }
     ensures judged { (text tail : List ℕ) (fields : Fields) → c.old.rest ≡ text ++ tail → StructText P.spells left fields text
-        → Judges result (Offence (structs P.spells left) (span_rules P.spells left) (whole_struct text)) }
+        → Judges result (Offence (structs P.spells left) (jspan_rules P.spells left) (whole_struct text)) }
     ensures shorter { length c.new.rest ≤ length c.old.rest }
 {
     let rows = read_rows::<P, SpanRows>(alloc, SpanRows::none::<P>(), c, left)?;
@@ -216,11 +216,11 @@ pub(crate) fn read_span<P: Protocol>(
 }
 
 impl<P: Protocol> Element<P> for JSpan {
-    ghost use Rattle.jaeger_model.specs.Spans.{IsSpan, span_rules};
+    ghost use Rattle.jaeger_model.specs.Spans.{IsJSpan, jspan_rules};
 
-    ghost means = { IsSpan };
+    ghost means = { IsJSpan };
 
-    ghost rules = { λ left. span_rules P.spells left };
+    ghost rules = { λ left. jspan_rules P.spells left };
 
     fn read(alloc: Global, c: &mut Cursor<'_>, left: u8) -> Result<JSpan, Halt<Cause>> {
         read_span::<P>(alloc, c, left)

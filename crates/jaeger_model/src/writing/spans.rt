@@ -145,10 +145,10 @@ fn write_tags_and_logs<P: Protocol>(out: &mut Blob, span: &JSpan) -> Result<(), 
 }
 
 impl<P: Protocol> Structure<P> for JSpan {
-    ghost use Rattle.jaeger_model.specs.Canonical.{span_rows};
+    ghost use Rattle.jaeger_model.specs.Canonical.{jspan_rows};
     ghost use Rattle.jaeger_model.specs.Writable.{IsWritableSpan};
 
-    ghost rows = { span_rows };
+    ghost rows = { jspan_rows };
 
     ghost writable = { IsWritableSpan };
 

@@ -5,7 +5,7 @@ use Rattle.jaeger_model.specs.Batches.{MeansNothing, MeansSpans}
 use Rattle.jaeger_model.specs.ListsSoFar.{MeansEach, MeansOne}
 use Rattle.jaeger_model.specs.Meanings.{Means}
 use Rattle.jaeger_model.specs.Processes.{IsProcess, MeansProcess}
-use Rattle.jaeger_model.specs.Spans.{IsSpan}
+use Rattle.jaeger_model.specs.Spans.{IsJSpan}
 use Rattle.jaeger_model.proofs.BatchLemmas.{struct_required, no_struct, at_most_one}
 use Rattle.jaeger_model.proofs.LogLemmas.{list_required, no_list, both_held}
 use Rattle.jaeger_model.proofs.batch_rows.batch_of.Goals as goal
@@ -14,12 +14,12 @@ pub returns-in_default-clause-ended : goal.returns-in_default-clause-ended
 returns-in_default-clause-ended g c = λ left items gathered. ((refl, inl (no_struct (MeansOne IsProcess) 1 items c.args.rows.process c.in_default.is gathered.process)), λ n e. omega (arith, e.0))
 
 pub returns-in_default-spans-clause-ended : goal.returns-in_default-spans-clause-ended
-returns-in_default-spans-clause-ended g c = λ left items gathered. ((refl, inr (no_list (MeansEach IsSpan) 2 items c.args.rows.spans c.in_default-spans.is gathered.spans)), λ n e. omega (arith, e.0))
+returns-in_default-spans-clause-ended g c = λ left items gathered. ((refl, inr (no_list (MeansEach IsJSpan) 2 items c.args.rows.spans c.in_default-spans.is gathered.spans)), λ n e. omega (arith, e.0))
 
 pub returns-clause-value : goal.returns-clause-value
 returns-clause-value g c = λ left items gathered. record {
   process = struct_required IsProcess 1 items c.args.rows.process c.in-Some.process c.in-Some.is gathered.process;
-  spans = list_required IsSpan 2 items c.args.rows.spans c.in-Some-spans.spans c.in-Some-spans.is gathered.spans;
+  spans = list_required IsJSpan 2 items c.args.rows.spans c.in-Some-spans.spans c.in-Some-spans.is gathered.spans;
   sequence = at_most_one i64_in 3 Means items c.args.rows.sequence gathered.sequence;
   stats = at_most_one struct_in 4 MeansNothing items c.args.rows.stats gathered.stats;
 }
@@ -27,4 +27,4 @@ returns-clause-value g c = λ left items gathered. record {
 pub returns-clause-ended : goal.returns-clause-ended
 returns-clause-ended g c = λ left items gathered.
     both_held MeansProcess MeansSpans (values_of struct_in 1 (fields_of items)) (values_of list_in 2 (fields_of items)) c.in-Some.process c.in-Some-spans.spans
-    (struct_required IsProcess 1 items c.args.rows.process c.in-Some.process c.in-Some.is gathered.process) (list_required IsSpan 2 items c.args.rows.spans c.in-Some-spans.spans c.in-Some-spans.is gathered.spans)
+    (struct_required IsProcess 1 items c.args.rows.process c.in-Some.process c.in-Some.is gathered.process) (list_required IsJSpan 2 items c.args.rows.spans c.in-Some-spans.spans c.in-Some-spans.is gathered.spans)

@@ -5,8 +5,8 @@ use Rattle.thrift_core.specs.Messages.{FieldItem, structs, whole_struct, AreFiel
 use Rattle.thrift_core.specs.StructLaws.{struct_laws}
 use Rattle.thrift_core.specs.Trees.{Fields}
 use Rattle.jaeger_model.specs.declared.span.JSpan.{JSpan}
-use Rattle.jaeger_model.specs.Spans.{IsSpan, span_table, span_ends, span_rules}
-use Rattle.jaeger_model.specs.SpanSoFar.{GatheredSpan}
+use Rattle.jaeger_model.specs.Spans.{IsJSpan, jspan_table, jspan_ends, jspan_rules}
+use Rattle.jaeger_model.specs.SpanSoFar.{GatheredJSpan}
 use Rattle.jaeger_model.proofs.SpanTable.{span_laws}
 use Rattle.jaeger_model.proofs.span_rows.read_span.Goals as goal
 
@@ -19,7 +19,7 @@ read_rows-requires-clause-lawful g c = span_laws g.P.Protocol.spells (λ (m : �
 pub returns-clause-value : goal.returns-clause-value
 returns-clause-value g c = λ text tail fields e h.
     let all = c.in_ok-rows.ensures.all text tail fields e h in
-    (all.0, subst (λ (f : Fields). IsSpan c.in_ok-span_of_rows.field-0 f) all.1.are.same (c.in_ok-span_of_rows.ensures.value c.args.left all.1.items all.1.gathered))
+    (all.0, subst (λ (f : Fields). IsJSpan c.in_ok-span_of_rows.field-0 f) all.1.are.same (c.in_ok-span_of_rows.ensures.value c.args.left all.1.items all.1.gathered))
 
 pub returns-clause-judged : goal.returns-clause-judged
 returns-clause-judged g c = λ text tail fields e h.
@@ -30,6 +30,6 @@ pub returns-in_err-span_of_rows-clause-judged : goal.returns-in_err-span_of_rows
 returns-in_err-span_of_rows-clause-judged g c = λ text tail fields e h.
     let all = c.in_ok-rows.ensures.all text tail fields e h in
     let answer = c.from_residual-in_err-span_of_rows.result in
-    judged_end (structs g.P.Protocol.spells c.args.left) (span_rules g.P.Protocol.spells c.args.left) (AreFields g.P.Protocol.spells c.args.left fields) (λ (l : List FieldItem). GatheredSpan g.P.Protocol.spells c.args.left c.in_ok-rows.rows (givens (span_table g.P.Protocol.spells c.args.left) l))
+    judged_end (structs g.P.Protocol.spells c.args.left) (jspan_rules g.P.Protocol.spells c.args.left) (AreFields g.P.Protocol.spells c.args.left fields) (λ (l : List FieldItem). GatheredJSpan g.P.Protocol.spells c.args.left c.in_ok-rows.rows (givens (jspan_table g.P.Protocol.spells c.args.left) l))
     (whole_struct text) all.1 JSpan answer
-    (refused_end JSpan (λ n. span_ends all.1.items n) c.in_err-span_of_rows.field-0.0 (c.in_err-span_of_rows.ensures.ended c.args.left all.1.items all.1.gathered) answer c.from_residual-in_err-span_of_rows.ensures.1)
+    (refused_end JSpan (λ n. jspan_ends all.1.items n) c.in_err-span_of_rows.field-0.0 (c.in_err-span_of_rows.ensures.ended c.args.left all.1.items all.1.gathered) answer c.from_residual-in_err-span_of_rows.ensures.1)

@@ -1,0 +1,96 @@
+-- Two texts of one message, in two wire formats, whose items correspond one by one: the offences that count in them have one number.
+use Rattle.std.proofs.Common.{◌≡◌, ℕ, zero, suc, ◌<◌, ◌≤◌, ◌⊎◌, inl, inr, List, [], ◌∷◌, ◌++◌, refl, arith}
+use Rattle.std.specs.Prelude.{◌↔◌}
+use Rattle.std.specs.List.{AllZip}
+use Rattle.std.proofs.lemmas.Bool.{cases_lt}
+use Rattle.span_io.specs.FreeItems.{SameOffence}
+use Rattle.span_io.specs.OffenceLaws.{FormatLaws, RulesLaws, Walked, Stands, not_read, in_next, ends_here, behind_next, ends_behind, stands, walked_start, walked_step, least_item, one_cause}
+use Rattle.span_io.specs.Offences.{Format, Rules, Offence, at_end, Least, ItemOffends}
+use Rattle.span_io.specs.RowLaws.{all_zip_push}
+use Rattle.span_io.specs.TableLaws.{Whole}
+
+-- ---- what can't be otherwise
+
+abbrev pub Surely : Type 0 → Type 0
+Surely A = (A → ⊥) → ⊥
+
+-- numbers are the same or they aren't
+pub surely_same : (n m : ℕ) → Surely (n ≡ m) → n ≡ m
+surely_same n m sure = of (cases_lt n m) (cases_lt m n)
+  where
+    of : (n < m) ⊎ (m ≤ n) → (m < n) ⊎ (n ≤ m) → n ≡ m
+    of (inl less) other = absurd (sure (λ e. omega (arith, less, e)))
+    of (inr a) (inl less) = absurd (sure (λ e. omega (arith, less, e)))
+    of (inr a) (inr b) = omega (arith, a, b)
+
+not_less : (n m : ℕ) → (n < m → ⊥) → (n < m) ⊎ (m ≤ n) → m ≤ n
+not_less n m never (inl less) = absurd (never less)
+not_less n m never (inr k) = k
+
+-- where numbers offend one of them is the least
+module _ (Offends : ℕ → Type 0) where
+  abbrev pub NoneOrFirst : Type 0
+  NoneOrFirst = ((n : ℕ) → Offends n → ⊥) ⊎ ((n : ℕ) × Offends n × ((m : ℕ) → Offends m → n ≤ m))
+
+  none_below : (NoneOrFirst → ⊥) → (n m : ℕ) → m < n → Offends m → ⊥
+  none_below not zero m less offends = absurd (omega (arith, less))
+  none_below not (suc n) m less offends = not (inr (m, offends, λ k o. not_less k m (λ lower. none_below not n k (omega (arith, less, lower)) o) (cases_lt k m)))
+
+  pub none_or_first : Surely NoneOrFirst
+  none_or_first not = not (inl (λ n offends. none_below not (suc n) n (omega arith) offends))
+
+-- ---- the end of a message none of whose items offends
+
+module _ (F : Format) (L : FormatLaws F) (K : Rules F.Item) (text : F.Rest) (n : ℕ) (least : Least (Offence F K text) n) (seen : List F.Item) (rest : F.Rest) (walked : Walked F K text seen rest) (is_end : F.IsEnd rest) where
+  ended_there : K.ends seen n × (least.place ≡ F.size text)
+  ended_there = of (stands F L K text seen rest least.place n walked least.offence)
+    where
+      of : Stands F K text seen rest least.place n → K.ends seen n × (least.place ≡ F.size text)
+      of (not_read o placed) = absurd (L.unended rest n is_end o)
+      of (in_next r after begins q o placed) = absurd (L.ended r rest after is_end begins)
+      of (ends_here e o placed) = (o, placed)
+      of (behind_next r after begins less) = absurd (L.ended r rest after is_end begins)
+      of (ends_behind r after begins more end cut e all o placed) = absurd (L.ended r rest after is_end begins)
+
+  -- what counts is what offends there
+  pub end_offends : K.ends seen n
+  end_offends = ended_there.0
+
+  pub end_first : (m : ℕ) → K.ends seen m → n ≤ m
+  end_first m offends = of (least.least (F.size text) m (at_end (record { seen = seen; rest = rest; cut = walked.cut; is_end = is_end; offends = offends; placed = refl })))
+    where
+      of : (least.place < F.size text) ⊎ ((least.place ≡ F.size text) × (n ≤ m)) → n ≤ m
+      of (inl less) = absurd (omega (arith, less, ended_there.1))
+      of (inr first) = first.1
+
+-- ---- item by item, in both
+
+module _ (F G : Format) (L : FormatLaws F) (M : FormatLaws G) (K : Rules F.Item) (J : Rules G.Item) (O : RulesLaws F K) (N : RulesLaws G J) (Twins : F.Item → G.Item → Type 0)
+    (of_items : (seen : List F.Item) (past : List G.Item) → AllZip Twins seen past → (this : F.Item) (twin : G.Item) → Twins this twin
+    → Surely (SameOffence (λ p k. ItemOffends F.Item K seen this p k) (λ p k. ItemOffends G.Item J past twin p k)))
+    (of_ends : (seen : List F.Item) (past : List G.Item) → AllZip Twins seen past → (k : ℕ) → K.ends seen k ↔ J.ends past k)
+    (text : F.Rest) (other : G.Rest) (n m : ℕ) (least : Least (Offence F K text) n) (least_other : Least (Offence G J other) m) where
+  at_ends : (rest : F.Rest) (there : G.Rest) (seen : List F.Item) (past : List G.Item) → Walked F K text seen rest → Walked G J other past there → AllZip Twins seen past → F.IsEnd rest → G.IsEnd there → n ≡ m
+  at_ends rest there seen past walked along twins is_end over =
+      let low = end_first F L K text n least seen rest walked is_end m ((of_ends seen past twins m).1 (end_offends G M J other m least_other past there along over)) in
+      let high = end_first G M J other m least_other past there along over n ((of_ends seen past twins n).0 (end_offends F L K text n least seen rest walked is_end)) in
+      omega (arith, low, high)
+
+  walk : (items : List F.Item) (others : List G.Item) → AllZip Twins items others → (rest : F.Rest) (there : G.Rest) (seen : List F.Item) (past : List G.Item) → Walked F K text seen rest → Walked G J other past there → AllZip Twins seen past
+      → Whole F items rest → Whole G others there → Surely (n ≡ m)
+  unfolding Whole
+  walk [] [] each rest there seen past walked along twins whole over not = not (at_ends rest there seen past walked along twins whole over)
+  walk [] (twin ∷ others) each rest there seen past walked along twins whole over not = absurd each
+  walk (this ∷ items) [] each rest there seen past walked along twins whole over not = absurd each
+  walk (this ∷ items) (twin ∷ others) each rest there seen past walked along twins whole over not =
+      of_items seen past twins this twin each.0 (λ same. of same (λ a b. walk items others each.1 whole.0 over.0 (seen ++ this ∷ []) (past ++ twin ∷ []) a b (all_zip_push Twins seen past this twin twins each.0) whole.2 over.2 not))
+    where
+      of : SameOffence (λ p k. ItemOffends F.Item K seen this p k) (λ p k. ItemOffends G.Item J past twin p k) → (Walked F K text (seen ++ this ∷ []) whole.0 → Walked G J other (past ++ twin ∷ []) over.0 → ⊥) → ⊥
+      of (inl none) on = on (walked_step F L K text rest whole.0 seen this walked whole.1 none.0) (walked_step G M J other there over.0 past twin along over.1 none.1)
+      of (inr (k, first, same)) on =
+          let here = one_cause (Offence F K text) n k least (least_item F L K O text seen rest whole.0 this walked whole.1 k first) in
+          let beside = one_cause (Offence G J other) m k least_other (least_item G M J N other past there over.0 twin along over.1 k same) in
+          not (omega (arith, here, beside))
+
+  pub one_number : (items : List F.Item) (others : List G.Item) → AllZip Twins items others → Whole F items text → Whole G others other → n ≡ m
+  one_number items others twins whole over = surely_same n m (λ not. walk items others twins text other [] [] (walked_start F L K text) (walked_start G M J other) tt whole over not)
