@@ -16,7 +16,7 @@ use Rattle.map_jaeger.specs.Keys.{service_key}
 use Rattle.map_jaeger.specs.Laws.{IsHeld, BatchesReadBack, NormalForms, IsTimely, ReadIsNormal}
 use Rattle.map_jaeger.specs.Normal.{normal_span, normal_scoped, normal_resource, normal_group}
 use Rattle.map_jaeger.specs.Reading.{without, scoped_of, group_of}
-use Rattle.map_jaeger.specs.Remarks.{RepeatsOfSpan, AreRemarks, span_remarks, if_left}
+use Rattle.map_jaeger.specs.Remarks.{RepeatsOfSpan, AreRemarks, jspan_remarks, if_left}
 use Rattle.map_jaeger.specs.RunLaws.{scoped_runs}
 use Rattle.map_jaeger.specs.Runs.{Scoped, scoped, runs}
 use Rattle.map_jaeger.specs.TagValues.{tag_of}
@@ -67,12 +67,12 @@ module _ (unrepeated : NoneRepeated) where
       let known = All-head IsHeldSpan one more held in
       ((span_plain one known.sound known.proper known.no_fault unrepeated).0, repeats more (All-tail IsHeldSpan one more held))
 
-  quiet : (n : ℕ) (spans : List (Scoped Span)) → All IsHeldSpan spans → numbered span_remarks n (zip (map jaeger_span spans) (map no_repeats spans)) ≡ []
+  quiet : (n : ℕ) (spans : List (Scoped Span)) → All IsHeldSpan spans → numbered jspan_remarks n (zip (map jaeger_span spans) (map no_repeats spans)) ≡ []
   unfolding numbered
   quiet n [] held = refl
   quiet n (one ∷ more) held =
       let known = All-head IsHeldSpan one more held in
-      ap (λ l. l ++ numbered span_remarks (suc n) (zip (map jaeger_span more) (map no_repeats more))) ((span_plain one known.sound known.proper known.no_fault unrepeated).1 n)
+      ap (λ l. l ++ numbered jspan_remarks (suc n) (zip (map jaeger_span more) (map no_repeats more))) ((span_plain one known.sound known.proper known.no_fault unrepeated).1 n)
       ∙ quiet (suc n) more (All-tail IsHeldSpan one more held)
 
   batch_plainly : (group : Group) → IsHeld group → AreRemarks (batch_of group) []
@@ -85,7 +85,7 @@ module _ (unrepeated : NoneRepeated) where
         its_process = subst (AreRepeated []) (sym (map_back (without service_key group.resource))) (unrepeated (other_attributes group.resource) (others_rise group.resource up));
         spans = map no_repeats spans;
         its_spans = repeats spans known;
-        all = sym (ap (λ o. tags_dropped places.Resource (if_left service_key (is_some o)) ++ numbered span_remarks 1 (zip (map jaeger_span spans) (map no_repeats spans))) (process_none group.resource up)
+        all = sym (ap (λ o. tags_dropped places.Resource (if_left service_key (is_some o)) ++ numbered jspan_remarks 1 (zip (map jaeger_span spans) (map no_repeats spans))) (process_none group.resource up)
             ∙ quiet 1 spans known);
       }
 

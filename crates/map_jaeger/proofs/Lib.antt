@@ -14,11 +14,13 @@ pub mod SpanNormal
 pub mod SpanRead
 pub mod LeastRows
 pub mod LeftOut
+pub mod Moved
 pub mod Noted
 pub mod ReadLists
+pub mod ReadParts
 pub mod ReadRemarks
 pub mod RisingSpans
-pub mod RowsJoined
+pub mod PlacedRows
 pub mod RunsAtBack
 pub mod SoundGroups
 pub mod NoDoubles

@@ -24,9 +24,10 @@ use Rattle.map_jaeger.specs.Doubles.{scope_has_double, group_has_double}
 use Rattle.map_jaeger.specs.Keys.{error_key, dropped_attributes_key, dropped_events_key, dropped_links_key, library_name_key, library_version_key, scope_name_key, scope_version_key, code_key, description_key, kind_key, state_key, event_key, flags_key}
 use Rattle.map_jaeger.specs.LeastFault.{span_has_double, resource_has_double, if_so, end_fault, reserved_fault, own_fault, link_fault, double_fault, span_fault, resource_fault, first_fault, scopes_fault, fault_of, has_double_inside, doubles_inside}
 use Rattle.map_jaeger.specs.Reading.{without}
-use Rattle.map_jaeger.specs.Runs.{Scoped}
 use Rattle.map_jaeger.proofs.NoFault.{none_first, none_second}
-use Rattle.map_jaeger.specs.Writing.{columns_of, error_given, code_given, description_given, kind_given}
+use Rattle.map_jaeger.specs.WritingSoFar.{columns_held}
+use Rattle.map_jaeger.specs.declared.writing_columns.Held.{Held}
+use Rattle.map_jaeger.specs.Writing.{error_given, code_given, description_given, kind_given}
 
 -- ---- members of which none passes
 
@@ -158,24 +159,26 @@ from_error c = row error_key c.error ++ from_dropped_attributes c
 row_before : (key : List ℕ) (value : Option Value) (rest : Pairs) → RowsPlain key value → doubles_inside rest ≡ false → doubles_inside (row key value ++ rest) ≡ false
 row_before key value rest one more = joined has_double_inside (row key value) rest one more
 
-columns_plain : (one : Scoped Span) → doubles_inside (rows (columns_of one)) ≡ false
-columns_plain one =
-    let c = columns_of one in
-    row_before error_key c.error (from_dropped_attributes c) (error_plain error_key one.span.status.code)
-    (row_before dropped_attributes_key c.dropped_attributes (from_dropped_events c) (count_plain dropped_attributes_key one.span.dropped_attributes)
-    (row_before dropped_events_key c.dropped_events (from_dropped_links c) (count_plain dropped_events_key one.span.dropped_events)
-    (row_before dropped_links_key c.dropped_links (from_library_name c) (count_plain dropped_links_key one.span.dropped_links)
+columns_plain : (name version : List ℕ) (held : Held) → doubles_inside (rows (columns_held name version held)) ≡ false
+columns_plain name version held =
+    let c = columns_held name version held in
+    row_before error_key c.error (from_dropped_attributes c) (error_plain error_key held.status.code)
+    (row_before dropped_attributes_key c.dropped_attributes (from_dropped_events c) (count_plain dropped_attributes_key held.dropped_attributes)
+    (row_before dropped_events_key c.dropped_events (from_dropped_links c) (count_plain dropped_events_key held.dropped_events)
+    (row_before dropped_links_key c.dropped_links (from_library_name c) (count_plain dropped_links_key held.dropped_links)
     (row_before library_name_key c.library_name (from_library_version c) refl
     (row_before library_version_key c.library_version (from_scope_name c) refl
-    (row_before scope_name_key c.scope_name (from_scope_version c) (text_plain scope_name_key one.name)
-    (row_before scope_version_key c.scope_version (from_code c) (text_plain scope_version_key one.version)
-    (row_before code_key c.code (from_description c) (code_plain code_key one.span.status.code)
-    (row_before description_key c.description (from_kind c) (description_plain description_key one.span.status.code one.span.status.message)
-    (row_before kind_key c.kind (from_state c) (kind_plain kind_key one.span.kind)
-    (text_plain state_key one.span.state)))))))))))
+    (row_before scope_name_key c.scope_name (from_scope_version c) (text_plain scope_name_key name)
+    (row_before scope_version_key c.scope_version (from_code c) (text_plain scope_version_key version)
+    (row_before code_key c.code (from_description c) (code_plain code_key held.status.code)
+    (row_before description_key c.description (from_kind c) (description_plain description_key held.status.code held.status.message)
+    (row_before kind_key c.kind (from_state c) (kind_plain kind_key held.kind)
+    (text_plain state_key held.state)))))))))))
 
-pub span_pairs_plain : (one : Scoped Span) → doubles_inside one.span.attributes ≡ false → doubles_inside (rows (columns_of one) ++ without flags_key one.span.attributes) ≡ false
-span_pairs_plain one none = joined has_double_inside (rows (columns_of one)) (without flags_key one.span.attributes) (columns_plain one) (without_plain flags_key one.span.attributes none)
+pub span_pairs_plain : (name version : List ℕ) (held : Held) (attributes : Pairs) → doubles_inside attributes ≡ false
+    → doubles_inside (rows (columns_held name version held) ++ without flags_key attributes) ≡ false
+span_pairs_plain name version held attributes none = joined has_double_inside (rows (columns_held name version held)) (without flags_key attributes)
+    (columns_plain name version held) (without_plain flags_key attributes none)
 
 pub event_pairs_plain : (name : List ℕ) (attributes : Pairs) → doubles_inside attributes ≡ false → doubles_inside (row event_key (text_given name) ++ attributes) ≡ false
 event_pairs_plain name attributes none = joined has_double_inside (row event_key (text_given name)) attributes (text_plain event_key name) none

@@ -11,7 +11,8 @@ use Rattle.std.proofs.lemmas.Map.Entries.{All-lookup}
 use Rattle.std.proofs.lemmas.Str.{IsUtf8-nil, IsUtf8-from_ascii}
 use Rattle.std.proofs.lemmas.Str.Ascii.{IsAscii-from_all}
 use Rattle.trace_model.specs.Attributes.{attrs, at}
-use Rattle.trace_model.specs.Proper.{IsProperValue, IsProperPair, AreProper, IsProperParent, IsProperEvent, IsProperLink, IsProperSpan, IsProperScope, IsProperGroup}
+use Rattle.span_ids.specs.Proper.{IsProperParent}
+use Rattle.trace_model.specs.Proper.{IsProperValue, IsProperPair, AreProper, IsProperEvent, IsProperLink, IsProperSpan, IsProperScope, IsProperGroup}
 use Rattle.trace_model.specs.declared.span.Code.{Code}
 use Rattle.trace_model.specs.declared.span.Code.TheVariants as statuses
 use Rattle.trace_model.specs.declared.span.Event.{Event}
@@ -123,7 +124,7 @@ flags_fit span =
 
 -- ---- the batch
 
-parent_proper : (parent : Option ℕ) → IsProperParent parent → written.IsProperParent parent
+parent_proper : (parent : Option ℕ) → IsProperParent parent → IsProperParent parent
 parent_proper None h = tt
 parent_proper (Some id) h = h
 
@@ -131,7 +132,7 @@ references_proper : (links : List Link) → All IsProperLink links → All writt
 references_proper links all = All-map written.IsProperReference reference_of links (λ k d lt. record { trace = (all k d lt).trace; span = (all k d lt).span })
 
 module _ (utf8 : TextsAreUtf8) where
-  value_proper : (value : Value) → IsProperValue value → written.IsProperValue (tag_value value)
+  value_proper : (value : Value) → IsProperValue value → written.IsProperTagValue (tag_value value)
   value_proper (List' shape members) proper = utf8 (List' shape members) proper
   value_proper (Map' shape members) proper = utf8 (Map' shape members) proper
   value_proper Nothing proper = IsUtf8-nil
@@ -161,7 +162,7 @@ module _ (utf8 : TextsAreUtf8) where
         fields = tags_proper (attrs pairs) (all_attrs IsProperPair pairs (All-append IsProperPair (row event_key (text_given event.name)) event.attributes (row_proper event_key (word event_key (ascii event_key refl)) (text_given event.name) (text_held event.name h.name)) h.attributes));
       }
 
-  span_proper : (one : Scoped Span) → IsProperScoped one → written.IsProperSpan (jaeger_span one)
+  span_proper : (one : Scoped Span) → IsProperScoped one → written.IsProperJSpan (jaeger_span one)
   span_proper one h = record {
     trace = h.span.trace;
     id = h.span.id;
@@ -187,5 +188,5 @@ module _ (utf8 : TextsAreUtf8) where
       record {
         service = service_utf8 utf8 (at service_key group.resource) (All-lookup IsProperValue (bytes_eq service_key) group.resource (λ k d lt. (h.resource k d lt).value));
         tags = tags_proper (without service_key group.resource) (without_proper service_key group.resource h.resource);
-        spans = All-map written.IsProperSpan jaeger_span (scoped group.scopes) (λ k d lt. span_proper (get_or (scoped group.scopes) k d) (each k d lt));
+        spans = All-map written.IsProperJSpan jaeger_span (scoped group.scopes) (λ k d lt. span_proper (get_or (scoped group.scopes) k d) (each k d lt));
       }

@@ -8,7 +8,8 @@ use Rattle.std.proofs.lemmas.List.Elements.{All-nil, All-cons, All-head, All-tai
 use Rattle.std.proofs.lemmas.Map.Entries.{All-lookup}
 use Rattle.std.proofs.lemmas.Str.{IsUtf8-nil, IsUtf8-from_ascii}
 use Rattle.trace_model.specs.Attributes.{attrs, at}
-use Rattle.trace_model.specs.Proper.{IsProperValue, IsProperPair, AreProper, IsProperParent, IsProperEvent, IsProperLink, IsProperSpan, IsProperScope, IsProperGroup}
+use Rattle.span_ids.specs.Proper.{IsProperParent}
+use Rattle.trace_model.specs.Proper.{IsProperValue, IsProperPair, AreProper, IsProperEvent, IsProperLink, IsProperSpan, IsProperScope, IsProperGroup}
 use Rattle.trace_model.specs.declared.span.Code.{Code}
 use Rattle.trace_model.specs.declared.span.Code.TheVariants as statuses
 use Rattle.trace_model.specs.declared.span.Link.{Link}
@@ -26,7 +27,7 @@ use Rattle.jaeger_model.specs.declared.tag.TagValue.TheVariants as tags
 use Rattle.map_jaeger.specs.AttributeLaws.{all_attrs}
 use Rattle.map_jaeger.specs.Columns.{looked, row, text_in, at_most, decimal_in, count_in, text_given}
 use Rattle.map_jaeger.specs.Keys.{dropped_attributes_key, dropped_events_key, dropped_links_key, library_name_key, library_version_key, scope_name_key, scope_version_key, description_key, state_key, flags_key, service_key, event_key, reference_key, child_of_word}
-use Rattle.map_jaeger.specs.Reading.{attributes_of, without, message_by, name_in, flag_bits, high_flags, high_flags_of, is_free, event_of, link_of, is_own_parent, parent_of, names, scoped_of, span_attributes, resource_of, group_of}
+use Rattle.map_jaeger.specs.Reading.{attributes_of, without, message_by, name_in, flag_bits, high_flags, high_flags_of, is_free, event_of, link_of_reference, is_own_parent, parent_of, names, scoped_of, span_attributes, resource_of, group_of}
 use Rattle.map_jaeger.specs.Runs.{Scoped, in_front, is_of, plain_scope, runs}
 use Rattle.map_jaeger.specs.TagValues.{value_of, attribute_of}
 use Rattle.map_jaeger.proofs.GroupProper.{ascii}
@@ -34,7 +35,7 @@ use Rattle.map_jaeger.proofs.ProperBatches.{IsProperScoped, row_proper, word, te
 
 -- ---- tags
 
-value_proper : (value : TagValue) → written.IsProperValue value → IsProperValue (value_of value)
+value_proper : (value : TagValue) → written.IsProperTagValue value → IsProperValue (value_of value)
 value_proper (tags.Text text) proper = proper
 value_proper (tags.Eight double) proper = proper
 value_proper (tags.Truth truth) proper = tt
@@ -128,7 +129,7 @@ mark_proper : (child_of : Bool) → AreProper (if child_of then (reference_key, 
 mark_proper true = row_proper reference_key (word reference_key (ascii reference_key refl)) (Some (Text child_of_word)) (word child_of_word (ascii child_of_word refl))
 mark_proper false = All-nil IsProperPair
 
-link_proper : (reference : SpanRef) → written.IsProperReference reference → IsProperLink (link_of reference)
+link_proper : (reference : SpanRef) → written.IsProperReference reference → IsProperLink (link_of_reference reference)
 link_proper reference h =
     record { trace = h.trace; span = h.span; state = IsUtf8-nil; attributes = mark_proper reference.child_of; dropped = omega arith; flags = omega arith }
 
@@ -141,7 +142,7 @@ named_proper test (reference ∷ references) all = by (test reference) (named_pr
     by true others = (All-head written.IsProperReference reference references all).span
     by false others = others
 
-or_named : (parent : Option ℕ) (other : Option ℕ) → written.IsProperParent parent → IsProperParent other → IsProperParent (option_or parent other)
+or_named : (parent : Option ℕ) (other : Option ℕ) → IsProperParent parent → IsProperParent other → IsProperParent (option_or parent other)
 or_named None other held named = named
 or_named (Some id) other held named = held
 
@@ -150,7 +151,7 @@ message_proper statuses.Unset description held = IsUtf8-nil
 message_proper statuses.Okay description held = said description held
 message_proper statuses.Fail description held = said description held
 
-span_proper : (span : JSpan) → written.IsProperSpan span → IsProperSpan (scoped_of span).span
+span_proper : (span : JSpan) → written.IsProperJSpan span → IsProperSpan (scoped_of span).span
 span_proper span h =
     let attributes = attributes_of span.tags in
     let all : AreProper attributes = attributes_proper span.tags h.tags in
@@ -168,7 +169,7 @@ span_proper span h =
       dropped_attributes = count_proper (at dropped_attributes_key attributes);
       events = All-map IsProperEvent event_of span.logs (λ k d lt. event_proper (get_or span.logs k d) (h.logs k d lt));
       dropped_events = count_proper (at dropped_events_key attributes);
-      links = All-map IsProperLink link_of links (λ k d lt. link_proper (get_or links k d) (kept k d lt));
+      links = All-map IsProperLink link_of_reference links (λ k d lt. link_proper (get_or links k d) (kept k d lt));
       dropped_links = count_proper (at dropped_links_key attributes);
       status = record { message = message_proper (scoped_of span).span.status.code (at description_key attributes) (under description_key attributes all) };
       flags = omega arith;
@@ -177,7 +178,7 @@ span_proper span h =
 name_proper : (newer older : Option Value) → IfSome newer IsProperValue → IfSome older IsProperValue → IsUtf8 (name_in newer older)
 name_proper newer older a b = or_nothing (option_or (text_in newer) (text_in older)) (or_proper (text_in newer) (text_in older) (text_in_proper newer a) (text_in_proper older b))
 
-scoped_proper : (span : JSpan) → written.IsProperSpan span → IsProperScoped (scoped_of span)
+scoped_proper : (span : JSpan) → written.IsProperJSpan span → IsProperScoped (scoped_of span)
 scoped_proper span h =
     let attributes = attributes_of span.tags in
     let all : AreProper attributes = attributes_proper span.tags h.tags in
@@ -209,10 +210,10 @@ front_proper one [] its each = All-cons IsProperScope (plain_scope one.name one.
 front_proper one (scope ∷ scopes) its each =
     by_test one scope scopes (is_of one scope) its (All-head IsProperScope scope scopes each) (All-tail IsProperScope scope scopes each)
 
-scopes_proper : (spans : List JSpan) → All written.IsProperSpan spans → All IsProperScope (runs (map scoped_of spans))
+scopes_proper : (spans : List JSpan) → All written.IsProperJSpan spans → All IsProperScope (runs (map scoped_of spans))
 scopes_proper [] all = All-nil IsProperScope
 scopes_proper (span ∷ spans) all =
-    front_proper (scoped_of span) (runs (map scoped_of spans)) (scoped_proper span (All-head written.IsProperSpan span spans all)) (scopes_proper spans (All-tail written.IsProperSpan span spans all))
+    front_proper (scoped_of span) (runs (map scoped_of spans)) (scoped_proper span (All-head written.IsProperJSpan span spans all)) (scopes_proper spans (All-tail written.IsProperJSpan span spans all))
 
 -- ---- the group
 

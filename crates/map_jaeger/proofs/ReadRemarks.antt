@@ -12,7 +12,7 @@ use Rattle.map_jaeger.specs.Columns.{looked}
 use Rattle.map_jaeger.specs.Keys.{flags_key, service_key}
 use Rattle.map_jaeger.specs.Noted.{AddsNoted, AreNumbered}
 use Rattle.map_jaeger.specs.Reading.{attributes_of}
-use Rattle.map_jaeger.specs.Remarks.{AreRemarks, RepeatsOf, RepeatsOfSpan, if_left, left_out, log_remarks, span_remarks}
+use Rattle.map_jaeger.specs.Remarks.{AreRemarks, RepeatsOf, RepeatsOfSpan, if_left, left_out, log_remarks, jspan_remarks}
 use Rattle.map_jaeger.specs.TagValues.{attribute_of}
 
 pub if_there : {T E P : Type 0} (r : Result T E) → P → OnOk r P
@@ -30,7 +30,7 @@ pub span_noted : (n : ℕ) (span : JSpan) (tags : List (List ℕ × Value)) (key
     → first ≡ found ++ equal_keys (places.Span n) keys
     → second ≡ first ++ link_dropped (places.Span n) (nat_lt 0 span.invalid_refs)
     → third ≡ second ++ tags_dropped (places.Span n) (left_out (looked tags) (at flags_key tags))
-    → all ≡ third ++ events → AddsNoted RepeatsOfSpan span_remarks n span found all
+    → all ≡ third ++ events → AddsNoted RepeatsOfSpan jspan_remarks n span found all
 span_noted n span tags keys found first second third all events same repeated logs e1 e2 e3 e4 =
     let left : third ≡ second ++ tags_dropped (places.Span n) (left_out (looked (attributes_of span.tags)) (at flags_key (attributes_of span.tags))) =
     e3 ∙ ap (λ t. second ++ tags_dropped (places.Span n) (left_out (looked t) (at flags_key t))) same in
@@ -43,7 +43,7 @@ span_noted n span tags keys found first second third all events same repeated lo
     }
 
 pub batch_noted : (batch : Batch) (tags : List (List ℕ × Value)) (keys : Keys) (none first second all spans : List Remark)
-    → tags ≡ attributes_of batch.tags → AreRepeated keys (map attribute_of batch.tags) → AreNumbered RepeatsOfSpan span_remarks 1 batch.spans spans
+    → tags ≡ attributes_of batch.tags → AreRepeated keys (map attribute_of batch.tags) → AreNumbered RepeatsOfSpan jspan_remarks 1 batch.spans spans
     → none ≡ [] → first ≡ none ++ equal_keys places.Resource keys
     → second ≡ first ++ tags_dropped places.Resource (if_left service_key (is_some (at service_key tags)))
     → all ≡ second ++ spans → AreRemarks batch all

@@ -18,7 +18,7 @@ use Rattle.trace_model.specs.declared.value.Value.{Value, Text}
 use Rattle.map_jaeger.specs.AttributeLaws.{attrs_rise, all_attrs, filter_rise}
 use Rattle.map_jaeger.specs.Columns.{row, text_given}
 use Rattle.map_jaeger.specs.Keys.{flags_key, service_key, event_key, reference_key, child_of_word}
-use Rattle.map_jaeger.specs.Reading.{attributes_of, without, event_of, flag_bits, high_flags_of, is_free, is_own_parent, link_of, names, parent_of, resource_of, scoped_of, span_attributes}
+use Rattle.map_jaeger.specs.Reading.{attributes_of, without, event_of, flag_bits, high_flags_of, is_free, is_own_parent, link_of_reference, names, parent_of, resource_of, scoped_of, span_attributes}
 use Rattle.map_jaeger.specs.Runs.{Scoped, in_front, is_of, plain_scope, runs}
 use Rattle.map_jaeger.specs.TagValues.{attribute_of, value_of}
 
@@ -90,10 +90,10 @@ mark_sound : (child_of : Bool) → AreSound (if child_of then (reference_key, Te
 mark_sound true = one_sound reference_key child_of_word
 mark_sound false = none_sound
 
-links_sound : (references : List SpanRef) → All IsSoundLink (map link_of references)
+links_sound : (references : List SpanRef) → All IsSoundLink (map link_of_reference references)
 links_sound [] = All-nil IsSoundLink
 links_sound (reference ∷ references) =
-    All-cons IsSoundLink (link_of reference) (map link_of references) (mark_sound reference.child_of) (links_sound references)
+    All-cons IsSoundLink (link_of_reference reference) (map link_of_reference references) (mark_sound reference.child_of) (links_sound references)
 
 span_sound : (span : JSpan) → IsSoundSpan (scoped_of span).span
 span_sound span = record {

@@ -20,8 +20,8 @@ use Rattle.map_jaeger.specs.Columns.{row, rows, looked, flags_in, text_in}
 use Rattle.map_jaeger.specs.Faults.{in_span, in_event, IsSpanFault, IsOwnParent}
 use Rattle.map_jaeger.specs.Keys.{is_reserved, flags_key, event_key, error_key, dropped_attributes_key, dropped_events_key, dropped_links_key, library_name_key, library_version_key, scope_name_key, scope_version_key, code_key, description_key, kind_key, state_key}
 use Rattle.map_jaeger.specs.Normal.{normal_scoped, normal_event, normal_link, normal_attributes}
-use Rattle.map_jaeger.specs.Reading.{attributes_of, without, high_flags, high_flags_of, is_free, span_attributes, is_own_parent, parent_of, names, event_of, link_of, links_of, scoped_by, scoped_of}
-use Rattle.map_jaeger.specs.Remarks.{is_idle, left_out, if_left, log_remarks, span_remarks, SpanKeys, RepeatsOf, RepeatsOfSpan}
+use Rattle.map_jaeger.specs.Reading.{attributes_of, without, high_flags, high_flags_of, is_free, span_attributes, is_own_parent, parent_of, names, event_of, link_of_reference, links_of, scoped_by, scoped_of}
+use Rattle.map_jaeger.specs.Remarks.{is_idle, left_out, if_left, log_remarks, jspan_remarks, SpanKeys, RepeatsOf, RepeatsOfSpan}
 use Rattle.map_jaeger.specs.Runs.{Scoped}
 use Rattle.map_jaeger.specs.TagValues.{attribute_of, normal_value}
 use Rattle.map_jaeger.specs.Writing.{columns_of, flags_of, log_of, reference_of, jaeger_span}
@@ -200,11 +200,11 @@ module _ (one : Scoped Span) (sound : IsSoundSpan one.span) (proper : IsProperSp
 
   links_back : links_of (jaeger_span one) ≡ map normal_link one.span.links
   links_back =
-      ap (λ parent. map link_of (filter (λ reference. not (is_own_parent one.span.trace reference && names parent reference.span)) (map reference_of one.span.links))) parent_back
-      ∙ ap (map link_of) (filter_each (λ reference. not (is_own_parent one.span.trace reference && names one.span.parent reference.span)) (map reference_of one.span.links)
+      ap (λ parent. map link_of_reference (filter (λ reference. not (is_own_parent one.span.trace reference && names parent reference.span)) (map reference_of one.span.links))) parent_back
+      ∙ ap (map link_of_reference) (filter_each (λ reference. not (is_own_parent one.span.trace reference && names one.span.parent reference.span)) (map reference_of one.span.links)
       (All-map (λ reference. not (is_own_parent one.span.trace reference && names one.span.parent reference.span) ≡ true) reference_of one.span.links
       (λ k d lt. kept_link one.span (get_or one.span.links k d) (links_free k d lt))))
-      ∙ back_each link_of reference_of normal_link one.span.links (λ k d lt. link_back (get_or one.span.links k d))
+      ∙ back_each link_of_reference reference_of normal_link one.span.links (λ k d lt. link_back (get_or one.span.links k d))
 
   -- ---- the span
 
@@ -269,11 +269,11 @@ module _ (one : Scoped Span) (sound : IsSoundSpan one.span) (proper : IsProperSp
     repeats : RepeatsOfSpan (jaeger_span one) (no_repeats one)
     repeats = record { tags = tags_once; logs = logs_once unrepeated one.span.events }
 
-    quiet : (n : ℕ) → span_remarks n (jaeger_span one, no_repeats one) ≡ []
+    quiet : (n : ℕ) → jspan_remarks n (jaeger_span one, no_repeats one) ≡ []
     quiet n = λ i. tags_dropped (places.Span n) (none_left_out i)
         ++ log_quiet n 1 one.span.events
         (λ k d lt. event_told (get_or one.span.events k d) (sound.events k d lt).rising (event_absent (get_or one.span.events k d) (events_free k d lt))) i
 
     -- no key of a span that was written is repeated, and there is no remark on it
-    pub span_plain : RepeatsOfSpan (jaeger_span one) (no_repeats one) × ((n : ℕ) → span_remarks n (jaeger_span one, no_repeats one) ≡ [])
+    pub span_plain : RepeatsOfSpan (jaeger_span one) (no_repeats one) × ((n : ℕ) → jspan_remarks n (jaeger_span one, no_repeats one) ≡ [])
     span_plain = (repeats, quiet)

@@ -19,7 +19,7 @@ use Rattle.map_jaeger.specs.Columns.{row, text_in, text_given, count_given}
 use Rattle.map_jaeger.specs.Faults.{IsOwnParent}
 use Rattle.map_jaeger.specs.Keys.{event_key, reference_key}
 use Rattle.map_jaeger.specs.Normal.{normal_kind, normal_status, normal_event, normal_link, normal_attributes}
-use Rattle.map_jaeger.specs.Reading.{attributes_of, without, kind_in, code_in, error_in, message_by, name_in, event_of, link_of, names}
+use Rattle.map_jaeger.specs.Reading.{attributes_of, without, kind_in, code_in, error_in, message_by, name_in, event_of, link_of_reference, names}
 use Rattle.map_jaeger.specs.Remarks.{is_idle, is_idle_error, is_idle_description, if_left}
 use Rattle.map_jaeger.specs.Runs.{Scoped}
 use Rattle.map_jaeger.specs.TagValues.{normal_value}
@@ -246,5 +246,5 @@ module _ (span : Span) (link : Link) (never : IsOwnParent span link → ⊥) whe
   pub kept_link : not ((marked && (link.trace == span.trace)) && names span.parent link.span) ≡ true
   kept_link = ap not (never_by span.parent refl)
 
-pub link_back : (link : Link) → link_of (reference_of link) ≡ normal_link link
+pub link_back : (link : Link) → link_of_reference (reference_of link) ≡ normal_link link
 link_back link = refl

@@ -21,7 +21,7 @@ use Rattle.map_jaeger.specs.Faults.{HasReserved, in_span, in_event, IsOwnParent,
 use Rattle.map_jaeger.specs.Keys.{is_reserved, flags_key, event_key}
 use Rattle.map_jaeger.specs.Laws.{IsTimely}
 use Rattle.map_jaeger.specs.Normal.{normal_attributes, normal_kind, normal_status, normal_event, normal_link, normal_span}
-use Rattle.map_jaeger.specs.Reading.{attributes_of, without, kind_named, kind_in, code_of, message_by, flag_bits, high_flags, high_flags_of, is_free, span_attributes, event_of, link_of, is_own_parent, parent_of, names, scoped_of}
+use Rattle.map_jaeger.specs.Reading.{attributes_of, without, kind_named, kind_in, status_of_columns, message_by, flag_bits, high_flags, high_flags_of, is_free, span_attributes, event_of, link_of_reference, is_own_parent, parent_of, names, scoped_of}
 use Rattle.map_jaeger.specs.TagValues.{attribute_of}
 use Rattle.map_jaeger.proofs.ColumnLemmas.{last_at-row}
 use Rattle.map_jaeger.proofs.FlagLemmas.{read_formed}
@@ -155,7 +155,7 @@ module _ (span : JSpan) where
       (mapped_none (λ reference. reference.span) (find is_own span.references)
       (second_none span.parent (option_map (λ reference. reference.span) (find is_own span.references)) e)))
 
-  own_of : (reference : SpanRef) → IsOwnParent (scoped_of span).span (link_of reference) → is_own reference ≡ true
+  own_of : (reference : SpanRef) → IsOwnParent (scoped_of span).span (link_of_reference reference) → is_own reference ≡ true
   own_of reference is =
       let child : reference.child_of ≡ true = sym (mark_back reference.child_of) ∙ is.0 in
       let trace : (reference.trace == span.trace) ≡ true = eq-eqb reference.trace span.trace is.1 in
@@ -166,14 +166,14 @@ module _ (span : JSpan) where
       let named : names (parent_of span) reference.span ≡ true = ap (λ o. names o reference.span) parent ∙ eq-eqb reference.span reference.span refl in
       λ i. not (own i && named i)
 
-  never_parent : All (λ reference. IsOwnParent (scoped_of span).span (link_of reference) → ⊥) others
+  never_parent : All (λ reference. IsOwnParent (scoped_of span).span (link_of_reference reference) → ⊥) others
   never_parent k d lt is = ⊎_elim
       (λ (none : parent_of span ≡ None). true≢false (sym (own_of (get_or others k d) is) ∙ root none k d lt))
       (λ (some : parent_of span ≡ Some (get_or others k d).span).
       true≢false (sym (filter_passes stays span.references k d lt) ∙ goes (get_or others k d) (own_of (get_or others k d) is) some))
       is.2
 
-  link_read : (reference : SpanRef) → normal_link (link_of reference) ≡ link_of reference
+  link_read : (reference : SpanRef) → normal_link (link_of_reference reference) ≡ link_of_reference reference
   link_read reference = λ i. record { trace = reference.trace; span = reference.span; state = []; attributes = mark (mark_back reference.child_of i); dropped = 0; flags = 0 }
 
   -- ---- faults
@@ -191,8 +191,8 @@ module _ (span : JSpan) where
     read_no_fault (Reserved key) has = read_reserved key has
     read_no_fault (OwnKey key) has = read_formed span.flags (ap is_some (sym own_at) ∙ some_of_key flags_key attributes has.1) (ap flags_in (sym own_at) ∙ has.2)
     read_no_fault EventText has = has
-    read_no_fault ChildOfLink any = no_any (IsOwnParent (scoped_of span).span) (map link_of others)
-        (All-map (λ link. IsOwnParent (scoped_of span).span link → ⊥) link_of others never_parent) any
+    read_no_fault ChildOfLink any = no_any (IsOwnParent (scoped_of span).span) (map link_of_reference others)
+        (All-map (λ link. IsOwnParent (scoped_of span).span link → ⊥) link_of_reference others never_parent) any
     read_no_fault DoubleInText has = ⊎_elim
         (λ (inside : HasDouble attributes). leaves_plain attributes attributes_leaves inside)
         (λ (any : Any (λ event. HasDouble event.attributes) (map event_of span.logs)). no_any (λ event. HasDouble event.attributes) (map event_of span.logs)
@@ -208,8 +208,8 @@ module _ (span : JSpan) where
         let same : normal_attributes attributes ≡ attributes = leaves_normal attributes attributes_leaves in
         let events : map normal_event (map event_of span.logs) ≡ map event_of span.logs =
         back_each normal_event event_of event_of span.logs (λ k d lt. event_read (get_or span.logs k d) (timely.logs k d lt)) in
-        let links : map normal_link (map link_of others) ≡ map link_of others =
-        back_each normal_link link_of link_of others (λ k d lt. link_read (get_or others k d)) in
+        let links : map normal_link (map link_of_reference others) ≡ map link_of_reference others =
+        back_each normal_link link_of_reference link_of_reference others (λ k d lt. link_read (get_or others k d)) in
         λ i. record ((scoped_of span).span) {
           kind = kind_read (looked tags).kind i;
           start = sym timely.start i;
@@ -217,6 +217,6 @@ module _ (span : JSpan) where
           attributes = same i;
           events = events i;
           links = links i;
-          status = record { code = code_of (looked tags); message = message_read (code_of (looked tags)) (looked tags).description i };
+          status = record { code = status_of_columns (looked tags); message = message_read (status_of_columns (looked tags)) (looked tags).description i };
           flags = bit_twice (flag_bits span.flags) i;
         }

@@ -63,7 +63,7 @@ all_keys : (P Q : List ℕ → Type 0) → ((k : List ℕ) → P k → Q k) → 
 all_keys P Q each [] all = tt
 all_keys P Q each (k ∷ ks) all = (each k all.0, all_keys P Q each ks all.1)
 
-below_all : (k q : List ℕ) (qs : List (List ℕ)) → cmp k q ≡ Less → AllByRecursion (λ x. cmp q x ≡ Less) qs → AllByRecursion (λ x. cmp k x ≡ Less) qs
+pub below_all : (k q : List ℕ) (qs : List (List ℕ)) → cmp k q ≡ Less → AllByRecursion (λ x. cmp q x ≡ Less) qs → AllByRecursion (λ x. cmp k x ≡ Less) qs
 below_all k q qs e = all_keys (λ x. cmp q x ≡ Less) (λ x. cmp k x ≡ Less) (λ x. nat_list_cmp_total.trans k q x e) qs
 
 module _ {V : Type 0} where

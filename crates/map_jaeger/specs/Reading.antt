@@ -63,8 +63,8 @@ error_in (Some (Text text)) = truth_named text
 error_in other = None
 
 -- `error` decides where there is no code
-abbrev pub code_of : Columns → Code
-code_of c = unwrap_or (code_in c.code) (if unwrap_or (error_in c.error) false then statuses.Fail else statuses.Unset)
+abbrev pub status_of_columns : Columns → Code
+status_of_columns c = unwrap_or (code_in c.code) (if unwrap_or (error_in c.error) false then statuses.Fail else statuses.Unset)
 
 -- an unset status has no description
 abbrev pub message_by : Code → Option Value → List ℕ
@@ -105,8 +105,8 @@ event_of log = record {
   dropped = 0;
 }
 
-abbrev pub link_of : SpanRef → Link
-link_of reference = record {
+abbrev pub link_of_reference : SpanRef → Link
+link_of_reference reference = record {
   trace = reference.trace;
   span = reference.span;
   state = [];
@@ -129,7 +129,7 @@ names (Some parent) id = parent == id
 
 -- every reference but those that name the parent
 abbrev pub links_but : ℕ → Option ℕ → List SpanRef → List Link
-links_but trace parent references = map link_of (filter (λ reference. not (is_own_parent trace reference && names parent reference.span)) references)
+links_but trace parent references = map link_of_reference (filter (λ reference. not (is_own_parent trace reference && names parent reference.span)) references)
 
 abbrev pub links_of : JSpan → List Link
 links_of span = links_but span.trace (parent_of span) span.references
@@ -152,7 +152,7 @@ span_by span c tags = record {
   dropped_events = unwrap_or (count_in c.dropped_events) 0;
   links = links_of span;
   dropped_links = unwrap_or (count_in c.dropped_links) 0;
-  status = record { code = code_of c; message = message_by (code_of c) c.description };
+  status = record { code = status_of_columns c; message = message_by (status_of_columns c) c.description };
   flags = flag_bits span.flags % 2;
 }
 

@@ -15,7 +15,7 @@ use Rattle.trace_model.specs.declared.span.Code.TheVariants as statuses
 use Rattle.trace_model.specs.declared.value.Value.{Value}
 use Rattle.map_jaeger.specs.Columns.{Columns, looked, text_in, count_in}
 use Rattle.map_jaeger.specs.Keys.{error_key, dropped_attributes_key, dropped_events_key, dropped_links_key, library_name_key, library_version_key, scope_name_key, scope_version_key, code_key, description_key, kind_key, state_key, flags_key, service_key, event_key}
-use Rattle.map_jaeger.specs.Reading.{attributes_of, kind_in, code_in, error_in, code_of}
+use Rattle.map_jaeger.specs.Reading.{attributes_of, kind_in, code_in, error_in, status_of_columns}
 use Rattle.map_jaeger.specs.TagValues.{attribute_of}
 
 -- ---- tags that are left out
@@ -52,7 +52,7 @@ if_left key left = if left then key ∷ [] else []
 -- of a span, by its columns and what stands under the key of Jaeger's own, in the order of their keys
 abbrev pub last_left_out : Columns → Keys
 last_left_out c = if_left code_key (is_idle c.code (code_in c.code))
-    ++ (if_left description_key (is_idle_description c.description (code_of c))
+    ++ (if_left description_key (is_idle_description c.description (status_of_columns c))
     ++ (if_left kind_key (is_idle c.kind (kind_in c.kind))
     ++ if_left state_key (is_idle c.state (text_in c.state))))
 
@@ -87,8 +87,8 @@ pub record SpanKeys : Type 0 where
   pub span : Keys
   pub logs : List Keys
 
-abbrev pub span_remarks : ℕ → JSpan × SpanKeys → List Remark
-span_remarks n noted =
+abbrev pub jspan_remarks : ℕ → JSpan × SpanKeys → List Remark
+jspan_remarks n noted =
     equal_keys (places.Span n) noted.1.span
     ++ (link_dropped (places.Span n) (nat_lt 0 noted.0.invalid_refs)
     ++ (tags_dropped (places.Span n) (left_out (looked (attributes_of noted.0.tags)) (at flags_key (attributes_of noted.0.tags)))
@@ -108,4 +108,4 @@ pub record AreRemarks (batch : Batch) (remarks : List Remark) : Type 0 where
   pub its_spans : AllZip RepeatsOfSpan batch.spans spans
   pub all : remarks ≡ equal_keys places.Resource process
       ++ (tags_dropped places.Resource (if_left service_key (is_some (at service_key (attributes_of batch.tags))))
-      ++ numbered span_remarks 1 (zip batch.spans spans))
+      ++ numbered jspan_remarks 1 (zip batch.spans spans))

@@ -1,18 +1,48 @@
 -- Parts of the batch of a group, as its writer comes by them.
-use Rattle.std.specs.Prelude.{ℕ, List, ◌++◌}
+use Rattle.std.specs.Prelude.{◌≡◌, ◌≤◌, ℕ, List, ◌∷◌, ◌++◌, map, length, take, drop, Option, Some, None}
+use Rattle.jaeger_model.specs.declared.tag.Tag.{Tag}
+use Rattle.trace_model.specs.Attributes.{attrs, placed}
 use Rattle.trace_model.specs.declared.span.Span.{Span}
-use Rattle.trace_model.specs.declared.trace.Scope.{Scope}
 use Rattle.trace_model.specs.declared.value.Value.{Value}
-use Rattle.map_jaeger.specs.Columns.{row, count_given}
-use Rattle.map_jaeger.specs.Keys.{dropped_attributes_key, dropped_events_key, dropped_links_key}
+use Rattle.map_jaeger.specs.Columns.{Columns, row, rows, text_given, count_given}
+use Rattle.map_jaeger.specs.Keys.{event_key, flags_key}
+use Rattle.map_jaeger.specs.Reading.{without}
 use Rattle.map_jaeger.specs.Runs.{Scoped}
+use Rattle.map_jaeger.specs.TagValues.{tag_of}
+use Rattle.map_jaeger.specs.Writing.{error_given, code_given, description_given, kind_given}
+use Rattle.map_jaeger.specs.declared.writing_columns.Held.{Held}
 
--- a span under the name and version of its scope
-abbrev pub in_scope : Scope → Span → Scoped Span
-in_scope scope span = record { name = scope.name; version = scope.version; span = span }
+-- a span under the name and version of a scope
+abbrev pub under : List ℕ → List ℕ → Span → Scoped Span
+under name version span = record { name = name; version = version; span = span }
 
--- the tags of what was dropped of a span
-abbrev pub count_rows : Span → List (List ℕ × Value)
-count_rows span = row dropped_attributes_key (count_given span.dropped_attributes)
-    ++ (row dropped_events_key (count_given span.dropped_events)
-    ++ row dropped_links_key (count_given span.dropped_links))
+-- the columns, by what a span holds of them
+abbrev pub columns_held : List ℕ → List ℕ → Held → Columns
+columns_held name version held = record {
+  error = error_given held.status.code;
+  dropped_attributes = count_given held.dropped_attributes;
+  dropped_events = count_given held.dropped_events;
+  dropped_links = count_given held.dropped_links;
+  library_name = None;
+  library_version = None;
+  scope_name = text_given name;
+  scope_version = text_given version;
+  code = code_given held.status.code;
+  description = description_given held.status.code held.status.message;
+  kind = kind_given held.kind;
+  state = text_given held.state;
+}
+
+-- the tags of a span that holds these columns and has these attributes
+abbrev pub tags_held : List ℕ → List ℕ → Held → List (List ℕ × Value) → List Tag
+tags_held name version held attributes = map tag_of (attrs (rows (columns_held name version held) ++ without flags_key attributes))
+
+-- the fields of the log of an event that has this name and these attributes
+abbrev pub fields_held : List ℕ → List (List ℕ × Value) → List Tag
+fields_held name attributes = map tag_of (attrs (row event_key (text_given name) ++ attributes))
+
+-- where a pair of the key is put in among rising ones; nowhere, where one has the key
+abbrev pub IsPlaceOf : List ℕ → List (List ℕ × Value) → Option ℕ → Type 0
+IsPlaceOf key pairs None = (value : Value) → placed (key, value) pairs ≡ pairs
+IsPlaceOf key pairs (Some i) =
+    (i ≤ length pairs) × ((value : Value) → placed (key, value) pairs ≡ take i pairs ++ (key, value) ∷ drop i pairs)

@@ -13,3 +13,6 @@ mod writing_flags;
 
 pub use reading::group_of_batch;
 pub use writing::batch_of_group;
+
+#[cfg(test)]
+mod tests;

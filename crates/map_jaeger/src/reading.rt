@@ -26,13 +26,13 @@ use trace_model::{Group, Place, Remark, remark_all, remark_keys};
 /// The group that a batch means (OpenTelemetry exporter page for Jaeger, read backwards), and the
 /// remarks on it. A batch of so many spans or logs that their numbers take more than 32 bits is
 /// answered as want of memory.
-pub fn group_of_batch(alloc: Global, batch: &Batch) -> Result<(Group, Items<Remark>), OutOfMemory>
-    ensures value { IfOk result (λ parts. parts.0 ≡ group_of batch.now) }
-    ensures remarks { IfOk result (λ parts. AreRemarks batch.now parts.1) }
+pub fn group_of_batch(alloc: Global, batch: Batch) -> Result<(Group, Items<Remark>), OutOfMemory>
+    ensures value { IfOk result (λ parts. parts.0 ≡ group_of batch) }
+    ensures remarks { IfOk result (λ parts. AreRemarks batch parts.1) }
     ensures sound { IfOk result (λ parts. IsSoundGroup parts.0) }
 {
-    let (tags, keys) = attributes_of(alloc, &batch.tags)?;
-    let read = scopes_of(alloc, &batch.spans)?;
+    let (tags, keys) = attributes_of(alloc, batch.tags)?;
+    let read = scopes_of(alloc, batch.spans)?;
     let mut remarks = Items::new(alloc);
     remark_keys(&mut remarks, Place::Resource, keys)?;
     let key = "service.name";
@@ -44,7 +44,7 @@ pub fn group_of_batch(alloc: Global, batch: &Batch) -> Result<(Group, Items<Rema
         is_there(&tags, key),
     )?;
     remark_all(&mut remarks, read.remarks)?;
-    let resource = process_attributes(alloc, &batch.service, tags)?;
+    let resource = process_attributes(alloc, batch.service, tags)?;
     let group = Group {
         resource,
         dropped: 0,

@@ -1,10 +1,9 @@
 //! The batch of a group in which nothing is a fault.
-ghost use Rattle.std.specs.Prelude.{◌≡◌, [], ◌∷◌, ◌++◌, map, option_map, false, All, IfOk, OnOk};
+ghost use Rattle.std.specs.Prelude.{◌≡◌, ◌++◌, map, option_map, false, All, IfOk, OnOk};
 ghost use Rattle.std.specs.List.{list_any};
-ghost use Rattle.trace_model.specs.Attributes.{attrs, at};
+ghost use Rattle.trace_model.specs.Attributes.{Rise, keys as keys_of};
 ghost use Rattle.trace_model.specs.ValueTexts as texts;
-ghost use Rattle.trace_model.specs.Soundness.{IsSoundGroup};
-ghost use Rattle.map_jaeger.specs.Columns as columns;
+ghost use Rattle.trace_model.specs.Soundness.{IsSoundEvent, IsSoundGroup, IsSoundScope, IsSoundSpan};
 ghost use Rattle.map_jaeger.specs.Doubles.{event_has_double, group_has_double, scope_has_double};
 ghost use Rattle.map_jaeger.specs.Keys as keys;
 ghost use Rattle.map_jaeger.specs.Laws.{IsTimely};
@@ -14,18 +13,16 @@ ghost use Rattle.map_jaeger.specs.Reading.{without};
 ghost use Rattle.map_jaeger.specs.Runs.{scoped, spans_of};
 ghost use Rattle.map_jaeger.specs.TagValues as values;
 ghost use Rattle.map_jaeger.specs.Writing as told;
-ghost use Rattle.map_jaeger.specs.WritingSoFar.{in_scope};
+ghost use Rattle.map_jaeger.specs.WritingSoFar.{fields_held, tags_held, under};
 
 use crate::faults::fault_of_group;
-use crate::rows::{add_row, text_given};
-use crate::writing_columns::rows_of;
+use crate::rows::{add_others, put_row, text_given};
+use crate::writing_columns::{Held, put_columns};
 use crate::writing_flags::flags_of;
 use jaeger_model::{Batch, JSpan, Log, SpanRef, Tag, TagValue};
 use span_io::{Halt, Items, OutOfMemory, Text};
 use std::alloc::Global;
-use trace_model::{
-    Attrs, Event, Fault, Group, Link, Scope, Span, Value, attrs_of, find, value_text,
-};
+use trace_model::{Attrs, Event, Fault, Group, Link, Scope, Span, Value, find, value_text};
 
 // The text of a value in which no double stands.
 fn text_told(alloc: Global, value: &Value) -> Result<Text, OutOfMemory>
@@ -59,12 +56,12 @@ fn tag_value(alloc: Global, value: Value) -> Result<TagValue, OutOfMemory>
 }
 
 // The tags of pairs, in their order.
-fn tags_in_order(alloc: Global, pairs: Attrs) -> Result<Items<Tag>, OutOfMemory>
-    requires { least.doubles_inside pairs ≡ false }
-    ensures { IfOk result (λ tags. tags ≡ map values.tag_of pairs) }
+fn tags_in_order(alloc: Global, pairs: Vec<(Text, Value)>) -> Result<Items<Tag>, OutOfMemory>
+    requires { least.doubles_inside pairs.items ≡ false }
+    ensures { IfOk result (λ tags. tags ≡ map values.tag_of pairs.items) }
 {
-    let mut tags = Items::new(alloc);
-    'pairs: for pair in pairs.into_vec() {
+    let mut tags = Items::with_room(alloc, pairs.len())?;
+    'pairs: for pair in pairs {
         let (key, value) = pair;
         let value = tag_value(alloc, value)?;
         tags.push(Tag { key, value })?;
@@ -72,85 +69,74 @@ fn tags_in_order(alloc: Global, pairs: Attrs) -> Result<Items<Tag>, OutOfMemory>
     Ok(tags)
 }
 
-// The tags of pairs, by rising keys.
-fn tags_by_keys(alloc: Global, pairs: Attrs) -> Result<Items<Tag>, OutOfMemory>
-    requires { least.doubles_inside pairs ≡ false }
-    ensures { IfOk result (λ tags. tags ≡ map values.tag_of (attrs pairs)) }
+// The attributes under other keys than this one.
+#[tactic(auto, using(crate::proofs::GroupResource::without_absent))]
+fn attributes_but(alloc: Global, key: &str, attributes: Attrs) -> Result<Attrs, OutOfMemory>
+    requires { Rise (keys_of attributes) }
+    ensures { IfOk result (λ others. others ≡ without key.now attributes) }
 {
-    let (pairs, _) = attrs_of(alloc, pairs)?;
+    match find(&attributes, key) {
+        None => Ok(attributes),
+        Some(_) => others_of(alloc, key, attributes),
+    }
+}
+
+fn others_of(alloc: Global, key: &str, attributes: Attrs) -> Result<Attrs, OutOfMemory>
+    ensures { IfOk result (λ others. others ≡ without key.now attributes) }
+{
+    let mut others = Items::new(alloc);
+    add_others(&mut others, key, attributes)?;
+    Ok(others)
+}
+
+// The tags of a span that has these attributes, under the name and version of its scope.
+fn tags_of_span(
+    alloc: Global,
+    name: &Text,
+    version: &Text,
+    held: Held,
+    attributes: Attrs,
+) -> Result<Items<Tag>, OutOfMemory>
+    requires plain { least.doubles_inside attributes ≡ false }
+    requires rising { Rise (keys_of attributes) }
+    ensures { IfOk result (λ tags. tags ≡ tags_held name.now version.now held attributes) }
+{
+    let mut pairs = attributes_but(alloc, "jaeger.flags", attributes)?.into_vec();
+    put_columns(alloc, &mut pairs, name, version, held)?;
     tags_in_order(alloc, pairs)
-}
-
-// Adds copies of attributes.
-fn push_all(alloc: Global, pairs: &mut Attrs, attributes: &Attrs) -> Result<(), OutOfMemory>
-    ensures { OnOk result (pairs.new ≡ pairs.old ++ attributes.now) }
-{
-    'attributes: for pair in attributes.as_slice() {
-        pairs.push((pair.0.copy()?, pair.1.copy(alloc)?))?;
-    }
-    Ok(())
-}
-
-// Adds a copy of an attribute, unless its key is this one.
-fn push_unless(
-    alloc: Global,
-    pairs: &mut Attrs,
-    key: &str,
-    pair: &(Text, Value),
-) -> Result<(), OutOfMemory>
-    ensures { OnOk result (pairs.new ≡ pairs.old ++ without key.now (pair.now ∷ [])) }
-{
-    if key == pair.0.as_str() {
-        return Ok(());
-    }
-    pairs.push((pair.0.copy()?, pair.1.copy(alloc)?))
-}
-
-// Adds copies of the attributes under other keys than this one.
-fn push_without(
-    alloc: Global,
-    pairs: &mut Attrs,
-    key: &str,
-    attributes: &Attrs,
-) -> Result<(), OutOfMemory>
-    ensures { OnOk result (pairs.new ≡ pairs.old ++ without key.now attributes.now) }
-{
-    'attributes: for pair in attributes.as_slice() {
-        push_unless(alloc, pairs, key, pair)?;
-    }
-    Ok(())
-}
-
-fn tags_of_span(alloc: Global, scope: &Scope, span: &Span) -> Result<Items<Tag>, OutOfMemory>
-    requires { least.doubles_inside span.now.attributes ≡ false }
-    ensures { IfOk result (λ tags. tags ≡ told.tags_of (in_scope scope.now span.now)) }
-{
-    let mut pairs = rows_of(alloc, scope, span)?;
-    push_without(alloc, &mut pairs, "jaeger.flags", &span.attributes)?;
-    tags_by_keys(alloc, pairs)
 }
 
 // ---- logs
 
-fn log_of(alloc: Global, event: &Event) -> Result<Log, OutOfMemory>
-    requires { event_has_double event.now ≡ false }
-    ensures { IfOk result (λ log. log ≡ told.log_of event.now) }
+// The fields of the log of an event of this name that has these attributes.
+fn fields_of(alloc: Global, name: Text, attributes: Attrs) -> Result<Items<Tag>, OutOfMemory>
+    requires plain { least.doubles_inside attributes ≡ false }
+    requires rising { Rise (keys_of attributes) }
+    ensures { IfOk result (λ fields. fields ≡ fields_held name attributes) }
 {
-    let mut pairs = Items::new(alloc);
-    add_row(alloc, &mut pairs, "event", text_given(&event.name)?)?;
-    push_all(alloc, &mut pairs, &event.attributes)?;
+    let mut pairs = attributes.into_vec();
+    put_row(alloc, &mut pairs, "event", text_given(name))?;
+    tags_in_order(alloc, pairs)
+}
+
+fn log_of(alloc: Global, event: Event) -> Result<Log, OutOfMemory>
+    requires plain { event_has_double event ≡ false }
+    requires sound { IsSoundEvent event }
+    ensures { IfOk result (λ log. log ≡ told.log_of event) }
+{
     Ok(Log {
         time: event.time.floor(),
-        fields: tags_by_keys(alloc, pairs)?,
+        fields: fields_of(alloc, event.name, event.attributes)?,
     })
 }
 
-fn logs_of(alloc: Global, events: &Items<Event>) -> Result<Items<Log>, OutOfMemory>
-    requires { list_any event_has_double events.now ≡ false }
-    ensures { IfOk result (λ logs. logs ≡ map told.log_of events.now) }
+fn logs_of(alloc: Global, events: Items<Event>) -> Result<Items<Log>, OutOfMemory>
+    requires plain { list_any event_has_double events ≡ false }
+    requires sound { All IsSoundEvent events }
+    ensures { IfOk result (λ logs. logs ≡ map told.log_of events) }
 {
-    let mut logs = Items::new(alloc);
-    'events: for event in events.as_slice() {
+    let mut logs = Items::with_room(alloc, events.len())?;
+    'events: for event in events.into_vec() {
         logs.push(log_of(alloc, event)?)?;
     }
     Ok(logs)
@@ -181,7 +167,7 @@ fn reference_of(link: &Link) -> SpanRef
 fn references_of(alloc: Global, links: &Items<Link>) -> Result<Items<SpanRef>, OutOfMemory>
     ensures { IfOk result (λ references. references ≡ map told.reference_of links.now) }
 {
-    let mut references = Items::new(alloc);
+    let mut references = Items::with_room(alloc, links.len())?;
     'links: for link in links.as_slice() {
         references.push(reference_of(link))?;
     }
@@ -190,43 +176,72 @@ fn references_of(alloc: Global, links: &Items<Link>) -> Result<Items<SpanRef>, O
 
 // ---- spans
 
-fn span_of(alloc: Global, scope: &Scope, span: &Span) -> Result<JSpan, OutOfMemory>
-    requires { least.span_has_double span.now ≡ false }
-    ensures { IfOk result (λ written. written ≡ told.jaeger_span (in_scope scope.now span.now)) }
+fn span_of(alloc: Global, name: &Text, version: &Text, span: Span) -> Result<JSpan, OutOfMemory>
+    requires plain { least.span_has_double span ≡ false }
+    requires sound { IsSoundSpan span }
+    ensures { IfOk result (λ written. written ≡ told.jaeger_span (under name.now version.now span)) }
 {
+    let flags = flags_of(&span);
+    let references = references_of(alloc, &span.links)?;
+    let held = Held {
+        status: span.status,
+        kind: span.kind,
+        state: span.state,
+        dropped_attributes: span.dropped_attributes,
+        dropped_events: span.dropped_events,
+        dropped_links: span.dropped_links,
+    };
     Ok(JSpan {
         trace: span.trace,
         id: span.id,
         parent: span.parent,
-        name: span.name.copy()?,
-        references: references_of(alloc, &span.links)?,
+        name: span.name,
+        references,
         invalid_refs: 0,
-        flags: flags_of(span),
+        flags,
         start: span.start.floor(),
         end: span.end.floor(),
-        tags: tags_of_span(alloc, scope, span)?,
-        logs: logs_of(alloc, &span.events)?,
+        tags: tags_of_span(alloc, name, version, held, span.attributes)?,
+        logs: logs_of(alloc, span.events)?,
     })
 }
 
-// Adds the spans of a scope.
-fn push_spans(alloc: Global, spans: &mut Items<JSpan>, scope: &Scope) -> Result<(), OutOfMemory>
-    requires { scope_has_double scope.now ≡ false }
-    ensures { OnOk result (spans.new ≡ spans.old ++ map told.jaeger_span (spans_of scope.now)) }
+// Adds spans of a scope of this name and version.
+fn push_spans(
+    alloc: Global,
+    spans: &mut Items<JSpan>,
+    name: &Text,
+    version: &Text,
+    own: Items<Span>,
+) -> Result<(), OutOfMemory>
+    requires plain { list_any least.span_has_double own ≡ false }
+    requires sound { All IsSoundSpan own }
+    ensures { OnOk result (spans.new ≡ spans.old ++ map told.jaeger_span (map (under name.now version.now) own)) }
 {
-    'spans: for span in scope.spans.as_slice() {
-        spans.push(span_of(alloc, scope, span)?)?;
+    'spans: for span in own.into_vec() {
+        spans.push(span_of(alloc, name, version, span)?)?;
     }
     Ok(())
 }
 
-fn spans_of(alloc: Global, scopes: &Items<Scope>) -> Result<Items<JSpan>, OutOfMemory>
-    requires { list_any scope_has_double scopes.now ≡ false }
-    ensures { IfOk result (λ spans. spans ≡ map told.jaeger_span (scoped scopes.now)) }
+// Adds the spans of a scope.
+fn push_scope(alloc: Global, spans: &mut Items<JSpan>, scope: Scope) -> Result<(), OutOfMemory>
+    requires plain { scope_has_double scope ≡ false }
+    requires sound { IsSoundScope scope }
+    ensures { OnOk result (spans.new ≡ spans.old ++ map told.jaeger_span (spans_of scope)) }
+{
+    let (name, version) = (scope.name, scope.version);
+    push_spans(alloc, spans, &name, &version, scope.spans)
+}
+
+fn spans_of(alloc: Global, scopes: Items<Scope>) -> Result<Items<JSpan>, OutOfMemory>
+    requires plain { list_any scope_has_double scopes ≡ false }
+    requires sound { All IsSoundScope scopes }
+    ensures { IfOk result (λ spans. spans ≡ map told.jaeger_span (scoped scopes)) }
 {
     let mut spans = Items::new(alloc);
-    'scopes: for scope in scopes.as_slice() {
-        push_spans(alloc, &mut spans, scope)?;
+    'scopes: for scope in scopes.into_vec() {
+        push_scope(alloc, &mut spans, scope)?;
     }
     Ok(spans)
 }
@@ -244,35 +259,36 @@ fn service_of(alloc: Global, name: Option<&Value>) -> Result<Text, OutOfMemory>
 }
 
 // The tags of a process.
-fn process_tags(alloc: Global, resource: &Attrs) -> Result<Items<Tag>, OutOfMemory>
-    requires { least.doubles_inside resource.now ≡ false }
-    ensures { IfOk result (λ tags. tags ≡ map values.tag_of (without keys.service_key resource.now)) }
+fn process_tags(alloc: Global, resource: Attrs) -> Result<Items<Tag>, OutOfMemory>
+    requires plain { least.doubles_inside resource ≡ false }
+    requires rising { Rise (keys_of resource) }
+    ensures { IfOk result (λ tags. tags ≡ map values.tag_of (without keys.service_key resource)) }
 {
-    let mut pairs = Items::new(alloc);
-    push_without(alloc, &mut pairs, "service.name", resource)?;
-    tags_in_order(alloc, pairs)
+    let others = attributes_but(alloc, "service.name", resource)?;
+    tags_in_order(alloc, others.into_vec())
 }
 
-fn batch_of(alloc: Global, group: &Group) -> Result<Batch, OutOfMemory>
-    requires { group_has_double group.now ≡ false }
-    ensures { IfOk result (λ batch. batch ≡ told.batch_of group.now) }
+fn batch_of(alloc: Global, group: Group) -> Result<Batch, OutOfMemory>
+    requires plain { group_has_double group ≡ false }
+    requires sound { IsSoundGroup group }
+    ensures { IfOk result (λ batch. batch ≡ told.batch_of group) }
 {
     Ok(Batch {
         service: service_of(alloc, find(&group.resource, "service.name"))?,
-        tags: process_tags(alloc, &group.resource)?,
-        spans: spans_of(alloc, &group.scopes)?,
+        tags: process_tags(alloc, group.resource)?,
+        spans: spans_of(alloc, group.scopes)?,
     })
 }
 
 /// The batch of a group, or the fault of the group that counts (OpenTelemetry exporter page for
 /// Jaeger). The faults of the whole group are looked for before anything is built.
-pub fn batch_of_group(alloc: Global, group: &Group) -> Result<Batch, Halt<Fault>>
-    requires sound { IsSoundGroup group.now }
-    ensures value { IfOk result (λ batch. batch ≡ told.batch_of group.now) }
-    ensures judged { JudgesFault result group.now }
+pub fn batch_of_group(alloc: Global, group: Group) -> Result<Batch, Halt<Fault>>
+    requires sound { IsSoundGroup group }
+    ensures value { IfOk result (λ batch. batch ≡ told.batch_of group) }
+    ensures judged { JudgesFault result group }
     ensures timely { IfOk result (λ batch. All IsTimely batch.spans) }
 {
-    match fault_of_group(alloc, group)? {
+    match fault_of_group(alloc, &group)? {
         Some(fault) => Err(Halt::Why(fault)),
         None => Ok(batch_of(alloc, group)?),
     }

@@ -1,14 +1,26 @@
 //! The columns of a span, as tags hold them under the reserved keys.
-ghost use Rattle.std.specs.Prelude.{◌≡◌, ◌++◌, Some, IfOk, OnOk};
+ghost use Rattle.std.specs.Prelude.{◌≡◌, ◌++◌, ℕ, List, Some, IfOk, OnOk};
+ghost use Rattle.trace_model.specs.Attributes.{attrs};
 ghost use Rattle.map_jaeger.specs.Columns as columns;
 ghost use Rattle.map_jaeger.specs.Writing as told;
 ghost use Rattle.trace_model.specs.declared.value.Value.TheVariants as values;
-ghost use Rattle.map_jaeger.specs.WritingSoFar.{count_rows, in_scope};
+ghost use Rattle.map_jaeger.specs.WritingSoFar.{columns_held};
 
-use crate::rows::{add_row, text_given};
-use span_io::{Items, OutOfMemory, Text};
+use crate::rows::{put_row, text_given};
+use span_io::{OutOfMemory, Text};
 use std::alloc::Global;
-use trace_model::{Attrs, Code, Kind, Scope, Span, Value};
+use trace_model::{Code, Kind, Status, Value};
+
+/// What the columns of a span hold, beside the name and version of its scope.
+#[derive(Debug, Drop)]
+pub(crate) struct Held {
+    pub status: Status,
+    pub kind: Kind,
+    pub state: Text,
+    pub dropped_attributes: u32,
+    pub dropped_events: u32,
+    pub dropped_links: u32,
+}
 
 fn word_given(alloc: Global, word: &str) -> Result<Option<Value>, OutOfMemory>
     ensures { IfOk result (λ value. value ≡ Some (values.Text word.now)) }
@@ -44,12 +56,12 @@ fn code_given(alloc: Global, code: Code) -> Result<Option<Value>, OutOfMemory>
     }
 }
 
-fn description_given(code: Code, message: &Text) -> Result<Option<Value>, OutOfMemory>
-    ensures { IfOk result (λ value. value ≡ told.description_given code message.now) }
+fn description_given(status: Status) -> Option<Value>
+    ensures { result ≡ told.description_given status.code status.message }
 {
-    match code {
-        Code::Unset => Ok(None),
-        Code::Okay | Code::Fail => text_given(message),
+    match status.code {
+        Code::Unset => None,
+        Code::Okay | Code::Fail => text_given(status.message),
     }
 }
 
@@ -65,65 +77,36 @@ fn kind_given(alloc: Global, kind: Kind) -> Result<Option<Value>, OutOfMemory>
     }
 }
 
-// The tags of the columns, in the order of their keys.
-pub(crate) fn rows_of(alloc: Global, scope: &Scope, span: &Span) -> Result<Attrs, OutOfMemory>
-    ensures { IfOk result (λ pairs. pairs ≡ columns.rows (told.columns_of (in_scope scope.now span.now))) }
+// Puts the tags of the columns in their places among attributes.
+pub(crate) fn put_columns(
+    alloc: Global,
+    pairs: &mut Vec<(Text, Value)>,
+    name: &Text,
+    version: &Text,
+    held: Held,
+) -> Result<(), OutOfMemory>
+    ensures { (rest : List (List ℕ × Value)) → pairs.old.items ≡ attrs rest
+        → OnOk result (pairs.new.items ≡ attrs (columns.rows (columns_held name.now version.now held) ++ rest)) }
 {
-    let code = span.status.code;
-    let mut pairs = Items::new(alloc);
-    add_row(alloc, &mut pairs, "error", error_given(code))?;
-    push_counts(alloc, &mut pairs, span)?;
-    add_row(
+    let code = held.status.code;
+    put_row(alloc, pairs, "w3c.tracestate", text_given(held.state))?;
+    put_row(alloc, pairs, "span.kind", kind_given(alloc, held.kind)?)?;
+    let description = description_given(held.status);
+    put_row(alloc, pairs, "otel.status_description", description)?;
+    put_row(alloc, pairs, "otel.status_code", code_given(alloc, code)?)?;
+    put_row(
         alloc,
-        &mut pairs,
-        "otel.scope.name",
-        text_given(&scope.name)?,
-    )?;
-    add_row(
-        alloc,
-        &mut pairs,
+        pairs,
         "otel.scope.version",
-        text_given(&scope.version)?,
+        text_given(version.copy()?),
     )?;
-    add_row(
-        alloc,
-        &mut pairs,
-        "otel.status_code",
-        code_given(alloc, code)?,
-    )?;
-    let description = description_given(code, &span.status.message)?;
-    add_row(alloc, &mut pairs, "otel.status_description", description)?;
-    add_row(
-        alloc,
-        &mut pairs,
-        "span.kind",
-        kind_given(alloc, span.kind)?,
-    )?;
-    add_row(
-        alloc,
-        &mut pairs,
-        "w3c.tracestate",
-        text_given(&span.state)?,
-    )?;
-    Ok(pairs)
-}
-
-// Adds how many attributes, events and links of the span were dropped.
-fn push_counts(alloc: Global, pairs: &mut Attrs, span: &Span) -> Result<(), OutOfMemory>
-    ensures { OnOk result (pairs.new ≡ pairs.old ++ count_rows span.now) }
-{
-    let attributes = count_given(span.dropped_attributes);
-    add_row(alloc, pairs, "otel.dropped_attributes_count", attributes)?;
-    add_row(
-        alloc,
-        pairs,
-        "otel.dropped_events_count",
-        count_given(span.dropped_events),
-    )?;
-    add_row(
-        alloc,
-        pairs,
-        "otel.dropped_links_count",
-        count_given(span.dropped_links),
-    )
+    put_row(alloc, pairs, "otel.scope.name", text_given(name.copy()?))?;
+    let links = count_given(held.dropped_links);
+    put_row(alloc, pairs, "otel.dropped_links_count", links)?;
+    let events = count_given(held.dropped_events);
+    put_row(alloc, pairs, "otel.dropped_events_count", events)?;
+    let attributes = count_given(held.dropped_attributes);
+    put_row(alloc, pairs, "otel.dropped_attributes_count", attributes)?;
+    put_row(alloc, pairs, "error", error_given(code))?;
+    Ok(())
 }

@@ -1,52 +1,93 @@
 //! The attributes that tags leave, and the flags among them.
-ghost use Rattle.std.specs.Prelude.{◌≡◌, ◌++◌, filter, IfOk, OnOk};
+ghost use Rattle.std.specs.Prelude.{◌≡◌, ◌∷◌, ◌++◌, IfOk, OnOk};
+ghost use Rattle.trace_model.specs.Attributes.{Rise, attrs, keys};
 ghost use Rattle.map_jaeger.specs.Columns as told;
+ghost use Rattle.map_jaeger.specs.Keys.{flags_key};
 ghost use Rattle.map_jaeger.specs.Reading as meant;
+ghost use Rattle.map_jaeger.specs.ReadColumns.{ArePartsOf};
 
 use crate::keys::is_reserved;
 use crate::rows::{add_others, add_row, text_given};
+use jaeger_model::JSpan;
 use span_io::{Items, OutOfMemory, Text};
 use std::alloc::Global;
 use trace_model::{Attrs, Value, attrs_of};
 
-/// The attributes of a span that has these flags and tags.
-pub(crate) fn span_attributes(alloc: Global, flags: i32, tags: Attrs) -> Result<Attrs, OutOfMemory>
-    ensures { IfOk result (λ attributes. attributes ≡ meant.span_attributes flags tags) }
+/// The attributes of a span, of whose tags these are free.
+#[tactic(auto, using(crate::proofs::ReadParts::no_row))]
+pub(crate) fn span_attributes(
+    alloc: Global,
+    span: &JSpan,
+    free: Attrs,
+) -> Result<Attrs, OutOfMemory>
+    requires { Rise (keys free) }
+    ensures { IfOk result (λ attributes.
+        attributes ≡ attrs (told.row flags_key (meant.high_flags_of span.now.flags) ++ free)) }
 {
-    let high = high_flags_of(alloc, flags)?;
+    match high_flags_of(alloc, span.flags)? {
+        None => Ok(free),
+        Some(high) => with_flags(alloc, high, free),
+    }
+}
+
+// Attributes and the flags among them.
+fn with_flags(alloc: Global, high: Value, free: Attrs) -> Result<Attrs, OutOfMemory>
+    ensures { IfOk result (λ attributes. attributes ≡ attrs ((flags_key, high) ∷ free)) }
+{
     let mut pairs = Items::new(alloc);
-    add_row(alloc, &mut pairs, "jaeger.flags", high)?;
-    add_free(&mut pairs, tags)?;
+    pairs.push((Text::of(alloc, "jaeger.flags")?, high))?;
+    add_all(&mut pairs, free)?;
     let parts = attrs_of(alloc, pairs)?;
     Ok(parts.0)
+}
+
+// Adds pairs.
+fn add_all(pairs: &mut Attrs, more: Attrs) -> Result<(), OutOfMemory>
+    ensures { OnOk result (pairs.new ≡ pairs.old ++ more) }
+{
+    'more: for pair in more.into_vec() {
+        pairs.push(pair)?;
+    }
+    Ok(())
 }
 
 /// The attributes of a process of this service that has these tags.
 pub(crate) fn process_attributes(
     alloc: Global,
-    service: &Text,
+    service: Text,
     tags: Attrs,
 ) -> Result<Attrs, OutOfMemory>
-    ensures { IfOk result (λ attributes. attributes ≡ meant.process_attributes service.now tags) }
+    ensures { IfOk result (λ attributes. attributes ≡ meant.process_attributes service tags) }
 {
-    let service = text_given(service)?;
     let mut pairs = Items::new(alloc);
-    add_row(alloc, &mut pairs, "service.name", service)?;
+    add_row(alloc, &mut pairs, "service.name", text_given(service))?;
     add_others(&mut pairs, "service.name", tags)?;
     let parts = attrs_of(alloc, pairs)?;
     Ok(parts.0)
 }
 
-// Adds the pairs of free keys.
-fn add_free(pairs: &mut Attrs, tags: Attrs) -> Result<(), OutOfMemory>
-    ensures { OnOk result (pairs.new ≡ pairs.old ++ filter (λ pair. meant.is_free pair.0) tags) }
+/// Tags of a span, by their keys.
+#[derive(Debug, Drop)]
+pub(crate) struct Parted {
+    /// Those of Jaeger's own.
+    pub own: Attrs,
+    pub free: Attrs,
+}
+
+/// Parts the tags of a span.
+pub(crate) fn part_tags(alloc: Global, tags: Attrs) -> Result<Parted, OutOfMemory>
+    ensures { IfOk result (λ parts. ArePartsOf tags parts) }
 {
-    'tags: for pair in tags.into_vec() {
-        if is_free(pair.0.as_str()) {
-            pairs.push(pair)?;
+    let mut own = Items::new(alloc);
+    let mut free = Items::new(alloc);
+    'tags: for tag in tags.into_vec() {
+        if is_free(tag.0.as_str()) {
+            free.push(tag)?;
+        } else {
+            own.push(tag)?;
         }
     }
-    Ok(())
+    Ok(Parted { own, free })
 }
 
 fn is_free(key: &str) -> bool

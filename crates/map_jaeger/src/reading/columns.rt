@@ -73,9 +73,9 @@ fn name_in(alloc: Global, newer: Option<&Value>, older: Option<&Value>) -> Resul
 }
 
 fn status_of(alloc: Global, tags: &Attrs) -> Result<Status, OutOfMemory>
-    ensures code { IfOk result (λ status. status.code ≡ meant.code_of (told.looked tags.now)) }
+    ensures code { IfOk result (λ status. status.code ≡ meant.status_of_columns (told.looked tags.now)) }
     ensures message { IfOk result (λ status.
-        status.message ≡ meant.message_by (meant.code_of (told.looked tags.now)) (told.looked tags.now).description) }
+        status.message ≡ meant.message_by (meant.status_of_columns (told.looked tags.now)) (told.looked tags.now).description) }
 {
     let code = code_of(tags);
     let message = message_by(alloc, code, find(tags, "otel.status_description"))?;
@@ -84,7 +84,7 @@ fn status_of(alloc: Global, tags: &Attrs) -> Result<Status, OutOfMemory>
 
 /// The code that `otel.status_code` names, else that of `error`.
 pub(crate) fn code_of(tags: &Attrs) -> Code
-    ensures { result ≡ meant.code_of (told.looked tags.now) }
+    ensures { result ≡ meant.status_of_columns (told.looked tags.now) }
 {
     match code_in(find(tags, "otel.status_code")) {
         Some(code) => code,

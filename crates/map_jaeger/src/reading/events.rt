@@ -22,9 +22,9 @@ pub(crate) struct ReadEvents {
 
 impl ReadEvents {
     // Adds the event of the log of this number, of the span of that number.
-    fn add(&mut self, alloc: Global, span: u32, number: u32, log: &Log) -> Result<(), OutOfMemory>
-        ensures event { OnOk result (self.new.events ≡ self.old.events ++ meant.event_of log.now ∷ []) }
-        ensures remarks { OnOk result (AddsNoted RepeatsOf (log_remarks span) number log.now self.old.remarks self.new.remarks) }
+    fn add(&mut self, alloc: Global, span: u32, number: u32, log: Log) -> Result<(), OutOfMemory>
+        ensures event { OnOk result (self.new.events ≡ self.old.events ++ meant.event_of log ∷ []) }
+        ensures remarks { OnOk result (AddsNoted RepeatsOf (log_remarks span) number log self.old.remarks self.new.remarks) }
     {
         let read = event_of(alloc, log)?;
         let place = Place::Event(span, number);
@@ -38,17 +38,18 @@ impl ReadEvents {
 pub(crate) fn events_of(
     alloc: Global,
     span: u32,
-    logs: &Items<Log>,
+    logs: Items<Log>,
 ) -> Result<ReadEvents, OutOfMemory>
-    ensures events { IfOk result (λ read. read.events ≡ map meant.event_of logs.now) }
-    ensures remarks { IfOk result (λ read. AreNumbered RepeatsOf (log_remarks span) 1 logs.now read.remarks) }
+    ensures events { IfOk result (λ read. read.events ≡ map meant.event_of logs) }
+    ensures remarks { IfOk result (λ read. AreNumbered RepeatsOf (log_remarks span) 1 logs read.remarks) }
 {
     let mut read = ReadEvents {
         events: Items::new(alloc),
         remarks: Items::new(alloc),
     };
-    'logs: for (i, log) in logs.as_slice().iter().enumerate() {
-        let number = number_behind(1, i)?;
+    let mut number = 0;
+    'logs: for log in logs.into_vec() {
+        number = number_behind(number, 1)?;
         read.add(alloc, span, number, log)?;
     }
     Ok(read)
@@ -62,12 +63,12 @@ struct ReadEvent {
     idle: bool,
 }
 
-fn event_of(alloc: Global, log: &Log) -> Result<ReadEvent, OutOfMemory>
-    ensures event { IfOk result (λ read. read.event ≡ meant.event_of log.now) }
-    ensures repeated { IfOk result (λ read. RepeatsOf log.now read.keys) }
-    ensures idle { IfOk result (λ read. read.idle ≡ is_idle_event log.now) }
+fn event_of(alloc: Global, log: Log) -> Result<ReadEvent, OutOfMemory>
+    ensures event { IfOk result (λ read. read.event ≡ meant.event_of log) }
+    ensures repeated { IfOk result (λ read. RepeatsOf log read.keys) }
+    ensures idle { IfOk result (λ read. read.idle ≡ is_idle_event log) }
 {
-    let (tags, keys) = attributes_of(alloc, &log.fields)?;
+    let (tags, keys) = attributes_of(alloc, log.fields)?;
     let name = text_or_empty(alloc, find(&tags, "event"))?;
     let idle = is_idle_text(&tags, "event");
     let mut attributes = Items::new(alloc);

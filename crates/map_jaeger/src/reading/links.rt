@@ -72,7 +72,7 @@ fn names_parent(trace: TraceId, parent: Option<SpanId>, reference: &SpanRef) -> 
 }
 
 fn link_of(alloc: Global, reference: &SpanRef) -> Result<Link, OutOfMemory>
-    ensures { IfOk result (λ link. link ≡ meant.link_of reference.now) }
+    ensures { IfOk result (λ link. link ≡ meant.link_of_reference reference.now) }
 {
     let attributes = mark_of(alloc, reference.child_of)?;
     Ok(Link {

@@ -74,7 +74,7 @@ fn is_idle_code(tags: &Attrs) -> bool
 }
 
 fn is_idle_description(tags: &Attrs) -> bool
-    ensures { result ≡ told.is_idle_description (at description_key tags.now) (meant.code_of (looked tags.now)) }
+    ensures { result ≡ told.is_idle_description (at description_key tags.now) (meant.status_of_columns (looked tags.now)) }
 {
     match code_of(tags) {
         Code::Unset => is_there(tags, "otel.status_description"),

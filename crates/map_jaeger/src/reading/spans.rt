@@ -1,14 +1,14 @@
 //! Spans, and the scopes that they are of.
 ghost use Rattle.std.specs.Prelude.{◌≡◌, map, IfOk, OnOk};
-ghost use Rattle.map_jaeger.specs.Columns.{looked};
 ghost use Rattle.map_jaeger.specs.Noted.{AddsNoted, AreNumbered};
 ghost use Rattle.map_jaeger.specs.Reading as meant;
+ghost use Rattle.map_jaeger.specs.ReadColumns.{scoped_by_parts};
 ghost use Rattle.map_jaeger.specs.ReadRuns.{one_of};
-ghost use Rattle.map_jaeger.specs.Remarks.{RepeatsOfSpan, span_remarks};
+ghost use Rattle.map_jaeger.specs.Remarks.{RepeatsOfSpan, jspan_remarks};
 ghost use Rattle.map_jaeger.specs.Runs.{runs};
 
-use crate::reading::attributes::span_attributes;
-use crate::reading::columns::told_by;
+use crate::reading::attributes::{part_tags, span_attributes};
+use crate::reading::columns::{Told, told_by};
 use crate::reading::events::events_of;
 use crate::reading::links::{links_but, parent_of};
 use crate::reading::remarks::remark_left_out;
@@ -17,6 +17,7 @@ use crate::reading::tags::attributes_of;
 use jaeger_model::JSpan;
 use span_io::{Items, OutOfMemory};
 use std::alloc::Global;
+use std::mem;
 use trace_model::{
     Attrs, Event, Place, Remark, Scope, Span, number_behind, remark_all, remark_dropped,
     remark_keys,
@@ -30,14 +31,15 @@ pub(crate) struct ReadScopes {
 }
 
 /// The scopes of these spans.
-pub(crate) fn scopes_of(alloc: Global, spans: &Items<JSpan>) -> Result<ReadScopes, OutOfMemory>
-    ensures scopes { IfOk result (λ read. read.scopes ≡ runs (map meant.scoped_of spans.now)) }
-    ensures remarks { IfOk result (λ read. AreNumbered RepeatsOfSpan span_remarks 1 spans.now read.remarks) }
+pub(crate) fn scopes_of(alloc: Global, spans: Items<JSpan>) -> Result<ReadScopes, OutOfMemory>
+    ensures scopes { IfOk result (λ read. read.scopes ≡ runs (map meant.scoped_of spans)) }
+    ensures remarks { IfOk result (λ read. AreNumbered RepeatsOfSpan jspan_remarks 1 spans read.remarks) }
 {
     let mut so_far = Runs::none(alloc);
     let mut remarks = Items::new(alloc);
-    'spans: for (i, span) in spans.as_slice().iter().enumerate() {
-        let number = number_behind(1, i)?;
+    let mut number = 0;
+    'spans: for span in spans.into_vec() {
+        number = number_behind(number, 1)?;
         let one = read_span(alloc, &mut remarks, number, span)?;
         so_far = so_far.add(alloc, one)?;
     }
@@ -50,56 +52,68 @@ fn read_span(
     alloc: Global,
     remarks: &mut Items<Remark>,
     number: u32,
-    span: &JSpan,
+    span: JSpan,
 ) -> Result<ReadSpan, OutOfMemory>
-    ensures value { IfOk result (λ read. one_of read ≡ meant.scoped_of span.now) }
-    ensures remarks { OnOk result (AddsNoted RepeatsOfSpan span_remarks number span.now remarks.old remarks.new) }
+    ensures value { IfOk result (λ read. one_of read ≡ meant.scoped_of span) }
+    ensures remarks { OnOk result (AddsNoted RepeatsOfSpan jspan_remarks number span remarks.old remarks.new) }
 {
-    let (tags, keys) = attributes_of(alloc, &span.tags)?;
-    let read = events_of(alloc, number, &span.logs)?;
+    let mut span = span;
+    let own_tags = mem::replace(&mut span.tags, Items::new(alloc));
+    let own_logs = mem::replace(&mut span.logs, Items::new(alloc));
+    let (tags, keys) = attributes_of(alloc, own_tags)?;
+    let read = events_of(alloc, number, own_logs)?;
+    let parts = part_tags(alloc, tags)?;
+    let attributes = span_attributes(alloc, &span, parts.free)?;
     remark_keys(remarks, Place::Span(number), keys)?;
     let dropped = 0 < span.invalid_refs;
     remark_dropped(alloc, remarks, Place::Span(number), dropped)?;
-    remark_left_out(alloc, remarks, Place::Span(number), &tags)?;
+    remark_left_out(alloc, remarks, Place::Span(number), &parts.own)?;
     remark_all(remarks, read.remarks)?;
-    span_by(alloc, span, tags, read.events)
+    span_by(alloc, span, &parts.own, attributes, read.events)
 }
 
-// The span that has these tags and events.
+// The span that has these tags of Jaeger's own, attributes and events.
 fn span_by(
     alloc: Global,
-    span: &JSpan,
-    tags: Attrs,
+    span: JSpan,
+    own: &Attrs,
+    attributes: Attrs,
     events: Items<Event>,
 ) -> Result<ReadSpan, OutOfMemory>
-    requires { events ≡ map meant.event_of span.now.logs }
-    ensures { IfOk result (λ read. one_of read ≡ meant.scoped_by span.now (looked tags) tags) }
+    ensures { IfOk result (λ read. one_of read ≡ scoped_by_parts span own.now attributes events) }
 {
-    let told = told_by(alloc, &tags)?;
-    let parent = parent_of(span);
-    let links = links_but(alloc, span.trace, parent, &span.references)?;
-    let attributes = span_attributes(alloc, span.flags, tags)?;
-    let read = Span {
+    let Told {
+        name,
+        version,
+        state,
+        kind,
+        dropped_attributes,
+        dropped_events,
+        dropped_links,
+        status,
+    } = told_by(alloc, own)?;
+    let parent = parent_of(&span);
+    let span = Span {
         trace: span.trace,
         id: span.id,
-        state: told.state,
+        state,
         parent,
-        name: span.name.copy()?,
-        kind: told.kind,
+        name: span.name,
+        kind,
         start: span.start,
         end: span.end,
         attributes,
-        dropped_attributes: told.dropped_attributes,
+        dropped_attributes,
         events,
-        dropped_events: told.dropped_events,
-        links,
-        dropped_links: told.dropped_links,
-        status: told.status,
+        dropped_events,
+        links: links_but(alloc, span.trace, parent, &span.references)?,
+        dropped_links,
+        status,
         flags: span.flags.cast_unsigned() % 2,
     };
     Ok(ReadSpan {
-        name: told.name,
-        version: told.version,
-        span: read,
+        name,
+        version,
+        span,
     })
 }

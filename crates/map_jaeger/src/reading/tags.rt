@@ -1,53 +1,68 @@
 //! Tags as attributes.
-ghost use Rattle.std.specs.Prelude.{◌≡◌, map, IfOk};
-ghost use Rattle.trace_model.specs.Attributes.{AreRepeated};
+ghost use Rattle.std.specs.Prelude.{◌≡◌, map, IfOk, IsTrue};
+ghost use Rattle.trace_model.specs.Attributes.{AreRepeated, Rise, keys};
 ghost use Rattle.map_jaeger.specs.TagValues as told;
 ghost use Rattle.map_jaeger.specs.Reading as meant;
 
 use jaeger_model::{Tag, TagValue};
 use span_io::{Items, OutOfMemory, Text};
 use std::alloc::Global;
+use std::cmp::Ordering;
+use trace_model::laws::rising_attributes;
 use trace_model::{Attrs, Value, attrs_of};
 
 /// The attributes of tags, and the keys that stand more than once among them.
 pub(crate) fn attributes_of(
     alloc: Global,
-    tags: &Items<Tag>,
+    tags: Items<Tag>,
 ) -> Result<(Attrs, Items<Text>), OutOfMemory>
-    ensures value { IfOk result (λ parts. parts.0 ≡ meant.attributes_of tags.now) }
-    ensures repeated { IfOk result (λ parts. AreRepeated parts.1 (map told.attribute_of tags.now)) }
+    ensures value { IfOk result (λ parts. parts.0 ≡ meant.attributes_of tags) }
+    ensures repeated { IfOk result (λ parts. AreRepeated parts.1 (map told.attribute_of tags)) }
 {
-    attrs_of(alloc, pairs_of(alloc, tags)?)
+    rising_attributes();
+    let pairs = pairs_of(alloc, tags)?;
+    if keys_rise(pairs.as_slice()) {
+        return Ok((pairs, Items::new(alloc)));
+    }
+    attrs_of(alloc, pairs)
+}
+
+// Whether each key is below the next.
+fn keys_rise(pairs: &[(Text, Value)]) -> bool
+    ensures { IsTrue result → Rise (keys pairs.now) }
+{
+    let Some((first, others)) = pairs.split_first() else {
+        return true;
+    };
+    let mut last = first;
+    'others: for pair in others {
+        match last.0.as_str().cmp(pair.0.as_str()) {
+            Ordering::Less => last = pair,
+            Ordering::Equal | Ordering::Greater => return false,
+        }
+    }
+    true
 }
 
 // The pairs of keys and values that tags are.
-fn pairs_of(alloc: Global, tags: &Items<Tag>) -> Result<Items<(Text, Value)>, OutOfMemory>
-    ensures { IfOk result (λ pairs. pairs ≡ map told.attribute_of tags.now) }
+fn pairs_of(alloc: Global, tags: Items<Tag>) -> Result<Attrs, OutOfMemory>
+    ensures { IfOk result (λ pairs. pairs ≡ map told.attribute_of tags) }
 {
     let mut pairs = Items::new(alloc);
-    'tags: for tag in tags.as_slice() {
-        pairs.push(pair_of(tag)?)?;
+    'tags: for tag in tags.into_vec() {
+        pairs.push((tag.key, value_of(tag.value)))?;
     }
     Ok(pairs)
 }
 
-fn pair_of(tag: &Tag) -> Result<(Text, Value), OutOfMemory>
-    ensures { IfOk result (λ pair. pair ≡ told.attribute_of tag.now) }
+fn value_of(value: TagValue) -> Value
+    ensures { result ≡ told.value_of value }
 {
-    let key = tag.key.copy()?;
-    let value = value_of(&tag.value)?;
-    Ok((key, value))
-}
-
-fn value_of(value: &TagValue) -> Result<Value, OutOfMemory>
-    ensures { IfOk result (λ read. read ≡ told.value_of value.now) }
-{
-    let read = match value {
-        TagValue::Text(text) => Value::Text(text.copy()?),
-        TagValue::Eight(double) => Value::Eight(*double),
-        TagValue::Truth(truth) => Value::Truth(*truth),
-        TagValue::Number(number) => Value::Number(*number),
-        TagValue::Bytes(bytes) => Value::Bytes(bytes.copy()?),
-    };
-    Ok(read)
+    match value {
+        TagValue::Text(text) => Value::Text(text),
+        TagValue::Eight(double) => Value::Eight(double),
+        TagValue::Truth(truth) => Value::Truth(truth),
+        TagValue::Number(number) => Value::Number(number),
+        TagValue::Bytes(bytes) => Value::Bytes(bytes),
+    }
 }

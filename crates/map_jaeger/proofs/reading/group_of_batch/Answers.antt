@@ -15,14 +15,14 @@ pub returns-clause-remarks : goal.returns-clause-remarks
 returns-clause-remarks c =
     let left : c.remark_if.new.remarks ≡ c.remark_keys.new.remarks ++ tags_dropped places.Resource (if_left service_key (is_some (at service_key c.in_ok-tags.tags))) =
     c.in_ok-remark_if.ensures ∙ ap (λ left. c.remark_keys.new.remarks ++ tags_dropped places.Resource (if_left service_key left)) c.is_there.ensures in
-    batch_noted c.args.batch.now c.in_ok-tags.tags c.in_ok-tags.keys c.new-remarks.result
+    batch_noted c.args.batch c.in_ok-tags.tags c.in_ok-tags.keys c.new-remarks.result
     c.remark_keys.new.remarks c.remark_if.new.remarks c.remark_all.new.remarks c.in_ok-read.read.remarks
     c.in_ok-tags.ensures.value c.in_ok-tags.ensures.repeated c.in_ok-read.ensures.remarks
     c.new-remarks.ensures c.in_ok-remark_keys.ensures left c.in_ok-remark_all.ensures
 
 pub returns-clause-sound : goal.returns-clause-sound
 returns-clause-sound c =
-    let batch = c.args.batch.now in
+    let batch = c.args.batch in
     let resource : c.in_ok-resource.resource ≡ resource_of batch = c.in_ok-resource.ensures ∙ ap (λ tags. process_attributes batch.service tags) c.in_ok-tags.ensures.value in
     record {
       resource = subst AreSound (sym resource) (resource_sound batch);

@@ -9,16 +9,16 @@ use Rattle.map_jaeger.proofs.TimelySpans.{spans_timely}
 use Rattle.map_jaeger.proofs.writing.batch_of_group.Goals as goal
 
 pub returns-in-Some-clause-judged : goal.returns-in-Some-clause-judged
-returns-in-Some-clause-judged c = subst (IsFaultOf c.args.group.now) (sym c.in_ok-fault.ensures ∙ c.in-Some.is)
-    (fault_counts c.args.group.now (spans_rise c.args.group.now c.requires.sound))
+returns-in-Some-clause-judged c = subst (IsFaultOf c.args.group) (sym c.in_ok-fault.ensures ∙ c.in-Some.is)
+    (fault_counts c.args.group (spans_rise c.args.group c.requires.sound))
 
 pub returns-in_ok-batch_of-in-None-clause-judged : goal.returns-in_ok-batch_of-in-None-clause-judged
-returns-in_ok-batch_of-in-None-clause-judged c = subst (IsFaultOf c.args.group.now) (sym c.in_ok-fault.ensures ∙ c.in-None.is)
-    (fault_counts c.args.group.now (spans_rise c.args.group.now c.requires.sound))
+returns-in_ok-batch_of-in-None-clause-judged c = subst (IsFaultOf c.args.group) (sym c.in_ok-fault.ensures ∙ c.in-None.is)
+    (fault_counts c.args.group (spans_rise c.args.group c.requires.sound))
 
 pub returns-in_ok-batch_of-in-None-clause-timely : goal.returns-in_ok-batch_of-in-None-clause-timely
 returns-in_ok-batch_of-in-None-clause-timely c = subst (λ (batch : Batch). All IsTimely batch.spans) (sym c.in_ok-batch_of-in-None.ensures)
-    (spans_timely c.args.group.now (sym c.in_ok-fault.ensures ∙ c.in-None.is))
+    (spans_timely c.args.group (sym c.in_ok-fault.ensures ∙ c.in-None.is))
 
 pub batch_of-requires : goal.batch_of-requires
-batch_of-requires c = group_plain c.args.group.now (sym c.in_ok-fault.ensures ∙ c.in-None.is)
+batch_of-requires c = record { plain = group_plain c.args.group (sym c.in_ok-fault.ensures ∙ c.in-None.is); sound = c.requires.sound }

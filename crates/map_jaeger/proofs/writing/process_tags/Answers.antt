@@ -1,10 +1,8 @@
-use Rattle.std.proofs.Common.{ap, ◌∙◌, ◌++◌}
+use Rattle.std.proofs.Common.{ap, ◌∙◌}
 use Rattle.map_jaeger.specs.Keys.{service_key}
 use Rattle.map_jaeger.specs.LeastFault.{doubles_inside}
-use Rattle.map_jaeger.specs.Reading.{without}
 use Rattle.map_jaeger.proofs.NoDoubles.{without_plain}
 use Rattle.map_jaeger.proofs.writing.process_tags.Goals as goal
 
 pub tags_in_order-requires : goal.tags_in_order-requires
-tags_in_order-requires c = ap doubles_inside (c.in_ok-push_without.ensures ∙ ap (λ l. l ++ without service_key c.args.resource.now) c.new-pairs.ensures)
-    ∙ without_plain service_key c.args.resource.now c.requires
+tags_in_order-requires c = ap doubles_inside (c.into_vec.ensures ∙ c.in_ok-others.ensures) ∙ without_plain service_key c.args.resource c.requires.plain

@@ -1,9 +1,15 @@
-use Rattle.std.proofs.Common.{◌≡◌, ◌++◌, map, drop}
-use Rattle.map_jaeger.specs.Runs.{spans_of}
+use Rattle.std.proofs.Common.{◌≡◌, ◌++◌, false, map, All}
+use Rattle.std.specs.List.{list_any}
+use Rattle.trace_model.specs.Soundness.{IsSoundSpan}
+use Rattle.map_jaeger.specs.LeastFault.{span_has_double}
 use Rattle.map_jaeger.specs.Writing.{jaeger_span}
-use Rattle.map_jaeger.specs.WritingSoFar.{in_scope}
+use Rattle.map_jaeger.specs.WritingSoFar.{under}
 use Rattle.map_jaeger.proofs.writing.push_spans.Given as goal
 
 abbrev pub invariant-spans : goal.invariant-spans
-invariant-spans l = l.spans ++ map jaeger_span (map (in_scope l.scope) (drop l.span-index l.scope.spans))
-    ≡ l.initial.spans ++ map jaeger_span (spans_of l.scope)
+invariant-spans l = record {
+  written : l.spans ++ map jaeger_span (map (under l.name l.version) l.span-iterator.rest.items)
+      ≡ l.initial.spans ++ map jaeger_span (map (under l.name l.version) l.fn.own);
+  plain : list_any span_has_double l.span-iterator.rest.items ≡ false;
+  sound : All IsSoundSpan l.span-iterator.rest.items;
+}

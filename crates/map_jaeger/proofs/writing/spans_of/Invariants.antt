@@ -1,7 +1,14 @@
-use Rattle.std.proofs.Common.{◌≡◌, ◌++◌, map, drop}
+use Rattle.std.proofs.Common.{◌≡◌, ◌++◌, false, map, All}
+use Rattle.std.specs.List.{list_any}
+use Rattle.trace_model.specs.Soundness.{IsSoundScope}
+use Rattle.map_jaeger.specs.Doubles.{scope_has_double}
 use Rattle.map_jaeger.specs.Runs.{scoped}
 use Rattle.map_jaeger.specs.Writing.{jaeger_span}
 use Rattle.map_jaeger.proofs.writing.spans_of.Given as goal
 
 abbrev pub invariant-scopes : goal.invariant-scopes
-invariant-scopes l = l.spans ++ map jaeger_span (scoped (drop l.scope-index l.scopes)) ≡ map jaeger_span (scoped l.scopes)
+invariant-scopes l = record {
+  written : l.spans ++ map jaeger_span (scoped l.scope-iterator.rest.items) ≡ map jaeger_span (scoped l.fn.scopes);
+  plain : list_any scope_has_double l.scope-iterator.rest.items ≡ false;
+  sound : All IsSoundScope l.scope-iterator.rest.items;
+}

@@ -1,11 +1,26 @@
-use Rattle.std.proofs.Common.{ap, ◌∙◌, ◌++◌}
+use Rattle.std.proofs.Common.{◌++◌, ap, map, ◌∙◌}
+use Rattle.std.proofs.lemmas.Result.{IfOk-weaker}
+use Rattle.map_jaeger.specs.Columns.{rows}
 use Rattle.map_jaeger.specs.Keys.{flags_key}
 use Rattle.map_jaeger.specs.LeastFault.{doubles_inside}
 use Rattle.map_jaeger.specs.Reading.{without}
-use Rattle.map_jaeger.specs.WritingSoFar.{in_scope}
-use Rattle.map_jaeger.proofs.NoDoubles.{span_pairs_plain}
+use Rattle.map_jaeger.specs.TagValues.{tag_of}
+use Rattle.map_jaeger.specs.WritingSoFar.{columns_held}
+use Rattle.map_jaeger.proofs.NoDoubles.{attrs_plain, span_pairs_plain}
+use Rattle.map_jaeger.proofs.PlacedRows.{starts_but}
 use Rattle.map_jaeger.proofs.writing.tags_of_span.Goals as goal
 
-pub tags_by_keys-requires : goal.tags_by_keys-requires
-tags_by_keys-requires c = ap doubles_inside (c.in_ok-push_without.ensures ∙ ap (λ l. l ++ without flags_key c.args.span.now.attributes) c.in_ok-pairs.ensures)
-    ∙ span_pairs_plain (in_scope c.args.scope.now c.args.span.now) c.requires
+pub tags_in_order-requires : goal.tags_in_order-requires
+tags_in_order-requires c =
+    let attributes = c.args.attributes in
+    ap doubles_inside (c.in_ok-put_columns.ensures (without flags_key attributes)
+    (starts_but flags_key attributes _ _ c.requires.rising c.in_ok-attributes_but.ensures c.into_vec-pairs.ensures))
+    ∙ attrs_plain (rows (columns_held c.args.name.now c.args.version.now c.args.held) ++ without flags_key attributes)
+    (span_pairs_plain c.args.name.now c.args.version.now c.args.held attributes c.requires.plain)
+
+pub returns : goal.returns
+returns c =
+    let attributes = c.args.attributes in
+    let put = c.in_ok-put_columns.ensures (without flags_key attributes)
+    (starts_but flags_key attributes _ _ c.requires.rising c.in_ok-attributes_but.ensures c.into_vec-pairs.ensures) in
+    IfOk-weaker c.tags_in_order.result _ _ (λ tags is. is ∙ ap (map tag_of) put) c.tags_in_order.ensures

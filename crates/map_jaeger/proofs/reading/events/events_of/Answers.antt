@@ -1,23 +1,24 @@
-use Rattle.std.proofs.Common.{◌<◌, ◌≤◌, length}
+use Rattle.std.proofs.Common.{rules, ◌≡◌, [], ◌∷◌, sym, ◌∙◌}
+use Rattle.map_jaeger.proofs.Moved.{none_left}
 use Rattle.map_jaeger.proofs.ReadLists.{events_begin, events_more, events_end}
 use Rattle.map_jaeger.proofs.reading.events.events_of.Goals as goal
 
 pub logs-init : goal.logs-init
-logs-init c = events_begin c.args.span c.args.logs.now (record { events = c.new.result; remarks = c.new-2.result }) c.new.ensures c.new-2.ensures
+logs-init c = events_begin c.args.span c.args.logs c.into_iter-log-iterator.result.rest.items (record { events = c.new.result; remarks = c.new-2.result })
+    (c.into_iter-log-iterator.ensures.into_iter_gives.0 ∙ c.into_vec-log-items.ensures) c.new.ensures c.new-2.ensures
 
 pub logs-preserved : goal.logs-preserved
 logs-preserved c =
-    let within : c.logs.i < length c.args.logs.now = rw c.as_slice-log-items.ensures at c.logs-test.true in
-    let here = rw c.as_slice-log-items.ensures at c.log-item.is in
-    events_more c.args.span c.args.logs.now c.logs.i c.in_ok-number.number c.log-item.result c.logs.read c.add.new.self within here
-    c.in_ok-number.ensures.value c.in_ok-add.ensures.event c.in_ok-add.ensures.remarks c.logs.invariant
+    let split : c.logs.log-iterator.rest.items ≡ c.in-Some.log ∷ c.next.new.self.rest.items = search rules in
+    events_more c.args.span c.args.logs c.logs.log-iterator.rest.items c.next.new.self.rest.items c.logs.number c.in_ok-number.number c.in-Some.log
+    c.logs.read c.add.new.self split c.in_ok-number.ensures.value c.in_ok-add.ensures.event c.in_ok-add.ensures.remarks c.logs.invariant
 
 pub returns-clause-events : goal.returns-clause-events
 returns-clause-events c =
-    let ended : length c.args.logs.now ≤ c.logs.i = rw c.as_slice-log-items.ensures at c.logs-test.false in
-    (events_end c.args.span c.args.logs.now c.logs.i c.logs.read ended c.logs.invariant).0
+    let none : c.logs.log-iterator.rest.items ≡ [] = none_left c.logs.log-iterator.rest.items (sym c.logs.log-iterator.rest.ok.0 ∙ c.in-None.ensures.steps.0) in
+    (events_end c.args.span c.args.logs c.logs.log-iterator.rest.items c.logs.number c.logs.read none c.logs.invariant).0
 
 pub returns-clause-remarks : goal.returns-clause-remarks
 returns-clause-remarks c =
-    let ended : length c.args.logs.now ≤ c.logs.i = rw c.as_slice-log-items.ensures at c.logs-test.false in
-    (events_end c.args.span c.args.logs.now c.logs.i c.logs.read ended c.logs.invariant).1
+    let none : c.logs.log-iterator.rest.items ≡ [] = none_left c.logs.log-iterator.rest.items (sym c.logs.log-iterator.rest.ok.0 ∙ c.in-None.ensures.steps.0) in
+    (events_end c.args.span c.args.logs c.logs.log-iterator.rest.items c.logs.number c.logs.read none c.logs.invariant).1

@@ -1,6 +1,6 @@
-use Rattle.std.proofs.Common.{◌≡◌, ◌++◌, map, drop}
+use Rattle.std.proofs.Common.{◌≡◌, ◌++◌, map}
 use Rattle.map_jaeger.specs.TagValues.{attribute_of}
 use Rattle.map_jaeger.proofs.reading.tags.pairs_of.Given as goal
 
 abbrev pub invariant-tags : goal.invariant-tags
-invariant-tags l = l.pairs ++ map attribute_of (drop l.tag-index l.tags) ≡ map attribute_of l.tags
+invariant-tags l = l.pairs ++ map attribute_of l.tag-iterator.rest.items ≡ map attribute_of l.fn.tags

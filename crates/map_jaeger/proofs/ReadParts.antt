@@ -1,0 +1,105 @@
+-- The tags of Jaeger's own among the tags of a span, and the others.
+use Rattle.std.proofs.Common.{◌≡◌, ℕ, suc, List, [], ◌∷◌, ◌++◌, map, get_or, drop, length, ◌+◌, ◌<◌, ◌≤◌, Bool, true, cond, not, Option, None, refl, sym, ap, subst, ◌∙◌, add-one, drop-cons, arith}
+use Rattle.std.specs.Bool.{IsTrue}
+use Rattle.std.specs.Cmp.Lexicographic.{slice_cmp}
+use Rattle.std.specs.List.Sorted.{IsStrictlySortedBy}
+use Rattle.std.specs.Ordering.{nat_cmp}
+use Rattle.std.specs.declared.cmp.Ordering.TheVariants.{Less}
+use Rattle.std.proofs.Math.ListN.{drop_of_length-le}
+use Rattle.jaeger_model.specs.declared.span.JSpan.{JSpan}
+use Rattle.trace_model.specs.Attributes.{Rise, keys, attrs, at}
+use Rattle.trace_model.specs.declared.span.Event.{Event}
+use Rattle.trace_model.specs.declared.span.Span.{Span}
+use Rattle.trace_model.specs.declared.value.Value.{Value}
+use Rattle.map_jaeger.specs.AttributeLaws.{attrs_itself, attrs_rise, at_filter, below_all, filter_rise}
+use Rattle.map_jaeger.specs.Columns.{Columns, looked, row}
+use Rattle.map_jaeger.specs.Keys.{error_key, dropped_attributes_key, dropped_events_key, dropped_links_key, library_name_key, library_version_key, scope_name_key, scope_version_key, code_key, description_key, kind_key, state_key, flags_key}
+use Rattle.map_jaeger.specs.ReadColumns.{ArePartsOf, own_tags, free_tags, scoped_by_parts}
+use Rattle.map_jaeger.specs.Reading.{attributes_of, event_of, high_flags_of, is_free, scoped_by, scoped_of, span_attributes}
+use Rattle.map_jaeger.specs.Runs.{Scoped}
+use Rattle.map_jaeger.specs.Remarks.{left_out}
+use Rattle.map_jaeger.specs.TagValues.{attribute_of}
+use Rattle.map_jaeger.specs.declared.reading.attributes.Parted.{Parted}
+
+abbrev Pairs : Type 0
+Pairs = List (List ℕ × Value)
+
+-- ---- rising keys
+
+-- one key more, below the first
+rise_more : (x y : List ℕ) (ks : List (List ℕ)) → slice_cmp nat_cmp x y ≡ Less → Rise (y ∷ ks) → Rise (x ∷ y ∷ ks)
+unfolding IsStrictlySortedBy
+rise_more x y ks low up = ((low, below_all x y ks low up.0), up)
+
+rise_one : (x : List ℕ) → Rise (x ∷ [])
+unfolding IsStrictlySortedBy
+rise_one x = (tt, tt)
+
+pub rise_nothing : (pairs : Pairs) → length pairs ≡ 0 → Rise (keys pairs)
+unfolding IsStrictlySortedBy
+rise_nothing [] none = tt
+rise_nothing (pair ∷ pairs) none = absurd (omega (arith, none))
+
+pub rise_step : (pairs others : Pairs) (i : ℕ) (last pair : List ℕ × Value) (a b : List ℕ) → i < length others → pair ≡ get_or others i pair
+    → a ≡ last.0 → b ≡ pair.0 → Less ≡ slice_cmp nat_cmp a b → (Rise (last.0 ∷ keys (drop i others)) → Rise (keys pairs))
+    → Rise (pair.0 ∷ keys (drop (i + 1) others)) → Rise (keys pairs)
+rise_step pairs others i last pair a b within here first second less so_far up =
+    let low : slice_cmp nat_cmp last.0 pair.0 ≡ Less = sym (less ∙ (ap (λ k. slice_cmp nat_cmp k b) first ∙ ap (slice_cmp nat_cmp last.0) second)) in
+    let rest : drop i others ≡ pair ∷ drop (i + 1) others =
+    rw (add-one i) (drop-cons others i pair within ∙ ap (λ y. y ∷ drop (suc i) others) (sym here)) in
+    so_far (subst (λ l. Rise (last.0 ∷ keys l)) (sym rest) (rise_more last.0 pair.0 (keys (drop (i + 1) others)) low up))
+
+pub rise_end : (pairs others : Pairs) (i : ℕ) (last : List ℕ × Value) → length others ≤ i
+    → (Rise (last.0 ∷ keys (drop i others)) → Rise (keys pairs)) → Rise (keys pairs)
+rise_end pairs others i last ended so_far =
+    so_far (subst (λ l. Rise (last.0 ∷ keys l)) (sym (drop_of_length-le others ended)) (rise_one last.0))
+
+-- pairs that were found to rise are the attributes that they make
+pub risen : (pairs told shown : Pairs) (r : Bool) → (IsTrue r → Rise (keys shown)) → r ≡ true → shown ≡ pairs → pairs ≡ told → pairs ≡ attrs told
+risen pairs told shown r up is same made =
+    sym (attrs_itself pairs (subst (λ (l : Pairs). Rise (keys l)) same (up is))) ∙ ap attrs made
+
+-- ---- parts
+
+-- where there is no row, the others are the attributes
+pub no_row : (value : Option Value) (free : Pairs) → None ≡ value → Rise (keys free) → free ≡ attrs (row flags_key value ++ free)
+no_row value free none up = sym (attrs_itself free up) ∙ ap (λ v. attrs (row flags_key v ++ free)) none
+
+own_at : (key : List ℕ) (tags : Pairs) → not (is_free key) ≡ true → at key (own_tags tags) ≡ at key tags
+own_at key tags own = at_filter key (λ k. not (is_free k)) tags ∙ ap (λ b. cond b (at key tags) None) own
+
+pub looked_own : (tags : Pairs) → looked (own_tags tags) ≡ looked tags
+looked_own tags = λ i. record {
+  error = own_at error_key tags refl i;
+  dropped_attributes = own_at dropped_attributes_key tags refl i;
+  dropped_events = own_at dropped_events_key tags refl i;
+  dropped_links = own_at dropped_links_key tags refl i;
+  library_name = own_at library_name_key tags refl i;
+  library_version = own_at library_version_key tags refl i;
+  scope_name = own_at scope_name_key tags refl i;
+  scope_version = own_at scope_version_key tags refl i;
+  code = own_at code_key tags refl i;
+  description = own_at description_key tags refl i;
+  kind = own_at kind_key tags refl i;
+  state = own_at state_key tags refl i;
+}
+
+pub left_of_own : (own tags : Pairs) → own ≡ own_tags tags → left_out (looked own) (at flags_key own) ≡ left_out (looked tags) (at flags_key tags)
+left_of_own own tags is = ap (λ l. left_out (looked l) (at flags_key l)) is
+    ∙ (ap (λ c. left_out c (at flags_key (own_tags tags))) (looked_own tags) ∙ ap (left_out (looked tags)) (own_at flags_key tags refl))
+
+pub free_rise : (span : JSpan) (tags : Pairs) (parts : Parted) → tags ≡ attributes_of span.tags → ArePartsOf tags parts → Rise (keys parts.free)
+free_rise span tags parts same are = subst (λ (l : Pairs). Rise (keys l)) (sym are.free)
+    (filter_rise is_free tags (subst (λ (l : Pairs). Rise (keys l)) (sym same) (attrs_rise (map attribute_of span.tags))))
+
+pub read_of_parts : (span : JSpan) (tags attributes : Pairs) (parts : Parted) (events : List Event) → tags ≡ attributes_of span.tags → ArePartsOf tags parts
+    → attributes ≡ attrs (row flags_key (high_flags_of span.flags) ++ parts.free) → events ≡ map event_of span.logs
+    → scoped_by_parts (record span { tags = []; logs = [] }) parts.own attributes events ≡ scoped_of span
+read_of_parts span tags attributes parts events same are held read =
+    let own : looked parts.own ≡ looked (attributes_of span.tags) = ap looked are.own ∙ (looked_own tags ∙ ap looked same) in
+    let free : attributes ≡ span_attributes span.flags (attributes_of span.tags) =
+    held ∙ ap (λ l. attrs (row flags_key (high_flags_of span.flags) ++ l)) (are.free ∙ ap free_tags same) in
+    λ i. by (own i) (free i) (read i)
+  where
+    by : Columns → Pairs → List Event → Scoped Span
+    by c others events = let one = scoped_by span c [] in record one { span = record one.span { attributes = others; events = events } }

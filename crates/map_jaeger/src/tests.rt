@@ -1,0 +1,181 @@
+//! Worked batches and their groups, by the OpenTelemetry exporter page for Jaeger.
+use crate::laws::{
+    batches_read_back, faults_found, normal_forms, read_is_normal, read_is_proper, read_is_sound,
+    written_is_proper,
+};
+use crate::{batch_of_group, group_of_batch};
+use jaeger_model::{Batch, JSpan, Tag, TagValue};
+use span_ids::{Nanos, SpanId, TraceId};
+use span_io::{Items, OutOfMemory, Text};
+use std::alloc::Global;
+use std::test::Fail;
+use trace_model::{Attrs, Code, Kind, Remark, RemarkKind, Value};
+
+fn one<T: Drop>(alloc: Global, item: T) -> Result<Items<T>, OutOfMemory> {
+    let mut items = Items::new(alloc);
+    items.push(item)?;
+    Ok(items)
+}
+
+fn texts(alloc: Global, list: &[(&str, &str)]) -> Result<Items<Tag>, OutOfMemory> {
+    let mut tags = Items::new(alloc);
+    for (key, text) in list {
+        tags.push(Tag {
+            key: Text::of(alloc, key)?,
+            value: TagValue::Text(Text::of(alloc, text)?),
+        })?;
+    }
+    Ok(tags)
+}
+
+// A batch of the process `shop` with one span of this number, which has these tags.
+fn batch_of(alloc: Global, number: u64, tags: &[(&str, &str)]) -> Result<Batch, Fail> {
+    let span = JSpan {
+        trace: TraceId::from_halves(0, 1)?,
+        id: SpanId::from_number(number)?,
+        parent: None,
+        name: Text::of(alloc, "pay")?,
+        references: Items::new(alloc),
+        invalid_refs: 0,
+        flags: 1,
+        start: Nanos(1_000),
+        end: Nanos(3_000),
+        tags: texts(alloc, tags)?,
+        logs: Items::new(alloc),
+    };
+    Ok(Batch {
+        service: Text::of(alloc, "shop")?,
+        tags: Items::new(alloc),
+        spans: one(alloc, span)?,
+    })
+}
+
+fn are_texts(attributes: &Attrs, list: &[(&str, &str)]) -> bool {
+    let mut same = attributes.len() == list.len();
+    for ((key, value), (name, text)) in attributes.as_slice().iter().zip(list) {
+        same = same && key.as_str() == *name;
+        same = same && matches!(value, Value::Text(held) if held.as_str() == *text);
+    }
+    same
+}
+
+fn are_remarks(remarks: &Items<Remark>, list: &[(RemarkKind, &str)]) -> bool {
+    let mut same = remarks.len() == list.len();
+    for (remark, (kind, key)) in remarks.as_slice().iter().zip(list) {
+        same = same && remark.kind == *kind && remark.key.as_str() == *key;
+    }
+    same
+}
+
+// The tags of a span, and what they make of it.
+#[derive(Clone, Copy, Debug)]
+struct Row {
+    name: &'static str,
+    tags: &'static [(&'static str, &'static str)],
+    attributes: &'static [(&'static str, &'static str)],
+    kind: Kind,
+    code: Code,
+    remarks: &'static [(RemarkKind, &'static str)],
+}
+
+const ROWS: [Row; 5] = [
+    Row {
+        name: "the last of equal tags",
+        tags: &[("k", "1"), ("a", "2"), ("k", "3")],
+        attributes: &[("a", "2"), ("k", "3")],
+        kind: Kind::Internal,
+        code: Code::Unset,
+        remarks: &[(RemarkKind::EqualKey, "k")],
+    },
+    Row {
+        name: "a reserved tag that stands last",
+        tags: &[("span.kind", "client"), ("a", "2"), ("span.kind", "server")],
+        attributes: &[("a", "2")],
+        kind: Kind::Server,
+        code: Code::Unset,
+        remarks: &[(RemarkKind::EqualKey, "span.kind")],
+    },
+    Row {
+        name: "a reserved tag that says nothing stands last",
+        tags: &[("span.kind", "client"), ("span.kind", "Client")],
+        attributes: &[],
+        kind: Kind::Internal,
+        code: Code::Unset,
+        remarks: &[
+            (RemarkKind::EqualKey, "span.kind"),
+            (RemarkKind::TagDropped, "span.kind"),
+        ],
+    },
+    Row {
+        name: "error beside a code",
+        tags: &[("error", "true"), ("otel.status_code", "OK")],
+        attributes: &[],
+        kind: Kind::Internal,
+        code: Code::Okay,
+        remarks: &[(RemarkKind::TagDropped, "error")],
+    },
+    Row {
+        name: "error alone",
+        tags: &[("error", "true"), ("otel.status_description", "late")],
+        attributes: &[],
+        kind: Kind::Internal,
+        code: Code::Fail,
+        remarks: &[],
+    },
+];
+
+#[test]
+fn reads_tags(rt: HostRuntime) -> Result<(), Fail> {
+    for row in &ROWS {
+        let batch = batch_of(rt.alloc(), 2, row.tags)?;
+        let (group, remarks) = group_of_batch(rt.alloc(), batch)?;
+        assert!(rt; are_remarks(&remarks, row.remarks), "{}", row.name);
+        assert!(rt;
+            are_texts(&group.resource, &[("service.name", "shop")]),
+            "{}",
+            row.name
+        );
+        let scope = group.scopes.as_slice().first().ok_or(OutOfMemory)?;
+        let span = scope.spans.as_slice().first().ok_or(OutOfMemory)?;
+        assert!(rt; are_texts(&span.attributes, row.attributes), "{}", row.name);
+        assert_eq!(rt;
+            (span.kind, span.status.code),
+            (row.kind, row.code),
+            "{}",
+            row.name
+        );
+    }
+    Ok(())
+}
+
+#[test]
+fn batches_of_one_process_stay_apart(rt: HostRuntime) -> Result<(), Fail> {
+    for number in [2, 3] {
+        let batch = batch_of(rt.alloc(), number, &[("a", "1")])?;
+        let (group, _remarks) = group_of_batch(rt.alloc(), batch)?;
+        let again = batch_of_group(rt.alloc(), group)?;
+        assert_eq!(rt; again.service.as_str(), "shop");
+        assert_eq!(rt; (again.tags.len(), again.spans.len()), (0, 1));
+        let span = again.spans.as_slice().first().ok_or(OutOfMemory)?;
+        assert_eq!(rt;
+            (span.id.number(), span.name.as_str(), span.flags),
+            (number, "pay", 1)
+        );
+        assert_eq!(rt;
+            (span.start.0, span.end.0, span.tags.len()),
+            (1_000, 3_000, 1)
+        );
+    }
+    Ok(())
+}
+
+#[test]
+fn laws_hold(_rt: HostRuntime) {
+    batches_read_back();
+    normal_forms();
+    read_is_normal();
+    read_is_sound();
+    faults_found();
+    written_is_proper();
+    read_is_proper();
+}
