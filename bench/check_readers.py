@@ -6,17 +6,19 @@ must have their verdicts, random traces must have the stock protobuf library's t
 judged as the whole is, and what is written of a random trace must be read back as its normal form. It prints a line for
 each part, and ends with 1 where one is wrong.
 """
+import itertools
 import random
 import sys
 
 import jaeger
 import otlp
 from drawn import Batches, Traces
+from protocols import PROTOCOLS
 from real_input import Maker, newer, normal, request_class, schema
 from refused_batches import BatchSpoiler
 
 SEEDS = 150
-OTLP, JAEGER = "otlp-proto", "jaeger-binary"
+OTLP, JAEGER, COMPACT = "otlp-proto", "jaeger-binary", "jaeger-compact"
 
 
 def hexed(text):
@@ -100,12 +102,70 @@ def worked():
 
 def check_worked():
     wrong = 0
-    for number, (text, source, target, wanted) in enumerate(worked()):
+    for number, (text, source, target, wanted) in enumerate(worked() + worked_compact()):
         got = jaeger.verdict(text, source, target)[:3]
         if got != wanted:
             print(f"WRONG: worked text {number}, {source} to {target}: {got}; wanted {wanted}")
             wrong += 1
     return wrong
+
+
+# The same in the compact protocol: the span of an SDK; one and two batches; a root with two CHILD_OF references, as a client
+# sends it and as it is written; all that a client's batch has; and repeated tags.
+BATCH_COMPACT = hexed("""
+1c 180473686f70 191c 1809686f73742e6e616d65 1500 18026e31 00 00
+191c 16c7b9feb7dcb78ab7f701 16ba8feaeca2c6b2f715 169db3feedd2a3cad29001 1600
+1809474554202f63617274 2502 168089818283898506 16c09a0c 195c
+1813687474702e726571756573742e6d6574686f64 1500 1803474554 00
+1819687474702e726573706f6e73652e7374617475735f636f6465 1506 469003 00
+180f6f74656c2e73636f70652e6e616d65 1500 18036c6962 00
+18126f74656c2e73636f70652e76657273696f6e 1500 1803312e30 00
+18097370616e2e6b696e64 1500 1806636c69656e74 00
+00 00
+""")
+SMALL_COMPACT = hexed("1c18017300 191c 1602 1600 1604 1600 180161 2500 1600 1600 00 00")
+DOUBLE_COMPACT = hexed("1c18017300 191c 1602 1600 1604 1600 180161 2500 1600 1600 191c 180164 1502 27000000000000f03f 00 00 00")
+REFERENCES = hexed("1c18017300 191c 1602 1600 1604 1600 180161 192c 1500160216001606 00 1500160216001608 00 1500 1600 1600 00 00")
+ONE_REFERENCE = hexed("1c18017300 191c 1602 1600 1604 1606 180161 191c 1500160216001608 00 1500 1600 1600 00 00")
+FLAGS = hexed("1c18017300 191c 1602 1600 1604 1600 180161 2506 1600 1600 00 00")
+LONG_LIST = hexed("1c18017300 19fc01 1602 1600 1604 1600 180161 2506 1600 1600 00 00")
+KEY_COMPACT = hexed("1c180000 191c 1602 1600 1604 1600 180161 2500 1600 1600 191c 180f6f74656c2e617474722e6572726f72 1504 31 00 00 00")
+CLIENT = hexed("""
+1c 1803617069 192c 1808686f73746e616d65 1500 18026831 00 18026970 1500 180831302e302e302e31 00 00
+191c 160a 1600 160e 160a 1803676574 2502 1680897a 16f403 191c 18097370616e2e6b696e64 1500 1806736572766572 00
+191c 16c88a7a 191c 18056576656e74 1500 1804646f6e65 00 00 00 00
+""")
+REPEATED = hexed("""
+1c18017300 191c 1602 1600 1604 1600 180161 2500 1600 1600
+193c 18016b 1500 180131 00 18016b 1500 180132 00 18056572726f72 1500 180474727565 00 00 00
+""")
+# The last of equal tags counts; `error` as a text is the code, which is written as a text and a truth value.
+REPEATED_WRITTEN = hexed("""
+1c18017300 191c 1602 1600 1604 1600 180161 2500 1600 1600
+193c 18056572726f72 1504 31 00 18016b 1500 180132 00 18106f74656c2e7374617475735f636f6465 1500 18054552524f52 00 00 00
+""")
+
+
+def worked_compact():
+    """Each worked text that has to do with the compact protocol."""
+    refused = lambda text, cause: (hexed(text), COMPACT, JAEGER, (3, f"unit 1: cause {cause}\n", b""))
+    written = lambda text: (0, "", text)
+    two = DOUBLE_COMPACT, SMALL_BATCH + DOUBLE_BATCH
+    return [
+        (REQUEST, OTLP, COMPACT, written(BATCH_COMPACT)), (BATCH, JAEGER, COMPACT, written(BATCH_COMPACT)),
+        (BATCH_COMPACT, COMPACT, JAEGER, written(BATCH)), (BATCH_COMPACT, COMPACT, OTLP, written(FLOORED)),
+        (SMALL_BATCH + DOUBLE_BATCH, JAEGER, COMPACT, written(SMALL_COMPACT + two[0])), (SMALL_COMPACT + two[0], COMPACT, JAEGER, written(two[1])),
+        (REFERENCES, COMPACT, COMPACT, written(ONE_REFERENCE)), (ONE_REFERENCE, COMPACT, COMPACT, written(ONE_REFERENCE)),
+        (FLAGS, COMPACT, COMPACT, written(FLAGS)), (LONG_LIST, COMPACT, COMPACT, written(FLAGS)),
+        (KEY_COMPACT, COMPACT, COMPACT, written(KEY_COMPACT)), (CLIENT, COMPACT, COMPACT, written(CLIENT)),
+        (REPEATED, COMPACT, COMPACT, written(REPEATED_WRITTEN)),
+        (longer("4a0b 0a056572726f72 12021001"), OTLP, COMPACT, (4, 'unit 1: fault 21 Reserved "error"\n', b"")),
+        refused("1c" * 32, "5 TooDeep"), refused("1c" * 31, "1 Truncated"), refused("1c18017300 1915 00 00", "14 BadElement"),
+        refused("00", "8 Missing"), refused("1d", "3 BadWire"), refused("10", "3 BadWire"), refused("0c 80800400", "3 BadWire"),
+        refused("15 8080808010", "2 BadVarint"), refused("14 808004", "2 BadVarint"), refused("16" + "80" * 9 + "02", "2 BadVarint"),
+        refused("16" + "80" * 9, "1 Truncated"), refused("18 8080808008", "4 BadSize"), refused("18 ffffffff07", "6 UnitTooLong"),
+        refused("1b 8080808008", "4 BadSize"), refused("1b 01 0d", "3 BadWire"), refused("191d", "3 BadWire"), refused("19fd 01", "3 BadWire"),
+    ]
 
 
 # ---- against the stock protobuf library
@@ -131,10 +191,10 @@ def check_requests():
 # ---- fronts
 
 
-def judged(text, limit):
+def judged(text, limit, form):
     """The cause of a text's first struct, or the place where it ends."""
     try:
-        found = jaeger.next_unit(text, 0, limit)
+        found = jaeger.next_unit(text, 0, limit, form)
         return "empty" if found is None else f"ends at {found[2]}"
     except otlp.Refused as why:
         return why.args[0]
@@ -143,13 +203,13 @@ def judged(text, limit):
 def check_fronts():
     """A front is open, and Truncated, until one of them decides; from there on each longer one has the same answer."""
     wrong = 0
-    for seed in range(SEEDS):
-        text = BatchSpoiler(seed).spoil(Batches(seed).structs())[:600]
+    for seed, form in itertools.product(range(SEEDS), PROTOCOLS):
+        text = BatchSpoiler(seed, form).spoil(Batches(seed).structs())[:600]
         limit = random.Random(seed).choice([40, 200, 599, 10_000])
-        answers = [judged(text[:end], limit) for end in range(1, len(text) + 1)]
+        answers = [judged(text[:end], limit, form) for end in range(1, len(text) + 1)]
         decided = [answer for answer in answers if answer != 1]
         if answers != [1] * (len(answers) - len(decided)) + decided or len(set(decided)) > 1:
-            print(f"WRONG: fronts of batch {seed}: {answers}")
+            print(f"WRONG: fronts of batch {seed}, {form}: {answers}")
             wrong += 1
     return wrong
 
@@ -158,15 +218,17 @@ def check_fronts():
 
 
 def check_back():
-    """What is written of a trace without a fault is read back, has no fault, and is written again as it is."""
+    """What is written of a trace without a fault is read back, has no fault, and is written again as it is, also by way
+    of the other protocol."""
     wrong = 0
-    for seed in range(SEEDS * 4):
+    for seed, form in itertools.product(range(SEEDS * 4), PROTOCOLS):
         text = Traces(seed, 0).whole()
-        status, note, batches, _ = jaeger.verdict(text, OTLP, JAEGER)
-        back = jaeger.verdict(batches, JAEGER, OTLP)
-        again = jaeger.verdict(back[2], OTLP, JAEGER)
-        if {(status, note), back[:2], again[:2]} != {(0, "")} or again[2] != batches or jaeger.verdict(batches, JAEGER, JAEGER)[2] != batches:
-            print(f"WRONG: there and back {seed}: {note}{back[1]}{again[1]}")
+        status, note, batches, _ = jaeger.verdict(text, OTLP, form)
+        back = jaeger.verdict(batches, form, OTLP)
+        again = jaeger.verdict(back[2], OTLP, form)
+        by_way = [jaeger.verdict(jaeger.verdict(batches, form, other)[2], other, form)[2] for other in PROTOCOLS]
+        if {(status, note), back[:2], again[:2]} != {(0, "")} or {again[2], *by_way} != {batches}:
+            print(f"WRONG: there and back {seed}, {form}: {note}{back[1]}{again[1]}")
             wrong += 1
     return wrong
 

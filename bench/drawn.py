@@ -3,7 +3,7 @@ import random
 
 import jaeger
 import otlp
-from jaeger import BINARY, DOUBLE, I8, I16, I32, I64, LIST, MAP, SET, STRUCT, TRUTH, Struct
+from protocols import BINARY, DOUBLE, I8, I16, I32, I64, KINDS, LIST, MAP, PROTOCOLS, SET, STRUCT, TRUTH, Struct
 
 KEYS = ["a", "b", "", "a.b", "é", "\U00010000", "\uffff", "service.name", "event", "error", "span.kind", "jaeger.flags", "zz"]
 BAD_FLAGS = ["1", "3", "257", "0", "02", "4294967295", "4294967296", "+2", " 2", "2\n", "", "٢", "-2", "2" * 5000]
@@ -90,8 +90,8 @@ class Batches(Drawn):
         loose = Loose(self.random, self.choice(0, 0.05, 0.3))
         return [loose.struct(jaeger.batch_struct(self.batch()), "Batch") for _ in range(self.choice(1, 1, 2, 3))]
 
-    def whole(self):
-        return b"".join(jaeger.write_struct(struct) for struct in self.structs())
+    def whole(self, form="jaeger-binary"):
+        return b"".join(PROTOCOLS[form].struct(struct) for struct in self.structs())
 
 
 class Values:
@@ -103,7 +103,7 @@ class Values:
     def value(self, kind, levels=2):
         draw = self.random
         if kind == STRUCT:
-            kinds = [draw.choice(jaeger.KINDS) for _ in range(draw.choice([0, 1, 3]) if levels else 0)]
+            kinds = [draw.choice(KINDS) for _ in range(draw.choice([0, 1, 3]) if levels else 0)]
             return Struct([(draw.choice([0, 1, 5, -1, 32767]), kind, self.value(kind, levels - 1)) for kind in kinds])
         if kind in [LIST, SET]:
             element, size = self.elements(levels)
@@ -121,7 +121,7 @@ class Values:
     def elements(self, levels):
         """A type of elements and their number; where there are none the type may be any."""
         size = self.random.choice([0, 1, 2, 3]) if levels else 0
-        return (self.random.choice(jaeger.KINDS) if size else self.random.randrange(256)), size
+        return (self.random.choice(KINDS) if size else self.random.randrange(256)), size
 
 
 class Loose(Values):
@@ -136,7 +136,7 @@ class Loose(Values):
 
     def unknown(self, name):
         """A field that no table knows, or one of another type than its own."""
-        kind = self.random.choice(jaeger.KINDS)
+        kind = self.random.choice(KINDS)
         ids = [id for id, row in jaeger.ROWS[name].items() if row[0] != kind]
         return self.random.choice([self.random.choice(ids), 99, -1, 0, 32767]), kind, self.value(kind)
 

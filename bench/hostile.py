@@ -22,9 +22,10 @@ if SMALL:
     otlp.UNIT = 40_000
 
 import jaeger
-from jaeger import BINARY, DOUBLE, I8, I32, I64, LAST_MICROS, LIST, MAP, SET, STRUCT
+from jaeger import LAST_MICROS
 from otlp import UNIT
 from program import BUILD, PROGRAM, Measured, command
+from protocols import BINARY, DOUBLE, I8, I32, I64, LIST, MAP, SET, STRUCT
 from wire import bytes_field, varint
 
 SLOW = 5.0
@@ -524,6 +525,50 @@ def batch_cases():
     ]
 
 
+# ---- batches in the compact protocol
+
+COMPACT, FROM_COMPACT = ("jaeger-compact", "jaeger-compact"), ("jaeger-compact", "jaeger-binary")
+COMPACT_PROCESS = bytes.fromhex("1c180000")
+COMPACT_END = bytes.fromhex("190c00")
+EMPTY_COMPACT = COMPACT_PROCESS + COMPACT_END
+# Behind these codes stands the id 99.
+UNKNOWN_TRUTH, UNKNOWN_I8, UNKNOWN_I64, UNKNOWN_BINARY, UNKNOWN_LIST, UNKNOWN_MAP, UNKNOWN_STRUCT = (bytes([code]) + b"\xc6\1" for code in [1, 3, 6, 8, 9, 11, 12])
+CLAIMED = b"\xff\xff\xff\xff\7"
+
+
+def compact_filled(piece, output=EMPTY_COMPACT):
+    """A batch without spans, with an unknown field as often as it fits in front of the spans, whose id stands behind then."""
+    end = bytes.fromhex("09040c00")
+    count = (UNIT - len(COMPACT_PROCESS + end)) // len(piece)
+    return writes(COMPACT_PROCESS + piece * count + end, output)
+
+
+def compact_refused(held, cause):
+    return refused(COMPACT_PROCESS + held, 1, cause)
+
+
+def compact_cases():
+    """The same of batches in the compact protocol."""
+    zero = b"\x80" * 9 + b"\0"
+    return [
+        ("structs 32 deep", COMPACT, lambda: compact_filled(UNKNOWN_STRUCT + b"\x1c" * 30 + b"\0" * 31)),
+        ("structs without an end", COMPACT, lambda: refused(b"\x1c" * UNIT, 1, "5 TooDeep")),
+        ("lists 32 deep", COMPACT, lambda: compact_filled(UNKNOWN_LIST + b"\x19" * 30 + b"\0")),
+        ("numbers in ten bytes each", FROM_COMPACT, lambda: compact_filled(UNKNOWN_I64 + zero, EMPTY_BATCH)),
+        ("empty binaries, maps and lists, each size in ten bytes", COMPACT, lambda: compact_filled(b"".join([UNKNOWN_BINARY, zero, UNKNOWN_MAP, zero, UNKNOWN_LIST, b"\xfc", zero]))),
+        ("truth values held by heads", COMPACT, lambda: compact_filled(UNKNOWN_TRUTH)),
+        ("ids that rise by one", COMPACT, lambda: compact_refused(b"\x11" * (UNIT - 4), "3 BadWire")),
+        ("a number in eleven bytes behind many", COMPACT, lambda: compact_refused((UNKNOWN_I8 + b"\1") * (UNIT // 4 - 20) + UNKNOWN_I64 + b"\x80" * 10, "2 BadVarint")),
+        ("a list of 2^31-1 spans that aren't there", COMPACT, lambda: compact_refused(b"\x19\xfc" + CLAIMED, "1 Truncated")),
+        ("a list of 2^31-1 spans, 16 MiB of them there", COMPACT, lambda: refused((COMPACT_PROCESS + b"\x19\xfc" + CLAIMED).ljust(UNIT, STOP), 1, "6 UnitTooLong")),
+        ("a list of 2^31-1 truth values that aren't there", COMPACT, lambda: compact_refused(UNKNOWN_LIST + b"\xf1" + CLAIMED, "1 Truncated")),
+        ("a map of 2^31-1 pairs that aren't there", COMPACT, lambda: compact_refused(UNKNOWN_MAP + CLAIMED + b"\x6c", "1 Truncated")),
+        ("a binary of 2^31-1 bytes that aren't there", COMPACT, lambda: compact_refused(UNKNOWN_BINARY + CLAIMED, "6 UnitTooLong")),
+        ("a size above 2^31-1", COMPACT, lambda: compact_refused(UNKNOWN_BINARY + b"\x80\x80\x80\x80\x08", "4 BadSize")),
+        ("batches without spans", ("jaeger-compact", "otlp-proto"), lambda: writes(EMPTY_COMPACT * (UNIT // len(EMPTY_COMPACT)), b"\x0a\0" * (UNIT // len(EMPTY_COMPACT)))),
+    ]
+
+
 # ---- running
 
 
@@ -563,7 +608,7 @@ def run(name, pair, text, status, note, output):
 
 def main():
     words = [word for word in sys.argv[1:] if not word.startswith("--")]
-    every = [(name, SAME_FORM, make) for name, make in cases()] + batch_cases()
+    every = [(name, SAME_FORM, make) for name, make in cases()] + batch_cases() + compact_cases()
     chosen = [(name, pair, make) for name, pair, make in every if not words or any(word in f"{name}, {' to '.join(pair)}" for word in words)]
     if "--list" in sys.argv:
         for name, pair, make in chosen:

@@ -1,27 +1,23 @@
-"""Jaeger batches in Thrift's binary protocol: what offends in their bytes, what they mean as a trace, and their text.
+"""Jaeger batches in both protocols of Thrift: what offends in their bytes, what they mean as a trace, and their text.
 
 The tables are those of jaeger.thrift and of the OpenTelemetry exporter page for Jaeger. The reader lists every offence
 of a unit, each a place and the number of a cause, and every fault of a group; what is answered is the least of them.
 """
 import base64
 import dataclasses
+import functools
 import itertools
 import json
 import re
-import struct
 
 import otlp
 from otlp import NAMES, UNIT, Refused, by_key, is_text
+from protocols import BINARY, DOUBLE, I32, I64, LIST, PROTOCOLS, STRUCT, TRUTH, Struct
 
-PAIRS = [(source, target) for source in ["otlp-proto", "jaeger-binary"] for target in ["otlp-proto", "jaeger-binary"]]
+FORMS = ["otlp-proto", *PROTOCOLS]
+PAIRS = list(itertools.product(FORMS, FORMS))
 FAULTS = {20: "EndBeforeStart", 21: "Reserved", 22: "OwnKey", 24: "ChildOfLink", 25: "DoubleInText"}
 LAST_MICROS = (2**64 - 1) // 1000
-LEVELS = 32
-
-TRUTH, I8, DOUBLE, I16, I32, I64, BINARY, STRUCT, MAP, SET, LIST = 2, 3, 4, 6, 8, 10, 11, 12, 13, 14, 15
-NUMBERS = {I8: ">b", I16: ">h", I32: ">i", I64: ">q"}
-CONTAINERS = [STRUCT, MAP, SET, LIST]
-KINDS = [TRUTH, DOUBLE, BINARY, *NUMBERS, *CONTAINERS]
 
 # Of each struct its known fields: the id with the type and what the field is.
 TAGS = (LIST, ("list", "Tag"))
@@ -49,129 +45,18 @@ TAG_VALUES = [("text", 3, b""), ("double", 4, bytes(8)), ("truth", 5, False), ("
 # ---- structs
 
 
-class Struct:
-    """The fields of a struct, each an id, a type and what it holds: a number, a truth value, bytes, a struct, the type and
-    the elements of a list or set, or the two types and the pairs of a map. One that was read has the places of its fields
-    and of its stop byte, counted from 1 through the unit."""
-
-    def __init__(self, fields, places=(), end=0):
-        self.fields, self.places, self.end = fields, places, end
-
-    def known(self, name):
-        """What the known fields hold, by id."""
-        return {id: held for id, kind, held in self.fields if ROWS[name].get(id, [None])[0] == kind}
+def known(held, name):
+    """What the known fields of a struct hold, by id."""
+    return {id: value for id, kind, value in held.fields if ROWS[name].get(id, [None])[0] == kind}
 
 
-def why_none(kind, level):
-    """The cause for which no value of this type may stand at a level."""
-    if kind in CONTAINERS and level > LEVELS:
-        return 5
-    return None if kind in KINDS else 3
-
-
-class Reader:
-    """Reads one struct, byte by byte where a byte can be refused, so that the shortest refused front decides."""
-
-    def __init__(self, text, at, limit=UNIT):
-        self.text, self.at, self.begin, self.limit = text, at, at, limit
-
-    def place(self):
-        return self.at - self.begin
-
-    def take(self, size):
-        if self.place() + size > self.limit or self.at + size > len(self.text):
-            raise Refused(6 if len(self.text) - self.begin >= self.limit else 1)
-        self.at += size
-        return self.text[self.at - size : self.at]
-
-    def size(self, why=None):
-        """A size, which must be 0 where there is a cause for which no elements may stand."""
-        n = 0
-        for i in range(4):
-            byte = self.take(1)[0]
-            if why is not None and byte:
-                raise Refused(why)
-            if i == 0 and byte >= 128:
-                raise Refused(4)
-            n = n * 256 + byte
-        return n
-
-    def binary(self):
-        size = self.size()
-        if self.place() + size > self.limit:
-            raise Refused(6)
-        return self.take(size)
-
-    def value(self, kind, level):
-        """A value; where it is a container, it stands at this level."""
-        if kind == STRUCT:
-            return self.struct(level)
-        if kind in [LIST, SET]:
-            element = self.take(1)[0]
-            size = self.size(why_none(element, level + 1))
-            return element, [self.value(element, level + 1) for _ in range(size)]
-        if kind == MAP:
-            types = self.take(1)[0], self.take(1)[0]
-            whys = [why for why in (why_none(kind, level + 1) for kind in types) if why is not None]
-            size = self.size(max(whys, default=None))
-            return *types, [tuple(self.value(kind, level + 1) for kind in types) for _ in range(size)]
-        if kind == BINARY:
-            return self.binary()
-        if kind == DOUBLE:
-            return self.take(8)
-        if kind == TRUTH:
-            return self.take(1) != b"\0"
-        return struct.unpack(NUMBERS[kind], self.take(struct.calcsize(NUMBERS[kind])))[0]
-
-    def struct(self, level):
-        fields, places = [], []
-        while True:
-            kind = self.take(1)[0]
-            place = self.place()
-            if kind == 0:
-                return Struct(fields, places, place)
-            why = why_none(kind, level + 1)
-            if why is not None:
-                raise Refused(why)
-            id = struct.unpack(">h", self.take(2))[0]
-            fields.append((id, kind, self.value(kind, level + 1)))
-            places.append(place)
-
-
-def next_unit(text, at, limit=UNIT):
+def next_unit(text, at, limit=UNIT, form="jaeger-binary"):
     """The place of the next unit, the unit as a struct, and the place behind it; None at the end."""
     if at == len(text):
         return None
-    reader = Reader(text, at, limit)
+    reader = PROTOCOLS[form].reader(text, at, limit)
     unit = reader.struct(1)
     return at, unit, reader.at
-
-
-class Spelled(bytes):
-    """Bytes that are written in place of a value."""
-
-
-def write_value(kind, held):
-    if isinstance(held, Spelled):
-        return held
-    if kind == STRUCT:
-        return write_struct(held)
-    if kind in [LIST, SET]:
-        return bytes([held[0]]) + struct.pack(">i", len(held[1])) + b"".join(write_value(held[0], element) for element in held[1])
-    if kind == MAP:
-        pairs = b"".join(write_value(held[0], key) + write_value(held[1], value) for key, value in held[2])
-        return bytes(held[:2]) + struct.pack(">i", len(held[2])) + pairs
-    if kind == BINARY:
-        return struct.pack(">i", len(held)) + held
-    if kind == DOUBLE:
-        return held
-    if kind == TRUTH:
-        return bytes([held])
-    return struct.pack(NUMBERS[kind], held)
-
-
-def write_struct(held):
-    return b"".join(bytes([kind]) + struct.pack(">h", id) + write_value(kind, value) for id, kind, value in held.fields) + b"\0"
 
 
 # ---- offences
@@ -206,7 +91,7 @@ def offences(unit, name="Batch"):
     if REQUIRED[name] - seen:
         found.append((unit.end, 8))
     if name == "Span":
-        held = unit.known(name)
+        held = known(unit, name)
         if not (held.get(1) or held.get(2)) or not held.get(3):
             found.append((unit.end, 12))
         if held.get(8, 0) + held.get(9, 0) > LAST_MICROS:
@@ -270,7 +155,7 @@ def read_list(held, id):
 def read_tags(held, id):
     tags = []
     for tag in read_list(held, id):
-        fields = tag.known("Tag")
+        fields = known(tag, "Tag")
         kind, field, absent = TAG_VALUES[fields[2]]
         value = fields.get(field, absent)
         tags.append((fields[1].decode(), (kind, value.decode() if kind == "text" else value)))
@@ -278,17 +163,17 @@ def read_tags(held, id):
 
 
 def read_reference(reference):
-    held = reference.known("SpanRef")
+    held = known(reference, "SpanRef")
     return Reference(held[1] == 0, unsigned(held[3]) * 2**64 + unsigned(held[2]), unsigned(held[4]))
 
 
 def read_log(log):
-    held = log.known("Log")
+    held = known(log, "Log")
     return Log(held[1], read_tags(held, 2))
 
 
 def read_span(span):
-    held = span.known("Span")
+    held = known(span, "Span")
     references = [read_reference(reference) for reference in read_list(held, 6)]
     return Span(
         unsigned(held[2]) * 2**64 + unsigned(held[1]), unsigned(held[3]), unsigned(held[4]), held[5].decode(),
@@ -299,8 +184,8 @@ def read_span(span):
 
 def read_batch(unit):
     """The batch that a unit without an offence means."""
-    held = unit.known("Batch")
-    process = held[1].known("Process")
+    held = known(unit, "Batch")
+    process = known(held[1], "Process")
     return Batch(process[1].decode(), read_tags(process, 2), [read_span(span) for span in held[2][1]])
 
 
@@ -345,9 +230,9 @@ def batch_struct(batch):
     return Struct([(1, STRUCT, process), list_of(2, [span_struct(span) for span in batch.spans])])
 
 
-def write_batch(batch):
+def write_batch(batch, form="jaeger-binary"):
     """The canonical text of a batch."""
-    return write_struct(batch_struct(batch))
+    return PROTOCOLS[form].struct(batch_struct(batch))
 
 
 # ---- from a batch to a group
@@ -566,12 +451,12 @@ def faults(group):
 # Of each form how its next unit is found, the offences of a unit, and the group that it means.
 SOURCES = {
     "otlp-proto": (otlp.next_unit, otlp.unit_offences, otlp.read_group),
-    "jaeger-binary": (next_unit, offences, lambda unit: group_of_batch(read_batch(unit))),
+    **{form: (functools.partial(next_unit, form=form), offences, lambda unit: group_of_batch(read_batch(unit))) for form in PROTOCOLS},
 }
 # Of each form the faults of a group, and its text.
 TARGETS = {
     "otlp-proto": (lambda group: [], otlp.write_group),
-    "jaeger-binary": (faults, lambda group: write_batch(batch_of_group(group))),
+    **{form: (faults, lambda group, form=form: write_batch(batch_of_group(group), form)) for form in PROTOCOLS},
 }
 
 

@@ -2,12 +2,14 @@
 """Runs the built program over Jaeger batches that Apache Thrift's Python library wrote, and compares what they mean.
 
 It needs Debian's thrift-compiler, python3-thrift, python3-protobuf and protobuf-compiler, and is run at the top as
-bench/real_batches.py, after ./spanx has built the program. The files of a folder that is given are taken too. Each input
-is converted to both forms. What is written is read back by the stock library of its form, and must mean what the tables
-of jaeger.py say of the batches that python3-thrift reads in the input; it must be the very bytes that the stock library
-writes of it, and convert to the same batches again. It prints a line for each case, and ends with 1 on a difference.
+bench/real_batches.py, after ./spanx has built the program. Each case is tried in both protocols, and the files of folders
+that are given, named jaeger-binary or jaeger-compact, are taken too. Each input is converted to each form. What is written
+is read back by the stock library of its form, and must mean what the tables of jaeger.py say of the batches that
+python3-thrift reads in the input; it must be the very bytes that the stock library writes of it, and convert to the same
+batches again. It prints a line for each case, and ends with 1 on a difference.
 """
 import importlib
+import itertools
 import os
 import re
 import struct
@@ -15,7 +17,7 @@ import subprocess
 import sys
 import tempfile
 
-from thrift.protocol import TBinaryProtocol
+from thrift.protocol import TBinaryProtocol, TCompactProtocol
 from thrift.TSerialization import serialize
 from thrift.transport import TTransport
 
@@ -23,12 +25,13 @@ import jaeger
 import otlp
 from drawn import Batches
 from program import BUILD, PROGRAM, TOP, convert
+from protocols import PROTOCOLS
 from real_input import report, request_class, schema
 
 HERE = os.path.dirname(os.path.abspath(__file__))
 EXAMPLES = os.path.join(TOP, "examples")
 SEEDS = 150
-TARGETS = ["otlp-proto", "jaeger-binary"]
+FACTORIES = {"jaeger-binary": TBinaryProtocol.TBinaryProtocolFactory(), "jaeger-compact": TCompactProtocol.TCompactProtocolFactory()}
 TAG_FIELDS = [("text", "vStr"), ("double", "vDouble"), ("truth", "vBool"), ("number", "vLong"), ("bytes", "vBinary")]
 
 # The types of fields that only a later schema has, each with a value of it. Its bytes are UTF-8, since python3-thrift can't pass
@@ -126,10 +129,10 @@ def meant_batch(made):
     return jaeger.Batch(made.process.serviceName, meant_tags(made.process.tags), [meant_span(span) for span in made.spans])
 
 
-def read_batches(types, text):
+def read_batches(types, text, form):
     """The batches that the stock library reads in a text, one after the other."""
     transport = TTransport.TMemoryBuffer(text)
-    protocol, out = TBinaryProtocol.TBinaryProtocol(transport), []
+    protocol, out = FACTORIES[form].getProtocol(transport), []
     while transport.cstringio_buf.tell() < len(text):
         out.append(types.Batch())
         out[-1].read(protocol)
@@ -261,37 +264,44 @@ def without_lists(types, made):
     return made
 
 
-def cases(types, later, folder):
-    """The name and the bytes of each case."""
-    paths = [os.path.join(folder, name) for name in sorted(os.listdir(folder))] if folder else []
-    for path in paths + [os.path.join(EXAMPLES, "checkout_batch.bin")]:
+def files(form, folders):
+    """The files of the folders whose name is that of a form, and those that the repository ships of it."""
+    folders = [folder for folder in folders if os.path.basename(os.path.normpath(folder)) == form]
+    paths = [os.path.join(folder, name) for folder in folders for name in sorted(os.listdir(folder))]
+    return paths + [os.path.join(EXAMPLES, "checkout_batch.bin")] if form == "jaeger-binary" else paths
+
+
+def cases(types, later, form, folders):
+    """The name and the bytes of each case in a form."""
+    serialized = lambda made: serialize(made, FACTORIES[form])
+    for path in files(form, folders):
         if os.path.isfile(path):
             with open(path, "rb") as file:
                 yield f"file {os.path.basename(path)}", file.read()
     yield "empty input", b""
-    yield "tags without their value, and with all values", serialize(odd_tags(types))
-    yield "seqNo and stats", serialize(counted(types)) * 2
+    yield "tags without their value, and with all values", serialized(odd_tags(types))
+    yield "seqNo and stats", serialized(counted(types)) * 2
     for name, batches in named_batches():
-        yield name, b"".join(serialize(made_batch(types, batch)) for batch in batches)
-        yield f"{name}, without empty lists", b"".join(serialize(without_lists(types, made_batch(types, batch))) for batch in batches)
+        yield name, b"".join(serialized(made_batch(types, batch)) for batch in batches)
+        yield f"{name}, without empty lists", b"".join(serialized(without_lists(types, made_batch(types, batch))) for batch in batches)
     for seed in range(SEEDS):
         drawn = Batches(seed)
         batches = [drawn.batch() for _ in range(drawn.some(3))]
-        yield f"random {seed}", b"".join(serialize(made_batch(types, batch)) for batch in batches)
+        yield f"random {seed}", b"".join(serialized(made_batch(types, batch)) for batch in batches)
         made = [made_batch(later, batch) for batch in batches]
         for batch in made:
             add_later(later, batch, drawn)
-        yield f"random {seed}, of a later schema", b"".join(serialize(batch) for batch in made)
+        yield f"random {seed}, of a later schema", b"".join(serialized(batch) for batch in made)
 
 
 # ---- comparing
 
 
-def expected(types, text):
+def expected(types, text, form):
     """The groups that a text means, by the stock library and the tables, and whether the reader of jaeger.py agrees."""
-    batches, own, at = [meant_batch(made) for made in read_batches(types, text)], [], 0
+    batches, own, at = [meant_batch(made) for made in read_batches(types, text, form)], [], 0
     while at < len(text):
-        _, unit, at = jaeger.next_unit(text, at)
+        _, unit, at = jaeger.next_unit(text, at, form=form)
         own.append(jaeger.read_batch(unit))
     return [jaeger.group_of_batch(batch) for batch in batches], own == batches
 
@@ -301,19 +311,19 @@ def read_back(types, request, target, written):
     if target == "otlp-proto":
         made = request.FromString(written)
         return meant_groups(made), made.SerializeToString(deterministic=True)
-    made = read_batches(types, written)
-    return [meant_batch(batch) for batch in made], b"".join(serialize(batch) for batch in made)
+    made = read_batches(types, written, target)
+    return [meant_batch(batch) for batch in made], b"".join(serialize(batch, FACTORIES[target]) for batch in made)
 
 
-def difference(types, request, text, target):
+def difference(types, request, text, source, target):
     """What is wrong with the program's answer to an input, if something is, and what must be written."""
-    groups, agree = expected(types, text)
+    groups, agree = expected(types, text, source)
     batches = [jaeger.batch_of_group(group) for group in groups]
-    texts = b"".join(jaeger.write_batch(batch) for batch in batches)
-    meant, wanted = (groups, b"".join(otlp.write_group(group) for group in groups)) if target == "otlp-proto" else (batches, texts)
+    texts = {form: b"".join(jaeger.write_batch(batch, form) for batch in batches) for form in PROTOCOLS}
+    meant, wanted = (groups, b"".join(otlp.write_group(group) for group in groups)) if target == "otlp-proto" else (batches, texts[target])
     if not agree:
         return "the reader of jaeger.py and the stock library read different batches", wanted, b""
-    status, written, note = convert(text, "jaeger-binary", target)
+    status, written, note = convert(text, source, target)
     if status != 0 or note != "":
         return f"status {status}, note {note!r}", wanted, written
     try:
@@ -324,7 +334,7 @@ def difference(types, request, text, target):
         return "another meaning was written", wanted, written
     if stock != written or written != wanted:
         return "the same meaning in other bytes was written", wanted, written
-    if convert(written, target, "jaeger-binary") != (0, texts, ""):
+    if convert(written, target, source) != (0, texts[source], ""):
         return "what was written converts to other batches", wanted, written
     return None, wanted, written
 
@@ -338,13 +348,13 @@ def main():
         sys.path.insert(0, folder)
         types, later = compiled(folder, "jaeger_batches", text), compiled(folder, "later_batches", later_schema(text))
         sys.path.remove(folder)
-    for name, text in cases(types, later, sys.argv[1] if len(sys.argv) > 1 else None):
-        for target in TARGETS:
-            what, wanted, written = difference(types, request, text, target)
+    for source, target in itertools.product(PROTOCOLS, jaeger.FORMS):
+        for name, text in cases(types, later, source, sys.argv[1:]):
+            what, wanted, written = difference(types, request, text, source, target)
             if what is None:
-                print(f"ok: {name}, to {target}: {len(text)} bytes in, {len(written)} out")
+                print(f"ok: {name}, {source} to {target}: {len(text)} bytes in, {len(written)} out")
             else:
-                report(f"{name}, to {target}", text, what, wanted, written)
+                report(f"{name}, {source} to {target}", text, what, wanted, written)
                 wrong += 1
     print(f"{wrong} differences")
     sys.exit(1 if wrong else 0)

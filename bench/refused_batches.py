@@ -3,7 +3,7 @@
 and output with what the independent reader and tables of jaeger.py say.
 
 It needs Debian's python3-protobuf and protobuf-compiler, and is run at the top as bench/refused_batches.py, after ./spanx
-has built the program; a number that is given is how many inputs are tried, for each of them one of the four pairs of forms.
+has built the program; a number that is given is how many inputs are tried, for each of them one of the pairs of forms.
 It prints how often each outcome came, a line for each difference, and ends with 1 where there is one.
 """
 import collections
@@ -13,8 +13,8 @@ import sys
 
 import jaeger
 from drawn import Batches, Loose, Traces
-from jaeger import BINARY, I8, I64, LIST, MAP, SET, STRUCT, Spelled, Struct
 from program import BUILD, PROGRAM, convert
+from protocols import BINARY, I8, KINDS, LIST, MAP, NUMBERS, PROTOCOLS, SET, STRUCT, Struct
 from real_input import report
 from refused_input import Spoiler
 
@@ -30,19 +30,14 @@ TRIES = {"Batch": 8, "Process": 4, "Span": 2, "SpanRef": 2, "Log": 2, "Tag": 1}
 class BatchSpoiler(Loose):
     """Spoils fields of structs, so that the texts around them stay right, or any bytes."""
 
-    def __init__(self, seed):
+    def __init__(self, seed, form):
         drawn = random.Random(seed)
         super().__init__(drawn, drawn.choice([0.001, 0.005, 0.03]))
-
-    def odd_head(self):
-        """A list or map of types that may not stand there, or with a size that no value has."""
-        kinds = [self.random.choice([*jaeger.KINDS, STRUCT, MAP, 0, 1, 7, 200]) for _ in range(2)]
-        size = self.random.choice([bytes(4), b"\0\0\0\1", b"\0\1", b"\x7f\xff\xff\xff", b"\x80\0\0\0", b"\xff"])
-        return self.random.choice([(LIST, Spelled(kinds[:1] + list(size))), (MAP, Spelled(kinds + list(size)))])
+        self.protocol = PROTOCOLS[form]
 
     def nested(self, levels):
         """A field of containers within each other."""
-        kind, held = self.random.choice([(STRUCT, Struct([])), (LIST, (STRUCT, [])), (LIST, (I8, [7])), (MAP, (LIST, 77, [])), self.odd_head()])
+        kind, held = self.random.choice([(STRUCT, Struct([])), (LIST, (STRUCT, [])), (LIST, (I8, [7])), (MAP, (LIST, 77, [])), self.protocol.odd_head(self.random)])
         for _ in range(levels - 1):
             wrap = self.random.randrange(4)
             if wrap == 0:
@@ -57,7 +52,7 @@ class BatchSpoiler(Loose):
         """A field with a value that its row may refuse."""
         if kind == BINARY:
             held += self.random.choice([*NOT_UTF8, "é".encode()])
-        elif kind in jaeger.NUMBERS:
+        elif kind in NUMBERS:
             times = [0, 1, -1, jaeger.LAST_MICROS, jaeger.LAST_MICROS + 1, 2**63 - 1, -(2**63)]
             held = self.random.choice({"time": times, "number": [0, 0, 1, -1]}.get(what, [0, 1, 2, 4, 5, -1, 2**31 - 1]))
         elif what[0] == "list":
@@ -71,7 +66,7 @@ class BatchSpoiler(Loose):
         row = jaeger.ROWS[name].get(id)
         if row is None or row[0] != kind:
             return [field, field]
-        other = self.random.choice(jaeger.KINDS)
+        other = self.random.choice(KINDS)
         wrong = self.wrong(*field, row[1])
         levels = self.random.choice([26, 27, 28, 29, 30, 31, 32])
         others = [[field, field], [field, wrong], [], [(id, other, self.value(other))], [field, self.nested(levels)]]
@@ -96,20 +91,20 @@ class BatchSpoiler(Loose):
             at = self.random.randrange(len(out) + 1)
             kind = self.random.randrange(5)
             if kind == 0 and at < len(out):
-                out[at] = self.random.choice([0, 1, 8, 10, 11, 12, 13, 14, 15, 127, 128, 255, self.random.randrange(256)])
+                out[at] = self.random.choice([0, 1, 8, 10, 11, 12, 13, 14, 15, 127, 128, 255, 0x16, 0x19, 0x1C, self.random.randrange(256)])
             elif kind == 1:
                 del out[at : at + self.random.choice([1, 1, 4, 30])]
             elif kind == 2:
                 out[at:at] = out[at : at + self.random.choice([1, 4, 30, 1000])]
             elif kind == 3:
-                out[at:at] = self.random.choice([b"\0", b"\x0c\0\1", b"\x0f\0\1\x0c\x7f\xff\xff\xff", b"\x0b\0\x09\x7f\xff\xff\xff", b"\x0d\0\1", b"\xff"])
+                out[at:at] = self.random.choice(self.protocol.PIECES)
             elif self.random.random() < 0.3:
                 del out[at:]
         return bytes(out)
 
     def spoil(self, structs):
         """The text of batches, spoilt."""
-        out = b"".join(jaeger.write_struct(self.struct(struct, "Batch")) for struct in structs)
+        out = b"".join(self.protocol.struct(self.struct(struct, "Batch")) for struct in structs)
         return self.bytes(out) if self.random.random() < 0.3 else out
 
 
@@ -118,12 +113,12 @@ class BatchSpoiler(Loose):
 
 def case(seed):
     """A text with the two forms between which it is converted."""
-    source, target = jaeger.PAIRS[seed % 4]
+    source, target = jaeger.PAIRS[seed % len(jaeger.PAIRS)]
     drawn = random.Random(seed)
-    if source == "jaeger-binary":
-        structs = Batches(seed).structs()
-        text = b"".join(jaeger.write_struct(struct) for struct in structs) if drawn.random() < 0.15 else BatchSpoiler(seed).spoil(structs)
-        return text, source, target
+    if source in PROTOCOLS:
+        if drawn.random() < 0.15:
+            return Batches(seed).whole(source), source, target
+        return BatchSpoiler(seed, source).spoil(Batches(seed).structs()), source, target
     text = Traces(seed, drawn.choice([0, 0.1, 0.3, 0.8])).whole()
     return Spoiler(seed).request(text) if drawn.random() < 0.2 else text, source, target
 

@@ -14,6 +14,7 @@ import tempfile
 
 import jaeger
 from program import BUILD, PROGRAM, Measured, command, seconds_of
+from protocols import PROTOCOLS
 from wire import bytes_field, fixed32_field, fixed64_field, number_field
 
 RUNS = 5
@@ -136,8 +137,8 @@ def request(size):
 def inputs(size):
     """The text of each form, and the number of spans."""
     text, spans = request(size)
-    batches = (jaeger.write_batch(jaeger.batch_of_group(group)) for group in jaeger.groups(text, "otlp-proto"))
-    return {"otlp-proto": text, "jaeger-binary": b"".join(batches)}, spans
+    batches = [jaeger.batch_of_group(group) for group in jaeger.groups(text, "otlp-proto")]
+    return {"otlp-proto": text, **{form: b"".join(jaeger.write_batch(batch, form) for batch in batches) for form in PROTOCOLS}}, spans
 
 
 def converted(text, source, target):
@@ -151,12 +152,13 @@ def check(texts):
     """What is written must be canonical: a request of the input's size, since that has no defaults, which is written again
     as it is, and the very batches, also of the request that they are converted to."""
     written = {pair: converted(texts[pair[0]], *pair) for pair in jaeger.PAIRS}
-    first, back = written["otlp-proto", "otlp-proto"], written["jaeger-binary", "otlp-proto"]
+    first = written["otlp-proto", "otlp-proto"]
     if len(first) != len(texts["otlp-proto"]) or converted(first, "otlp-proto", "otlp-proto") != first:
         sys.exit("the program doesn't write the canonical text of the request")
-    others = [written[source, "jaeger-binary"] for source in texts] + [converted(back, "otlp-proto", "jaeger-binary")]
-    if any(other != texts["jaeger-binary"] for other in others):
-        sys.exit("the program doesn't write the batches of the input")
+    for form in PROTOCOLS:
+        back = converted(written[form, "otlp-proto"], "otlp-proto", form)
+        if {back, *(written[source, form] for source in texts)} != {texts[form]}:
+            sys.exit("the program doesn't write the batches of the input")
 
 
 def show(name, words, path, size):

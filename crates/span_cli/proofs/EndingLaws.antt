@@ -9,7 +9,7 @@ use Rattle.span_io.specs.declared.form.Form.{Form}
 use Rattle.span_io.specs.declared.limits.Limits.{Limits}
 use Rattle.span_io.specs.declared.refusal.Refusal.{Refusal}
 use Rattle.span_convert.specs.Converters.{KeepsWhy, OnlyWants}
-use Rattle.span_convert.specs.Verdicts.{Verdict, good, refused, faulted, IsVerdict, IsJudged, Stops, WritesFront, text_in}
+use Rattle.span_convert.specs.Verdicts.{Verdict, good, refused, faulted, IsVerdict, IsJudged, Stops, WritesFront, verdict_text}
 use Rattle.span_convert.specs.declared.converter.State.{State}
 use Rattle.span_convert.specs.declared.converter.State.TheVariants as states
 use Rattle.span_convert.specs.declared.stop.Stop.{Stop}
@@ -18,8 +18,7 @@ use Rattle.span_convert.specs.declared.tally.Tally.{Tally}
 use Rattle.span_convert.specs.declared.target_fault.TargetFault.{TargetFault}
 use Rattle.span_cli.specs.Inputs.{GaveInput, ReadsInput, IsAllRead}
 use Rattle.span_cli.specs.Runs.{IsEndingAt, EndsInput, EndsOutput, WritesRead, EndsRun}
-use Rattle.span_cli.specs.Verdicts.{OnVerdict, IsRunStatus, AgreesWith, Writes, said, input_failed, output_failed, no_memory, status_of, line_of, refusal_line, fault_line}
-use Rattle.span_cli.specs.Verdicts.{IsJudgedAt}
+use Rattle.span_cli.specs.Verdicts.{OnVerdict, IsRunStatus, AgreesWith, Writes, said, input_failed, output_failed, no_memory, status_of, line_of, refusal_line, fault_line, IsJudgedAt}
 use Rattle.span_cli.specs.declared.ending.Ending.{Ending}
 use Rattle.span_cli.specs.declared.ending.Ending.TheVariants as endings
 use Rattle.span_cli.proofs.FrontVerdicts.{judged_told, verdict_told}
@@ -74,12 +73,12 @@ front_nothing now bytes = record { front = []; is_front = (bytes, refl); gains =
 
 -- ---- stops
 
-stops_write : (verdict : Verdict) (before now : Outlet) → Stops verdict stops.Write before now → GainsFront before now (text_in verdict)
+stops_write : (verdict : Verdict) (before now : Outlet) → Stops verdict stops.Write before now → GainsFront before now (verdict_text verdict)
 stops_write (good text tally) before now s = s.1
 stops_write (refused why text) before now s = s.1
 stops_write (faulted why text) before now s = s.1
 
-stops_wanting : (verdict : Verdict) (before now : Outlet) → Stops verdict stops.OutOfMemory before now → GainsFront before now (text_in verdict)
+stops_wanting : (verdict : Verdict) (before now : Outlet) → Stops verdict stops.OutOfMemory before now → GainsFront before now (verdict_text verdict)
 stops_wanting (good text tally) before now s = s
 stops_wanting (refused why text) before now s = s
 stops_wanting (faulted why text) before now s = s
@@ -89,7 +88,7 @@ agrees_refused (good text tally) before now s = absurd s
 agrees_refused (refused why text) before now s = refl
 agrees_refused (faulted why text) before now s = absurd s
 
-gains_refused : (verdict : Verdict) (before now : Outlet) → Stops verdict stops.Refused before now → Gains before now (text_in verdict)
+gains_refused : (verdict : Verdict) (before now : Outlet) → Stops verdict stops.Refused before now → Gains before now (verdict_text verdict)
 gains_refused (good text tally) before now s = absurd s
 gains_refused (refused why text) before now s = s
 gains_refused (faulted why text) before now s = absurd s
@@ -104,7 +103,7 @@ agrees_faulted (good text tally) before now s = absurd s
 agrees_faulted (refused why text) before now s = absurd s
 agrees_faulted (faulted why text) before now s = refl
 
-gains_faulted : (verdict : Verdict) (before now : Outlet) → Stops verdict stops.Faulted before now → Gains before now (text_in verdict)
+gains_faulted : (verdict : Verdict) (before now : Outlet) → Stops verdict stops.Faulted before now → Gains before now (verdict_text verdict)
 gains_faulted (good text tally) before now s = absurd s
 gains_faulted (refused why text) before now s = absurd s
 gains_faulted (faulted why text) before now s = s
@@ -115,8 +114,8 @@ line_faulted found (refused why text) before now s kept = absurd s
 line_faulted found (faulted why text) before now s kept = ap fault_line kept
 
 -- the text of the groups before was written, and memory was wanted for the line
-front_faulted : (verdict : Verdict) (before now : Outlet) → Stops verdict stops.Faulted before now → GainsFront before now (text_in verdict)
-front_faulted verdict before now s = record { front = text_in verdict; is_front = ([], sym (append-nil (text_in verdict))); gains = gains_faulted verdict before now s }
+front_faulted : (verdict : Verdict) (before now : Outlet) → Stops verdict stops.Faulted before now → GainsFront before now (verdict_text verdict)
+front_faulted verdict before now s = record { front = verdict_text verdict; is_front = ([], sym (append-nil (verdict_text verdict))); gains = gains_faulted verdict before now s }
 
 -- ---- devices
 
@@ -200,9 +199,9 @@ module _ {K : Type 0} (outlet : K → Outlet) (from to : Form) (before now : Inl
   output_same : (status : ℕ) → status ≢ 6 → new ≡ old → EndsOutput outlet status old new
   output_same status other same = output_quiet status other (λ e. same) (ap (λ (k : K). (outlet k).faults) same)
 
-  same_front : new ≡ old → OnVerdict from to before.left (λ v. GainsFront (outlet old) (outlet new) (text_in v))
-  same_front same = always before.left (λ bytes. (v : Verdict) → IsVerdict from to shipped_limits bytes v → GainsFront (outlet old) (outlet new) (text_in v))
-      (λ bytes v is. subst (λ (k : K). GainsFront (outlet old) (outlet k) (text_in v)) (sym same) (front_nothing (outlet old) (text_in v)))
+  same_front : new ≡ old → OnVerdict from to before.left (λ v. GainsFront (outlet old) (outlet new) (verdict_text v))
+  same_front same = always before.left (λ bytes. (v : Verdict) → IsVerdict from to shipped_limits bytes v → GainsFront (outlet old) (outlet new) (verdict_text v))
+      (λ bytes v is. subst (λ (k : K). GainsFront (outlet old) (outlet k) (verdict_text v)) (sym same) (front_nothing (outlet old) (verdict_text v)))
 
   -- ---- each ending
 
@@ -219,12 +218,12 @@ module _ {K : Type 0} (outlet : K → Outlet) (from to : Form) (before now : Inl
     front = course.front;
     judged = always before.left (λ bytes. IsJudgedAt from to input_failed bytes) (λ bytes. tt);
     verdict = always before.left (λ bytes. (v : Verdict) → IsVerdict from to shipped_limits bytes v → AgreesWith input_failed 5 v) (λ bytes v is. tt);
-    written = always before.left (λ bytes. (v : Verdict) → IsVerdict from to shipped_limits bytes v → Writes input_failed (text_in v) (outlet old) (outlet new))
+    written = always before.left (λ bytes. (v : Verdict) → IsVerdict from to shipped_limits bytes v → Writes input_failed (verdict_text v) (outlet old) (outlet new))
         (λ bytes v is. subst (λ (k : K). Gains (outlet old) (outlet k) []) (sym same) (gains_nothing (outlet old)));
     line = always before.left (λ bytes. (v : Verdict) → IsVerdict from to shipped_limits bytes v → codes "input failed\n" ≡ line_of input_failed v) (λ bytes v is. refl);
   }
 
-  wants : Course → now.faults ≡ before.faults → (outlet new).faults ≡ (outlet old).faults → OnVerdict from to before.left (λ v. GainsFront (outlet old) (outlet new) (text_in v)) → EndsRun outlet from to endings.NoMemory before now old new
+  wants : Course → now.faults ≡ before.faults → (outlet new).faults ≡ (outlet old).faults → OnVerdict from to before.left (λ v. GainsFront (outlet old) (outlet new) (verdict_text v)) → EndsRun outlet from to endings.NoMemory before now old new
   wants course still quiet gains = record {
     input = input_left 7 (unlike 7 5 (inr (omega arith))) (unlike 7 0 (inr (omega arith))) still course;
     output = output_quiet 7 (unlike 7 6 (inr (omega arith))) (λ e. absurd (unlike 7 5 (inr (omega arith)) e)) quiet;
@@ -238,7 +237,7 @@ module _ {K : Type 0} (outlet : K → Outlet) (from to : Form) (before now : Inl
   pub ends_no_memory : Course → now.faults ≡ before.faults → new ≡ old → EndsRun outlet from to endings.NoMemory before now old new
   ends_no_memory course still same = wants course still (ap (λ (k : K). (outlet k).faults) same) (same_front same)
 
-  ends_output_failed : Course → now.faults ≡ before.faults → OutputFails (outlet old) (outlet new) → (IsTrue (outlet old).steady → ⊥) → OnVerdict from to before.left (λ v. GainsFront (outlet old) (outlet new) (text_in v)) → EndsRun outlet from to endings.OutputFailed before now old new
+  ends_output_failed : Course → now.faults ≡ before.faults → OutputFails (outlet old) (outlet new) → (IsTrue (outlet old).steady → ⊥) → OnVerdict from to before.left (λ v. GainsFront (outlet old) (outlet new) (verdict_text v)) → EndsRun outlet from to endings.OutputFailed before now old new
   ends_output_failed course still fails unsteady gains = record {
     input = input_left 6 (unlike 6 5 (inr (omega arith))) (unlike 6 0 (inr (omega arith))) still course;
     output = record {
@@ -262,7 +261,7 @@ module _ {K : Type 0} (outlet : K → Outlet) (from to : Form) (before now : Inl
     front = course.front;
     judged = judged;
     verdict = on_verdict from to before.left _ (λ v. AgreesWith said 3 v) (λ v carried. agrees_refused v (outlet old) (outlet new) carried.0) on;
-    written = on_verdict from to before.left _ (λ v. Gains (outlet old) (outlet new) (text_in v)) (λ v carried. gains_refused v (outlet old) (outlet new) carried.0) on;
+    written = on_verdict from to before.left _ (λ v. Gains (outlet old) (outlet new) (verdict_text v)) (λ v carried. gains_refused v (outlet old) (outlet new) carried.0) on;
     line = on_verdict from to before.left _ (λ v. refusal_line refusal ≡ line_of said v) (λ v carried. line_refused refusal v (outlet old) (outlet new) carried.0 carried.1) on;
   }
 
@@ -274,7 +273,7 @@ module _ {K : Type 0} (outlet : K → Outlet) (from to : Form) (before now : Inl
     front = course.front;
     judged = judged;
     verdict = on_verdict from to before.left _ (λ v. AgreesWith said 4 v) (λ v carried. agrees_faulted v (outlet old) (outlet new) carried.0) on;
-    written = on_verdict from to before.left _ (λ v. Gains (outlet old) (outlet new) (text_in v)) (λ v carried. gains_faulted v (outlet old) (outlet new) carried.0) on;
+    written = on_verdict from to before.left _ (λ v. Gains (outlet old) (outlet new) (verdict_text v)) (λ v carried. gains_faulted v (outlet old) (outlet new) carried.0) on;
     line = on_verdict from to before.left _ (λ v. line ≡ line_of said v) (λ v carried. says ∙ line_faulted found v (outlet old) (outlet new) carried.0 carried.1) on;
   }
 
@@ -306,15 +305,15 @@ module _ {K : Type 0} (outlet : K → Outlet) (from to : Form) (before now : Inl
   ends_at_stop endings.OutputFailed stop state at by =
       let there = subst (λ (s : Stop). StoppedBy s state) at by in
       ends_output_failed there.devices.course there.devices.still (there.devices.fails refl) (λ steady. there.devices.answers steady refl)
-      (on_verdict from to before.left _ (λ v. GainsFront (outlet old) (outlet new) (text_in v)) (λ v carried. stops_write v (outlet old) (outlet new) carried.0) there.carried)
+      (on_verdict from to before.left _ (λ v. GainsFront (outlet old) (outlet new) (verdict_text v)) (λ v carried. stops_write v (outlet old) (outlet new) carried.0) there.carried)
   ends_at_stop endings.NoMemory stop state (inr at) by =
       let there = subst (λ (s : Stop). StoppedBy s state) at by in
       wants there.devices.course there.devices.still (there.devices.quiet (λ e. absurd (cc)))
-      (on_verdict from to before.left _ (λ v. GainsFront (outlet old) (outlet new) (text_in v)) (λ v carried. front_faulted v (outlet old) (outlet new) carried.0) there.carried)
+      (on_verdict from to before.left _ (λ v. GainsFront (outlet old) (outlet new) (verdict_text v)) (λ v carried. front_faulted v (outlet old) (outlet new) carried.0) there.carried)
   ends_at_stop endings.NoMemory stop state (inl at) by =
       let there = subst (λ (s : Stop). StoppedBy s state) at by in
       wants there.devices.course there.devices.still (there.devices.quiet (λ e. absurd (cc)))
-      (on_verdict from to before.left _ (λ v. GainsFront (outlet old) (outlet new) (text_in v)) (λ v carried. stops_wanting v (outlet old) (outlet new) carried.0) there.carried)
+      (on_verdict from to before.left _ (λ v. GainsFront (outlet old) (outlet new) (verdict_text v)) (λ v carried. stops_wanting v (outlet old) (outlet new) carried.0) there.carried)
 
   wanting : (ending : Ending) (stop : Stop) (state : State) → IsEndingAt ending stop state → StopsDevices stop → OnlyWants {T = Unit} (Err stop) → new ≡ old → EndsRun outlet from to ending before now old new
   wanting ending stops.Refused state at devices only same = absurd only

@@ -1,40 +1,38 @@
 -- Of an input that is longer than its limit only a front is looked at: what stands behind changes no verdict.
-use Rattle.std.proofs.Common.{◌≡◌, ◌≢◌, ◌≤◌, ◌<◌, ◌⊎◌, ℕ, List, [], ◌++◌, length, take, sym, subst, inl, inr, arith, length-append, Err, Option, Some, None}
+use Rattle.std.proofs.Common.{◌≡◌, ◌≤◌, ◌<◌, ℕ, List, ◌++◌, length, take, sym, subst, inl, inr, arith, length-append, Err, Option, Some, None}
 use Rattle.std.specs.Prelude.{IfSome}
 use Rattle.std.proofs.lemmas.List.{take-append-le}
 use Rattle.std.specs.Io.KnownBytes.{Consumes}
-use Rattle.span_io.specs.Frames.{ItemsThen, NeedsMore}
+use Rattle.span_io.specs.Frames.{ItemsThen}
 use Rattle.span_io.specs.declared.cause.Cause.{Cause}
-use Rattle.span_io.specs.declared.cause.Cause.TheVariants as causes
 use Rattle.span_io.specs.declared.form.Form.{Form}
 use Rattle.span_io.specs.declared.form.Form.TheVariants as forms
 use Rattle.span_io.specs.declared.limits.Limits.{Limits}
-use Rattle.proto_wire.specs.Wire.{records, NeedsMoreBytes, IsRefusedAs}
-use Rattle.span_convert.specs.BatchFiles.{batches, IsRefusedBatch}
+use Rattle.proto_wire.specs.Wire.{records}
+use Rattle.span_convert.specs.BatchFiles.{ProtocolWords, binary, compact, batches, HoldsBatches}
 use Rattle.span_convert.specs.Units.{HoldsUnits, RestCause}
 use Rattle.span_convert.specs.Verdicts.{Verdict, good, refused, faulted, IsVerdict, IsJudged}
 use Rattle.span_convert.specs.declared.stop.Stop.{Stop}
 use Rattle.span_convert.specs.declared.stop.Stop.TheVariants as stops
 
 -- at a rest that is refused, or needs more, where something stands there
-longer_cause : (Refused Needs Stands : Type 0) (limit size other : ℕ) (cause : Cause) → limit < size → limit < other → Refused ⊎ Needs × ((cause ≡ causes.InputTooLong) × (limit < size) ⊎ (cause ≡ causes.Truncated) × (size ≤ limit) × Stands)
-    → Refused ⊎ Needs × ((cause ≡ causes.InputTooLong) × (limit < other) ⊎ (cause ≡ causes.Truncated) × (other ≤ limit) × Stands)
-longer_cause Refused Needs Stands limit size other cause long longer (inl refused_as) = inl refused_as
-longer_cause Refused Needs Stands limit size other cause long longer (inr (needs, inl (is, beyond))) = inr (needs, inl (is, longer))
-longer_cause Refused Needs Stands limit size other cause long longer (inr (needs, inr (is, within, some))) = absurd (omega (arith, long, within))
-
 same_cause : (from : Form) (limits : Limits) (size other : ℕ) (rest : List ℕ) (cause : Cause) → limits.binary < size → limits.binary < other → RestCause from limits size rest cause → RestCause from limits other rest cause
-same_cause forms.OtlpProto limits size other rest cause = longer_cause (IsRefusedAs limits.unit rest cause) (NeedsMoreBytes limits.unit rest) (rest ≢ []) limits.binary size other cause
-same_cause forms.JaegerBinary limits size other rest cause = longer_cause (IsRefusedBatch limits.unit rest cause) (NeedsMore batches limits.unit rest) (rest ≢ []) limits.binary size other cause
+same_cause from limits size other rest cause long longer (inl refused_as) = inl refused_as
+same_cause from limits size other rest cause long longer (inr (needs, inl (is, beyond))) = inr (needs, inl (is, longer))
+same_cause from limits size other rest cause long longer (inr (needs, inr (is, within, some))) = absurd (omega (arith, long, within))
 
 module _ (limits : Limits) (bytes others : List ℕ) (long : limits.binary < length bytes) (longer : limits.binary < length others) (same : take limits.binary bytes ≡ take limits.binary others) where
+  same_batches : (protocol : ProtocolWords) (units : List (List ℕ)) (rest : List ℕ) → HoldsBatches protocol limits bytes units rest → HoldsBatches protocol limits others units rest
+  same_batches protocol units rest held = subst (λ (l : List ℕ). ItemsThen (batches protocol) limits.unit units rest l) same held
+
   same_units : (from : Form) (units : List (List ℕ)) (rest : List ℕ) → HoldsUnits from limits bytes units rest → HoldsUnits from limits others units rest
   same_units forms.OtlpProto units rest held = record {
     frames = held.frames;
     framed = subst (λ (l : List ℕ). ItemsThen records limits.unit held.frames rest l) same held.framed;
     are_units = held.are_units;
   }
-  same_units forms.JaegerBinary units rest held = subst (λ (l : List ℕ). ItemsThen batches limits.unit units rest l) same held
+  same_units forms.JaegerBinary units rest held = same_batches binary units rest held
+  same_units forms.JaegerCompact units rest held = same_batches compact units rest held
 
   pub same_verdict : (from to : Form) (verdict : Verdict) → IsVerdict from to limits bytes verdict → IsVerdict from to limits others verdict
   same_verdict from to (good text tally) is = absurd (let h : length bytes ≤ limits.binary = is.within in omega arith)

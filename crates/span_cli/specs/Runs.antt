@@ -3,7 +3,7 @@ use Rattle.std.specs.Prelude.{◌≡◌, ◌≢◌, ◌⊎◌, ℕ, List, IfSome
 use Rattle.span_io.specs.Limits.{shipped_limits}
 use Rattle.span_io.specs.Outside.{Inlet, Outlet, InputFails, OutputFails}
 use Rattle.span_io.specs.declared.form.Form.{Form}
-use Rattle.span_convert.specs.Verdicts.{WritesFront, text_in}
+use Rattle.span_convert.specs.Verdicts.{WritesFront, verdict_text}
 use Rattle.span_convert.specs.declared.converter.State.{State}
 use Rattle.span_convert.specs.declared.converter.State.TheVariants as states
 use Rattle.span_convert.specs.declared.stop.Stop.{Stop}
@@ -61,7 +61,7 @@ pub record EndsRun {K : Type 0} (outlet : K → Outlet) (from to : Form) (ending
   pub judged : IfSome input_before.left (IsJudgedAt from to (stage_of (status_of ending)))
   pub verdict : OnVerdict from to input_before.left (AgreesWith (stage_of (status_of ending)) (status_of ending))
   pub written : OnVerdict from to input_before.left
-      (λ verdict. Writes (stage_of (status_of ending)) (text_in verdict) (outlet output_before) (outlet output_now))
+      (λ verdict. Writes (stage_of (status_of ending)) (verdict_text verdict) (outlet output_before) (outlet output_now))
   pub line : OnVerdict from to input_before.left (λ verdict. ending_line ending ≡ line_of (stage_of (status_of ending)) verdict)
 
 -- a call that didn't come to the end says how the run ended

@@ -1,6 +1,7 @@
 //! Worked rows of the top call, over sources and sinks in memory.
 mod jaeger;
 mod jaeger_batches;
+mod jaeger_compact;
 mod jaeger_requests;
 mod jaeger_stops;
 

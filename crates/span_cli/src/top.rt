@@ -2,7 +2,7 @@
 ghost use Rattle.std.specs.Prelude.{◌≡◌, ◌≢◌, ◌↔◌, IfSome, IsTrue};
 ghost use Rattle.span_io.specs.Outside.{InputFails, OutputFails};
 ghost use Rattle.span_cli.specs.Commands.{texts, Spells, OnConversion};
-ghost use Rattle.span_convert.specs.Verdicts.{text_in};
+ghost use Rattle.span_convert.specs.Verdicts.{verdict_text};
 ghost use Rattle.span_cli.specs.Inputs.{ReadsInput, IsAllRead};
 ghost use Rattle.span_cli.specs.Runs.{EndsRun, WritesRead};
 ghost use Rattle.span_cli.specs.Verdicts.{OnVerdict, IsRunStatus, IsJudgedAt, AgreesWith, Writes, Notes, stage_of, stage_line, line_of};
@@ -56,7 +56,7 @@ pub fn run<S: Source, K: Sink, N: Sink>(
     ensures verdict { OnConversion (texts words.now)
         (λ from to. OnVerdict from to (S.inlet input.old).left (AgreesWith (stage_of result) result)) }
     ensures output { OnConversion (texts words.now) (λ from to. OnVerdict from to (S.inlet input.old).left
-        (λ verdict. Writes (stage_of result) (text_in verdict) (K.outlet output.old) (K.outlet output.new))) }
+        (λ verdict. Writes (stage_of result) (verdict_text verdict) (K.outlet output.old) (K.outlet output.new))) }
     ensures notes { OnConversion (texts words.now) (λ from to. OnVerdict from to (S.inlet input.old).left
         (λ verdict. Notes (N.outlet notes.old) (N.outlet notes.new) (line_of (stage_of result) verdict))) }
 

@@ -8,91 +8,96 @@ use Rattle.span_io.specs.Framings.{Framed}
 use Rattle.span_io.specs.Offences.{Least}
 use Rattle.span_io.specs.RowLaws.{all_zip_once}
 use Rattle.span_io.specs.declared.cause.Cause.{Cause}
-use Rattle.span_io.specs.declared.form.Form.TheVariants as forms
 use Rattle.span_io.specs.declared.limits.Limits.{Limits}
-use Rattle.thrift_core.specs.Values.{RefusedStruct}
-use Rattle.thrift_binary.specs.Spelling.{spells, refuses}
 use Rattle.trace_model.specs.declared.trace.Group.{Group}
 use Rattle.jaeger_model.specs.Batches.{IsBatchText}
-use Rattle.jaeger_model.specs.Laws.{OneBatch, SomeBatch, BatchOffends}
+use Rattle.jaeger_model.specs.Laws.{BatchOffends}
 use Rattle.jaeger_model.specs.declared.batch.Batch.{Batch}
 use Rattle.map_jaeger.specs.Reading.{group_of}
 use Rattle.span_convert.specs.InputLaws.{BatchLaws}
-use Rattle.span_convert.specs.BatchFiles.{batches, HoldsBatches, IsBatchUnit, ReadsBatches}
+use Rattle.span_convert.specs.BatchFiles.{ProtocolWords, batches, RefusedBatch, HoldsBatches, IsBatchUnit, ReadsBatches}
 use Rattle.span_convert.proofs.FrameLemmas.{no_items, FirstItems, first_items, nothing_begins, stops_ends, one_stop, end_fine, behind_all, same_items}
-use Rattle.span_convert.proofs.SourceLaws.{SourceLaws, HeldBy, GoOn, AllUnits}
+use Rattle.span_convert.proofs.SourceLaws.{Source, batch_source, SourceLaws, HeldBy, GoOn, AllUnits}
 
-pub one_group : OneBatch spells → (unit : List ℕ) (g h : Group) → IsBatchUnit unit g → IsBatchUnit unit h → g ≡ h
-one_group B unit g h a b = a.means ∙ ap group_of (B.once unit a.batch b.batch a.text b.text) ∙ sym b.means
+module _ (protocol : ProtocolWords) (L : BatchLaws protocol) where
+  abbrev from : Source
+  from = batch_source protocol
 
--- ---- all batches of a file
+  abbrev IsUnit : List ℕ → Group → Type 0
+  IsUnit = IsBatchUnit protocol.spells
 
--- each frame is the text of a struct
-all_framed : (limit : ℕ) (units : List (List ℕ)) (rest bytes : List ℕ) → ItemsThen batches limit units rest bytes → AllByRecursion batches.Whole units
-unfolding ItemsThen
-all_framed limit [] rest bytes h = tt
-all_framed limit (unit ∷ units) rest bytes h = (h.0, all_framed limit units rest h.2 h.4)
+  pub one_group : (unit : List ℕ) (g h : Group) → IsUnit unit g → IsUnit unit h → g ≡ h
+  one_group unit g h a b = a.means ∙ ap group_of (L.batch.once unit a.batch b.batch a.text b.text) ∙ sym b.means
 
-pub batch_units : BatchLaws → (limits : Limits) (bytes : List ℕ) → AllUnits forms.JaegerBinary limits bytes
-batch_units L limits bytes =
-    let w : Framed batches (RefusedStruct spells refuses) limits.unit (take limits.binary bytes) = L.framing.some_framing limits.unit (take limits.binary bytes) in
-    record {
-      units = w.items;
-      rest = w.rest;
-      held = w.framed.items_then;
-      framed = all_framed limits.unit w.items w.rest (take limits.binary bytes) w.framed.items_then;
-      behind = behind_all batches (RefusedStruct spells refuses) L.step limits (length bytes) w.rest w.rest_is;
-    }
+  -- ---- all batches of a file
 
--- ---- two walks over one file
+  -- each frame is the text of a struct
+  all_framed : (limit : ℕ) (units : List (List ℕ)) (rest bytes : List ℕ) → ItemsThen (batches protocol) limit units rest bytes → AllByRecursion (batches protocol).Whole units
+  unfolding ItemsThen
+  all_framed limit [] rest bytes h = tt
+  all_framed limit (unit ∷ units) rest bytes h = (h.0, all_framed limit units rest h.2 h.4)
 
-module _ (L : BatchLaws) where
-  go_on : (limits : Limits) (units others : List (List ℕ)) (rest other : List ℕ) → GoesOn batches limits.unit units others rest other → GoOn forms.JaegerBinary limits units others rest other
+  pub batch_units : (limits : Limits) (bytes : List ℕ) → AllUnits from limits bytes
+  batch_units limits bytes =
+      let w : Framed (batches protocol) (RefusedBatch protocol) limits.unit (take limits.binary bytes) = L.framing.some_framing limits.unit (take limits.binary bytes) in
+      record {
+        units = w.items;
+        rest = w.rest;
+        held = w.framed.items_then;
+        framed = all_framed limits.unit w.items w.rest (take limits.binary bytes) w.framed.items_then;
+        behind = behind_all (batches protocol) (RefusedBatch protocol) L.step limits (length bytes) w.rest w.rest_is;
+      }
+
+  -- ---- two walks over one file
+
+  go_on : (limits : Limits) (units others : List (List ℕ)) (rest other : List ℕ) → GoesOn (batches protocol) limits.unit units others rest other → GoOn from limits units others rest other
   go_on limits units others rest other w = record {
     behind = w.more;
     parts = w.parts;
     ended = λ none.
-        let e : (w.more ≡ []) × (rest ≡ other) = no_items batches limits.unit w.more other rest none w.items_then in
+        let e : (w.more ≡ []) × (rest ≡ other) = no_items (batches protocol) limits.unit w.more other rest none w.items_then in
         (w.parts ∙ ap (λ (l : List (List ℕ)). units ++ l) e.0 ∙ append-nil units, e.1);
   }
 
-  units_walk : (limits : Limits) (text : List ℕ) (units others : List (List ℕ)) (rest other : List ℕ) → HoldsBatches limits text units rest → HoldsBatches limits text others other
-      → GoOn forms.JaegerBinary limits units others rest other ⊎ GoOn forms.JaegerBinary limits others units other rest
+  units_walk : (limits : Limits) (text : List ℕ) (units others : List (List ℕ)) (rest other : List ℕ) → HoldsBatches protocol limits text units rest → HoldsBatches protocol limits text others other
+      → GoOn from limits units others rest other ⊎ GoOn from limits others units other rest
   units_walk limits text units others rest other h g = elim (L.framing.walks limits.unit (take limits.binary text) rest other units others h g) [
     | inl w ↦ inl (go_on limits units others rest other w)
     | inr w ↦ inr (go_on limits others units other rest w)
   ]
 
-  before_unit : (limits : Limits) (text : List ℕ) (before : List (List ℕ)) (unit rest : List ℕ) → HoldsBatches limits text (before ++ unit ∷ []) rest → HeldBy forms.JaegerBinary limits text before
+  before_unit : (limits : Limits) (text : List ℕ) (before : List (List ℕ)) (unit rest : List ℕ) → HoldsBatches protocol limits text (before ++ unit ∷ []) rest → HeldBy from limits text before
   before_unit limits text before unit rest h =
-      let w : FirstItems batches limits.unit before (take limits.binary text) = first_items batches limits.unit before (unit ∷ []) rest (take limits.binary text) h in
+      let w : FirstItems (batches protocol) limits.unit before (take limits.binary text) = first_items (batches protocol) limits.unit before (unit ∷ []) rest (take limits.binary text) h in
       record { rest = w.rest; held = w.items_then }
 
-  pub batch_laws : SourceLaws forms.JaegerBinary
+  pub batch_laws : SourceLaws from
   batch_laws = record {
-    one_group = one_group L.batch;
+    one_group = one_group;
     fine = λ unit g is. L.batch.fine is.batch unit is.text;
     walks = units_walk;
     before = before_unit;
-    empty = λ limits valid. nothing_begins batches (RefusedStruct spells refuses) L.step limits.unit valid.unit.0;
-    rest_ends = stops_ends batches (RefusedStruct spells refuses) L.step;
-    one_cause = one_stop batches (RefusedStruct spells refuses) L.step;
-    end_fine = λ limits valid size. end_fine batches (RefusedStruct spells refuses) L.step limits size valid;
+    empty = λ limits valid. nothing_begins (batches protocol) (RefusedBatch protocol) L.step limits.unit valid.unit.0;
+    rest_ends = stops_ends (batches protocol) (RefusedBatch protocol) L.step;
+    one_cause = one_stop (batches protocol) (RefusedBatch protocol) L.step;
+    end_fine = λ limits valid size. end_fine (batches protocol) (RefusedBatch protocol) L.step limits size valid;
   }
 
   -- ---- a file is read as one trace
 
-  pub one_file : (text : List ℕ) (a b : List Group) → ReadsBatches text a → ReadsBatches text b → a ≡ b
+  pub one_file : (text : List ℕ) (a b : List Group) → ReadsBatches protocol text a → ReadsBatches protocol text b → a ≡ b
   one_file text a b h g =
-      let units : h.units ≡ g.units = same_items batches (RefusedStruct spells refuses) L.step L.framing (length text) text h.units g.units h.framed g.framed in
-      all_zip_once IsBatchUnit (one_group L.batch) g.units a b (subst (λ (l : List (List ℕ)). AllZip IsBatchUnit l a) units h.are_groups) g.are_groups
+      let units : h.units ≡ g.units = same_items (batches protocol) (RefusedBatch protocol) L.step L.framing (length text) text h.units g.units h.framed g.framed in
+      all_zip_once IsUnit one_group g.units a b (subst (λ (l : List (List ℕ)). AllZip IsUnit l a) units h.are_groups) g.are_groups
 
--- ---- each batch is decided
+  -- ---- each batch is decided
 
-pub decided_batch : SomeBatch spells → (unit : List ℕ) → batches.Whole unit → ((group : Group) × IsBatchUnit unit group) ⊎ ((cause : Cause) × Least (BatchOffends spells unit) (cause_number cause))
-decided_batch some unit whole = of (some whole.0 unit whole.1)
-  where
-    of : ((batch : Batch) × IsBatchText spells batch unit) ⊎ ((cause : Cause) × Least (BatchOffends spells unit) (cause_number cause))
-        → ((group : Group) × IsBatchUnit unit group) ⊎ ((cause : Cause) × Least (BatchOffends spells unit) (cause_number cause))
-    of (inl (batch, text)) = inl (group_of batch, record { batch = batch; text = text; means = refl })
-    of (inr least) = inr least
+  abbrev IsDecided : List ℕ → Type 0
+  IsDecided unit = ((group : Group) × IsUnit unit group) ⊎ ((cause : Cause) × Least (BatchOffends protocol.spells unit) (cause_number cause))
+
+  pub decided_batch : (unit : List ℕ) → (batches protocol).Whole unit → IsDecided unit
+  decided_batch unit whole = of (L.some whole.0 unit whole.1)
+    where
+      of : ((batch : Batch) × IsBatchText protocol.spells batch unit) ⊎ ((cause : Cause) × Least (BatchOffends protocol.spells unit) (cause_number cause)) → IsDecided unit
+      of (inl (batch, text)) = inl (group_of batch, record { batch = batch; text = text; means = refl })
+      of (inr least) = inr least

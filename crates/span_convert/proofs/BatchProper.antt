@@ -1,14 +1,15 @@
--- What is read of a batch of bytes is proper, in the Thrift binary protocol.
-use Rattle.std.proofs.Common.{◌≡◌, ℕ, ◌<◌, ◌^◌, zero, suc, List, [], ◌∷◌, length, map, get_or, refl, sym, ap, subst, arith}
+-- What is read of a batch of bytes is proper, over any protocol that binary_spells numbers of the bits of their types, as the binary one does.
+use Rattle.std.proofs.Common.{◌≡◌, ℕ, ◌<◌, ◌^◌, zero, suc, List, [], ◌∷◌, length, map, get_or, refl, sym, ◌∙◌, ap, subst, arith}
 use Rattle.std.specs.Prelude.{FitsSigned}
 use Rattle.std.specs.Int.{w32, w64, from_be_bytes, cast_signed}
 use Rattle.std.proofs.Math.Facts.{sfits_to_z, of_z-to_z}
 use Rattle.std.proofs.lemmas.List.Elements.{All-head, All-tail}
-use Rattle.thrift_binary.specs.Spelling.{spells}
+use Rattle.thrift_core.specs.Parts.{Spelling}
+use Rattle.thrift_binary.specs.Spelling.{binary_spells}
 use Rattle.trace_model.specs.Proper.{IsProperGroup}
 use Rattle.trace_model.specs.declared.span.Span.{Span}
+use Rattle.trace_model.specs.declared.trace.Group.{Group}
 use Rattle.trace_model.specs.declared.trace.Scope.{Scope}
-use Rattle.jaeger_model.specs.Batches.{IsBatchText}
 use Rattle.jaeger_model.specs.Laws.{IsProperLong, SpellsProper, ReadsProper}
 use Rattle.jaeger_model.specs.WrittenAgain.{all_kept, all_counted}
 use Rattle.jaeger_model.specs.declared.batch.Batch.{Batch}
@@ -16,6 +17,7 @@ use Rattle.jaeger_model.specs.declared.span.JSpan.{JSpan}
 use Rattle.map_jaeger.specs.Laws.{ReadIsProper}
 use Rattle.map_jaeger.specs.Reading.{scoped_of, resource_of, group_of}
 use Rattle.map_jaeger.specs.Runs.{Scoped, runs}
+use Rattle.span_convert.specs.BatchFiles.{IsBatchUnit}
 use Rattle.span_convert.proofs.SourceLaws.{AreBytes}
 
 -- ---- numbers
@@ -51,7 +53,7 @@ int_fits m lt = sfits_to_z {w = w32} {n = m} (record { fits = lt })
 long_fits : (m : ℕ) → m < 2 ^ 64 → IsProperLong (cast_signed w64 m)
 long_fits m lt = (sfits_to_z {w = w64} {n = m} (record { fits = lt }), subst (λ n. n < 2 ^ 64) (sym (of_z-to_z {w = w64} {n = m} (record { fits = lt }))) lt)
 
-binary_proper : SpellsProper spells
+pub binary_proper : SpellsProper binary_spells
 binary_proper = record {
   int = λ n text all h. subst (FitsSigned w32) (sym h.1) (int_fits (from_be_bytes w32 text) (low_4 text all));
   long = λ n text all h. subst IsProperLong (sym h.1) (long_fits (from_be_bytes w64 text) (low_8 text all));
@@ -67,5 +69,6 @@ same_spans (span ∷ spans) = ap (λ (l : List (Scoped Span)). scoped_of span �
 same_group : (batch : Batch) → group_of (all_counted batch) ≡ group_of batch
 same_group batch = ap (λ (scopes : List Scope). record { resource = resource_of batch; dropped = 0; schema_url = []; scopes = scopes }) (ap runs (same_spans batch.spans))
 
-pub batch_unit_proper : ReadsProper spells → ReadIsProper → (unit : List ℕ) (batch : Batch) → AreBytes unit → IsBatchText spells batch unit → IsProperGroup (group_of batch)
-batch_unit_proper reads proper unit batch all text = subst IsProperGroup (same_group batch) (proper (all_counted batch) (reads binary_proper batch unit all text))
+pub batch_unit_proper : (Spells : Spelling) → SpellsProper Spells → ReadsProper Spells → ReadIsProper → (unit : List ℕ) (group : Group) → AreBytes unit → IsBatchUnit Spells unit group → IsProperGroup group
+batch_unit_proper Spells spelled reads proper unit group all is =
+    subst IsProperGroup (same_group is.batch ∙ sym is.means) (proper (all_counted is.batch) (reads spelled is.batch unit all is.text))

@@ -17,7 +17,7 @@ use Rattle.trace_model.specs.declared.trace.Group.{Group}
 use Rattle.map_jaeger.specs.Faults.{AtMost, IsFaultOf, Placed, key_in}
 use Rattle.map_jaeger.specs.Laws.{FaultsFound}
 use Rattle.map_jaeger.specs.Normal.{normal, normal_group}
-use Rattle.span_convert.specs.BatchFiles.{group_batch, batches_text}
+use Rattle.span_convert.specs.BatchFiles.{ProtocolWords, group_batch, batches_text}
 
 -- ---- one fault of each number and key
 
@@ -74,8 +74,12 @@ batch_fault_or_none found g sound = let w = found g sound in by_found g w.0 w.1
 
 -- ---- texts
 
-pub batches_append : (a b : List Group) → batches_text (normal (a ++ b)) ≡ batches_text (normal a) ++ batches_text (normal b)
-batches_append a b = ap (λ (l : List Group). batches_text l) (map-append normal_group a b) ∙ flat_map-append group_batch (map normal_group a) (map normal_group b)
+module _ (protocol : ProtocolWords) where
+  abbrev text : List Group → List ℕ
+  text = batches_text protocol
 
-pub batches_more : (groups : List Group) (g : Group) → batches_text (normal (groups ++ g ∷ [])) ≡ batches_text (normal groups) ++ group_batch (normal_group g)
-batches_more groups g = ap (λ (l : List Group). batches_text l) (map-append normal_group groups (g ∷ [])) ∙ flat_more group_batch (map normal_group groups) (normal_group g)
+  pub batches_append : (a b : List Group) → text (normal (a ++ b)) ≡ text (normal a) ++ text (normal b)
+  batches_append a b = ap (λ (l : List Group). text l) (map-append normal_group a b) ∙ flat_map-append (group_batch protocol) (map normal_group a) (map normal_group b)
+
+  pub batches_more : (groups : List Group) (g : Group) → text (normal (groups ++ g ∷ [])) ≡ text (normal groups) ++ group_batch protocol (normal_group g)
+  batches_more groups g = ap (λ (l : List Group). text l) (map-append normal_group groups (g ∷ [])) ∙ flat_more (group_batch protocol) (map normal_group groups) (normal_group g)

@@ -5,9 +5,8 @@ use Rattle.std.proofs.lemmas.List.{length-append, length-map, take_all}
 use Rattle.std.proofs.lemmas.List.Elements.{All-nil, All-cons, All-head, All-tail, All-map, All-weaker}
 use Rattle.std.specs.List.{AllZip, flat_map}
 use Rattle.span_io.specs.Frames.{ItemsThen}
-use Rattle.span_io.specs.declared.form.Form.TheVariants as forms
+use Rattle.span_io.specs.declared.form.Form.{Form}
 use Rattle.span_io.specs.declared.limits.Limits.{Limits}
-use Rattle.thrift_binary.specs.Spelling.{spells, keeps, writes}
 use Rattle.trace_model.specs.Flat.{flat}
 use Rattle.trace_model.specs.Proper.{IsProperGroup}
 use Rattle.trace_model.specs.Soundness.{IsSoundGroup, IsSoundTrace}
@@ -15,54 +14,26 @@ use Rattle.trace_model.specs.declared.span.Span.{Span}
 use Rattle.trace_model.specs.declared.trace.Group.{Group}
 use Rattle.trace_model.specs.declared.trace.Scope.{Scope}
 use Rattle.jaeger_model.specs.Batches.{IsBatchText}
-use Rattle.jaeger_model.specs.Laws.{ReadsTimes}
 use Rattle.jaeger_model.specs.Writable.{IsWritable}
-use Rattle.jaeger_model.specs.WrittenAgain.{HasAllKept, WrittenAgain}
+use Rattle.jaeger_model.specs.WrittenAgain.{HasAllKept}
 use Rattle.jaeger_model.specs.declared.batch.Batch.{Batch}
 use Rattle.map_jaeger.specs.Faults.{HasNoFault}
-use Rattle.map_jaeger.specs.Laws.{IsHeld, BatchesReadBack, NormalForms, IsTimely, ReadIsNormal, WrittenIsProper}
+use Rattle.map_jaeger.specs.Laws.{IsHeld, NormalForms, IsTimely, ReadIsNormal}
 use Rattle.map_jaeger.specs.Normal.{normal, normal_group, normal_scoped}
 use Rattle.map_jaeger.specs.RunLaws.{scoped_runs}
 use Rattle.map_jaeger.specs.Runs.{Scoped, scoped, spans_of, runs}
 use Rattle.map_jaeger.specs.Writing.{jaeger_span, batch_of}
-use Rattle.span_convert.specs.BatchFiles.{batches, group_batch, batches_text, IsBatchUnit, IsPlainBatchUnit, ReadsBatches, ReadsBatchesPlainly, AreBatchesWithin}
+use Rattle.span_convert.specs.BatchFiles.{ProtocolWords, batches, group_batch, batches_text, IsBatchUnit, IsPlainBatchUnit, ReadsBatches, ReadsBatchesPlainly, AreBatchesWithin}
 use Rattle.span_convert.specs.Canonical.{IsHeldBy, IsProperTrace}
-use Rattle.span_convert.specs.Units.{span_count}
-use Rattle.span_convert.specs.Verdicts.{IsGood, tally_of}
+use Rattle.span_convert.specs.InputLaws.{BatchLaws, TextLaws}
+use Rattle.span_convert.specs.Units.{CanHold, IsSizedGroup, span_count}
 use Rattle.span_convert.proofs.BatchTimes.{all_timely}
-
--- what the crates below say of batches that are written
-pub record WrittenLaws : Type 0 where
-  pub back : BatchesReadBack
-  pub normal : NormalForms
-  pub written : (g : Group) → IsHeld g → IsWritable (batch_of g) → IsBatchText spells (batch_of g) (group_batch g)
-
--- and of those that are read
-pub record ReadLaws : Type 0 where
-  pub normal : ReadIsNormal
-  pub times : ReadsTimes spells
-
--- what is written of a proper group is a text of its batch
-pub written_laws : BatchesReadBack → NormalForms → WrittenIsProper → WrittenAgain spells keeps writes → WrittenLaws
-written_laws back normal proper again = record {
-  back = back;
-  normal = normal;
-  written = λ g held sized.
-      again.whole (batch_of g) sized (proper g held.proper) (All-map HasAllKept jaeger_span (scoped g.scopes) (λ k d lt. refl));
-}
-
--- ---- no batch is longer than the whole text
-
-pub batches_within : (limit : ℕ) (groups : List Group) → length (batches_text groups) ≤ limit → All (λ g. length (group_batch g) ≤ limit) groups
-batches_within limit [] h = All-nil (λ g. length (group_batch g) ≤ limit)
-batches_within limit (g ∷ groups) h =
-    let both : length (group_batch g ++ batches_text groups) ≡ length (group_batch g) + length (batches_text groups) = length-append (group_batch g) (batches_text groups) in
-    All-cons (λ g. length (group_batch g) ≤ limit) g groups (omega (arith, h, both)) (batches_within limit groups (omega (arith, h, both)))
+use Rattle.span_convert.proofs.SourceLaws.{batch_source, HeldWhole}
 
 -- ---- groups in normal form
 
 -- a group in normal form that can be written
-record IsNormal (g : Group) : Type 0 where
+pub record IsNormal (g : Group) : Type 0 where
   held : IsHeld g
   sized : IsWritable (batch_of g)
   itself : normal_group g ≡ g
@@ -74,7 +45,7 @@ all_held (g ∷ groups) sound proper fine =
     (all_held groups (All-tail IsSoundGroup g groups sound) (All-tail IsProperGroup g groups proper) (All-tail HasNoFault g groups fine))
 
 -- each group is its own normal form
-all_itself : (groups : List Group) → All IsNormal groups → normal groups ≡ groups
+pub all_itself : (groups : List Group) → All IsNormal groups → normal groups ≡ groups
 all_itself [] all = refl
 all_itself (g ∷ groups) all =
     ap (λ (n : Group). n ∷ normal groups) (All-head IsNormal g groups all).itself ∙ ap (λ (l : List Group). g ∷ l) (all_itself groups (All-tail IsNormal g groups all))
@@ -90,65 +61,85 @@ module _ (N : NormalForms) where
         itself = N.itself g its;
       }) (all_normal groups (All-tail IsHeld g groups held) (All-tail (λ g. IsWritable (batch_of g)) g groups sized))
 
-  normals : (groups : List Group) → IsHeldBy forms.JaegerBinary groups → All IsNormal (normal groups)
-  normals groups h = all_normal groups (all_held groups h.sound h.proper h.no_fault) h.sized
+  -- the normal forms of groups that Jaeger can hold, of sizes that Thrift can tell
+  pub normals : (groups : List Group) → IsSoundTrace groups → IsProperTrace groups → All HasNoFault groups → All (λ g. IsWritable (batch_of g)) groups → All IsNormal (normal groups)
+  normals groups sound proper fine sized = all_normal groups (all_held groups sound proper fine) sized
 
-  pub batches_held : (groups : List Group) → IsHeldBy forms.JaegerBinary groups → IsHeldBy forms.JaegerBinary (normal groups)
-  batches_held groups h =
-      let all : All IsNormal (normal groups) = normals groups h in
-      record {
-        sound = All-weaker IsNormal IsSoundGroup (λ g n. n.held.sound) (normal groups) all;
-        proper = All-weaker IsNormal IsProperGroup (λ g n. n.held.proper) (normal groups) all;
-        no_fault = All-weaker IsNormal HasNoFault (λ g n. n.held.no_fault) (normal groups) all;
-        sized = All-weaker IsNormal (λ g. IsWritable (batch_of g)) (λ g n. n.sized) (normal groups) all;
-      }
-
-  pub batches_again : (groups : List Group) → IsHeldBy forms.JaegerBinary groups → normal (normal groups) ≡ normal groups
-  batches_again groups h = all_itself (normal groups) (normals groups h)
-
--- ---- the units of their text
-
-module _ (L : WrittenLaws) where
-  its_text : (g : Group) → IsNormal g → IsBatchText spells (batch_of g) (group_batch g)
-  its_text g n = L.written g n.held n.sized
-
-  plain_units : (groups : List Group) → All IsNormal groups → AllZip IsPlainBatchUnit (map group_batch groups) groups
-  plain_units [] all = tt
-  plain_units (g ∷ groups) all =
-      let n : IsNormal g = All-head IsNormal g groups all in
-      (record { batch = batch_of g; text = its_text g n; means = sym (L.back.means g n.held ∙ n.itself); plain = L.back.plainly g n.held }, plain_units groups (All-tail IsNormal g groups all))
-
-  frames : (limit : ℕ) (groups : List Group) → All IsNormal groups → All (λ g. length (group_batch g) ≤ limit) groups → ItemsThen batches limit (map group_batch groups) [] (batches_text groups)
-  unfolding ItemsThen
-  frames limit [] all within = refl
-  frames limit (g ∷ groups) all within =
-      let text : IsBatchText spells (batch_of g) (group_batch g) = its_text g (All-head IsNormal g groups all) in (
-        (text.fields, text.struct_text),
-        All-head (λ g. length (group_batch g) ≤ limit) g groups within,
-        batches_text groups,
-        refl,
-        frames limit groups (All-tail IsNormal g groups all) (All-tail (λ g. length (group_batch g) ≤ limit) g groups within),
-      )
-
-  pub batches_back : (groups : List Group) → IsHeldBy forms.JaegerBinary groups → ReadsBatchesPlainly (batches_text (normal groups)) (normal groups)
-  batches_back groups h =
-      let all : All IsNormal (normal groups) = normals L.normal groups h in
-      record {
-        units = map group_batch (normal groups);
-        framed = frames (length (batches_text (normal groups))) (normal groups) all (batches_within (length (batches_text (normal groups))) (normal groups) (omega arith));
-        are_groups = plain_units (normal groups) all;
-      }
+-- they are held by each form of Jaeger
+pub normal_held_by : (to : Form) → ((g : Group) → HasNoFault g → CanHold to g) → ((g : Group) → IsWritable (batch_of g) → IsSizedGroup to g) → (groups : List Group) → All IsNormal groups → IsHeldBy to groups
+normal_held_by to can sized groups all = record {
+  sound = All-weaker IsNormal IsSoundGroup (λ g n. n.held.sound) groups all;
+  proper = All-weaker IsNormal IsProperGroup (λ g n. n.held.proper) groups all;
+  no_fault = All-weaker IsNormal (CanHold to) (λ g n. can g n.held.no_fault) groups all;
+  sized = All-weaker IsNormal (IsSizedGroup to) (λ g n. sized g n.sized) groups all;
+}
 
 -- ---- without remarks
 
-pub plainly_units : (units : List (List ℕ)) (groups : List Group) → AllZip IsPlainBatchUnit units groups → AllZip IsBatchUnit units groups
-plainly_units [] [] h = tt
-plainly_units [] (g ∷ groups) h = absurd h
-plainly_units (unit ∷ units) [] h = absurd h
-plainly_units (unit ∷ units) (g ∷ groups) h = (record { batch = h.0.batch; text = h.0.text; means = h.0.means }, plainly_units units groups h.1)
+module _ (protocol : ProtocolWords) where
+  pub plainly_units : (units : List (List ℕ)) (groups : List Group) → AllZip (IsPlainBatchUnit protocol.spells) units groups → AllZip (IsBatchUnit protocol.spells) units groups
+  plainly_units [] [] h = tt
+  plainly_units [] (g ∷ groups) h = absurd h
+  plainly_units (unit ∷ units) [] h = absurd h
+  plainly_units (unit ∷ units) (g ∷ groups) h = (record { batch = h.0.batch; text = h.0.text; means = h.0.means }, plainly_units units groups h.1)
 
-pub batches_plainly : (text : List ℕ) (groups : List Group) → ReadsBatchesPlainly text groups → ReadsBatches text groups
-batches_plainly text groups h = record { units = h.units; framed = h.framed; are_groups = plainly_units h.units groups h.are_groups }
+  pub batches_plainly : (text : List ℕ) (groups : List Group) → ReadsBatchesPlainly protocol text groups → ReadsBatches protocol text groups
+  batches_plainly text groups h = record { units = h.units; framed = h.framed; are_groups = plainly_units h.units groups h.are_groups }
+
+-- ---- the units of their text
+
+module _ (protocol : ProtocolWords) where
+  abbrev text : List Group → List ℕ
+  text = batches_text protocol
+
+  abbrev its_batch : Group → List ℕ
+  its_batch = group_batch protocol
+
+  -- no batch is longer than the whole text
+  batches_within : (limit : ℕ) (groups : List Group) → length (text groups) ≤ limit → All (λ g. length (its_batch g) ≤ limit) groups
+  batches_within limit [] h = All-nil (λ g. length (its_batch g) ≤ limit)
+  batches_within limit (g ∷ groups) h =
+      let both : length (its_batch g ++ text groups) ≡ length (its_batch g) + length (text groups) = length-append (its_batch g) (text groups) in
+      All-cons (λ g. length (its_batch g) ≤ limit) g groups (omega (arith, h, both)) (batches_within limit groups (omega (arith, h, both)))
+
+  module _ (L : TextLaws) (B : BatchLaws protocol) where
+    -- what is written of a proper group is a text of its batch
+    its_text : (g : Group) → IsNormal g → IsBatchText protocol.spells (batch_of g) (its_batch g)
+    its_text g n = B.again.whole (batch_of g) n.sized (L.proper g n.held.proper) (All-map HasAllKept jaeger_span (scoped g.scopes) (λ k d lt. refl))
+
+    pub plain_units : (groups : List Group) → All IsNormal groups → AllZip (IsPlainBatchUnit protocol.spells) (map its_batch groups) groups
+    plain_units [] all = tt
+    plain_units (g ∷ groups) all =
+        let n : IsNormal g = All-head IsNormal g groups all in
+        (record { batch = batch_of g; text = its_text g n; means = sym (L.back.means g n.held ∙ n.itself); plain = L.back.plainly g n.held }, plain_units groups (All-tail IsNormal g groups all))
+
+    frames : (limit : ℕ) (groups : List Group) → All IsNormal groups → All (λ g. length (its_batch g) ≤ limit) groups → ItemsThen (batches protocol) limit (map its_batch groups) [] (text groups)
+    unfolding ItemsThen
+    frames limit [] all within = refl
+    frames limit (g ∷ groups) all within =
+        let is : IsBatchText protocol.spells (batch_of g) (its_batch g) = its_text g (All-head IsNormal g groups all) in (
+          (is.fields, is.struct_text),
+          All-head (λ g. length (its_batch g) ≤ limit) g groups within,
+          text groups,
+          refl,
+          frames limit groups (All-tail IsNormal g groups all) (All-tail (λ g. length (its_batch g) ≤ limit) g groups within),
+        )
+
+    pub batches_back : (groups : List Group) → All IsNormal groups → ReadsBatchesPlainly protocol (text groups) groups
+    batches_back groups all = record {
+      units = map its_batch groups;
+      framed = frames (length (text groups)) groups all (batches_within (length (text groups)) groups (omega arith));
+      are_groups = plain_units groups all;
+    }
+
+    -- their text is their batches, and nothing else
+    pub batches_whole : (limits : Limits) (groups : List Group) → All IsNormal groups → AreBatchesWithin protocol limits groups → HeldWhole (batch_source protocol) limits (text groups) groups
+    batches_whole limits groups all within = record {
+      units = map its_batch groups;
+      held = subst (λ (l : List ℕ). ItemsThen (batches protocol) limits.unit (map its_batch groups) [] l) (sym (take_all limits.binary (text groups) within.text)) (frames limits.unit groups all within.units);
+      are_groups = plainly_units protocol (map its_batch groups) groups (plain_units groups all);
+      within = within.text;
+    }
 
 -- ---- spans
 
@@ -181,50 +172,31 @@ batches_spans (g ∷ groups) =
     ∙ ap (λ n. length (spans_in g.scopes) + n) (batches_spans groups)
     ∙ sym (first_count g groups)
 
--- ---- canonical text converts to itself
-
-module _ (L : WrittenLaws) where
-  pub batches_to_itself : (limits : Limits) (groups : List Group) → IsHeldBy forms.JaegerBinary groups → AreBatchesWithin limits (normal groups)
-      → IsGood forms.JaegerBinary forms.JaegerBinary limits (batches_text (normal groups)) (batches_text (normal groups)) (tally_of (length groups) (span_count groups))
-  batches_to_itself limits groups h within =
-      let all : All IsNormal (normal groups) = normals L.normal groups h in
-      record {
-        units = map group_batch (normal groups);
-        held = subst (λ (l : List ℕ). ItemsThen batches limits.unit (map group_batch (normal groups)) [] l) (sym (take_all limits.binary (batches_text (normal groups)) within.text)) (frames L limits.unit (normal groups) all within.units);
-        within = within.text;
-        convert = record {
-          groups = normal groups;
-          are_groups = plainly_units (map group_batch (normal groups)) (normal groups) (plain_units L (normal groups) all);
-          fine = All-weaker IsNormal HasNoFault (λ g n. n.held.no_fault) (normal groups) all;
-          is_text = ap (λ (l : List Group). batches_text l) (sym (batches_again L.normal groups h));
-        };
-        counts =
-            ap (λ n. tally_of n (span_count groups)) (sym (length-map (normal groups) group_batch ∙ length-map groups normal_group))
-            ∙ ap (λ n. tally_of (length (map group_batch (normal groups))) n) (sym (batches_spans groups));
-      }
-
 -- ---- what is read
 
-module _ (L : ReadLaws) where
-  times : (batch : Batch) (unit : List ℕ) → IsBatchText spells batch unit → All IsTimely batch.spans
-  times batch unit is = all_timely batch.spans (L.times batch unit is)
+module _ (protocol : ProtocolWords) (N : ReadIsNormal) (B : BatchLaws protocol) where
+  abbrev AreUnits : List (List ℕ) → List Group → Type 0
+  AreUnits units groups = AllZip (IsBatchUnit protocol.spells) units groups
 
-  read_fine : (units : List (List ℕ)) (groups : List Group) → AllZip IsBatchUnit units groups → All HasNoFault groups
+  times : (batch : Batch) (unit : List ℕ) → IsBatchText protocol.spells batch unit → All IsTimely batch.spans
+  times batch unit is = all_timely batch.spans (B.times batch unit is)
+
+  read_fine : (units : List (List ℕ)) (groups : List Group) → AreUnits units groups → All HasNoFault groups
   read_fine [] [] h = All-nil HasNoFault
   read_fine [] (g ∷ groups) h = absurd h
   read_fine (unit ∷ units) [] h = absurd h
-  read_fine (unit ∷ units) (g ∷ groups) h = All-cons HasNoFault g groups (subst HasNoFault (sym h.0.means) (L.normal.no_fault h.0.batch (times h.0.batch unit h.0.text))) (read_fine units groups h.1)
+  read_fine (unit ∷ units) (g ∷ groups) h = All-cons HasNoFault g groups (subst HasNoFault (sym h.0.means) (N.no_fault h.0.batch (times h.0.batch unit h.0.text))) (read_fine units groups h.1)
 
-  read_itself : (units : List (List ℕ)) (groups : List Group) → AllZip IsBatchUnit units groups → normal groups ≡ groups
+  read_itself : (units : List (List ℕ)) (groups : List Group) → AreUnits units groups → normal groups ≡ groups
   read_itself [] [] h = refl
   read_itself [] (g ∷ groups) h = absurd h
   read_itself (unit ∷ units) [] h = absurd h
   read_itself (unit ∷ units) (g ∷ groups) h =
-      let same : normal_group g ≡ g = subst (λ (n : Group). normal_group n ≡ n) (sym h.0.means) (L.normal.itself h.0.batch (times h.0.batch unit h.0.text)) in
+      let same : normal_group g ≡ g = subst (λ (n : Group). normal_group n ≡ n) (sym h.0.means) (N.itself h.0.batch (times h.0.batch unit h.0.text)) in
       ap (λ (n : Group). n ∷ normal groups) same ∙ ap (λ (l : List Group). g ∷ l) (read_itself units groups h.1)
 
-  pub batches_faultless : (text : List ℕ) (groups : List Group) → ReadsBatches text groups → All HasNoFault groups
+  pub batches_faultless : (text : List ℕ) (groups : List Group) → ReadsBatches protocol text groups → All HasNoFault groups
   batches_faultless text groups h = read_fine h.units groups h.are_groups
 
-  pub batches_normal : (text : List ℕ) (groups : List Group) → ReadsBatches text groups → normal groups ≡ groups
+  pub batches_normal : (text : List ℕ) (groups : List Group) → ReadsBatches protocol text groups → normal groups ≡ groups
   batches_normal text groups h = read_itself h.units groups h.are_groups

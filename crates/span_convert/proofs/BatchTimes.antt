@@ -1,8 +1,8 @@
 -- Times of whole microseconds, as the table of Jaeger has them and as they are written.
 use Rattle.std.proofs.Common.{◌≡◌, List, All, sym}
 use Rattle.std.proofs.lemmas.List.Elements.{All-weaker}
-use Rattle.span_ids.specs.Times.{floor}
-use Rattle.jaeger_model.specs.Writable.{IsWhole, IsTimed}
+use Rattle.span_ids.specs.Times.{floor, IsWhole}
+use Rattle.jaeger_model.specs.Writable.{IsTimed}
 use Rattle.jaeger_model.specs.declared.span.JSpan.{JSpan}
 use Rattle.jaeger_model.specs.declared.span.Log.{Log}
 use Rattle.map_jaeger.specs.Laws.{IsTimely}

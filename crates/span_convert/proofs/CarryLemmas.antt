@@ -9,8 +9,8 @@ use Rattle.span_io.specs.declared.limits.Limits.{Limits}
 use Rattle.span_io.specs.declared.refusal.Refusal.{Refusal}
 use Rattle.trace_model.specs.declared.trace.Group.{Group}
 use Rattle.span_convert.specs.Converters.{KeepsWhy, Stopped}
-use Rattle.span_convert.specs.Units.{HoldsUnits, AreGroups, HasNoFault, canonical_text}
-use Rattle.span_convert.specs.Verdicts.{Verdict, good, refused, faulted, IsVerdict, text_in, WritesFront, Stops, Ends, Answers}
+use Rattle.span_convert.specs.Units.{HoldsUnits, AreGroups, CanHold, canonical_text}
+use Rattle.span_convert.specs.Verdicts.{Verdict, good, refused, faulted, IsVerdict, verdict_text, WritesFront, Stops, Ends, Answers}
 use Rattle.span_convert.specs.Walks.{IsLookedAt, WritesRefused, WritesFaulted, WritesWhole, EndsWalk}
 use Rattle.span_convert.specs.declared.bad.Bad.TheVariants as bads
 use Rattle.span_convert.specs.declared.converter.State.{State}
@@ -35,19 +35,19 @@ looked_front limits held bytes piece size room same measured e within beyond =
 
 -- ---- what is written
 
-stops_write : (before now : Outlet) (v : Verdict) → OutputFails before now → GainsFront before now (text_in v) → Stops v stops.Write before now × KeepsWhy v states.Write
+stops_write : (before now : Outlet) (v : Verdict) → OutputFails before now → GainsFront before now (verdict_text v) → Stops v stops.Write before now × KeepsWhy v states.Write
 stops_write before now (good text tally) fails front = ((fails, front), tt)
 stops_write before now (refused refusal text) fails front = ((fails, front), tt)
 stops_write before now (faulted found text) fails front = ((fails, front), tt)
 
-stops_memory : (before now : Outlet) (v : Verdict) → GainsFront before now (text_in v) → Stops v stops.OutOfMemory before now × KeepsWhy v states.OutOfMemory
+stops_memory : (before now : Outlet) (v : Verdict) → GainsFront before now (verdict_text v) → Stops v stops.OutOfMemory before now × KeepsWhy v states.OutOfMemory
 stops_memory before now (good text tally) front = (front, tt)
 stops_memory before now (refused refusal text) front = (front, tt)
 stops_memory before now (faulted found text) front = (front, tt)
 
 -- memory was wanted before anything was written
 stops_early : (now : Outlet) (v : Verdict) → Stops v stops.OutOfMemory now now × KeepsWhy v states.OutOfMemory
-stops_early now v = stops_memory now now v (record { front = []; is_front = (text_in v, refl); gains = gains_none now })
+stops_early now v = stops_memory now now v (record { front = []; is_front = (verdict_text v, refl); gains = gains_none now })
 
 pub stopped_early : (now : Outlet) (v : Verdict) (result : Result (Unit {0}) Stop) (state : State) → result ≡ Err stops.OutOfMemory → state ≡ states.OutOfMemory → Stopped result (λ stop. Stops v stop now now) × KeepsWhy v state
 stopped_early now v result state e f =
@@ -95,7 +95,7 @@ abbrev pub OneVerdict : Type 0
 OneVerdict = (from to : Form) (limits : Limits) (bytes : List ℕ) (v w : Verdict) → AreLimits limits → IsVerdict from to limits bytes v → IsVerdict from to limits bytes w → v ≡ w
 
 abbrev pub BeginsSo : Type 0
-BeginsSo = (from to : Form) (limits : Limits) (bytes rest : List ℕ) (units : List (List ℕ)) (groups : List Group) (v : Verdict) → AreLimits limits → HoldsUnits from limits bytes units rest → AreGroups from units groups → All (HasNoFault to) groups → IsVerdict from to limits bytes v → IsFront (canonical_text to groups) (text_in v)
+BeginsSo = (from to : Form) (limits : Limits) (bytes rest : List ℕ) (units : List (List ℕ)) (groups : List Group) (v : Verdict) → AreLimits limits → HoldsUnits from limits bytes units rest → AreGroups from units groups → All (CanHold to) groups → IsVerdict from to limits bytes v → IsFront (canonical_text to groups) (verdict_text v)
 
 module _ (from to : Form) (limits : Limits) (whole : List ℕ) (valid : AreLimits limits) (v : Verdict) (is_verdict : IsVerdict from to limits whole v) where
   module _ (once : OneVerdict) where
@@ -130,7 +130,7 @@ module _ (from to : Form) (limits : Limits) (whole : List ℕ) (valid : AreLimit
         subst (λ (x : Verdict). Answers x (Ok out)) same e
 
   module _ (begins : BeginsSo) where
-    front_of : (before now : Outlet) → WritesFront from to limits whole before now → GainsFront before now (text_in v)
+    front_of : (before now : Outlet) → WritesFront from to limits whole before now → GainsFront before now (verdict_text v)
     front_of before now w =
         let so_far = w.so_far in
         let first = begins from to limits whole so_far.rest so_far.units so_far.convert.groups v valid so_far.held so_far.convert.are_groups so_far.convert.fine is_verdict in

@@ -9,6 +9,7 @@ use Rattle.span_io.specs.Steps.{NoFrame}
 use Rattle.span_io.specs.declared.cause.Cause.{Cause}
 use Rattle.span_io.specs.declared.cause.Cause.TheVariants as causes
 use Rattle.span_io.specs.declared.limits.Limits.{Limits}
+use Rattle.span_convert.specs.Rests.{StopsRest}
 
 -- ---- items
 
@@ -39,23 +40,19 @@ module _ (F : Framing) (limit : ℕ) where
 
 -- ---- why no frame begins at the rest
 
-module _ (Refused : List ℕ → Cause → Type 0) (Needs : List ℕ → Type 0) where
-  -- A front of it is refused; or none is, and other bytes follow that aren't looked at, or none do, though something stands there.
-  abbrev pub StopsRest : Type 0 → Type 0 → List ℕ → Cause → Type 0
-  StopsRest Long Short rest cause = Refused rest cause ⊎ Needs rest × ((cause ≡ causes.InputTooLong) × Long ⊎ (cause ≡ causes.Truncated) × Short × (rest ≢ []))
-
-  -- what stops it stops it also where less is said of what follows
-  pub stops_weaker : (Long Longer Short Shorter : Type 0) → (Long → Longer) → (Short → Shorter) → (rest : List ℕ) (cause : Cause) → StopsRest Long Short rest cause → StopsRest Longer Shorter rest cause
-  stops_weaker Long Longer Short Shorter f g rest cause (inl h) = inl h
-  stops_weaker Long Longer Short Shorter f g rest cause (inr (needs, inl h)) = inr (needs, inl (h.0, f h.1))
-  stops_weaker Long Longer Short Shorter f g rest cause (inr (needs, inr h)) = inr (needs, inr (h.0, g h.1, h.2))
+-- what stops it stops it also where less is said of what follows
+pub stops_weaker : (F : Framing) (EndsIn : Cause → List ℕ → Type 0) (limit : ℕ) (Long Longer Short Shorter : Type 0) → (Long → Longer) → (Short → Shorter) → (rest : List ℕ) (cause : Cause)
+    → StopsRest F EndsIn limit Long Short rest cause → StopsRest F EndsIn limit Longer Shorter rest cause
+stops_weaker F EndsIn limit Long Longer Short Shorter f g rest cause (inl h) = inl h
+stops_weaker F EndsIn limit Long Longer Short Shorter f g rest cause (inr (needs, inl h)) = inr (needs, inl (h.0, f h.1))
+stops_weaker F EndsIn limit Long Longer Short Shorter f g rest cause (inr (needs, inr h)) = inr (needs, inr (h.0, g h.1, h.2))
 
 -- ---- every format whose bytes have one first step and one framing
 
 module _ (F : Framing) (EndsIn : Cause → List ℕ → Type 0) (S : OneStep F EndsIn) (limits : Limits) (size : ℕ) where
   -- why the rest of an input of so many bytes isn't read
   abbrev pub RestStops : List ℕ → Cause → Type 0
-  RestStops = StopsRest (NoFrame F EndsIn limits.unit) (NeedsMore F limits.unit) (limits.binary < size) (size ≤ limits.binary)
+  RestStops = StopsRest F EndsIn limits.unit (limits.binary < size) (size ≤ limits.binary)
 
   -- nothing begins there
   pub stops_ends : (rest : List ℕ) (cause : Cause) → RestStops rest cause → (n : ℕ) → BeginsFrame F limits.unit n rest → ⊥

@@ -4,6 +4,7 @@ pub mod BatchTargets
 pub mod BatchTexts
 pub mod BatchTimes
 pub mod CarryLemmas
+pub mod CompactProper
 pub mod FrameLemmas
 pub mod OutputLaws
 pub mod RequestLaws

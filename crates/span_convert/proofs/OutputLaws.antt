@@ -14,15 +14,15 @@ use Rattle.trace_model.specs.declared.remark.Remark.{Remark}
 use Rattle.trace_model.specs.declared.trace.Group.{Group}
 use Rattle.otlp_proto.specs.Group.{IsGroupText}
 use Rattle.otlp_proto.specs.Rows.{bytes_in}
-use Rattle.span_convert.specs.BatchFiles.{batches}
-use Rattle.thrift_binary.specs.Spelling.{spells}
-use Rattle.jaeger_model.specs.Batches.{IsBatchText}
-use Rattle.jaeger_model.specs.declared.batch.Batch.{Batch}
-use Rattle.map_jaeger.specs.Laws.{ReadIsSound}
-use Rattle.map_jaeger.specs.Reading.{group_of}
+use Rattle.thrift_core.specs.Parts.{Spelling}
+use Rattle.map_jaeger.specs.Laws.{ReadIsSound, ReadIsProper}
+use Rattle.span_convert.specs.BatchFiles.{binary, compact, batches, IsBatchUnit}
 use Rattle.span_convert.specs.Canonical.{IsProperTrace}
+use Rattle.span_convert.specs.InputLaws.{InputLaws}
 use Rattle.span_convert.specs.Requests.{AreRequestUnits}
 use Rattle.span_convert.specs.Units.{HoldsUnits, IsUnitOf, AreGroups}
+use Rattle.span_convert.proofs.BatchProper.{binary_proper, batch_unit_proper}
+use Rattle.span_convert.proofs.CompactProper.{compact_proper}
 use Rattle.span_convert.proofs.SourceLaws.{AreBytes, AllBytes}
 
 -- ---- the bytes of units are bytes of the input
@@ -66,14 +66,19 @@ units_bytes (f ∷ frames) units all h = subst AllBytes (sym h.3) (both_bytes (b
 
 pub held_units : (from : Form) (limits : Limits) (text : List ℕ) (units : List (List ℕ)) (rest : List ℕ) → AreBytes text → HoldsUnits from limits text units rest → AllBytes units
 held_units forms.OtlpProto limits text units rest all h = units_bytes h.frames units (frames_bytes records limits.unit h.frames rest (take limits.binary text) (All-take (λ b. b < 256) limits.binary text all) h.framed) h.are_units
-held_units forms.JaegerBinary limits text units rest all h = frames_bytes batches limits.unit units rest (take limits.binary text) (All-take (λ b. b < 256) limits.binary text all) h
+held_units forms.JaegerBinary limits text units rest all h = frames_bytes (batches binary) limits.unit units rest (take limits.binary text) (All-take (λ b. b < 256) limits.binary text all) h
+held_units forms.JaegerCompact limits text units rest all h = frames_bytes (batches compact) limits.unit units rest (take limits.binary text) (All-take (λ b. b < 256) limits.binary text all) h
 
 -- ---- their groups
 
 module _ (sound : (text : List ℕ) (g : Group) (r : List Remark) → IsGroupText g r text → IsSoundGroup g) (read : ReadIsSound) where
+  sound_batch_unit : (Spells : Spelling) (unit : List ℕ) (g : Group) → IsBatchUnit Spells unit g → IsSoundGroup g
+  sound_batch_unit Spells unit g h = subst IsSoundGroup (sym h.means) (read h.batch)
+
   pub sound_unit : (from : Form) (unit : List ℕ) (g : Group) → IsUnitOf from unit g → IsSoundGroup g
   sound_unit forms.OtlpProto unit g h = sound unit g h.remarks h.text
-  sound_unit forms.JaegerBinary unit g h = subst IsSoundGroup (sym h.means) (read h.batch)
+  sound_unit forms.JaegerBinary unit g h = sound_batch_unit binary.spells unit g h
+  sound_unit forms.JaegerCompact unit g h = sound_batch_unit compact.spells unit g h
 
   pub sound_groups : (from : Form) (units : List (List ℕ)) (groups : List Group) → AreGroups from units groups → IsSoundTrace groups
   sound_groups from [] [] h = All-nil IsSoundGroup
@@ -81,11 +86,11 @@ module _ (sound : (text : List ℕ) (g : Group) (r : List Remark) → IsGroupTex
   sound_groups from (unit ∷ units) [] h = absurd h
   sound_groups from (unit ∷ units) (g ∷ groups) h = All-cons IsSoundGroup g groups (sound_unit from unit g h.0) (sound_groups from units groups h.1)
 
-module _ (proper : (text : List ℕ) (g : Group) (r : List Remark) → AreBytes text → IsGroupText g r text → IsProperGroup g)
-    (batch : (unit : List ℕ) (batch : Batch) → AreBytes unit → IsBatchText spells batch unit → IsProperGroup (group_of batch)) where
+module _ (proper : (text : List ℕ) (g : Group) (r : List Remark) → AreBytes text → IsGroupText g r text → IsProperGroup g) (L : InputLaws) (read : ReadIsProper) where
   proper_unit : (from : Form) (g : Group) (unit : List ℕ) → AreBytes unit → IsUnitOf from unit g → IsProperGroup g
   proper_unit forms.OtlpProto g unit all h = proper unit g h.remarks all h.text
-  proper_unit forms.JaegerBinary g unit all h = subst IsProperGroup (sym h.means) (batch unit h.batch all h.text)
+  proper_unit forms.JaegerBinary g unit all h = batch_unit_proper binary.spells binary_proper L.binary.proper read unit g all h
+  proper_unit forms.JaegerCompact g unit all h = batch_unit_proper compact.spells compact_proper L.compact.proper read unit g all h
 
   pub proper_groups : (from : Form) (units : List (List ℕ)) (groups : List Group) → AllBytes units → AreGroups from units groups → IsProperTrace groups
   proper_groups from [] [] all h = All-nil IsProperGroup

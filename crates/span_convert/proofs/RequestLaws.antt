@@ -12,7 +12,7 @@ use Rattle.otlp_proto.specs.Rows.{bytes_in}
 use Rattle.span_convert.specs.InputLaws.{RequestLaws}
 use Rattle.span_convert.specs.Requests.{AreRequestUnits, HoldsRequestUnits, IsRequestUnit}
 use Rattle.span_convert.proofs.FrameLemmas.{no_items, nothing_begins, stops_ends, one_stop, end_fine}
-use Rattle.span_convert.proofs.SourceLaws.{SourceLaws, HeldBy, GoOn}
+use Rattle.span_convert.proofs.SourceLaws.{source_of, SourceLaws, HeldBy, GoOn}
 
 -- ---- lists
 
@@ -109,7 +109,7 @@ module _ (L : RequestLaws) where
   no_units (f ∷ frames) behind e h = cc
 
   go_on : (limits : Limits) (text : List ℕ) (units others : List (List ℕ)) (rest other : List ℕ) (h : HoldsRequestUnits limits text units rest) (g : HoldsRequestUnits limits text others other) → GoesOn records limits.unit h.frames g.frames rest other
-      → GoOn forms.OtlpProto limits units others rest other
+      → GoOn (source_of forms.OtlpProto) limits units others rest other
   go_on limits text units others rest other h g w =
       let d : Divided h.frames w.more others = divided h.frames w.more others (subst (λ (l : List (List ℕ)). AreRequestUnits l others) w.parts g.are_units) in
       let parts : others ≡ units ++ d.behind = d.parts ∙ ap (λ (l : List (List ℕ)). l ++ d.behind) (units_once h.frames d.first units d.of_first h.are_units) in
@@ -122,13 +122,13 @@ module _ (L : RequestLaws) where
       }
 
   units_walk : (limits : Limits) (text : List ℕ) (units others : List (List ℕ)) (rest other : List ℕ) → HoldsRequestUnits limits text units rest → HoldsRequestUnits limits text others other
-      → GoOn forms.OtlpProto limits units others rest other ⊎ GoOn forms.OtlpProto limits others units other rest
+      → GoOn (source_of forms.OtlpProto) limits units others rest other ⊎ GoOn (source_of forms.OtlpProto) limits others units other rest
   units_walk limits text units others rest other h g = elim (L.framing.walks limits.unit (take limits.binary text) rest other h.frames g.frames h.framed g.framed) [
     | inl w ↦ inl (go_on limits text units others rest other h g w)
     | inr w ↦ inr (go_on limits text others units other rest g h w)
   ]
 
-  before_unit : (limits : Limits) (text : List ℕ) (before : List (List ℕ)) (unit rest : List ℕ) → HoldsRequestUnits limits text (before ++ unit ∷ []) rest → HeldBy forms.OtlpProto limits text before
+  before_unit : (limits : Limits) (text : List ℕ) (before : List (List ℕ)) (unit rest : List ℕ) → HoldsRequestUnits limits text (before ++ unit ∷ []) rest → HeldBy (source_of forms.OtlpProto) limits text before
   before_unit limits text before unit rest h =
       let w : Before limits.unit h.frames before (take limits.binary text) = before_last limits.unit h.frames before unit rest (take limits.binary text) h.framed h.are_units in
       record { rest = w.rest; held = record { frames = w.earlier; framed = w.items_then; are_units = w.units_of } }
@@ -138,7 +138,7 @@ module _ (L : RequestLaws) where
   pub one_group : (unit : List ℕ) (g h : Group) → IsRequestUnit unit g → IsRequestUnit unit h → g ≡ h
   one_group unit g h a b = (L.group.once unit g h a.remarks b.remarks a.text b.text).0
 
-  pub request_laws : SourceLaws forms.OtlpProto
+  pub request_laws : SourceLaws (source_of forms.OtlpProto)
   request_laws = record {
     one_group = one_group;
     fine = λ unit g is. L.group.fine unit g is.remarks is.text;

@@ -11,7 +11,7 @@ use Rattle.span_convert.specs.InputLaws.{RequestLaws}
 use Rattle.span_convert.specs.Units.{FrameTells}
 use Rattle.span_convert.specs.Requests.{AreRequestUnits}
 use Rattle.span_convert.proofs.FrameLemmas.{behind_all}
-use Rattle.span_convert.proofs.SourceLaws.{AllUnits}
+use Rattle.span_convert.proofs.SourceLaws.{source_of, AllUnits}
 
 -- the units in frames
 record UnitsOf (frames : List (List ℕ)) : Type 0 where
@@ -29,7 +29,7 @@ all_framed : (units : List (List ℕ)) → AllByRecursion (FrameTells forms.Otlp
 all_framed [] = tt
 all_framed (unit ∷ units) = (tt, all_framed units)
 
-pub request_units : RequestLaws → (limits : Limits) (bytes : List ℕ) → AllUnits forms.OtlpProto limits bytes
+pub request_units : RequestLaws → (limits : Limits) (bytes : List ℕ) → AllUnits (source_of forms.OtlpProto) limits bytes
 request_units L limits bytes =
     let w : Framed records RefusedBy limits.unit (take limits.binary bytes) = L.framing.some_framing limits.unit (take limits.binary bytes) in
     let u : UnitsOf w.items = units_of limits.unit w.items w.rest (take limits.binary bytes) w.framed.items_then in

@@ -1,6 +1,7 @@
 -- Canonical text is read back as the trace that it was written for, and bytes are read as one trace at most.
-use Rattle.std.proofs.Common.{◌≡◌, ℕ, ◌+◌, ◌<◌, ◌≤◌, ◌^◌, ◌++◌, ◌∷◌, List, [], length, map, All, refl, ap, sym, subst, arith}
+use Rattle.std.proofs.Common.{◌≡◌, ℕ, ◌<◌, ◌≤◌, ◌^◌, ◌∷◌, List, [], length, map, All, refl, ap, sym, ◌∙◌, subst, arith}
 use Rattle.std.proofs.lemmas.List.{length-append, length-map, take_all}
+use Rattle.std.proofs.lemmas.Slice.Zip.{AllZip-long}
 use Rattle.std.proofs.lemmas.List.Elements.{All-nil, All-cons, All-head, All-tail}
 use Rattle.std.specs.List.{AllZip}
 use Rattle.span_io.specs.Frames.{ItemsThen}
@@ -10,28 +11,23 @@ use Rattle.span_io.specs.declared.form.Form.TheVariants as forms
 use Rattle.span_io.specs.declared.limits.Limits.{Limits}
 use Rattle.span_io.specs.RowLaws.{all_zip_once}
 use Rattle.proto_wire.specs.Records.{Record, IsProper, bytes}
-use Rattle.proto_wire.specs.Wire.{SpellsRecord, records, RefusedBy, record_text, opening_text}
+use Rattle.proto_wire.specs.Wire.{SpellsRecord, records, RefusedBy, opening_text}
 use Rattle.trace_model.specs.Proper.{IsProperGroup}
 use Rattle.trace_model.specs.Soundness.{IsSoundGroup, IsSoundTrace}
 use Rattle.trace_model.specs.declared.trace.Group.{Group}
-use Rattle.otlp_proto.specs.Group.{IsGroupText}
 use Rattle.otlp_proto.specs.Texts.{group_text, group_record}
-use Rattle.map_jaeger.specs.Laws.{NormalForms}
+use Rattle.map_jaeger.specs.Laws.{NormalForms, ReadIsNormal}
+use Rattle.map_jaeger.specs.Normal.{normal, normal_group}
+use Rattle.span_convert.specs.BatchFiles.{binary, compact}
 use Rattle.span_convert.specs.Canonical.{Reads, ReadsPlainly, IsProperTrace, IsFaultless, IsHeldBy, IsSized, IsWithin}
-use Rattle.span_convert.specs.InputLaws.{RequestLaws}
+use Rattle.span_convert.specs.InputLaws.{RequestLaws, InputLaws, TextLaws}
 use Rattle.span_convert.specs.Requests.{AreRequestUnits, IsRequestUnit, request_text, IsRequestWithin, ReadsRequest, ReadsRequestPlainly, IsPlainRequestUnit}
-use Rattle.span_convert.specs.Units.{HasNoFault, normal_form, canonical_text, span_count}
+use Rattle.span_convert.specs.Units.{IsUnitOf, CanHold, normal_form, trace_text, canonical_text, span_count}
 use Rattle.span_convert.specs.Verdicts.{IsGood, tally_of}
-use Rattle.span_convert.proofs.BatchTexts.{WrittenLaws, ReadLaws, batches_back, batches_to_itself, batches_held, batches_again, batches_spans, batches_faultless, batches_normal, batches_plainly}
+use Rattle.span_convert.proofs.BatchTexts.{normals, all_itself, normal_held_by, batches_back, batches_whole, batches_spans, batches_faultless, batches_normal, batches_plainly}
 use Rattle.span_convert.proofs.FrameLemmas.{same_items}
 use Rattle.span_convert.proofs.RequestLaws.{units_once, one_group}
-
--- what the crates below say of texts
-pub record TextLaws : Type 0 where
-  pub spelled : (r : Record) → IsProper r → SpellsRecord (record_text r) r
-  pub opened : (number : ℕ) (held : List ℕ) → record_text (record { number = number; held = bytes held }) ≡ opening_text number (length held) ++ held
-  pub again : (g : Group) → IsSoundGroup g → IsProperGroup g → length (group_record g) < 2 ^ 63 → IsGroupText g [] (group_text g)
-  pub batches : WrittenLaws
+use Rattle.span_convert.proofs.SourceLaws.{source_of, HeldWhole}
 
 -- the record of a unit
 pub unit_record : Group → Record
@@ -52,8 +48,8 @@ each_within limit (g ∷ groups) h = All-cons (λ g. length (group_record g) ≤
 
 -- OTLP can hold each group
 request_fine : (groups : List Group) → IsFaultless forms.OtlpProto groups
-request_fine [] = All-nil (HasNoFault forms.OtlpProto)
-request_fine (g ∷ groups) = All-cons (HasNoFault forms.OtlpProto) g groups tt (request_fine groups)
+request_fine [] = All-nil (CanHold forms.OtlpProto)
+request_fine (g ∷ groups) = All-cons (CanHold forms.OtlpProto) g groups tt (request_fine groups)
 
 -- units without remarks are units
 remarked : (units : List (List ℕ)) (groups : List Group) → AllZip IsPlainRequestUnit units groups → AllZip IsRequestUnit units groups
@@ -62,6 +58,39 @@ remarked [] (g ∷ groups) h = absurd h
 remarked (unit ∷ units) [] h = absurd h
 remarked (unit ∷ units) (g ∷ groups) h = (record { remarks = []; text = h.0 }, remarked units groups h.1)
 
+-- ---- normal forms
+
+pub normal_held : NormalForms → (to : Form) (groups : List Group) → IsHeldBy to groups → IsHeldBy to (normal_form to groups)
+normal_held N forms.OtlpProto groups held = held
+normal_held N forms.JaegerBinary groups held = normal_held_by forms.JaegerBinary (λ g h. h) (λ g h. h) (normal groups) (normals N groups held.sound held.proper held.no_fault held.sized)
+normal_held N forms.JaegerCompact groups held = normal_held_by forms.JaegerCompact (λ g h. h) (λ g h. h) (normal groups) (normals N groups held.sound held.proper held.no_fault held.sized)
+
+pub normal_again : NormalForms → (to : Form) (groups : List Group) → IsHeldBy to groups → normal_form to (normal_form to groups) ≡ normal_form to groups
+normal_again N forms.OtlpProto groups held = refl
+normal_again N forms.JaegerBinary groups held = all_itself (normal groups) (normals N groups held.sound held.proper held.no_fault held.sized)
+normal_again N forms.JaegerCompact groups held = all_itself (normal groups) (normals N groups held.sound held.proper held.no_fault held.sized)
+
+pub normal_spans : (to : Form) (groups : List Group) → span_count (normal_form to groups) ≡ span_count groups
+normal_spans forms.OtlpProto groups = refl
+normal_spans forms.JaegerBinary groups = batches_spans groups
+normal_spans forms.JaegerCompact groups = batches_spans groups
+
+normal_long : (to : Form) (groups : List Group) → length (normal_form to groups) ≡ length groups
+normal_long forms.OtlpProto groups = refl
+normal_long forms.JaegerBinary groups = length-map groups normal_group
+normal_long forms.JaegerCompact groups = length-map groups normal_group
+
+module _ (N : ReadIsNormal) (L : InputLaws) where
+  pub faultless_read : (from : Form) (text : List ℕ) (groups : List Group) → Reads from text groups → IsFaultless from groups
+  faultless_read forms.OtlpProto text groups h = request_fine groups
+  faultless_read forms.JaegerBinary text groups h = batches_faultless binary N L.binary text groups h
+  faultless_read forms.JaegerCompact text groups h = batches_faultless compact N L.compact text groups h
+
+  pub normal_read : (from : Form) (text : List ℕ) (groups : List Group) → Reads from text groups → normal_form from groups ≡ groups
+  normal_read forms.OtlpProto text groups h = refl
+  normal_read forms.JaegerBinary text groups h = batches_normal binary N L.binary text groups h
+  normal_read forms.JaegerCompact text groups h = batches_normal compact N L.compact text groups h
+
 module _ (L : TextLaws) where
   -- ---- the frames and units of a canonical text
 
@@ -69,12 +98,12 @@ module _ (L : TextLaws) where
   unfolding unit_record
   record_fits g h = record {
     number = (omega arith, omega arith);
-    held = omega (arith, h, ap length (L.opened 1 (group_text g)), length-append (opening_text 1 (length (group_text g))) (group_text g));
+    held = omega (arith, h, ap length (L.shortest.opened 1 (group_text g)), length-append (opening_text 1 (length (group_text g))) (group_text g));
   }
 
   record_spelled : (g : Group) → length (group_record g) < 2 ^ 63 → SpellsRecord (group_record g) (unit_record g)
   unfolding unit_record
-  record_spelled g h = L.spelled (unit_record g) (record_fits g h)
+  record_spelled g h = L.shortest.spelled (unit_record g) (record_fits g h)
 
   pub frames_then : (limit : ℕ) (groups : List Group) → limit < 2 ^ 63 → All (λ g. length (group_record g) ≤ limit) groups → ItemsThen records limit (map group_record groups) [] (request_text groups)
   unfolding ItemsThen
@@ -111,13 +140,13 @@ module _ (L : TextLaws) where
 
   pub read_back : (to : Form) (groups : List Group) → IsHeldBy to groups → IsSized to groups → ReadsPlainly to (canonical_text to groups) (normal_form to groups)
   read_back forms.OtlpProto groups held sized = request_read_back groups held.sound held.proper sized
-  read_back forms.JaegerBinary groups held sized = batches_back L.batches groups held
+  read_back forms.JaegerBinary groups held sized = batches_back binary L L.input.binary (normal groups) (normals L.normal groups held.sound held.proper held.no_fault held.sized)
+  read_back forms.JaegerCompact groups held sized = batches_back compact L L.input.compact (normal groups) (normals L.normal groups held.sound held.proper held.no_fault held.sized)
 
   -- ---- canonical text converts to itself
 
-  request_to_itself : (limits : Limits) (groups : List Group) → AreLimits limits → IsSoundTrace groups → IsProperTrace groups → IsRequestWithin limits groups
-      → IsGood forms.OtlpProto forms.OtlpProto limits (request_text groups) (request_text groups) (tally_of (length groups) (span_count groups))
-  request_to_itself limits groups valid sound proper within =
+  request_whole : (limits : Limits) (groups : List Group) → AreLimits limits → IsSoundTrace groups → IsProperTrace groups → IsRequestWithin limits groups → HeldWhole (source_of forms.OtlpProto) limits (request_text groups) groups
+  request_whole limits groups valid sound proper within =
       let short : limits.unit < 2 ^ 63 = omega (arith, valid.unit.1) in
       record {
         units = map group_text groups;
@@ -126,42 +155,33 @@ module _ (L : TextLaws) where
           framed = subst (λ (l : List ℕ). ItemsThen records limits.unit (map group_record groups) [] l) (sym (take_all limits.binary (request_text groups) within.text)) (frames_then limits.unit groups short within.units);
           are_units = units_held limits.unit groups short within.units;
         };
+        are_groups = remarked (map group_text groups) groups (plain_units limits.unit groups short within.units sound proper);
         within = within.text;
-        convert = record {
-          groups = groups;
-          are_groups = remarked (map group_text groups) groups (plain_units limits.unit groups short within.units sound proper);
-          fine = request_fine groups;
-          is_text = refl;
-        };
-        counts = ap (λ n. tally_of n (span_count groups)) (sym (length-map groups group_text));
       }
+
+  whole : (to : Form) (limits : Limits) (groups : List Group) → AreLimits limits → IsHeldBy to groups → IsWithin to limits groups → HeldWhole (source_of to) limits (canonical_text to groups) (normal_form to groups)
+  whole forms.OtlpProto limits groups valid held within = request_whole limits groups valid held.sound held.proper within
+  whole forms.JaegerBinary limits groups valid held within = batches_whole binary L L.input.binary limits (normal groups) (normals L.normal groups held.sound held.proper held.no_fault held.sized) within
+  whole forms.JaegerCompact limits groups valid held within = batches_whole compact L L.input.compact limits (normal groups) (normals L.normal groups held.sound held.proper held.no_fault held.sized) within
 
   pub to_itself : (to : Form) (limits : Limits) (groups : List Group) → AreLimits limits → IsHeldBy to groups → IsWithin to limits groups
       → IsGood to to limits (canonical_text to groups) (canonical_text to groups) (tally_of (length groups) (span_count groups))
-  to_itself forms.OtlpProto limits groups valid held within = request_to_itself limits groups valid held.sound held.proper within
-  to_itself forms.JaegerBinary limits groups valid held within = batches_to_itself L.batches limits groups held within
-
--- ---- normal forms
-
-pub normal_held : NormalForms → (to : Form) (groups : List Group) → IsHeldBy to groups → IsHeldBy to (normal_form to groups)
-normal_held N forms.OtlpProto groups held = held
-normal_held N forms.JaegerBinary groups held = batches_held N groups held
-
-pub normal_again : NormalForms → (to : Form) (groups : List Group) → IsHeldBy to groups → normal_form to (normal_form to groups) ≡ normal_form to groups
-normal_again N forms.OtlpProto groups held = refl
-normal_again N forms.JaegerBinary groups held = batches_again N groups held
-
-pub normal_spans : (to : Form) (groups : List Group) → span_count (normal_form to groups) ≡ span_count groups
-normal_spans forms.OtlpProto groups = refl
-normal_spans forms.JaegerBinary groups = batches_spans groups
-
-pub faultless_read : ReadLaws → (from : Form) (text : List ℕ) (groups : List Group) → Reads from text groups → IsFaultless from groups
-faultless_read L forms.OtlpProto text groups h = request_fine groups
-faultless_read L forms.JaegerBinary text groups h = batches_faultless L text groups h
-
-pub normal_read : ReadLaws → (from : Form) (text : List ℕ) (groups : List Group) → Reads from text groups → normal_form from groups ≡ groups
-normal_read L forms.OtlpProto text groups h = refl
-normal_read L forms.JaegerBinary text groups h = batches_normal L text groups h
+  to_itself to limits groups valid held within =
+      let w : HeldWhole (source_of to) limits (canonical_text to groups) (normal_form to groups) = whole to limits groups valid held within in
+      record {
+        units = w.units;
+        held = w.held;
+        within = w.within;
+        convert = record {
+          groups = normal_form to groups;
+          are_groups = w.are_groups;
+          fine = (normal_held L.normal to groups held).no_fault;
+          is_text = ap (λ (l : List Group). trace_text to l) (sym (normal_again L.normal to groups held));
+        };
+        counts =
+            ap (λ n. tally_of n (span_count groups)) (sym (normal_long to groups) ∙ AllZip-long (IsUnitOf to) w.units (normal_form to groups) w.are_groups)
+            ∙ ap (λ n. tally_of (length w.units) n) (sym (normal_spans to groups));
+      }
 
 -- ---- bytes are read as one trace at most
 
@@ -171,7 +191,8 @@ request_reads_plainly text groups h = record { frames = h.frames; framed = h.fra
 
 pub reads_plainly : (to : Form) (text : List ℕ) (groups : List Group) → ReadsPlainly to text groups → Reads to text groups
 reads_plainly forms.OtlpProto text groups h = request_reads_plainly text groups h
-reads_plainly forms.JaegerBinary text groups h = batches_plainly text groups h
+reads_plainly forms.JaegerBinary text groups h = batches_plainly binary text groups h
+reads_plainly forms.JaegerCompact text groups h = batches_plainly compact text groups h
 
 module _ (L : RequestLaws) where
   pub one_request : (text : List ℕ) (a b : List Group) → ReadsRequest text a → ReadsRequest text b → a ≡ b

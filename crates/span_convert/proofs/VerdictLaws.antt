@@ -17,11 +17,11 @@ use Rattle.span_io.specs.declared.limits.Limits.{Limits}
 use Rattle.span_io.specs.declared.refusal.Refusal.{Refusal}
 use Rattle.trace_model.specs.declared.fault.Fault.{Fault}
 use Rattle.trace_model.specs.declared.trace.Group.{Group}
-use Rattle.span_convert.specs.Units.{HoldsUnits, IsUnitOf, AreGroups, UnitOffence, RestCause, FaultOf, HasNoFault, canonical_text, span_count}
-use Rattle.span_convert.specs.Verdicts.{Verdict, good, refused, faulted, ConvertTo, IsVerdict, text_in, tally_of}
+use Rattle.span_convert.specs.Units.{HoldsUnits, IsUnitOf, AreGroups, UnitOffence, RestCause, FaultOf, CanHold, canonical_text, span_count}
+use Rattle.span_convert.specs.Verdicts.{Verdict, good, refused, faulted, ConvertTo, IsVerdict, verdict_text, tally_of}
 use Rattle.span_convert.specs.declared.tally.Tally.{Tally}
 use Rattle.span_convert.specs.declared.target_fault.TargetFault.{TargetFault}
-use Rattle.span_convert.proofs.SourceLaws.{SourceLaws, Ends, HeldBy, GoOn}
+use Rattle.span_convert.proofs.SourceLaws.{source_of, SourceLaws, Ends, HeldBy, GoOn}
 use Rattle.span_convert.proofs.TargetLaws.{fault_once, no_fault, text_append}
 
 -- ---- lists
@@ -114,16 +114,16 @@ next_is (z ∷ l) x y b e = next_is l x y b (tail_is z z (l ++ y ∷ []) ((l ++ 
 
 -- ---- one walk, and where it ends
 
-module _ (from : Form) (S : SourceLaws from) (to : Form) where
+module _ (from : Form) (S : SourceLaws (source_of from)) (to : Form) where
   -- the unit is a text of the group, which the target can hold
   abbrev IsFine : List ℕ → Group → Type 0
-  IsFine unit g = IsUnitOf from unit g × HasNoFault to g
+  IsFine unit g = IsUnitOf from unit g × CanHold to g
 
-  fine_units : (units : List (List ℕ)) (groups : List Group) → AreGroups from units groups → All (HasNoFault to) groups → AllZip IsFine units groups
+  fine_units : (units : List (List ℕ)) (groups : List Group) → AreGroups from units groups → All (CanHold to) groups → AllZip IsFine units groups
   fine_units [] [] are fine = tt
   fine_units [] (g ∷ groups) are fine = absurd are
   fine_units (unit ∷ units) [] are fine = absurd are
-  fine_units (unit ∷ units) (g ∷ groups) are fine = ((are.0, All-head (HasNoFault to) g groups fine), fine_units units groups are.1 (All-tail (HasNoFault to) g groups fine))
+  fine_units (unit ∷ units) (g ∷ groups) are fine = ((are.0, All-head (CanHold to) g groups fine), fine_units units groups are.1 (All-tail (CanHold to) g groups fine))
 
   one_fine : (unit : List ℕ) (g h : Group) → IsFine unit g → IsFine unit h → g ≡ h
   one_fine unit g h a b = S.one_group unit g h a.0 b.0
@@ -136,7 +136,7 @@ module _ (from : Form) (S : SourceLaws from) (to : Form) where
   bad_halts unit n least g is = S.fine unit g is.0 least.place n least.offence
 
   fault_halts : (unit : List ℕ) (g : Group) (fault : Fault) → IsUnitOf from unit g → FaultOf to g fault → Halts unit
-  fault_halts unit g fault is has h here = no_fault to g fault has (subst (λ (x : Group). HasNoFault to x) (S.one_group unit h g here.0 is) here.1)
+  fault_halts unit g fault is has h here = no_fault to g fault has (subst (λ (x : Group). CanHold to x) (S.one_group unit h g here.0 is) here.1)
 
   no_group : (unit : List ℕ) (groups : List Group) → Halts unit → AllZip IsFine (unit ∷ []) groups → ⊥
   no_group unit [] halts h = h
@@ -150,14 +150,14 @@ module _ (from : Form) (S : SourceLaws from) (to : Form) where
 
   module _ (limits : Limits) (valid : AreLimits limits) (text : List ℕ) where
     abbrev Goes : List (List ℕ) → List (List ℕ) → List ℕ → List ℕ → Type 0
-    Goes = GoOn from limits
+    Goes = GoOn (source_of from) limits
 
     -- behind these units a unit halts the walk, or no frame begins
     data Ending (units : List (List ℕ)) : Type 0 where
       at_unit : (unit rest : List ℕ) → HoldsUnits from limits text (units ++ unit ∷ []) rest → Halts unit → Ending units
-      at_rest : (rest : List ℕ) → HoldsUnits from limits text units rest → Ends from limits rest → Ending units
+      at_rest : (rest : List ℕ) → HoldsUnits from limits text units rest → Ends (source_of from) limits rest → Ending units
 
-    held_of : (units : List (List ℕ)) → Ending units → HeldBy from limits text units
+    held_of : (units : List (List ℕ)) → Ending units → HeldBy (source_of from) limits text units
     held_of units (at_unit unit rest held halts) = S.before limits text units unit rest held
     held_of units (at_rest rest held ends) = record { rest = rest; held = held }
 
@@ -175,7 +175,7 @@ module _ (from : Form) (S : SourceLaws from) (to : Form) where
         of (inside more p) = record { more = more; parts = p }
     first_unit units rest groups before unit other halts are (inr w) = absurd (last_group before unit w.behind groups halts (subst (λ (l : List (List ℕ)). AllZip IsFine l groups) w.parts are))
 
-    first_in : (units : List (List ℕ)) (rest : List ℕ) (all : List (List ℕ)) (other : List ℕ) → Ends from limits other → Goes units all rest other ⊎ Goes all units other rest → First units all
+    first_in : (units : List (List ℕ)) (rest : List ℕ) (all : List (List ℕ)) (other : List ℕ) → Ends (source_of from) limits other → Goes units all rest other ⊎ Goes all units other rest → First units all
     first_in units rest all other ends (inl w) = record { more = w.behind; parts = w.parts }
     first_in units rest all other ends (inr w) = record { more = []; parts = sym (w.ended ends).0 ∙ sym (append-nil units) }
 
@@ -190,14 +190,14 @@ module _ (from : Form) (S : SourceLaws from) (to : Form) where
         let q : First b a = first b (held_of b g).rest others a (held_of b g).held them h in
         both_first a b q.more p.more q.parts p.parts
 
-    same_rest : (units others : List (List ℕ)) (rest other : List ℕ) → Ends from limits rest → Ends from limits other → HoldsUnits from limits text units rest → HoldsUnits from limits text others other → rest ≡ other
+    same_rest : (units others : List (List ℕ)) (rest other : List ℕ) → Ends (source_of from) limits rest → Ends (source_of from) limits other → HoldsUnits from limits text units rest → HoldsUnits from limits text others other → rest ≡ other
     same_rest units others rest other ends end h g = elim (S.walks limits text units others rest other h g) as (λ w. rest ≡ other) [
       | inl w ↦ (w.ended ends).1
       | inr w ↦ sym (w.ended end).1
     ]
 
     -- behind units that no frame follows no unit stands
-    not_beyond : (units before : List (List ℕ)) (unit rest other : List ℕ) → units ≡ before → Ends from limits rest → HoldsUnits from limits text units rest → HoldsUnits from limits text (before ++ unit ∷ []) other → ⊥
+    not_beyond : (units before : List (List ℕ)) (unit rest other : List ℕ) → units ≡ before → Ends (source_of from) limits rest → HoldsUnits from limits text units rest → HoldsUnits from limits text (before ++ unit ∷ []) other → ⊥
     not_beyond units before unit rest other e ends h g = of (S.walks limits text units (before ++ unit ∷ []) rest other h g)
       where
         of : Goes units (before ++ unit ∷ []) rest other ⊎ Goes (before ++ unit ∷ []) units other rest → ⊥
@@ -217,7 +217,7 @@ module _ (from : Form) (S : SourceLaws from) (to : Form) where
     -- the units before, what they convert to, and where it ends
     record Walk (v : Verdict) : Type 0 where
       units : List (List ℕ)
-      convert : ConvertTo from to units (text_in v)
+      convert : ConvertTo from to units (verdict_text v)
       ending : Ending units
 
     walk : (v : Verdict) → IsVerdict from to limits text v → Walk v
@@ -241,8 +241,8 @@ module _ (from : Form) (S : SourceLaws from) (to : Form) where
         let p : Parts IsFine units f.more them = parts_of IsFine units f.more them (subst (λ (l : List (List ℕ)). AllZip IsFine l them) f.parts all_are) in
         record { more = p.behind; parts = p.whole ∙ ap (λ l. l ++ p.behind) (all_zip_once IsFine one_fine units p.first groups p.are_first are) }
 
-    pub so_far : (rest : List ℕ) (units : List (List ℕ)) (groups : List Group) (v : Verdict) → HoldsUnits from limits text units rest → AreGroups from units groups → All (HasNoFault to) groups → IsVerdict from to limits text v
-        → IsFront (canonical_text to groups) (text_in v)
+    pub so_far : (rest : List ℕ) (units : List (List ℕ)) (groups : List Group) (v : Verdict) → HoldsUnits from limits text units rest → AreGroups from units groups → All (CanHold to) groups → IsVerdict from to limits text v
+        → IsFront (canonical_text to groups) (verdict_text v)
     so_far rest units groups v held are fine h =
         let w : Walk v = walk v h in
         let them : AllZip IsFine units groups = fine_units units groups are fine in
@@ -258,7 +258,7 @@ module _ (from : Form) (S : SourceLaws from) (to : Form) where
     same_groups v w h g = all_zip_once IsFine one_fine (walk v h).units (walk v h).convert.groups (walk w g).convert.groups (fine_in v (walk v h))
         (subst (λ (l : List (List ℕ)). AllZip IsFine l (walk w g).convert.groups) (sym (same_units v w h g)) (fine_in w (walk w g)))
 
-    same_text : (v w : Verdict) → IsVerdict from to limits text v → IsVerdict from to limits text w → text_in v ≡ text_in w
+    same_text : (v w : Verdict) → IsVerdict from to limits text v → IsVerdict from to limits text w → verdict_text v ≡ verdict_text w
     same_text v w h g = (walk v h).convert.is_text ∙ ap (λ l. canonical_text to l) (same_groups v w h g) ∙ sym (walk w g).convert.is_text
 
     good_not_refused : (out other : List ℕ) (tally : Tally) (refusal : Refusal) → IsVerdict from to limits text (good out tally) → IsVerdict from to limits text (refused refusal other) → ⊥

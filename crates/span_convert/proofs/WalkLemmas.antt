@@ -9,7 +9,7 @@ use Rattle.std.specs.List.{flat_map}
 use Rattle.span_io.specs.RowLaws.{all_zip_push}
 use Rattle.span_io.specs.TableLaws.{flat_more}
 use Rattle.span_io.specs.Causes.{cause_number}
-use Rattle.span_io.specs.Frames.{BeginsFrame, ItemsThen, NeedsMore}
+use Rattle.span_io.specs.Frames.{Framing, BeginsFrame, ItemsThen}
 use Rattle.span_io.specs.Offences.{Least}
 use Rattle.span_io.specs.Outside.{Outlet, Gains, GainsFront, OutputFails, Rises, last_count}
 use Rattle.span_io.specs.declared.cause.Cause.{Cause}
@@ -18,18 +18,18 @@ use Rattle.span_io.specs.declared.form.Form.TheVariants as forms
 use Rattle.span_io.specs.declared.limits.Limits.{Limits}
 use Rattle.proto_wire.specs.FirstFrames.{IsFirst}
 use Rattle.proto_wire.specs.Records.{Record, plain_record}
-use Rattle.proto_wire.specs.Wire.{SpellsRecord, records, NeedsMoreBytes, IsRefusedAs}
+use Rattle.proto_wire.specs.Wire.{SpellsRecord, records}
 use Rattle.proto_wire.specs.declared.record.Frame.{Frame}
 use Rattle.trace_model.specs.declared.fault.Fault.{Fault}
 use Rattle.trace_model.specs.declared.trace.Group.{Group}
 use Rattle.trace_model.specs.declared.trace.Scope.{Scope}
 use Rattle.otlp_proto.specs.Rows.{bytes_in}
-use Rattle.span_convert.specs.BatchFiles.{batches, HoldsBatches, IsRefusedBatch, CutsBatch}
-use Rattle.span_convert.specs.Requests.{AreRequestUnits, HoldsRequestUnits}
-use Rattle.span_convert.specs.Units.{HoldsUnits, IsUnitOf, UnitOffence, RestCause, FaultOf, HasNoFault, IsSizedGroup, span_count, unit_text}
+use Rattle.span_convert.specs.BatchFiles.{ProtocolWords, binary, compact, batches, IsOwnUnit, HoldsBatches}
+use Rattle.span_convert.specs.Requests.{HoldsUnit, AreRequestUnits, HoldsRequestUnits}
+use Rattle.span_convert.specs.Rests.{Cuts}
+use Rattle.span_convert.specs.Units.{frames_of, RefusedFrame, HoldsUnits, IsUnitOf, UnitOffence, RestCause, FaultOf, CanHold, IsSizedGroup, span_count, unit_text}
 use Rattle.span_convert.specs.Verdicts.{tally_of, ConvertTo, IsBadUnit, IsBadRest, IsFaultedUnit, IsTextSoFar, WritesFront}
-use Rattle.span_convert.specs.Walks.{Exceeds, IsLookedAt, CutsRecord, CutsFrame, StopsFrames, WalkedUnits, AddsGroup, IsNextUnit}
-use Rattle.span_convert.specs.Walks.{StopsWalk, EndsWalk, WritesOut}
+use Rattle.span_convert.specs.Walks.{Exceeds, IsLookedAt, CutsFrame, StopsFrames, WalkedUnits, AddsGroup, IsNextUnit, StopsWalk, EndsWalk, WritesOut}
 use Rattle.span_convert.specs.declared.progress.Progress.{Progress}
 use Rattle.span_convert.specs.declared.progress.WalkStop.{WalkStop}
 use Rattle.span_convert.specs.declared.progress.WalkStop.TheVariants as walk_stops
@@ -40,13 +40,12 @@ use Rattle.span_convert.proofs.TargetLaws.{text_none, text_more}
 -- ---- a frame at the front
 
 module _ (limit : ℕ) (rest behind : List ℕ) (found : Frame) (first : IsFirst limit found rest) (others : behind ≡ drop found.size rest) where
-  pub cut_at : (units : List (List ℕ)) → bytes_in 1 (plain_record found.record) ≡ units → CutsRecord limit rest units behind
+  pub cut_at : (units : List (List ℕ)) → bytes_in 1 (plain_record found.record) ≡ units → Cuts records HoldsUnit limit rest units behind
   cut_at units holds = record {
     frame = take found.size rest;
-    this = plain_record found.record;
-    spelled = first.spelled;
+    whole = (plain_record found.record, first.spelled);
     within = omega (arith, first.within, length-take-le found.size rest first.there);
-    holds = holds;
+    holds = record { this = plain_record found.record; spelled = first.spelled; holds = sym holds };
     parts = sym (take-append-drop found.size rest) ∙ ap (λ l. take found.size rest ++ l) (sym others);
   }
 
@@ -54,14 +53,14 @@ module _ (limit : ℕ) (rest behind : List ℕ) (found : Frame) (first : IsFirst
   nearer_at = omega (arith, first.some, first.there, ap length others, length-drop found.size rest)
 
 -- the first bytes are a batch
-module _ (limit size : ℕ) (rest unit behind : List ℕ) (h : BeginsFrame batches limit size rest) (front : unit ≡ take size rest) where
+module _ (F : Framing) (limit size : ℕ) (rest unit behind : List ℕ) (h : BeginsFrame F limit size rest) (front : unit ≡ take size rest) where
   unit_is : unit ≡ h.text
   unit_is = front ∙ ap (λ l. take size l) h.parts ∙ take_at h.text h.rest size h.size
 
-  pub batch_whole : batches.Whole unit
-  batch_whole = subst (λ (l : List ℕ). batches.Whole l) (sym unit_is) h.whole
+  pub batch_whole : F.Whole unit
+  batch_whole = subst F.Whole (sym unit_is) h.whole
 
-  pub batch_at : behind ≡ drop size rest → CutsBatch limit rest (unit ∷ []) behind
+  pub batch_at : behind ≡ drop size rest → Cuts F IsOwnUnit limit rest (unit ∷ []) behind
   batch_at others = record {
     frame = unit;
     whole = batch_whole;
@@ -108,10 +107,8 @@ exceeds_as : (limits : Limits) (whole : List ℕ) (a b : Bool) → Exceeds a lim
 exceeds_as limits whole a b exceeds same = subst (λ (x : Bool). Exceeds x limits whole) same exceeds
 
 rest_cause : (from : Form) (limits : Limits) (whole rest : List ℕ) (cause : Cause) (too_long : Bool) → Exceeds too_long limits whole → StopsFrames from limits.unit too_long rest cause → RestCause from limits (length whole) rest cause
-rest_cause forms.OtlpProto limits whole rest cause too_long exceeds why =
-    stops_weaker (IsRefusedAs limits.unit) (NeedsMoreBytes limits.unit) (too_long ≡ true) (limits.binary < length whole) (too_long ≡ false) (length whole ≤ limits.binary) (exceeds_as limits whole too_long true exceeds) (exceeds_as limits whole too_long false exceeds) rest cause why
-rest_cause forms.JaegerBinary limits whole rest cause too_long exceeds why =
-    stops_weaker (IsRefusedBatch limits.unit) (NeedsMore batches limits.unit) (too_long ≡ true) (limits.binary < length whole) (too_long ≡ false) (length whole ≤ limits.binary) (exceeds_as limits whole too_long true exceeds) (exceeds_as limits whole too_long false exceeds) rest cause why
+rest_cause from limits whole rest cause too_long exceeds why =
+    stops_weaker (frames_of from) (RefusedFrame from) limits.unit (too_long ≡ true) (limits.binary < length whole) (too_long ≡ false) (length whole ≤ limits.binary) (exceeds_as limits whole too_long true exceeds) (exceeds_as limits whole too_long false exceeds) rest cause why
 
 pub gains_none : (a : Outlet) → Gains a a []
 gains_none a = record { held = Appends-nil a.held; taken = rises_none a.taken; faults = omega arith }
@@ -125,10 +122,11 @@ pub none_held : (from : Form) (limits : Limits) (whole looked : List ℕ) → ta
 unfolding ItemsThen AreRequestUnits
 none_held forms.OtlpProto limits whole looked front = record { frames = []; framed = front; are_units = refl }
 none_held forms.JaegerBinary limits whole looked front = front
+none_held forms.JaegerCompact limits whole looked front = front
 
 -- no units convert to nothing
 pub none_convert : (from to : Form) → ConvertTo from to [] []
-none_convert from to = record { groups = []; are_groups = tt; fine = All-nil (HasNoFault to); is_text = sym (text_none to) }
+none_convert from to = record { groups = []; are_groups = tt; fine = All-nil (CanHold to); is_text = sym (text_none to) }
 
 pub walked_none : (from to : Form) (limits : Limits) (whole looked : List ℕ) (too_long : Bool) (before : Outlet) → IsLookedAt limits whole looked too_long
     → WalkedUnits from to limits whole looked before before (record { unwritten = []; tally = record { units = 0; spans = 0 } })
@@ -156,21 +154,22 @@ spans_more old next groups more e f = omega arith
 rose_since : (a b c : Outlet) → a.faults ≤ b.faults → OutputFails b c → OutputFails a c
 rose_since a b c h rose = omega arith
 
-request_then : (limits : Limits) (whole rest behind : List ℕ) (units more : List (List ℕ)) → CutsRecord limits.unit rest more behind → HoldsRequestUnits limits whole units rest → HoldsRequestUnits limits whole (units ++ more) behind
+request_then : (limits : Limits) (whole rest behind : List ℕ) (units more : List (List ℕ)) → Cuts records HoldsUnit limits.unit rest more behind → HoldsRequestUnits limits whole units rest → HoldsRequestUnits limits whole (units ++ more) behind
 request_then limits whole rest behind units more cut held = record {
   frames = held.frames ++ cut.frame ∷ [];
-  framed = items_push records limits.unit held.frames cut.frame behind rest (take limits.binary whole) (cut.this, cut.spelled) cut.within cut.parts held.framed;
-  are_units = subst (λ (l : List (List ℕ)). AreRequestUnits (held.frames ++ cut.frame ∷ []) (units ++ l)) cut.holds (units_push held.frames units cut.frame cut.this held.are_units cut.spelled);
+  framed = items_push records limits.unit held.frames cut.frame behind rest (take limits.binary whole) cut.whole cut.within cut.parts held.framed;
+  are_units = subst (λ (l : List (List ℕ)). AreRequestUnits (held.frames ++ cut.frame ∷ []) (units ++ l)) (sym cut.holds.holds) (units_push held.frames units cut.frame cut.holds.this held.are_units cut.holds.spelled);
 }
 
-batch_then : (limits : Limits) (whole rest behind : List ℕ) (units more : List (List ℕ)) → CutsBatch limits.unit rest more behind → HoldsBatches limits whole units rest → HoldsBatches limits whole (units ++ more) behind
-batch_then limits whole rest behind units more cut held =
-    subst (λ (l : List (List ℕ)). HoldsBatches limits whole (units ++ l) behind) (sym cut.holds) (items_push batches limits.unit units cut.frame behind rest (take limits.binary whole) cut.whole cut.within cut.parts held)
+batch_then : (protocol : ProtocolWords) (limits : Limits) (whole rest behind : List ℕ) (units more : List (List ℕ)) → Cuts (batches protocol) IsOwnUnit limits.unit rest more behind → HoldsBatches protocol limits whole units rest → HoldsBatches protocol limits whole (units ++ more) behind
+batch_then protocol limits whole rest behind units more cut held =
+    subst (λ (l : List (List ℕ)). HoldsBatches protocol limits whole (units ++ l) behind) (sym cut.holds) (items_push (batches protocol) limits.unit units cut.frame behind rest (take limits.binary whole) cut.whole cut.within cut.parts held)
 
 -- behind a frame its units are held as well
 held_then : (from : Form) (limits : Limits) (whole rest behind : List ℕ) (units more : List (List ℕ)) → CutsFrame from limits.unit rest more behind → HoldsUnits from limits whole units rest → HoldsUnits from limits whole (units ++ more) behind
 held_then forms.OtlpProto limits whole rest behind units more cut held = request_then limits whole rest behind units more cut held
-held_then forms.JaegerBinary limits whole rest behind units more cut held = batch_then limits whole rest behind units more cut held
+held_then forms.JaegerBinary limits whole rest behind units more cut held = batch_then binary limits whole rest behind units more cut held
+held_then forms.JaegerCompact limits whole rest behind units more cut held = batch_then compact limits whole rest behind units more cut held
 
 module _ (from to : Form) (limits : Limits) (whole : List ℕ) (before now : Outlet) (progress : Progress) where
   abbrev Walked : List ℕ → Type 0
@@ -196,7 +195,7 @@ module _ (from to : Form) (limits : Limits) (whole : List ℕ) (before now : Out
     convert = record {
       groups = w.convert.groups ++ group ∷ [];
       are_groups = all_zip_push (IsUnitOf from) w.units w.convert.groups here.unit group w.convert.are_groups here.is_unit;
-      fine = All-push (HasNoFault to) w.convert.groups group w.convert.fine adds.writes.fine;
+      fine = All-push (CanHold to) w.convert.groups group w.convert.fine adds.writes.fine;
       is_text = ap (λ l. w.written ++ l) adds.writes.text ∙ sym (append_assoc w.written progress.unwritten (unit_text to group)) ∙ ap (λ l. l ++ unit_text to group) w.convert.is_text ∙ sym (text_more to w.convert.groups group);
     };
     sized = All-push (IsSizedGroup to) w.convert.groups group w.sized adds.writes.sized;

@@ -7,21 +7,23 @@ use Rattle.trace_model.specs.Proper.{IsProperGroup}
 use Rattle.trace_model.specs.Soundness.{IsSoundTrace}
 use Rattle.trace_model.specs.declared.trace.Group.{Group}
 use Rattle.map_jaeger.specs.Normal.{normal}
-use Rattle.span_convert.specs.BatchFiles.{ReadsBatches, ReadsBatchesPlainly, AreBatchesWithin}
+use Rattle.span_convert.specs.BatchFiles.{binary, compact, ReadsBatches, ReadsBatchesPlainly, AreBatchesWithin}
 use Rattle.span_convert.specs.Requests.{ReadsRequest, ReadsRequestPlainly, IsRequestWithin}
-use Rattle.span_convert.specs.Units.{HasNoFault, IsSizedGroup, normal_form, canonical_text}
+use Rattle.span_convert.specs.Units.{CanHold, IsSizedGroup, normal_form, canonical_text}
 use Rattle.span_convert.specs.Verdicts.{IsGood, IsVerdict, good}
 use Rattle.span_convert.specs.declared.tally.Tally.{Tally}
 
 -- the bytes are a text of this trace
 abbrev pub Reads : Form → List ℕ → List Group → Type 0
-Reads forms.OtlpProto bytes groups = ReadsRequest bytes groups
-Reads forms.JaegerBinary bytes groups = ReadsBatches bytes groups
+Reads forms.OtlpProto = ReadsRequest
+Reads forms.JaegerBinary = ReadsBatches binary
+Reads forms.JaegerCompact = ReadsBatches compact
 
 -- the same, and no remark arises
 abbrev pub ReadsPlainly : Form → List ℕ → List Group → Type 0
-ReadsPlainly forms.OtlpProto bytes groups = ReadsRequestPlainly bytes groups
-ReadsPlainly forms.JaegerBinary bytes groups = ReadsBatchesPlainly bytes groups
+ReadsPlainly forms.OtlpProto = ReadsRequestPlainly
+ReadsPlainly forms.JaegerBinary = ReadsBatchesPlainly binary
+ReadsPlainly forms.JaegerCompact = ReadsBatchesPlainly compact
 
 -- each number, text and identifier in the groups lies in its range
 abbrev pub IsProperTrace : List Group → Type 0
@@ -29,7 +31,7 @@ IsProperTrace groups = All IsProperGroup groups
 
 -- no group of the trace has a fault
 abbrev pub IsFaultless : Form → List Group → Type 0
-IsFaultless to groups = All (HasNoFault to) groups
+IsFaultless to groups = All (CanHold to) groups
 
 -- a sound trace in whose groups nothing is out of range, nothing a fault, and nothing too long
 pub record IsHeldBy (to : Form) (groups : List Group) : Type 0 where
@@ -45,7 +47,8 @@ IsSized to groups = length (canonical_text to groups) < 2 ^ 63
 -- the canonical text of the trace, and its units, are within the limits of an input
 abbrev pub IsWithin : Form → Limits → List Group → Type 0
 IsWithin forms.OtlpProto limits groups = IsRequestWithin limits groups
-IsWithin forms.JaegerBinary limits groups = AreBatchesWithin limits (normal groups)
+IsWithin forms.JaegerBinary limits groups = AreBatchesWithin binary limits (normal groups)
+IsWithin forms.JaegerCompact limits groups = AreBatchesWithin compact limits (normal groups)
 
 -- What was written for an input is a text of the normal form of the input's trace, on which there is no remark; it is the text of no
 -- trace of another normal form; and within the limits it converts to itself.

@@ -1,24 +1,44 @@
--- What the crates below say of the frames and units of an input.
+-- What the crates below say of the frames and units of an input, and of the texts that are written.
+use Rattle.std.specs.Prelude.{◌<◌, ◌^◌, [], length}
 use Rattle.span_io.specs.Framings.{OneFraming, OneStep}
-use Rattle.proto_wire.specs.Laws.{OneReading}
+use Rattle.proto_wire.specs.Laws.{OneWireReading, ShortestRecord}
 use Rattle.proto_wire.specs.Wire.{records, RefusedBy}
-use Rattle.thrift_core.specs.Values.{RefusedStruct}
-use Rattle.thrift_binary.specs.Spelling.{spells, refuses}
+use Rattle.trace_model.specs.Proper.{IsProperGroup}
+use Rattle.trace_model.specs.Soundness.{IsSoundGroup}
+use Rattle.trace_model.specs.declared.trace.Group.{Group}
+use Rattle.otlp_proto.specs.Group.{IsGroupText}
 use Rattle.otlp_proto.specs.Laws.{OneGroup}
-use Rattle.jaeger_model.specs.Laws.{OneBatch}
-use Rattle.span_convert.specs.BatchFiles.{batches}
+use Rattle.otlp_proto.specs.Texts.{group_text, group_record}
+use Rattle.jaeger_model.specs.Laws.{OneBatch, SomeBatch, ReadsTimes, ReadsProper}
+use Rattle.jaeger_model.specs.WrittenAgain.{WrittenAgain}
+use Rattle.map_jaeger.specs.Laws.{BatchesReadBack, NormalForms, WrittenIsProper}
+use Rattle.span_convert.specs.BatchFiles.{ProtocolWords, binary, compact, batches, RefusedBatch}
 
 pub record RequestLaws : Type 0 where
-  pub reading : OneReading
+  pub reading : OneWireReading
   pub framing : OneFraming records RefusedBy
   pub step : OneStep records RefusedBy
   pub group : OneGroup
 
-pub record BatchLaws : Type 0 where
-  pub framing : OneFraming batches (RefusedStruct spells refuses)
-  pub step : OneStep batches (RefusedStruct spells refuses)
-  pub batch : OneBatch spells
+-- the same of batches in a protocol, and what is read and written of them
+pub record BatchLaws (protocol : ProtocolWords) : Type 0 where
+  pub framing : OneFraming (batches protocol) (RefusedBatch protocol)
+  pub step : OneStep (batches protocol) (RefusedBatch protocol)
+  pub batch : OneBatch protocol.spells
+  pub some : SomeBatch protocol.spells
+  pub times : ReadsTimes protocol.spells
+  pub proper : ReadsProper protocol.spells
+  pub again : WrittenAgain protocol.spells protocol.keeps protocol.writes
 
 pub record InputLaws : Type 0 where
   pub requests : RequestLaws
-  pub batches : BatchLaws
+  pub binary : BatchLaws binary
+  pub compact : BatchLaws compact
+
+pub record TextLaws : Type 0 where
+  pub input : InputLaws
+  pub shortest : ShortestRecord
+  pub again : (g : Group) → IsSoundGroup g → IsProperGroup g → length (group_record g) < 2 ^ 63 → IsGroupText g [] (group_text g)
+  pub back : BatchesReadBack
+  pub normal : NormalForms
+  pub proper : WrittenIsProper

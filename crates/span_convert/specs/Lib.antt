@@ -3,6 +3,7 @@ pub mod Canonical
 pub mod Converters
 pub mod InputLaws
 pub mod Requests
+pub mod Rests
 pub mod Units
 pub mod Verdicts
 pub mod Walks

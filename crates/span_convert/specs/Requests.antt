@@ -1,18 +1,22 @@
 -- An OTLP request in protobuf, `ExportTraceServiceRequest` (OTLP trace_service.proto). Its units are what its records `resource_spans`
 -- hold, of number 1 and wire type 2. Other records are frames as well, and no units.
-use Rattle.std.specs.Prelude.{◌≡◌, ◌≢◌, ℕ, ◌<◌, ◌≤◌, ◌⊎◌, take, List, [], ◌∷◌, ◌++◌, length, All}
+use Rattle.std.specs.Prelude.{◌≡◌, ℕ, ◌≤◌, take, List, [], ◌∷◌, ◌++◌, length, All}
 use Rattle.std.specs.List.{AllZip, flat_map}
 use Rattle.span_io.specs.Frames.{ItemsThen}
-use Rattle.span_io.specs.declared.cause.Cause.{Cause}
-use Rattle.span_io.specs.declared.cause.Cause.TheVariants as causes
 use Rattle.span_io.specs.declared.limits.Limits.{Limits}
 use Rattle.proto_wire.specs.Records.{Record}
-use Rattle.proto_wire.specs.Wire.{SpellsRecord, records, NeedsMoreBytes, IsRefusedAs}
+use Rattle.proto_wire.specs.Wire.{SpellsRecord, records}
 use Rattle.trace_model.specs.declared.remark.Remark.{Remark}
 use Rattle.trace_model.specs.declared.trace.Group.{Group}
 use Rattle.otlp_proto.specs.Group.{IsGroupText}
 use Rattle.otlp_proto.specs.Rows.{bytes_in}
 use Rattle.otlp_proto.specs.Texts.{group_record}
+
+-- the record holds these units: one or none
+pub record HoldsUnit (frame : List ℕ) (units : List (List ℕ)) : Type 0 where
+  pub this : Record
+  pub spelled : SpellsRecord frame this
+  pub holds : units ≡ bytes_in 1 this
 
 -- among these frames, in order, those are the units
 unfoldable pub AreRequestUnits : List (List ℕ) → List (List ℕ) → Type 0
@@ -31,15 +35,6 @@ pub record HoldsRequestUnits (limits : Limits) (bytes : List ℕ) (units : List 
 pub record IsRequestUnit (unit : List ℕ) (group : Group) : Type 0 where
   pub remarks : List Remark
   pub text : IsGroupText group remarks unit
-
--- Why the rest, at which no frame begins, isn't read, if the input has so many bytes. A front of it is refused; or none is, and the
--- input is longer than its limit, or ends inside a frame.
-abbrev pub RequestRestCause : Limits → ℕ → List ℕ → Cause → Type 0
-RequestRestCause limits size rest cause =
-    IsRefusedAs limits.unit rest cause
-    ⊎ NeedsMoreBytes limits.unit rest × (
-    (cause ≡ causes.InputTooLong) × (limits.binary < size)
-    ⊎ (cause ≡ causes.Truncated) × (size ≤ limits.binary) × (rest ≢ []))
 
 -- the canonical text of a trace: a record of each group, in order
 abbrev pub request_text : List Group → List ℕ

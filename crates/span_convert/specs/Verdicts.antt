@@ -9,8 +9,7 @@ use Rattle.span_io.specs.declared.form.Form.{Form}
 use Rattle.span_io.specs.declared.limits.Limits.{Limits}
 use Rattle.span_io.specs.declared.refusal.Refusal.{Refusal}
 use Rattle.trace_model.specs.declared.trace.Group.{Group}
-use Rattle.span_convert.specs.Units.{HoldsUnits, IsUnitOf, AreGroups, UnitOffence, RestCause}
-use Rattle.span_convert.specs.Units.{FaultOf, HasNoFault, canonical_text, span_count}
+use Rattle.span_convert.specs.Units.{HoldsUnits, IsUnitOf, AreGroups, UnitOffence, RestCause, FaultOf, CanHold, canonical_text, span_count}
 use Rattle.span_convert.specs.declared.bad.Bad.{Bad}
 use Rattle.span_convert.specs.declared.bad.Bad.TheVariants as bads
 use Rattle.span_convert.specs.declared.stop.Stop.{Stop}
@@ -34,7 +33,7 @@ tally_of units spans = record { units = units; spans = min spans last_count }
 pub record ConvertTo (from to : Form) (units : List (List ℕ)) (text : List ℕ) : Type 0 where
   pub groups : List Group
   pub are_groups : AreGroups from units groups
-  pub fine : All (HasNoFault to) groups
+  pub fine : All (CanHold to) groups
   pub is_text : text ≡ canonical_text to groups
 
 -- all of the input is units that convert to the text, and other frames
@@ -83,10 +82,10 @@ IsVerdict from to limits bytes (refused refusal text) = IsBadUnit from to limits
 IsVerdict from to limits bytes (faulted found text) = IsFaultedUnit from to limits bytes text found
 
 -- what is written: the whole text, or that of the groups before
-abbrev pub text_in : Verdict → List ℕ
-text_in (good text tally) = text
-text_in (refused refusal text) = text
-text_in (faulted found text) = text
+abbrev pub verdict_text : Verdict → List ℕ
+verdict_text (good text tally) = text
+verdict_text (refused refusal text) = text
+verdict_text (faulted found text) = text
 
 -- ---- what calls answer and write
 
@@ -119,8 +118,8 @@ Stops (refused refusal text) stops.Refused before now = Gains before now text
 Stops (refused refusal text) stops.Faulted before now = ⊥
 Stops (faulted found text) stops.Refused before now = ⊥
 Stops (faulted found text) stops.Faulted before now = Gains before now text
-Stops verdict stops.Write before now = OutputFails before now × GainsFront before now (text_in verdict)
-Stops verdict stops.OutOfMemory before now = GainsFront before now (text_in verdict)
+Stops verdict stops.Write before now = OutputFails before now × GainsFront before now (verdict_text verdict)
+Stops verdict stops.OutOfMemory before now = GainsFront before now (verdict_text verdict)
 
 -- how it was where a call came to the end
 abbrev pub Ends : Verdict → Tally → Outlet → Outlet → Type 0

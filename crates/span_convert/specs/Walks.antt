@@ -1,22 +1,16 @@
 -- The walk over the units of an input, of which no more bytes are looked at than its limit. It is one walk for all pairs of forms.
-use Rattle.std.specs.Prelude.{◌≡◌, ◌≢◌, ℕ, ◌+◌, min, ◌<◌, ◌≤◌, ◌⊎◌, take, Bool, true, false, List, [], ◌∷◌, ◌++◌, length, All, Option, Some, None, Result, Ok, Err}
+use Rattle.std.specs.Prelude.{◌≡◌, ℕ, ◌+◌, min, ◌<◌, ◌≤◌, ◌⊎◌, take, Bool, true, false, List, [], ◌∷◌, ◌++◌, length, All, Option, Some, None, Result, Ok, Err}
 use Rattle.std.specs.Borrow.{Bor}
-use Rattle.span_io.specs.Frames.{NeedsMore}
 use Rattle.span_io.specs.Outside.{Outlet, Gains, GainsFront, OutputFails, last_count}
 use Rattle.span_io.specs.declared.cause.Cause.{Cause}
-use Rattle.span_io.specs.declared.cause.Cause.TheVariants as causes
 use Rattle.span_io.specs.declared.form.Form.{Form}
-use Rattle.span_io.specs.declared.form.Form.TheVariants as forms
 use Rattle.span_io.specs.declared.halt.Halt.{Halt}
 use Rattle.span_io.specs.declared.halt.Halt.TheVariants as halts
 use Rattle.span_io.specs.declared.limits.Limits.{Limits}
 use Rattle.span_io.specs.declared.refusal.Refusal.{Refusal}
-use Rattle.proto_wire.specs.Records.{Record}
-use Rattle.proto_wire.specs.Wire.{SpellsRecord, NeedsMoreBytes, IsRefusedAs}
 use Rattle.trace_model.specs.declared.trace.Group.{Group}
-use Rattle.otlp_proto.specs.Rows.{bytes_in}
-use Rattle.span_convert.specs.BatchFiles.{batches, IsRefusedBatch, CutsBatch}
-use Rattle.span_convert.specs.Units.{HoldsUnits, IsUnitOf, HasNoFault, IsSizedGroup, unit_text, span_count}
+use Rattle.span_convert.specs.Rests.{Cuts, StopsRest}
+use Rattle.span_convert.specs.Units.{frames_of, RefusedFrame, FrameHolds, HoldsUnits, IsUnitOf, CanHold, IsSizedGroup, unit_text, span_count}
 use Rattle.span_convert.specs.Verdicts.{tally_of, ConvertTo, IsGood, IsBadUnit, IsBadRest, IsFaultedUnit, IsTextSoFar, WritesFront}
 use Rattle.span_convert.specs.declared.progress.Progress.{Progress}
 use Rattle.span_convert.specs.declared.progress.WalkStop.{WalkStop}
@@ -43,40 +37,14 @@ abbrev pub lent_bytes : Option (Bor (List ℕ)) → List (List ℕ)
 lent_bytes None = []
 lent_bytes (Some held) = held.now ∷ []
 
--- A frame of a request stands at the front of the rest, the text of a record of at most `limit` bytes that holds these units.
-pub record CutsRecord (limit : ℕ) (rest : List ℕ) (units : List (List ℕ)) (behind : List ℕ) : Type 0 where
-  pub frame : List ℕ
-  pub this : Record
-  pub spelled : SpellsRecord frame this
-  pub within : length frame ≤ limit
-  pub holds : bytes_in 1 this ≡ units
-  pub parts : rest ≡ frame ++ behind
-
 -- a frame of at most `limit` bytes stands at the front of the rest, and holds these units: one or none
 abbrev pub CutsFrame : Form → ℕ → List ℕ → List (List ℕ) → List ℕ → Type 0
-CutsFrame forms.OtlpProto limit rest units behind = CutsRecord limit rest units behind
-CutsFrame forms.JaegerBinary limit rest units behind = CutsBatch limit rest units behind
-
--- why no record begins at a rest behind which the request has other bytes, or hasn't
-abbrev pub StopsRecords : ℕ → Bool → List ℕ → Cause → Type 0
-StopsRecords limit too_long rest cause =
-    IsRefusedAs limit rest cause
-    ⊎ NeedsMoreBytes limit rest × (
-    (cause ≡ causes.InputTooLong) × (too_long ≡ true)
-    ⊎ (cause ≡ causes.Truncated) × (too_long ≡ false) × (rest ≢ []))
-
--- why no batch does
-abbrev pub StopsBatches : ℕ → Bool → List ℕ → Cause → Type 0
-StopsBatches limit too_long rest cause =
-    IsRefusedBatch limit rest cause
-    ⊎ NeedsMore batches limit rest × (
-    (cause ≡ causes.InputTooLong) × (too_long ≡ true)
-    ⊎ (cause ≡ causes.Truncated) × (too_long ≡ false) × (rest ≢ []))
+CutsFrame from limit rest units behind = Cuts (frames_of from) (FrameHolds from) limit rest units behind
 
 -- why no frame begins at a rest behind which the input has other bytes, or hasn't
 abbrev pub StopsFrames : Form → ℕ → Bool → List ℕ → Cause → Type 0
-StopsFrames forms.OtlpProto limit too_long rest cause = StopsRecords limit too_long rest cause
-StopsFrames forms.JaegerBinary limit too_long rest cause = StopsBatches limit too_long rest cause
+StopsFrames from limit too_long rest cause =
+    StopsRest (frames_of from) (RefusedFrame from) limit (too_long ≡ true) (too_long ≡ false) rest cause
 
 -- ---- what was converted so far
 
@@ -92,7 +60,7 @@ pub record WalkedUnits (from to : Form) (limits : Limits) (whole rest : List ℕ
 
 -- the form can hold the group, whose canonical text was appended
 pub record WritesGroup (to : Form) (group : Group) (before now : List ℕ) : Type 0 where
-  pub fine : HasNoFault to group
+  pub fine : CanHold to group
   pub sized : IsSizedGroup to group
   pub text : now ≡ before ++ unit_text to group
 

@@ -1,8 +1,14 @@
 //! The batches of a file of Jaeger.
-ghost use Rattle.std.specs.Prelude.{◌≡◌, ◌<◌, false, [], length, IfOk, IfErr, IfSome, MatchOption};
+ghost use Rattle.std.specs.Prelude.{◌≡◌, ◌<◌, true, false, [], length, IfOk, IfErr, IfSome, MatchOption};
+ghost use Rattle.jaeger_model.specs.Laws.{BatchOffends};
+ghost use Rattle.span_io.specs.Causes.{cause_number};
+ghost use Rattle.span_io.specs.Offences.{Least};
 ghost use Rattle.span_io.specs.declared.form.Form.TheVariants as forms;
-ghost use Rattle.span_convert.specs.BatchFiles.{batches, CutsBatch};
-ghost use Rattle.span_convert.specs.Walks.{lent_bytes, StopsBatches};
+ghost use Rattle.thrift_core.specs.Values.{struct_frames, RefusedStruct};
+ghost use Rattle.trace_model.specs.Soundness.{IsSoundGroup};
+ghost use Rattle.span_convert.specs.BatchFiles.{IsOwnUnit, IsBatchUnit};
+ghost use Rattle.span_convert.specs.Rests.{Cuts, StopsRest};
+ghost use Rattle.span_convert.specs.Walks.{lent_bytes, IfWhy};
 
 use crate::units::{Cut, UnitReader};
 use jaeger_model::read_batch;
@@ -10,14 +16,15 @@ use map_jaeger::group_of_batch;
 use span_io::{Cause, Halt, Step};
 use std::alloc::Global;
 use thrift_binary::Binary;
-use thrift_core::first_frame;
+use thrift_compact::Compact;
+use thrift_core::{Protocol, first_frame};
 use trace_model::Group;
 
 /// Batches of jaeger.thrift in the Thrift binary protocol.
 #[derive(Clone, Copy, Debug)]
-pub(crate) struct BatchFile;
+pub(crate) struct BinaryBatches;
 
-impl UnitReader for BatchFile {
+impl UnitReader for BinaryBatches {
     ghost form = { forms.JaegerBinary };
 
     fn next_frame<'a>(
@@ -25,25 +32,49 @@ impl UnitReader for BatchFile {
         limit: usize,
         too_long: bool,
     ) -> Result<Option<Cut<'a>>, Cause> {
-        cut_batch(rest, limit, too_long)
+        cut_batch::<Binary>(rest, limit, too_long)
     }
 
     fn read(alloc: Global, unit: &[u8]) -> Result<Group, Halt<Cause>> {
-        let batch = read_batch::<Binary>(alloc, unit)?;
-        let (group, _remarks) = group_of_batch(alloc, &batch)?;
-        Ok(group)
+        read_unit::<Binary>(alloc, unit)
+    }
+}
+
+/// Batches of jaeger.thrift in the Thrift compact protocol.
+#[derive(Clone, Copy, Debug)]
+pub(crate) struct CompactBatches;
+
+impl UnitReader for CompactBatches {
+    ghost form = { forms.JaegerCompact };
+
+    fn next_frame<'a>(
+        rest: &'a [u8],
+        limit: usize,
+        too_long: bool,
+    ) -> Result<Option<Cut<'a>>, Cause> {
+        cut_batch::<Compact>(rest, limit, too_long)
+    }
+
+    fn read(alloc: Global, unit: &[u8]) -> Result<Group, Halt<Cause>> {
+        read_unit::<Compact>(alloc, unit)
     }
 }
 
 // Cuts off the batch at the front of a rest.
-fn cut_batch<'a>(rest: &'a [u8], limit: usize, too_long: bool) -> Result<Option<Cut<'a>>, Cause>
+fn cut_batch<'a, P: Protocol>(
+    rest: &'a [u8],
+    limit: usize,
+    too_long: bool,
+) -> Result<Option<Cut<'a>>, Cause>
     ensures cut { IfOk result (λ next. MatchOption next ((rest.now ≡ []) × (too_long ≡ false))
-        (λ cut. CutsBatch limit rest.now (lent_bytes cut.unit) cut.behind.now)) }
+        (λ cut. Cuts (struct_frames P.spells P.then_varint) IsOwnUnit limit rest.now (lent_bytes cut.unit) cut.behind.now)) }
     ensures nearer { IfOk result (λ next. IfSome next (λ cut. length cut.behind.now < length rest.now)) }
-    ensures framed { IfOk result (λ next. IfSome next (λ cut. IfSome cut.unit (λ unit. batches.Whole unit.now))) }
-    ensures why { IfErr result (λ cause. StopsBatches limit too_long rest.now cause) }
+    ensures framed { IfOk result (λ next. IfSome next (λ cut. IfSome cut.unit (λ unit.
+        (struct_frames P.spells P.then_varint).Whole unit.now))) }
+    ensures why { IfErr result (λ cause. StopsRest (struct_frames P.spells P.then_varint) (RefusedStruct P.spells P.refuses)
+        limit (too_long ≡ true) (too_long ≡ false) rest.now cause) }
 {
-    match first_frame::<Binary>(rest, limit) {
+    match first_frame::<P>(rest, limit) {
         Step::Unit(size) => {
             let (unit, behind) = rest.split_at(size);
             Ok(Some(Cut {
@@ -56,4 +87,16 @@ fn cut_batch<'a>(rest: &'a [u8], limit: usize, too_long: bool) -> Result<Option<
         Step::Need => Err(Cause::Truncated),
         Step::Refused(cause) => Err(cause),
     }
+}
+
+// The group that a batch means, or the least offence in the batch.
+fn read_unit<P: Protocol>(alloc: Global, unit: &[u8]) -> Result<Group, Halt<Cause>>
+    requires framed { (struct_frames P.spells P.then_varint).Whole unit.now }
+    ensures value { IfOk result (λ group. IsBatchUnit P.spells unit.now group) }
+    ensures sound { IfOk result (λ group. IsSoundGroup group) }
+    ensures why { IfWhy result (λ cause. Least (BatchOffends P.spells unit.now) (cause_number cause)) }
+{
+    let batch = read_batch::<P>(alloc, unit)?;
+    let (group, _remarks) = group_of_batch(alloc, batch)?;
+    Ok(group)
 }

@@ -1,14 +1,15 @@
 //! Writes the batches of a file of Jaeger.
-ghost use Rattle.std.specs.Prelude.{◌≡◌, IfOk};
+ghost use Rattle.std.specs.Prelude.{◌≡◌, ◌++◌, Some, IfOk, OnOk};
+ghost use Rattle.jaeger_model.specs.Canonical.{batch_text};
 ghost use Rattle.jaeger_model.specs.Writable.{IsWritable};
-ghost use Rattle.map_jaeger.specs.Faults.{HasNoFault};
+ghost use Rattle.map_jaeger.specs.Faults.{HasNoFault, IsFaultOf};
+ghost use Rattle.map_jaeger.specs.Normal.{normal_group};
 ghost use Rattle.map_jaeger.specs.Writing.{batch_of};
 ghost use Rattle.span_io.specs.declared.form.Form.TheVariants as forms;
-ghost use Rattle.span_convert.specs.Units.{FaultOf};
 ghost use Rattle.span_convert.specs.Walks.{IfWhy};
 ghost use Rattle.trace_model.specs.Soundness.{IsSoundGroup};
 
-use crate::batch_file::BatchFile;
+use crate::batch_file::{BinaryBatches, CompactBatches};
 use crate::units::UnitWriter;
 use jaeger_model::{Batch, has_sizes, write_batch};
 use map_jaeger::batch_of_group;
@@ -16,13 +17,15 @@ use map_jaeger::laws::normal_forms;
 use span_io::{Blob, Halt};
 use std::alloc::Global;
 use thrift_binary::Binary;
+use thrift_compact::Compact;
+use thrift_core::Protocol;
 use trace_model::{Fault, Group, proper_group};
 
 // The batch of a group. Memory is wanted where a text or list is longer than Thrift can tell.
-fn writable_batch(alloc: Global, group: &Group) -> Result<Batch, Halt<Fault>>
-    requires sound { IsSoundGroup group.now }
-    ensures value { IfOk result (λ batch. (batch ≡ batch_of group.now) × IsWritable batch × HasNoFault group.now) }
-    ensures why { IfWhy result (λ fault. FaultOf forms.JaegerBinary group.now fault) }
+fn writable_batch(alloc: Global, group: Group) -> Result<Batch, Halt<Fault>>
+    requires sound { IsSoundGroup group }
+    ensures value { IfOk result (λ batch. (batch ≡ batch_of group) × IsWritable batch × HasNoFault group) }
+    ensures why { IfWhy result (λ fault. IsFaultOf group (Some fault)) }
 {
     let batch = batch_of_group(alloc, group)?;
     if has_sizes(&batch) {
@@ -32,13 +35,31 @@ fn writable_batch(alloc: Global, group: &Group) -> Result<Batch, Halt<Fault>>
     }
 }
 
-impl UnitWriter for BatchFile {
+// Appends the batch of a group, or answers the fault in it, and leaves `out` as it was.
+fn write_unit<P: Protocol>(alloc: Global, out: &mut Blob, group: Group) -> Result<(), Halt<Fault>>
+    requires sound { IsSoundGroup group }
+    ensures fine { OnOk result (HasNoFault group × IsWritable (batch_of group)) }
+    ensures text { OnOk result (out.new ≡ out.old ++ batch_text P.keeps P.writes (batch_of (normal_group group))) }
+    ensures why { IfWhy result (λ fault. IsFaultOf group (Some fault) × (out.new ≡ out.old)) }
+{
+    normal_forms();
+    proper_group(&group);
+    let batch = writable_batch(alloc, group)?;
+    Ok(write_batch::<P>(out, &batch)?)
+}
+
+impl UnitWriter for BinaryBatches {
     ghost form = { forms.JaegerBinary };
 
-    fn write(alloc: Global, out: &mut Blob, group: &Group) -> Result<(), Halt<Fault>> {
-        normal_forms();
-        proper_group(group);
-        let batch = writable_batch(alloc, group)?;
-        Ok(write_batch::<Binary>(out, &batch)?)
+    fn write(alloc: Global, out: &mut Blob, group: Group) -> Result<(), Halt<Fault>> {
+        write_unit::<Binary>(alloc, out, group)
+    }
+}
+
+impl UnitWriter for CompactBatches {
+    ghost form = { forms.JaegerCompact };
+
+    fn write(alloc: Global, out: &mut Blob, group: Group) -> Result<(), Halt<Fault>> {
+        write_unit::<Compact>(alloc, out, group)
     }
 }

@@ -2,9 +2,7 @@
 ghost use Rattle.std.specs.Prelude.{◌≡◌, ◌≢◌, ◌++◌, [], ℕ, List, length, ◌≤◌, ◌<◌, true, Err, None, OnOk, OnErr, IsErr, IsTrue};
 ghost use Rattle.span_io.specs.Limits.{AreLimits};
 ghost use Rattle.span_io.specs.Outside.{OutputFails};
-ghost use Rattle.span_convert.specs.Converters.{HasForms, IsVerdictBy, IsJudgedBy, WritesFrontBy};
-ghost use Rattle.span_convert.specs.Converters.{Fed, KeepsWhy, SameStop, KeepsStop, OnlyWants, Stopped, IsWhy};
-ghost use Rattle.span_convert.specs.Converters.{stop_in, is_ended};
+ghost use Rattle.span_convert.specs.Converters.{HasForms, IsVerdictBy, IsJudgedBy, WritesFrontBy, Fed, KeepsWhy, SameStop, KeepsStop, OnlyWants, Stopped, IsWhy, stop_in, is_ended};
 ghost use Rattle.span_convert.specs.Verdicts.{Verdict, Carries, Stops};
 ghost use Rattle.span_convert.specs.Walks.{IsLookedAt};
 ghost use Rattle.span_convert.specs.declared.converter.State.TheVariants as states;

@@ -6,14 +6,30 @@ ghost use Rattle.span_io.specs.declared.form.Form.{Form};
 ghost use Rattle.span_io.specs.declared.limits.Limits.{Limits};
 ghost use Rattle.trace_model.specs.declared.trace.Group.{Group};
 ghost use Rattle.span_convert.specs.Canonical.{Reads, ReadsPlainly, ReadsBack, IsFaultless, IsHeldBy, IsSized, IsWithin};
-ghost use Rattle.span_convert.specs.InputLaws.{InputLaws};
+ghost use Rattle.span_convert.specs.BatchFiles.{words};
+ghost use Rattle.span_convert.specs.InputLaws.{BatchLaws, InputLaws, TextLaws};
 ghost use Rattle.span_convert.specs.Units.{HoldsUnits, AreGroups, IsSizedGroup, normal_form, canonical_text, span_count};
-ghost use Rattle.span_convert.specs.Verdicts.{Verdict, good, IsVerdict, IsGood, WritesFront, text_in, tally_of};
+ghost use Rattle.span_convert.specs.Verdicts.{Verdict, good, IsVerdict, IsGood, WritesFront, verdict_text, tally_of};
 
 use crate::tally::Tally;
 use thrift_binary::Binary;
+use thrift_compact::Compact;
+use thrift_core::Protocol;
 
-// What the crates below say of the frames and units of an input.
+// What the crates below say of the batches of a protocol.
+fn batch_laws<P: Protocol>()
+    ensures { BatchLaws (words P.spells P.then_varint P.refuses P.keeps P.writes) }
+{
+    thrift_core::laws::one_framing::<P>();
+    thrift_core::laws::one_step::<P>();
+    jaeger_model::laws::one_batch::<P>();
+    jaeger_model::laws::some_batch::<P>();
+    jaeger_model::laws::reads_times::<P>();
+    jaeger_model::laws::reads_proper::<P>();
+    jaeger_model::written_laws::written_again::<P>();
+}
+
+// What they say of the frames and units of an input.
 fn input_laws()
     ensures { InputLaws }
 {
@@ -21,9 +37,8 @@ fn input_laws()
     proto_wire::laws::one_reading();
     proto_wire::laws::one_step();
     otlp_proto::laws::one_group();
-    thrift_core::laws::one_framing::<Binary>();
-    thrift_core::laws::one_step::<Binary>();
-    jaeger_model::laws::one_batch::<Binary>();
+    batch_laws::<Binary>();
+    batch_laws::<Compact>();
 }
 
 /// Bytes have one verdict at most. Where the units so far are texts of groups without a fault, what
@@ -33,7 +48,7 @@ pub fn one_verdict()
         → IsVerdict from to limits bytes v → IsVerdict from to limits bytes w → v ≡ w }
     ensures so_far { (from to : Form) (limits : Limits) (bytes rest : List ℕ) (units : List (List ℕ)) (groups : List Group)
         (v : Verdict) → AreLimits limits → HoldsUnits from limits bytes units rest → AreGroups from units groups
-        → IsFaultless to groups → IsVerdict from to limits bytes v → IsFront (canonical_text to groups) (text_in v) }
+        → IsFaultless to groups → IsVerdict from to limits bytes v → IsFront (canonical_text to groups) (verdict_text v) }
 {
     input_laws();
 }
@@ -45,7 +60,6 @@ pub fn some_verdict()
 {
     input_laws();
     otlp_proto::laws::some_group();
-    jaeger_model::laws::some_batch::<Binary>();
     map_jaeger::laws::read_is_sound();
     map_jaeger::laws::faults_found();
 }
@@ -57,17 +71,24 @@ pub fn nothing_written()
     // The clause is the law.
 }
 
-/// The canonical text of a trace is a text of its normal form, without remarks.
-pub fn text_read_back()
-    ensures { (to : Form) (groups : List Group) → IsHeldBy to groups → IsSized to groups
-        → ReadsPlainly to (canonical_text to groups) (normal_form to groups) }
+// What the crates below say of texts.
+fn text_laws()
+    ensures { TextLaws }
 {
+    input_laws();
     proto_wire::laws::shortest_record();
     otlp_proto::laws::written_again();
     map_jaeger::laws::batches_read_back();
     map_jaeger::laws::normal_forms();
     map_jaeger::laws::written_is_proper();
-    jaeger_model::written_laws::written_again::<Binary>();
+}
+
+/// The canonical text of a trace is a text of its normal form, without remarks.
+pub fn text_read_back()
+    ensures { (to : Form) (groups : List Group) → IsHeldBy to groups → IsSized to groups
+        → ReadsPlainly to (canonical_text to groups) (normal_form to groups) }
+{
+    text_laws();
 }
 
 /// A normal form is held by its form, is its own normal form, and has as many spans as its trace. What
@@ -86,7 +107,6 @@ pub fn normal_forms()
     input_laws();
     map_jaeger::laws::normal_forms();
     map_jaeger::laws::read_is_normal();
-    jaeger_model::laws::reads_times::<Binary>();
 }
 
 /// Traces of equal normal forms, and only they, have equal texts.
@@ -105,12 +125,7 @@ pub fn converts_to_itself()
         → IsVerdict to to limits (canonical_text to groups)
         (good (canonical_text to groups) (tally_of (length groups) (span_count groups))) }
 {
-    proto_wire::laws::shortest_record();
-    otlp_proto::laws::written_again();
-    map_jaeger::laws::batches_read_back();
-    map_jaeger::laws::normal_forms();
-    map_jaeger::laws::written_is_proper();
-    jaeger_model::written_laws::written_again::<Binary>();
+    text_laws();
 }
 
 /// What was written for an input is read as the normal form of the input's trace, without remarks,
@@ -129,9 +144,8 @@ pub fn output_read_back()
     equal_texts();
     text_read_back();
     converts_to_itself();
-    otlp_proto::laws::one_group();
+    input_laws();
     otlp_proto::laws::read_proper();
     map_jaeger::laws::read_is_sound();
     map_jaeger::laws::read_is_proper();
-    jaeger_model::laws::reads_proper::<Binary>();
 }

@@ -62,16 +62,17 @@ impl Progress {
     pub(crate) fn add_group<W: UnitWriter>(
         &mut self,
         alloc: Global,
-        group: &Group,
+        group: Group,
     ) -> Result<(), Halt<Fault>>
         requires room { self.old.tally.units < last_count }
-        requires sound { IsSoundGroup group.now }
-        ensures ok { OnOk result (AddsGroup W.form group.now self.old self.new) }
-        ensures why { IfWhy result (λ fault. FaultOf W.form group.now fault × (self.new ≡ self.old)) }
+        requires sound { IsSoundGroup group }
+        ensures ok { OnOk result (AddsGroup W.form group self.old self.new) }
+        ensures why { IfWhy result (λ fault. FaultOf W.form group fault × (self.new ≡ self.old)) }
     {
+        let spans = spans_in(&group);
         W::write(alloc, &mut self.unwritten, group)?;
         self.tally.units += 1;
-        self.tally.spans = self.tally.spans.saturating_add(spans_in(group));
+        self.tally.spans = self.tally.spans.saturating_add(spans);
         Ok(())
     }
 

@@ -1,9 +1,12 @@
 //! The units of an OTLP request.
-ghost use Rattle.std.specs.Prelude.{◌≡◌, ◌<◌, false, [], length, IfOk, IfErr, IfSome, MatchOption};
+ghost use Rattle.std.specs.Prelude.{◌≡◌, ◌<◌, true, false, [], length, IfOk, IfErr, IfSome, MatchOption};
 ghost use Rattle.span_io.specs.declared.form.Form.TheVariants as forms;
 ghost use Rattle.proto_wire.specs.Records.{plain_record};
 ghost use Rattle.otlp_proto.specs.Rows.{bytes_in};
-ghost use Rattle.span_convert.specs.Walks.{lent_bytes, CutsRecord, StopsRecords};
+ghost use Rattle.proto_wire.specs.Wire.{records, RefusedBy};
+ghost use Rattle.span_convert.specs.Requests.{HoldsUnit};
+ghost use Rattle.span_convert.specs.Rests.{Cuts, StopsRest};
+ghost use Rattle.span_convert.specs.Walks.{lent_bytes};
 
 use crate::units::{Cut, UnitReader, UnitWriter};
 use otlp_proto::{read_group, write_group};
@@ -36,17 +39,17 @@ impl UnitReader for Request {
 impl UnitWriter for Request {
     ghost form = { forms.OtlpProto };
 
-    fn write(_alloc: Global, out: &mut Blob, group: &Group) -> Result<(), Halt<Fault>> {
-        Ok(write_group(out, group)?)
+    fn write(_alloc: Global, out: &mut Blob, group: Group) -> Result<(), Halt<Fault>> {
+        Ok(write_group(out, &group)?)
     }
 }
 
 // Cuts off the record at the front of a rest.
 fn cut_record<'a>(rest: &'a [u8], limit: usize, too_long: bool) -> Result<Option<Cut<'a>>, Cause>
     ensures cut { IfOk result (λ next. MatchOption next ((rest.now ≡ []) × (too_long ≡ false))
-        (λ cut. CutsRecord limit rest.now (lent_bytes cut.unit) cut.behind.now)) }
+        (λ cut. Cuts records HoldsUnit limit rest.now (lent_bytes cut.unit) cut.behind.now)) }
     ensures nearer { IfOk result (λ next. IfSome next (λ cut. length cut.behind.now < length rest.now)) }
-    ensures why { IfErr result (λ cause. StopsRecords limit too_long rest.now cause) }
+    ensures why { IfErr result (λ cause. StopsRest records RefusedBy limit (too_long ≡ true) (too_long ≡ false) rest.now cause) }
 {
     match first_record(rest, limit) {
         Ok(Some(found)) => Ok(Some(Cut {

@@ -6,6 +6,8 @@ use span_io::{Blob, Cause, Form, Items, Limits, MemSink, Refusal};
 use std::alloc::Global;
 use std::test::Fail;
 
+mod protocols;
+
 // A group with one span: its two identifiers, and its name "a".
 const SMALL: [u8; 37] = [
     0x0a, 0x23, 0x12, 0x21, 0x12, 0x1f, 0x0a, 0x10, 0x00, 0x00, 0x00, 0x00, 0x00, 0x00, 0x00, 0x00,

@@ -48,8 +48,8 @@ pub(crate) trait UnitWriter {
     ghost form: { Form };
 
     /// Appends the canonical text of a group, or answers the fault in it, and leaves `out` as it was.
-    fn write(alloc: Global, out: &mut Blob, group: &Group) -> Result<(), Halt<Fault>>
-        requires sound { IsSoundGroup group.now }
-        ensures ok { OnOk result (WritesGroup form group.now out.old out.new) }
-        ensures why { IfWhy result (λ fault. FaultOf form group.now fault × (out.new ≡ out.old)) };
+    fn write(alloc: Global, out: &mut Blob, group: Group) -> Result<(), Halt<Fault>>
+        requires sound { IsSoundGroup group }
+        ensures ok { OnOk result (WritesGroup form group out.old out.new) }
+        ensures why { IfWhy result (λ fault. FaultOf form group fault × (out.new ≡ out.old)) };
 }

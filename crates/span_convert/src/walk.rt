@@ -7,7 +7,7 @@ ghost use Rattle.trace_model.specs.Soundness.{IsSoundGroup};
 ghost use Rattle.span_convert.specs.Units.{FrameTells};
 ghost use Rattle.span_convert.specs.Walks.{lent_bytes, IsLookedAt, CutsFrame, IsNextUnit, WalkedUnits, StopsWalk, EndsWalk};
 
-use crate::batch_file::BatchFile;
+use crate::batch_file::{BinaryBatches, CompactBatches};
 use crate::progress::{Progress, WalkStop};
 use crate::request::Request;
 use crate::tally::Tally;
@@ -48,17 +48,17 @@ fn write_full<K: Sink>(progress: &mut Progress, out: &mut K) -> Result<(), WalkS
 fn convert_group<W: UnitWriter, K: Sink>(
     progress: &mut Progress,
     alloc: Global,
-    group: &Group,
+    group: Group,
     out: &mut K,
 ) -> Result<(), WalkStop>
     requires room { progress.old.tally.units < last_count }
-    requires sound { IsSoundGroup group.now }
+    requires sound { IsSoundGroup group }
     ensures ok { OnOk result ((from : Form) (limits : Limits) (whole rest behind : List ℕ) (before : Outlet)
-        → IsNextUnit from limits rest behind group.now
+        → IsNextUnit from limits rest behind group
         → WalkedUnits from W.form limits whole rest before (K.outlet out.old) progress.old
         → WalkedUnits from W.form limits whole behind before (K.outlet out.new) progress.new) }
     ensures stop { IfErr result (λ stop. (from : Form) (limits : Limits) (whole rest behind : List ℕ) (before : Outlet)
-        → IsNextUnit from limits rest behind group.now
+        → IsNextUnit from limits rest behind group
         → WalkedUnits from W.form limits whole rest before (K.outlet out.old) progress.old
         → StopsWalk from W.form limits whole stop before (K.outlet out.new)) }
     ensures units { OnOk result (progress.new.tally.units ≤ progress.old.tally.units + 1) }
@@ -103,7 +103,7 @@ fn convert_frame<R: UnitReader, W: UnitWriter, K: Sink>(
         return Ok(());
     };
     match R::read(alloc, unit) {
-        Ok(group) => convert_group::<W, K>(progress, alloc, &group, out),
+        Ok(group) => convert_group::<W, K>(progress, alloc, group, out),
         Err(Halt::Why(cause)) => Err(progress.refuse(cause, out)),
         Err(Halt::OutOfMemory) => Err(WalkStop::OutOfMemory),
     }
@@ -140,6 +140,34 @@ fn walk_units<R: UnitReader, W: UnitWriter, K: Sink>(
     }
 }
 
+// Writes the text in the target form of the units of an input of one form.
+fn write_to<R: UnitReader, K: Sink>(
+    alloc: Global,
+    to: Form,
+    bytes: &[u8],
+    too_long: bool,
+    limits: &Limits,
+    out: &mut K,
+) -> Result<Tally, WalkStop>
+    ensures walk { (whole : List ℕ) → IsLookedAt limits.now whole bytes.now too_long
+        → EndsWalk R.form to limits.now whole result (K.outlet out.old) (K.outlet out.new) }
+    ensures fails { result ≡ Err WalkStop.Write → OutputFails (K.outlet out.old) (K.outlet out.new) }
+    ensures quiet { result ≢ Err WalkStop.Write → (K.outlet out.new).faults ≡ (K.outlet out.old).faults }
+    ensures answers { IsTrue (K.outlet out.old).steady → result ≢ Err WalkStop.Write }
+    ensures steady { (K.outlet out.new).steady ≡ (K.outlet out.old).steady }
+    ensures long { too_long ≡ true → IsErr result }
+{
+    match to {
+        Form::OtlpProto => walk_units::<R, Request, K>(alloc, bytes, too_long, limits, out),
+        Form::JaegerBinary => walk_units::<R, BinaryBatches, K>(
+            alloc, bytes, too_long, limits, out,
+        ),
+        Form::JaegerCompact => walk_units::<R, CompactBatches, K>(
+            alloc, bytes, too_long, limits, out,
+        ),
+    }
+}
+
 /// Writes the text in the target form of the units of an input, of which these bytes are looked at.
 pub(crate) fn write_units<K: Sink>(
     alloc: Global,
@@ -158,18 +186,11 @@ pub(crate) fn write_units<K: Sink>(
     ensures steady { (K.outlet out.new).steady ≡ (K.outlet out.old).steady }
     ensures long { too_long ≡ true → IsErr result }
 {
-    match (from, to) {
-        (Form::OtlpProto, Form::OtlpProto) => {
-            walk_units::<Request, Request, K>(alloc, bytes, too_long, limits, out)
-        }
-        (Form::OtlpProto, Form::JaegerBinary) => {
-            walk_units::<Request, BatchFile, K>(alloc, bytes, too_long, limits, out)
-        }
-        (Form::JaegerBinary, Form::OtlpProto) => {
-            walk_units::<BatchFile, Request, K>(alloc, bytes, too_long, limits, out)
-        }
-        (Form::JaegerBinary, Form::JaegerBinary) => {
-            walk_units::<BatchFile, BatchFile, K>(alloc, bytes, too_long, limits, out)
-        }
+    match from {
+        Form::OtlpProto => write_to::<Request, K>(alloc, to, bytes, too_long, limits, out),
+        Form::JaegerBinary => write_to::<BinaryBatches, K>(alloc, to, bytes, too_long, limits, out),
+        Form::JaegerCompact => write_to::<CompactBatches, K>(
+            alloc, to, bytes, too_long, limits, out,
+        ),
     }
 }

@@ -2,7 +2,7 @@
 use super::jaeger::{BATCHES, REQUESTS, Row, converts_row};
 use std::test::Fail;
 
-const STOPPED: [Row; 35] = [
+const FAULTS: [Row; 24] = [
     Row {
         name: "ends before it starts",
         from: REQUESTS,
@@ -248,6 +248,9 @@ const STOPPED: [Row; 35] = [
         000a000900000000000000000000",
         note: "unit 2: fault 20 EndBeforeStart\n",
     },
+];
+
+const CAUSES: [Row; 15] = [
     Row {
         name: "a negative length",
         from: BATCHES,
@@ -363,11 +366,65 @@ const STOPPED: [Row; 35] = [
         output: "",
         note: "unit 1: cause 7 FieldTwice\n",
     },
+    Row {
+        name: "a name that is not UTF-8",
+        from: BATCHES,
+        to: REQUESTS,
+        input: "0c00010b00010000000173000f00020c000000010a000100000000000000010a000200000000000000000a00\
+        0300000000000000020a00040000000000000000080007000000000a000800000000000000000a0009000000\
+        00000000000b000500000001ff0000",
+        status: 3,
+        output: "",
+        note: "unit 1: cause 9 NotText\n",
+    },
+    Row {
+        name: "a text that the type does not name, not UTF-8",
+        from: BATCHES,
+        to: BATCHES,
+        input: "0c00010b00010000000173000f00020c000000010a000100000000000000010a000200000000000000000a00\
+        0300000000000000020a000400000000000000000b00050000000161080007000000000a0008000000000000\
+        00000a000900000000000000000f000a0c000000010b0001000000016b080002000000030b000300000003ed\
+        a080000000",
+        status: 3,
+        output: "",
+        note: "unit 1: cause 9 NotText\n",
+    },
+    Row {
+        name: "a type of tag above the last",
+        from: BATCHES,
+        to: REQUESTS,
+        input: "0c00010b00010000000173000f00020c000000010a000100000000000000010a000200000000000000000a00\
+        0300000000000000020a000400000000000000000b00050000000161080007000000000a0008000000000000\
+        00000a000900000000000000000f000a0c000000010b0001000000016b08000200000005000000",
+        status: 3,
+        output: "",
+        note: "unit 1: cause 13 BadEnum\n",
+    },
+    Row {
+        name: "a type of reference below 0",
+        from: BATCHES,
+        to: BATCHES,
+        input: "0c00010b00010000000173000f00020c000000010a000100000000000000010a000200000000000000000a00\
+        0300000000000000020a000400000000000000000b00050000000161080007000000000a0008000000000000\
+        00000a000900000000000000000f00060c00000001080001ffffffff0a000200000000000000010a00030000\
+        0000000000000a00040000000000000003000000",
+        status: 3,
+        output: "",
+        note: "unit 1: cause 13 BadEnum\n",
+    },
 ];
 
 #[test]
-fn stops_at_causes_and_faults(rt: HostRuntime) -> Result<(), Fail> {
-    for row in &STOPPED {
+fn stops_at_faults(rt: HostRuntime) -> Result<(), Fail> {
+    for row in &FAULTS {
+        converts_row(&rt, rt.alloc(), row, 7)?;
+    }
+    Ok(())
+}
+
+#[test]
+fn stops_at_causes(rt: HostRuntime) -> Result<(), Fail> {
+    for row in &CAUSES {
         converts_row(&rt, rt.alloc(), row, 7)?;
     }
     Ok(())

@@ -1,6 +1,6 @@
 use Rattle.std.proofs.Common.{◌≡◌, ℕ, List, Option, Some, None, refl, sym, subst, ◌∙◌}
 use Rattle.std.specs.Prelude.{IfSome}
-use Rattle.span_convert.specs.Verdicts.{text_in}
+use Rattle.span_convert.specs.Verdicts.{verdict_text}
 use Rattle.span_cli.specs.declared.command.Command.{Command}
 use Rattle.span_cli.specs.declared.command.Command.TheVariants.{Convert}
 use Rattle.span_cli.specs.Verdicts.{OnVerdict, IsRunStatus, IsJudgedAt, AgreesWith, Writes, Notes, stage_of, status_of, line_of}
@@ -38,7 +38,7 @@ returns-clause-verdict g c = λ from to spelled.
 pub returns-clause-output : goal.returns-clause-output
 returns-clause-output g c = λ from to spelled.
     let same = command_read c.in-Some.command (Convert from to) ((c.in-Some.ensures (Convert from to)).1 spelled) in
-    subst (λ (status : ℕ). OnVerdict from to (g.S.Source.inlet c.args.input.now).left (λ verdict. Writes (stage_of status) (text_in verdict) (g.K.Sink.outlet c.args.output.now) (g.K.Sink.outlet c.convert-ending.new.output)))
+    subst (λ (status : ℕ). OnVerdict from to (g.S.Source.inlet c.args.input.now).left (λ verdict. Writes (stage_of status) (verdict_text verdict) (g.K.Sink.outlet c.args.output.now) (g.K.Sink.outlet c.convert-ending.new.output)))
     (sym c.status.ensures) (rw same at c.convert-ending.ensures).written
 
 pub returns-clause-notes : goal.returns-clause-notes

@@ -3,5 +3,6 @@ use Rattle.span_convert.proofs.laws.input_laws.Goals as goal
 pub returns : goal.returns
 returns c = record {
   requests = record { reading = c.one_reading.ensures; framing = c.one_framing.ensures; step = c.one_step.ensures; group = c.one_group.ensures };
-  batches = record { framing = c.one_framing-2.ensures; step = c.one_step-2.ensures; batch = c.one_batch.ensures };
+  binary = c.batch_laws.ensures;
+  compact = c.batch_laws-2.ensures;
 }

@@ -1,10 +1,6 @@
-use Rattle.span_convert.proofs.BatchTexts.{ReadLaws}
 use Rattle.span_convert.proofs.Sources.{one_trace}
 use Rattle.span_convert.proofs.TextLaws.{normal_held, normal_again, normal_spans, faultless_read, normal_read}
 use Rattle.span_convert.proofs.laws.normal_forms.Goals as goal
-
-read_laws : (c : goal.After-reads_times) → ReadLaws
-read_laws c = record { normal = c.read_is_normal.ensures; times = c.reads_times.ensures }
 
 pub returns-clause-held : goal.returns-clause-held
 returns-clause-held c = normal_held c.normal_forms.ensures
@@ -16,10 +12,10 @@ pub returns-clause-spans : goal.returns-clause-spans
 returns-clause-spans c = normal_spans
 
 pub returns-clause-no_fault : goal.returns-clause-no_fault
-returns-clause-no_fault c = faultless_read (read_laws c)
+returns-clause-no_fault c = faultless_read c.read_is_normal.ensures c.input_laws.ensures
 
 pub returns-clause-read : goal.returns-clause-read
-returns-clause-read c = normal_read (read_laws c)
+returns-clause-read c = normal_read c.read_is_normal.ensures c.input_laws.ensures
 
 pub returns-clause-once : goal.returns-clause-once
 returns-clause-once c = λ from bytes a b h g. one_trace c.input_laws.ensures from bytes a b h g

@@ -6,16 +6,15 @@ use Rattle.span_convert.specs.Canonical.{IsHeldBy, IsSized, ReadsPlainly}
 use Rattle.span_convert.specs.Units.{IsUnitOf, IsSizedGroup, normal_form, canonical_text, span_count}
 use Rattle.span_convert.specs.Verdicts.{good, IsVerdict, IsGood, tally_of}
 use Rattle.span_convert.specs.declared.tally.Tally.{Tally}
-use Rattle.span_convert.proofs.BatchProper.{batch_unit_proper}
 use Rattle.span_convert.proofs.OutputLaws.{held_units, sound_groups, proper_groups}
 use Rattle.std.proofs.lemmas.Slice.Zip.{AllZip-long}
 use Rattle.span_convert.proofs.laws.output_read_back.Goals as goal
 
-module _ (c : goal.After-reads_proper) (from to : Form) (limits : Limits) (bytes text : List ℕ) (tally : Tally) where
+module _ (c : goal.After-read_is_proper) (from to : Form) (limits : Limits) (bytes text : List ℕ) (tally : Tally) where
   held : All (λ b. b < 256) bytes → (h : IsGood from to limits bytes text tally) → All (IsSizedGroup to) h.convert.groups → IsHeldBy to h.convert.groups
   held all h parts = record {
-    sound = sound_groups c.one_group.ensures.sound c.read_is_sound.ensures from h.units h.convert.groups h.convert.are_groups;
-    proper = proper_groups (λ unit g r so is. c.read_proper.ensures unit g r so is) (batch_unit_proper c.reads_proper.ensures c.read_is_proper.ensures) from h.units h.convert.groups (held_units from limits bytes h.units [] all h.held) h.convert.are_groups;
+    sound = sound_groups c.input_laws.ensures.requests.group.sound c.read_is_sound.ensures from h.units h.convert.groups h.convert.are_groups;
+    proper = proper_groups (λ unit g r so is. c.read_proper.ensures unit g r so is) c.input_laws.ensures c.read_is_proper.ensures from h.units h.convert.groups (held_units from limits bytes h.units [] all h.held) h.convert.are_groups;
     no_fault = h.convert.fine;
     sized = parts;
   }

@@ -1,8 +1,5 @@
-use Rattle.span_convert.proofs.BatchTexts.{written_laws}
-use Rattle.span_convert.proofs.TextLaws.{TextLaws, read_back}
+use Rattle.span_convert.proofs.TextLaws.{read_back}
 use Rattle.span_convert.proofs.laws.text_read_back.Goals as goal
 
 pub returns : goal.returns
-returns c =
-    let laws : TextLaws = record { spelled = c.shortest_record.ensures.spelled; opened = c.shortest_record.ensures.opened; again = c.written_again.ensures; batches = written_laws c.batches_read_back.ensures c.normal_forms.ensures c.written_is_proper.ensures c.written_again-2.ensures } in
-    λ to groups held sized. read_back laws to groups held sized
+returns c = read_back c.text_laws.ensures
