@@ -34,7 +34,7 @@ AllAbove k ks = AllByRecursion (λ y. cmp k y ≡ Less) ks
 -- ---- the keys of what was read rise
 
 abbrev mutual
-  KeysRise : Data → Type 0
+  pub KeysRise : Data → Type 0
   KeysRise null = ⊤
   KeysRise (boolean b) = ⊤
   KeysRise (number n) = ⊤
@@ -112,12 +112,12 @@ mutual
       let i = then_some (λ d. of_members ms (put k d found)) (of_json j) out e in
       members_rise ms (put k i.0 found) out i.2 (rise_put k i.0 found up.0, in_put k i.0 found (read_rises j i.0 i.1) up.1)
 
-text_rises : (text : List ℕ) (d : Data) → read text ≡ Some d → KeysRise d
+pub text_rises : (text : List ℕ) (d : Data) → read text ≡ Some d → KeysRise d
 text_rises text d e = let i = then_some of_json (option_and_then (λ p. json.if_last p.0 p.1) (json.value max_depth (tokens text))) d e in read_rises i.0 d i.2
 
 -- ---- and so do those of the values
 
-names_stay : (ms : Members) (ps : List (List ℕ × Value)) → pairs_of_json ms ≡ Some ps → keys ps ≡ names ms
+pub names_stay : (ms : Members) (ps : List (List ℕ × Value)) → pairs_of_json ms ≡ Some ps → keys ps ≡ names ms
 names_stay no_members ps e = let s : [] ≡ ps = cc in ap keys (sym s)
 names_stay (member k d ms) ps e =
     let i = then_some (λ v. option_map (λ l. (k, v) ∷ l) (pairs_of_json ms)) (value_of_json d) ps e in
@@ -146,7 +146,7 @@ mutual
       let j = map_some (λ l. i.0 ∷ l) (values_of_json ds) vs i.2 in
       subst (All MapsRise) j.2 (All-cons MapsRise i.0 j.0 (value_rises d i.0 i.1 up.0) (values_rise ds j.0 j.1 up.1))
 
-  pairs_rise : (ms : Members) (ps : List (List ℕ × Value)) → pairs_of_json ms ≡ Some ps → RiseInMembers ms → All (λ pair. MapsRise pair.1) ps
+  pub pairs_rise : (ms : Members) (ps : List (List ℕ × Value)) → pairs_of_json ms ≡ Some ps → RiseInMembers ms → All (λ pair. MapsRise pair.1) ps
   pairs_rise no_members ps e up = let s : [] ≡ ps = cc in subst (All RisesPair) s (All-nil RisesPair)
   pairs_rise (member k d ms) ps e up =
       let i = then_some (λ v. option_map (λ l. (k, v) ∷ l) (pairs_of_json ms)) (value_of_json d) ps e in

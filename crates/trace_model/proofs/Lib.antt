@@ -4,6 +4,7 @@ pub mod DoubleRows
 pub mod EventBack
 pub mod EventBytes
 pub mod EventDepths
+pub mod EventExact
 pub mod EventLemmas
 pub mod EventOnce
 pub mod EventOptions
@@ -22,3 +23,7 @@ pub mod Rows
 pub mod SoundLemmas
 pub mod TextLaws
 pub mod TokenRows
+pub mod JsonContent
+pub mod JsonTokens
+pub mod JsonData
+pub mod EventProper

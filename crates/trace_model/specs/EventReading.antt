@@ -4,7 +4,9 @@
 use Rattle.std.specs.Prelude.{ℕ, zero, suc, List, [], ◌∷◌, All, Option, Some, None, option_map, option_and_then}
 use Rattle.serde_json.specs.Data.{Data, null, boolean, number, string, array, object, Items, no_items, item, Members, no_members, member}
 use Rattle.serde_json.specs.Find.{as_i64}
+use Rattle.serde_json.specs.Read.{read}
 use Rattle.trace_model.specs.Attributes.{Rise, keys}
+use Rattle.trace_model.specs.EventTexts.{in_braces}
 use Rattle.trace_model.specs.Proper.{IsProperValue, IsProperPair}
 use Rattle.trace_model.specs.Values.{MapsRise}
 use Rattle.trace_model.specs.declared.value.Value.{Value, Text, Truth, Number, List as Several, Map as Named, Nothing}
@@ -36,3 +38,20 @@ pub record AreRead (pairs : List (List ℕ × Value)) : Type 0 where
   pub keys_rise : Rise (keys pairs)
   pub rising : All (λ pair. MapsRise pair.1) pairs
   pub proper : All IsProperPair pairs
+
+-- ---- the event of a text, as a computation
+
+-- attributes aren't empty
+abbrev pub some_pairs : List ℕ → Option (List (List ℕ × Value)) → Option (List ℕ × List (List ℕ × Value))
+some_pairs name None = None
+some_pairs name (Some []) = None
+some_pairs name (Some (pair ∷ pairs)) = Some (name, pair ∷ pairs)
+
+-- an object of one member, which is an object itself
+abbrev pub event_in : Data → Option (List ℕ × List (List ℕ × Value))
+event_in (object (member name (object members) no_members)) = some_pairs name (pairs_within 16 members)
+event_in json = None
+
+-- what stands in braces is JSON of such an event
+unfoldable pub event_text_read : List ℕ → Option (List ℕ × List (List ℕ × Value))
+event_text_read text = option_and_then event_in (read (in_braces text))

@@ -1,4 +1,5 @@
 pub mod Attributes
+pub mod EventExact
 pub mod EventReading
 pub mod EventTexts
 pub mod Faults

@@ -1,4 +1,5 @@
 //! Laws of attributes and values, as contracts of functions that do nothing.
+ghost use Rattle.trace_model.specs.EventExact.{EventTextsExact, EventTextsAreUtf8, EventTextsProper};
 ghost use Rattle.trace_model.specs.LeastOf.{LeastOfEither};
 ghost use Rattle.trace_model.specs.Laws.{AttributesOnce, AttributesExist, MembersOfValues, MembersOfProperValues, RisingAttributes, TextsOfValues, EventTextsOnce, EventTextsOrNone, EventTextsReadBack, TextsForBytes};
 
@@ -63,6 +64,27 @@ pub fn event_texts_or_none()
 /// The text of an event with attributes is read back as that event, with base64 texts for bytes.
 pub fn event_texts_read_back()
     ensures { EventTextsReadBack }
+{
+    // The clause is the law.
+}
+
+/// Reading event text as a computation finds the event that it is, and no other.
+pub fn event_texts_exact()
+    ensures { EventTextsExact }
+{
+    // The clause is the law.
+}
+
+/// The text of a proper event is UTF-8.
+pub fn event_texts_are_utf8()
+    ensures { EventTextsAreUtf8 }
+{
+    // The clause is the law.
+}
+
+/// The event of a text in UTF-8 is proper.
+pub fn event_texts_proper()
+    ensures { EventTextsProper }
 {
     // The clause is the law.
 }
