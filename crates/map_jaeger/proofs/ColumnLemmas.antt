@@ -1,43 +1,23 @@
 -- What is written in the columns is looked up again: the rows of a record of columns, before attributes under other keys, hold those columns.
-use Rattle.std.proofs.Common.{◌≡◌, ℕ, Bool, true, false, cond, ◌||◌, List, [], ◌∷◌, ◌++◌, map, Option, Some, None, option_map, refl, sym, ap, ◌∙◌, true≢false, append-nil}
-use Rattle.std.specs.List.{list_any}
+use Rattle.std.proofs.Common.{◌≡◌, ℕ, true, false, List, [], ◌∷◌, ◌++◌, Option, None, option_map, refl, sym, ap, ◌∙◌, append-nil}
 use Rattle.std.specs.Option.{option_or}
-use Rattle.std.specs.Str.{bytes_eq}
 use Rattle.trace_model.specs.Attributes.{Rise, keys, attrs, at}
 use Rattle.trace_model.specs.declared.value.Value.{Value}
-use Rattle.map_jaeger.specs.AttributeLaws.{option_or-none, last_at, last_at-append, at_attrs-append, on_values, at_map}
-use Rattle.map_jaeger.specs.Columns.{Columns, row, rows, looked}
-use Rattle.map_jaeger.specs.Keys.{error_key, dropped_attributes_key, dropped_events_key, dropped_links_key, library_name_key, library_version_key, scope_name_key, scope_version_key, code_key, description_key, kind_key, state_key, is_reserved}
+use Rattle.span_tags.specs.AttributeLaws.{last_at, at_attrs-append, on_values, at_map}
+use Rattle.span_tags.specs.RowLaws.{Told, rows_of, last_told, last_at-rows, told_none, on_rows}
+use Rattle.span_tags.specs.TagKeys.{error_key, dropped_attributes_key, dropped_events_key, dropped_links_key, library_name_key, library_version_key, scope_name_key, scope_version_key, code_key, state_key}
+use Rattle.span_tags.specs.TagWords.{row}
+use Rattle.map_jaeger.specs.Columns.{Columns, rows, looked}
+use Rattle.map_jaeger.specs.Keys.{description_key, kind_key, is_reserved}
 use Rattle.map_jaeger.specs.TagValues.{normal_value}
 
--- ---- a row
-
-both_alike : (b : Bool) (value : Option Value) → cond b value value ≡ value
-both_alike true value = refl
-both_alike false value = refl
-
-pub last_at-row : (k key : List ℕ) (value : Option Value) → last_at k (row key value) ≡ cond (bytes_eq k key) value None
-last_at-row k key None = sym (both_alike (bytes_eq k key) None)
-last_at-row k key (Some value) = refl
-
--- ---- rows as data
-
-abbrev pub Told : Type 0
-Told = List (List ℕ × Option Value)
+-- ---- rows
 
 abbrev told : Columns → Told
 told c = (error_key, c.error) ∷ (dropped_attributes_key, c.dropped_attributes) ∷ (dropped_events_key, c.dropped_events)
     ∷ (dropped_links_key, c.dropped_links) ∷ (library_name_key, c.library_name) ∷ (library_version_key, c.library_version)
     ∷ (scope_name_key, c.scope_name) ∷ (scope_version_key, c.scope_version) ∷ (code_key, c.code) ∷ (description_key, c.description)
     ∷ (kind_key, c.kind) ∷ (state_key, c.state) ∷ []
-
-abbrev rows_of : Told → List (List ℕ × Value)
-rows_of [] = []
-rows_of (one ∷ more) = row one.0 one.1 ++ rows_of more
-
-abbrev last_told : List ℕ → Told → Option Value
-last_told k [] = None
-last_told k (one ∷ more) = cond (bytes_eq k one.0) (option_or (last_told k more) one.1) (last_told k more)
 
 rows_are : (c : Columns) → rows c ≡ rows_of (told c)
 rows_are c = λ i. row error_key c.error
@@ -53,29 +33,8 @@ rows_are c = λ i. row error_key c.error
     ++ (row kind_key c.kind
     ++ sym (append-nil (row state_key c.state)) i))))))))))
 
-joined : (b : Bool) (value last : Option Value) → option_or last (cond b value None) ≡ cond b (option_or last value) last
-joined true value last = refl
-joined false value last = option_or-none last
-
-last_at-rows : (k : List ℕ) (cs : Told) → last_at k (rows_of cs) ≡ last_told k cs
-last_at-rows k [] = refl
-last_at-rows k (one ∷ more) =
-    last_at-append k (row one.0 one.1) (rows_of more)
-    ∙ (λ i. option_or (last_at-rows k more i) (last_at-row k one.0 one.1 i))
-    ∙ joined (bytes_eq k one.0) one.1 (last_told k more)
-
 last_in_rows : (k : List ℕ) (c : Columns) → last_at k (rows c) ≡ last_told k (told c)
 last_in_rows k c = ap (last_at k) (rows_are c) ∙ last_at-rows k (told c)
-
-told_none : (k : List ℕ) (cs : Told) → list_any (bytes_eq k) (map (λ one. one.0) cs) ≡ false → last_told k cs ≡ None
-told_none k [] e = refl
-told_none k (one ∷ more) e = by (bytes_eq k one.0) refl e (told_none k more)
-  where
-    by : (b : Bool) → bytes_eq k one.0 ≡ b → (b || list_any (bytes_eq k) (map (λ one. one.0) more)) ≡ false
-        → (list_any (bytes_eq k) (map (λ one. one.0) more) ≡ false → last_told k more ≡ None)
-        → cond b (option_or (last_told k more) one.1) (last_told k more) ≡ None
-    by true same e rest = absurd (true≢false e)
-    by false apart e rest = rest e
 
 -- under other keys no row stands
 pub none_in_rows : (k : List ℕ) (c : Columns) → is_reserved k ≡ false → last_at k (rows c) ≡ None
@@ -144,17 +103,9 @@ looked_on_values l = λ i. record {
   state = at_map normal_value state_key l i;
 }
 
-normal_row : (key : List ℕ) (value : Option Value) (more : List (List ℕ × Value)) → on_values normal_value (row key value ++ more) ≡ row key (normal_column value) ++ on_values normal_value more
-normal_row key None more = refl
-normal_row key (Some value) more = refl
-
-normal_rows_of : (cs : Told) → on_values normal_value (rows_of cs) ≡ rows_of (map (λ one. (one.0, normal_column one.1)) cs)
-normal_rows_of [] = refl
-normal_rows_of (one ∷ more) = normal_row one.0 one.1 (rows_of more) ∙ ap (λ l. row one.0 (normal_column one.1) ++ l) (normal_rows_of more)
-
 -- the normal form of the rows is the rows of the normal form
 pub normal_rows : (c : Columns) → on_values normal_value (rows c) ≡ rows (normal_columns c)
-normal_rows c = ap (on_values normal_value) (rows_are c) ∙ normal_rows_of (told c) ∙ sym (rows_are (normal_columns c))
+normal_rows c = ap (on_values normal_value) (rows_are c) ∙ on_rows normal_value (told c) ∙ sym (rows_are (normal_columns c))
 
 -- the same where each value is told as a leaf, and the columns hold leaves
 pub looked_back_leaves : (c : Columns) (rest : List (List ℕ × Value)) → Rise (keys rest) → AreFree rest → normal_columns c ≡ c → looked (on_values normal_value (attrs (rows c ++ rest))) ≡ c

@@ -6,7 +6,6 @@ use Rattle.std.specs.List.{list_any}
 use Rattle.std.specs.Option.{option_or}
 use Rattle.std.specs.Str.{bytes_eq}
 use Rattle.std.proofs.lemmas.Bool.Decides.{Decides-and, Decides-or, Decides-like, Decides-eqb, Decides-ltb}
-use Rattle.std.proofs.lemmas.List.Folds.{Any-from_list_any, list_any-from_Any}
 use Rattle.std.proofs.lemmas.Slice.Eq.{bytes_eq-Decides}
 use Rattle.trace_model.specs.Attributes.{Rise, keys, at}
 use Rattle.trace_model.specs.Faults.{fault_number}
@@ -18,23 +17,16 @@ use Rattle.trace_model.specs.declared.span.Event.{Event}
 use Rattle.trace_model.specs.declared.span.Link.{Link}
 use Rattle.trace_model.specs.declared.span.Span.{Span}
 use Rattle.trace_model.specs.declared.value.Value.{Value, Text, Truth, Number, Eight, Bytes, List', Map', Nothing}
+use Rattle.span_tags.specs.Doubles.{double_at}
+use Rattle.span_tags.specs.LeastRows.{least_key, least_or, least_same, KeyAtMost, not_above_itself, least_of_keys, contains_here, contains_behind, contains_cases, contains_none, least_found, FaultAtMost, at_most_same, least_if, least_named, numbered_before, any_decides, itself}
+use Rattle.span_tags.specs.TagKeys.{service_key}
 use Rattle.map_jaeger.specs.Columns.{flags_in}
 use Rattle.map_jaeger.specs.Faults.{HasReserved, in_span, in_event, HasOwn, IsOwnParent, HasDoubleInside, HasDouble, HasDoubleAt, IsSpanFault, IsResourceFault}
-use Rattle.map_jaeger.specs.Keys.{is_reserved, flags_key, service_key, event_key, reference_key}
-use Rattle.map_jaeger.specs.LeastFault.{end_fault, is_under, has_key, least_key, event_key_in, reserved_in, reserved_fault, own_by, own_fault, names_parent, is_own_link, link_fault, double_inside, has_double_inside, doubles_inside, double_fault, span_fault, double_at, resource_fault}
+use Rattle.map_jaeger.specs.Keys.{is_reserved, flags_key, event_key, reference_key}
+use Rattle.map_jaeger.specs.LeastFault.{end_fault, is_under, has_key, event_key_in, reserved_in, reserved_fault, own_by, own_fault, names_parent, is_own_link, link_fault, double_inside, has_double_inside, doubles_inside, double_fault, span_fault, resource_fault}
 use Rattle.map_jaeger.specs.Writing.{is_child_of}
-use Rattle.map_jaeger.proofs.LeastRows.{least_or, least_same, KeyAtMost, not_above_itself, least_of_keys, contains_here, contains_behind, contains_cases, contains_none, least_found, FaultAtMost, at_most_same, least_if, least_named, numbered_before}
 
--- ---- tests
-
-any_like : {X : Type 0} (P Q : X → Type 0) (xs : List X) → ((x : X) → P x → Q x) → Any P xs → Any Q xs
-any_like P Q xs to (k, x, lt, is, p) = (k, x, lt, is, to x p)
-
-pub any_decides : {X : Type 0} (test : X → Bool) (P : X → Type 0) → ((x : X) → Decides (test x) (P x)) → (xs : List X) → Decides (list_any test xs) (Any P xs)
-any_decides test P each xs = (
-  λ e. any_like (λ x. test x ≡ true) P xs (λ x. (each x).0) (Any-from_list_any test xs e),
-  λ h. list_any-from_Any test xs (any_like P (λ x. test x ≡ true) xs (λ x. (each x).1) h),
-)
+-- ---- keys
 
 pub has_key_decides : (key : List ℕ) (attributes : List (List ℕ × Value)) → Decides (has_key key attributes) (Contains (keys attributes) key)
 has_key_decides key [] = (λ e. absurd (true≢false (sym e)), λ h. absurd (contains_none key h))
@@ -114,9 +106,6 @@ names_decides (Some parent) id = (
       (λ (none : Some parent ≡ None). absurd (cc))
       (λ (same : Some parent ≡ Some id). (Decides-eqb parent id).1 (cc)) h,
 )
-
-itself : (b : Bool) → Decides b (b ≡ true)
-itself b = (λ e. e, λ e. e)
 
 own_link_decides : (span : Span) (link : Link) → Decides (is_own_link span link) (IsOwnParent span link)
 own_link_decides span link = Decides-like (is_own_link span link) (λ h. (h.0, h.1.0, h.1.1)) (λ h. (h.0, (h.1, h.2)))

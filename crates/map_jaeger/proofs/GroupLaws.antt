@@ -11,14 +11,15 @@ use Rattle.trace_model.specs.Remarks.{tags_dropped, numbered}
 use Rattle.trace_model.specs.declared.place.Place.TheVariants as places
 use Rattle.trace_model.specs.declared.span.Span.{Span}
 use Rattle.trace_model.specs.declared.trace.Group.{Group}
+use Rattle.span_tags.specs.RunLaws.{scoped_runs}
+use Rattle.span_tags.specs.Runs.{Scoped, scoped, runs}
+use Rattle.span_tags.specs.TagKeys.{service_key}
+use Rattle.span_tags.specs.TagWords.{without, if_left}
 use Rattle.map_jaeger.specs.Faults.{HasNoFault}
-use Rattle.map_jaeger.specs.Keys.{service_key}
 use Rattle.map_jaeger.specs.Laws.{IsHeld, BatchesReadBack, NormalForms, IsTimely, ReadIsNormal}
 use Rattle.map_jaeger.specs.Normal.{normal_span, normal_scoped, normal_resource, normal_group}
-use Rattle.map_jaeger.specs.Reading.{without, scoped_of, group_of}
-use Rattle.map_jaeger.specs.Remarks.{RepeatsOfSpan, AreRemarks, jspan_remarks, if_left}
-use Rattle.map_jaeger.specs.RunLaws.{scoped_runs}
-use Rattle.map_jaeger.specs.Runs.{Scoped, scoped, runs}
+use Rattle.map_jaeger.specs.Reading.{scoped_of, group_of}
+use Rattle.map_jaeger.specs.Remarks.{RepeatsOfSpan, AreRemarks, jspan_remarks}
 use Rattle.map_jaeger.specs.TagValues.{tag_of}
 use Rattle.map_jaeger.specs.Writing.{jaeger_span, batch_of}
 use Rattle.map_jaeger.proofs.GroupLeaves.{map_back, tags_same}

@@ -14,11 +14,10 @@ use Rattle.trace_model.specs.Attributes.{at}
 use Rattle.trace_model.specs.Proper.{IsProperValue, IsProperPair, AreProper}
 use Rattle.trace_model.specs.ValueTexts.{value_text}
 use Rattle.trace_model.specs.declared.value.Value.{Value, List', Map', Nothing}
-use Rattle.map_jaeger.specs.Keys.{service_key}
+use Rattle.span_tags.specs.TagKeys.{service_key}
+use Rattle.span_tags.specs.TagWords.{without, text_or_none}
 use Rattle.map_jaeger.specs.Normal.{normal_attributes, normal_resource}
-use Rattle.map_jaeger.specs.Reading.{without}
 use Rattle.map_jaeger.specs.TagValues.{normal_value, normal_attribute}
-use Rattle.map_jaeger.specs.Writing.{service_of}
 use Rattle.map_jaeger.proofs.GroupResource.{made_all, name_of, other_attributes}
 
 pub ascii : (bs : List ℕ) → list_all (λ b. ltb b 128) bs ≡ true → All (λ b. b < 128) bs
@@ -44,7 +43,7 @@ module _ (utf8 : TextsAreUtf8) where
   normal_proper attributes proper = All-map IsProperPair normal_attribute attributes
       (λ k d lt. record { key = (proper k d lt).key; value = normal_value_proper (get_or attributes k d).1 (proper k d lt).value })
 
-  pub service_utf8 : (value : Option Value) → IfSome value IsProperValue → IsUtf8 (service_of value)
+  pub service_utf8 : (value : Option Value) → IfSome value IsProperValue → IsUtf8 (text_or_none value)
   service_utf8 None proper = IsUtf8-nil
   service_utf8 (Some value) proper = utf8 value proper
 

@@ -10,14 +10,13 @@ use Rattle.trace_model.specs.Values.{IsSound, AreSound}
 use Rattle.trace_model.specs.declared.fault.Fault.{Fault}
 use Rattle.trace_model.specs.declared.fault.Fault.TheVariants.{DoubleInText}
 use Rattle.trace_model.specs.declared.value.Value.{Value, Text}
-use Rattle.map_jaeger.specs.AttributeLaws.{same_key, key_itself, option_or-none, last_at, attrs_rise, at_attrs-append, all_attrs, same_pairs, at_filter, filter_rise, at_map, map_rise}
-use Rattle.map_jaeger.specs.Columns.{row, text_given}
+use Rattle.span_tags.specs.AttributeLaws.{same_key, key_itself, option_or-none, last_at, attrs_rise, at_attrs-append, all_attrs, same_pairs, at_filter, filter_rise, at_map, map_rise}
+use Rattle.span_tags.specs.TagKeys.{service_key}
+use Rattle.span_tags.specs.TagWords.{row, text_given, without, text_or_none}
 use Rattle.map_jaeger.specs.Faults.{HasDoubleAt, IsResourceFault, HasDouble}
-use Rattle.map_jaeger.specs.Keys.{service_key}
 use Rattle.map_jaeger.specs.Normal.{normal_attributes, normal_resource}
-use Rattle.map_jaeger.specs.Reading.{without, attributes_of, resource_of}
+use Rattle.map_jaeger.specs.Reading.{attributes_of, resource_of}
 use Rattle.map_jaeger.specs.TagValues.{tag_of, normal_value, attribute_of}
-use Rattle.map_jaeger.specs.Writing.{service_of}
 use Rattle.map_jaeger.proofs.GroupLeaves.{IsLeaf, AreLeaves, normal_leaves, tags_leaves, leaves_normal, leaves_plain, attributes_back, leaf_sound}
 
 -- ---- attributes without a key
@@ -45,7 +44,7 @@ name_in_row : (name : List ℕ) → last_at service_key (row service_key (text_g
 name_in_row [] = refl
 name_in_row (x ∷ more) = refl
 
-service_text : (name : List ℕ) → service_of (text_given name) ≡ name
+service_text : (name : List ℕ) → text_or_none (text_given name) ≡ name
 service_text [] = refl
 service_text (x ∷ more) = refl
 
@@ -76,8 +75,8 @@ module _ (name : List ℕ) (rest : List (List ℕ × Value)) where
         ∙ name_in_row name
 
     -- the name is the service's
-    pub service_back : service_of (at service_key (with_service name rest)) ≡ name
-    service_back = ap service_of service_at ∙ service_text name
+    pub service_back : text_or_none (at service_key (with_service name rest)) ≡ name
+    service_back = ap text_or_none service_at ∙ service_text name
 
     -- and the others are the attributes
     pub without_back : without service_key (with_service name rest) ≡ rest
@@ -118,7 +117,7 @@ abbrev pub other_attributes : List (List ℕ × Value) → List (List ℕ × Val
 other_attributes resource = normal_attributes (without service_key resource)
 
 abbrev pub name_of : List (List ℕ × Value) → List ℕ
-name_of resource = service_of (at service_key resource)
+name_of resource = text_or_none (at service_key resource)
 
 module _ (resource : List (List ℕ × Value)) (up : Rise (keys resource)) where
   pub others_rise : Rise (keys (other_attributes resource))

@@ -1,5 +1,5 @@
 -- The spans of a group that Jaeger can hold, each by itself; and such a group, by its resource and spans.
-use Rattle.std.proofs.Common.{ℕ, zero, suc, ◌+◌, List, [], ◌∷◌, map, get_or, All, None, refl, sym, subst, ⊎_elim, arith}
+use Rattle.std.proofs.Common.{ℕ, zero, suc, ◌+◌, List, [], ◌∷◌, map, get_or, All, refl, sym, subst, arith}
 use Rattle.std.specs.Prelude.{◌≢◌, IsUtf8}
 use Rattle.std.proofs.lemmas.List.{get_or_default}
 use Rattle.std.proofs.lemmas.List.Elements.{All-nil, All-cons, All-head, All-tail, All-map, All-weaker, at_read}
@@ -8,18 +8,18 @@ use Rattle.trace_model.specs.Proper.{IsProperPair, AreProper, IsProperSpan, IsPr
 use Rattle.trace_model.specs.Soundness.{IsSoundSpan, IsSoundScope}
 use Rattle.trace_model.specs.Values.{IsSound, AreSound}
 use Rattle.trace_model.specs.declared.fault.Fault.{Fault}
-use Rattle.trace_model.specs.declared.fault.Fault.TheVariants.{EndBeforeStart, Reserved, OwnKey, EventText, ChildOfLink, DoubleInText}
-use Rattle.trace_model.specs.declared.span.Code.TheVariants as statuses
-use Rattle.trace_model.specs.declared.span.Kind.TheVariants as kinds
 use Rattle.trace_model.specs.declared.span.Span.{Span}
 use Rattle.trace_model.specs.declared.trace.Group.{Group}
 use Rattle.trace_model.specs.declared.trace.Scope.{Scope}
 use Rattle.trace_model.specs.declared.value.Value.{Value}
-use Rattle.map_jaeger.specs.AttributeLaws.{attrs_rise}
-use Rattle.map_jaeger.specs.Faults.{in_span, in_event, in_resource, HasReserved, IsSpanFault, HasDouble, IsResourceFault, HasNoFault}
+use Rattle.span_tags.specs.AttributeLaws.{attrs_rise}
+use Rattle.span_tags.specs.FirstFaultLaws.{sound_spans, plain_span}
+use Rattle.span_tags.specs.PlacedFaults.{in_resource, in_span}
+use Rattle.span_tags.specs.RunLaws.{IsPlain, scoped_all, scoped_runs, runs_each}
+use Rattle.span_tags.specs.Runs.{Scoped, spans_of, scoped, runs}
+use Rattle.map_jaeger.specs.Faults.{IsSpanFault, IsResourceFault, HasNoFault}
 use Rattle.map_jaeger.specs.Laws.{IsHeld}
-use Rattle.map_jaeger.specs.RunLaws.{IsPlain, scoped_all, scoped_runs, runs_each}
-use Rattle.map_jaeger.specs.Runs.{Scoped, spans_of, scoped, runs}
+use Rattle.map_jaeger.proofs.GroupFault.{plain_fault}
 
 abbrev pub NoSpanFault : Span → Type 0
 NoSpanFault span = (fault : Fault) → IsSpanFault span fault → ⊥
@@ -52,46 +52,8 @@ all_or P (x ∷ xs) (suc n) d all here = all_or P xs n d (All-tail P x xs all) h
 
 -- ---- faults
 
-blank : Scoped Span
-blank = record {
-  name = [];
-  version = [];
-  span = record {
-    trace = 0;
-    id = 0;
-    state = [];
-    parent = None;
-    name = [];
-    kind = kinds.Internal;
-    start = 0;
-    end = 0;
-    attributes = [];
-    dropped_attributes = 0;
-    events = [];
-    dropped_events = 0;
-    links = [];
-    dropped_links = 0;
-    status = record { code = statuses.Unset; message = [] };
-    flags = 0;
-  };
-}
-
-blank_reserved : (key : List ℕ) → HasReserved blank.span key → ⊥
-unfolding blank
-blank_reserved key (in_span reserved there) = omega (arith, there.1)
-blank_reserved key (in_event event there) = omega (arith, there.2)
-
-none_double : HasDouble [] → ⊥
-none_double double = omega (arith, double.2)
-
-blank_plain : NoSpanFault blank.span
-unfolding blank
-blank_plain EndBeforeStart is = omega (arith, is)
-blank_plain (Reserved key) is = blank_reserved key is
-blank_plain (OwnKey key) is = omega (arith, is.1.1)
-blank_plain EventText is = is
-blank_plain ChildOfLink is = omega (arith, is.2)
-blank_plain DoubleInText is = ⊎_elim (λ h. none_double h) (λ h. omega (arith, h.2)) is
+abbrev blank : Scoped Span
+blank = record { name = []; version = []; span = plain_span }
 
 -- no span of such a group has a fault
 spans_plain : (group : Group) → HasNoFault group → All (λ one. NoSpanFault one.span) (scoped group.scopes)
@@ -102,12 +64,9 @@ spans_plain group none k d lt fault is = none (record { place = k + 1; fault = f
 pub no_fault_by : (group : Group) → NoResourceFault group.resource → All (λ one. NoSpanFault one.span) (scoped group.scopes) → HasNoFault group
 no_fault_by group in_no_resource in_no_span found (in_resource first is) = in_no_resource found.fault is
 no_fault_by group in_no_resource in_no_span found (in_span n place holds) =
-    all_or (λ one. NoSpanFault one.span) (scoped group.scopes) n blank in_no_span blank_plain found.fault (holds blank)
+    all_or (λ one. NoSpanFault one.span) (scoped group.scopes) n blank in_no_span plain_fault found.fault (holds blank)
 
 -- ---- there and back
-
-scope_sound : (scope : Scope) → IsSoundScope scope → All (λ one. IsSoundSpan one.span) (spans_of scope)
-scope_sound scope sound = All-map (λ one. IsSoundSpan one.span) (λ span. record { name = scope.name; version = scope.version; span = span }) scope.spans sound.spans
 
 record IsProperScoped (one : Scoped Span) : Type 0 where
   name : IsUtf8 one.name
@@ -120,8 +79,7 @@ scope_proper scope proper = All-map IsProperScoped (λ span. record { name = sco
 
 pub held_spans : (group : Group) → IsHeld group → All IsHeldSpan (scoped group.scopes)
 held_spans group held =
-    let sound : All (λ one. IsSoundSpan one.span) (scoped group.scopes) =
-    scoped_all (λ one. IsSoundSpan one.span) group.scopes (All-weaker IsSoundScope (λ scope. All (λ one. IsSoundSpan one.span) (spans_of scope)) scope_sound group.scopes held.sound.scopes) in
+    let sound : All (λ one. IsSoundSpan one.span) (scoped group.scopes) = sound_spans group held.sound in
     let proper : All IsProperScoped (scoped group.scopes) =
     scoped_all IsProperScoped group.scopes (All-weaker IsProperScope (λ scope. All IsProperScoped (spans_of scope)) scope_proper group.scopes held.proper.scopes) in
     λ k d lt. record {

@@ -5,7 +5,7 @@ use Rattle.trace_model.specs.Remarks.{Keys, tags_dropped}
 use Rattle.trace_model.specs.declared.place.Place.{Place}
 use Rattle.trace_model.specs.declared.remark.Remark.{Remark}
 use Rattle.trace_model.specs.declared.remark.RemarkKind.TheVariants as kinds
-use Rattle.map_jaeger.specs.Remarks.{if_left}
+use Rattle.span_tags.specs.TagWords.{if_left}
 
 pub last_row : (place : Place) (key : List ℕ) (found left : Bool) (old new : List Remark) → found ≡ left
     → new ≡ old ++ tags_dropped place (if_left key found) → new ≡ old ++ tags_dropped place (if_left key left)

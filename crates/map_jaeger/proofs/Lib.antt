@@ -1,5 +1,4 @@
 pub mod ColumnLemmas
-pub mod Decimals
 pub mod FaultRows
 pub mod FlagLemmas
 pub mod GroupFault
@@ -12,16 +11,13 @@ pub mod SpanBack
 pub mod SpanParts
 pub mod SpanNormal
 pub mod SpanRead
-pub mod LeastRows
 pub mod LeftOut
 pub mod Moved
 pub mod Noted
 pub mod ReadLists
 pub mod ReadParts
 pub mod ReadRemarks
-pub mod RisingSpans
 pub mod PlacedRows
-pub mod RunsAtBack
 pub mod SoundGroups
 pub mod NoDoubles
 pub mod NoFault

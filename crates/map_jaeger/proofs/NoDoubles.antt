@@ -19,15 +19,17 @@ use Rattle.trace_model.specs.declared.span.Span.{Span}
 use Rattle.trace_model.specs.declared.trace.Group.{Group}
 use Rattle.trace_model.specs.declared.trace.Scope.{Scope}
 use Rattle.trace_model.specs.declared.value.Value.{Value, Number}
-use Rattle.map_jaeger.specs.Columns.{Columns, row, rows, text_given, count_given}
+use Rattle.span_tags.specs.LeastRows.{if_so}
+use Rattle.span_tags.specs.TagKeys.{error_key, dropped_attributes_key, dropped_events_key, dropped_links_key, library_name_key, library_version_key, scope_name_key, scope_version_key, code_key, state_key}
+use Rattle.span_tags.specs.TagWords.{Pairs, row, text_given, without, code_given}
+use Rattle.map_jaeger.specs.Columns.{Columns, rows, count_given}
 use Rattle.map_jaeger.specs.Doubles.{scope_has_double, group_has_double}
-use Rattle.map_jaeger.specs.Keys.{error_key, dropped_attributes_key, dropped_events_key, dropped_links_key, library_name_key, library_version_key, scope_name_key, scope_version_key, code_key, description_key, kind_key, state_key, event_key, flags_key}
-use Rattle.map_jaeger.specs.LeastFault.{span_has_double, resource_has_double, if_so, end_fault, reserved_fault, own_fault, link_fault, double_fault, span_fault, resource_fault, first_fault, scopes_fault, fault_of, has_double_inside, doubles_inside}
-use Rattle.map_jaeger.specs.Reading.{without}
+use Rattle.map_jaeger.specs.Keys.{description_key, kind_key, event_key, flags_key}
+use Rattle.map_jaeger.specs.LeastFault.{span_has_double, resource_has_double, end_fault, reserved_fault, own_fault, link_fault, double_fault, span_fault, resource_fault, first_fault, scopes_fault, fault_of, has_double_inside, doubles_inside}
 use Rattle.map_jaeger.proofs.NoFault.{none_first, none_second}
 use Rattle.map_jaeger.specs.WritingSoFar.{columns_held}
 use Rattle.map_jaeger.specs.declared.writing_columns.Held.{Held}
-use Rattle.map_jaeger.specs.Writing.{error_given, code_given, description_given, kind_given}
+use Rattle.map_jaeger.specs.Writing.{error_given, description_given, kind_given}
 
 -- ---- members of which none passes
 
@@ -56,9 +58,6 @@ module _ {X : Type 0} (test : X → Bool) where
       (kept keep xs (right_false (test x) (list_any test xs) none))
 
 -- ---- attributes
-
-abbrev Pairs : Type 0
-Pairs = List (List ℕ × Value)
 
 in_place_by : (pair other : List ℕ × Value) (others more : Pairs) (o : Ordering) → has_double_inside pair ≡ false → doubles_inside (other ∷ others) ≡ false
     → doubles_inside more ≡ false → doubles_inside (by_order o (pair ∷ other ∷ others) (other ∷ others) (other ∷ more)) ≡ false

@@ -7,11 +7,10 @@ use Rattle.trace_model.specs.declared.fault.Fault.{Fault}
 use Rattle.trace_model.specs.declared.span.Span.{Span}
 use Rattle.trace_model.specs.declared.trace.Group.{Group}
 use Rattle.trace_model.specs.declared.trace.Scope.{Scope}
+use Rattle.span_tags.specs.Runs.{Scoped, scoped}
 use Rattle.map_jaeger.specs.Faults.{IsFaultOf, HasNoFault}
 use Rattle.map_jaeger.specs.LeastFault.{span_fault, resource_fault, first_fault, scopes_fault, fault_of}
-use Rattle.map_jaeger.specs.Runs.{Scoped, scoped}
 use Rattle.map_jaeger.proofs.GroupFault.{fault_counts}
-use Rattle.map_jaeger.proofs.RisingSpans.{spans_rise}
 
 pub none_first : (a b : Option Fault) → option_or a b ≡ None → a ≡ None
 none_first None b e = refl
@@ -26,7 +25,7 @@ none_counts group None is none = refl
 none_counts group (Some fault) (place, least) none = absurd (none _ least.0)
 
 pub none_found : (group : Group) → IsSoundGroup group → HasNoFault group → fault_of group ≡ None
-none_found group sound none = none_counts group (fault_of group) (fault_counts group (spans_rise group sound)) none
+none_found group sound none = none_counts group (fault_of group) (fault_counts group sound) none
 
 pub none_in_resource : (group : Group) → IsSoundGroup group → HasNoFault group → resource_fault group.resource ≡ None
 none_in_resource group sound none = none_first (resource_fault group.resource) (scopes_fault group.scopes) (none_found group sound none)

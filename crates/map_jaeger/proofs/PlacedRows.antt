@@ -2,17 +2,15 @@
 use Rattle.std.proofs.Common.{◌≡◌, ℕ, List, ◌++◌, take, drop, Option, sym, ◌∙◌, append_assoc}
 use Rattle.trace_model.specs.Attributes.{Rise, keys, placed, attrs}
 use Rattle.trace_model.specs.declared.value.Value.{Value}
-use Rattle.map_jaeger.specs.Columns.{rows, row, text_given, count_given}
-use Rattle.map_jaeger.specs.Keys.{error_key, dropped_attributes_key, dropped_events_key, dropped_links_key, scope_name_key, scope_version_key, code_key, description_key, kind_key, state_key}
-use Rattle.map_jaeger.specs.AttributeLaws.{attrs_itself}
-use Rattle.map_jaeger.specs.Reading.{without}
+use Rattle.span_tags.specs.AttributeLaws.{attrs_itself}
+use Rattle.span_tags.specs.TagKeys.{error_key, dropped_attributes_key, dropped_events_key, dropped_links_key, scope_name_key, scope_version_key, code_key, state_key}
+use Rattle.span_tags.specs.TagWords.{Pairs, row, text_given, without, code_given}
+use Rattle.map_jaeger.specs.Columns.{rows, count_given}
+use Rattle.map_jaeger.specs.Keys.{description_key, kind_key}
 use Rattle.map_jaeger.proofs.GroupResource.{without_rise}
-use Rattle.map_jaeger.specs.Writing.{error_given, code_given, description_given, kind_given}
+use Rattle.map_jaeger.specs.Writing.{error_given, description_given, kind_given}
 use Rattle.map_jaeger.specs.WritingSoFar.{columns_held}
 use Rattle.map_jaeger.specs.declared.writing_columns.Held.{Held}
-
-abbrev Pairs : Type 0
-Pairs = List (List ℕ × Value)
 
 -- in front of i pairs that are below it a pair has no place
 abbrev pub NotBefore : List ℕ → ℕ → Pairs → Type 0

@@ -2,11 +2,10 @@
 use Rattle.std.proofs.Common.{◌≡◌, ℕ, ◌+◌, ◌%◌, ◌<◌, ◌≤◌, ◌^◌, pos, Bool, true, false, List, [], ◌∷◌, ◌++◌, map, get_or, All, Option, Some, None, unwrap_or, cond, refl, arith}
 use Rattle.std.specs.Prelude.{not, ◌==◌, codes, IsUtf8, FitsSigned}
 use Rattle.std.specs.Int.{w32, w64, cast_signed}
-use Rattle.std.specs.Option.{IfSome}
 use Rattle.std.specs.Str.{bytes_eq}
 use Rattle.std.proofs.Math.Facts.{sfits_to_z}
 use Rattle.std.proofs.lemmas.Int.{fits_signed_from_abs}
-use Rattle.std.proofs.lemmas.List.Elements.{All-nil, All-cons, All-head, All-tail, All-append, All-filter, All-map}
+use Rattle.std.proofs.lemmas.List.Elements.{All-nil, All-cons, All-append, All-filter, All-map}
 use Rattle.std.proofs.lemmas.Map.Entries.{All-lookup}
 use Rattle.std.proofs.lemmas.Str.{IsUtf8-nil, IsUtf8-from_ascii}
 use Rattle.std.proofs.lemmas.Str.Ascii.{IsAscii-from_all}
@@ -24,14 +23,15 @@ use Rattle.trace_model.specs.declared.trace.Group.{Group}
 use Rattle.trace_model.specs.declared.trace.Scope.{Scope}
 use Rattle.trace_model.specs.declared.value.Value.{Value, Text, Number, Eight, Bytes, Truth, List', Map', Nothing}
 use Rattle.jaeger_model.specs.Proper as written
-use Rattle.map_jaeger.specs.AttributeLaws.{all_attrs}
-use Rattle.map_jaeger.specs.Columns.{row, rows, flags_in, text_given, count_given}
-use Rattle.map_jaeger.specs.Keys.{error_key, dropped_attributes_key, dropped_events_key, dropped_links_key, library_name_key, library_version_key, scope_name_key, scope_version_key, code_key, description_key, kind_key, state_key, flags_key, service_key, event_key}
-use Rattle.map_jaeger.specs.Reading.{without}
-use Rattle.map_jaeger.specs.RunLaws.{scoped_all}
-use Rattle.map_jaeger.specs.Runs.{Scoped, scoped, spans_of}
+use Rattle.span_tags.specs.AttributeLaws.{all_attrs}
+use Rattle.span_tags.specs.RunLaws.{scoped_all}
+use Rattle.span_tags.specs.Runs.{Scoped, scoped, spans_of}
+use Rattle.span_tags.specs.TagKeys.{error_key, dropped_attributes_key, dropped_events_key, dropped_links_key, scope_name_key, scope_version_key, code_key, state_key, service_key}
+use Rattle.span_tags.specs.TagWords.{row, text_given, without, code_given}
+use Rattle.map_jaeger.specs.Columns.{rows, flags_in, count_given}
+use Rattle.map_jaeger.specs.Keys.{description_key, kind_key, flags_key, event_key}
 use Rattle.map_jaeger.specs.TagValues.{tag_value, tag_of}
-use Rattle.map_jaeger.specs.Writing.{kind_given, code_given, error_given, description_given, columns_of, flags_of, tags_of, log_of, reference_of, jaeger_span, service_of, batch_of}
+use Rattle.map_jaeger.specs.Writing.{kind_given, error_given, description_given, columns_of, flags_of, tags_of, log_of, reference_of, jaeger_span, batch_of}
 use Rattle.map_jaeger.proofs.FlagLemmas.{IsFlags, flags_are}
 use Rattle.map_jaeger.proofs.GroupProper.{TextsAreUtf8, ascii, service_utf8}
 

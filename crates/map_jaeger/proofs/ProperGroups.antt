@@ -1,18 +1,17 @@
 -- The group that is read of a proper batch is proper.
 use Rattle.std.proofs.Common.{◌≡◌, ℕ, ◌-◌, ◌%◌, ◌<◌, ◌≤◌, ◌^◌, ℤ, pos, negsuc, Bool, true, false, nat_le, List, [], ◌∷◌, ◌++◌, map, filter, find, get_or, All, Option, Some, None, option_map, option_and_then, unwrap_or, decimal, cond, refl, arith, leb-true}
-use Rattle.std.specs.Prelude.{not, ◌&&◌, ◌||◌, ◌==◌, if◌then◌else◌, IsUtf8}
+use Rattle.std.specs.Prelude.{not, ◌&&◌, ◌==◌, if◌then◌else◌, IsUtf8}
 use Rattle.std.specs.Option.{IfSome, option_or}
 use Rattle.std.specs.Str.{bytes_eq}
 use Rattle.std.proofs.lemmas.Fmt.{IsAscii-decimal}
 use Rattle.std.proofs.lemmas.List.Elements.{All-nil, All-cons, All-head, All-tail, All-append, All-filter, All-map}
 use Rattle.std.proofs.lemmas.Map.Entries.{All-lookup}
 use Rattle.std.proofs.lemmas.Str.{IsUtf8-nil, IsUtf8-from_ascii}
-use Rattle.trace_model.specs.Attributes.{attrs, at}
+use Rattle.trace_model.specs.Attributes.{at}
 use Rattle.span_ids.specs.Proper.{IsProperParent}
 use Rattle.trace_model.specs.Proper.{IsProperValue, IsProperPair, AreProper, IsProperEvent, IsProperLink, IsProperSpan, IsProperScope, IsProperGroup}
 use Rattle.trace_model.specs.declared.span.Code.{Code}
 use Rattle.trace_model.specs.declared.span.Code.TheVariants as statuses
-use Rattle.trace_model.specs.declared.span.Link.{Link}
 use Rattle.trace_model.specs.declared.span.Span.{Span}
 use Rattle.trace_model.specs.declared.trace.Scope.{Scope}
 use Rattle.trace_model.specs.declared.value.Value.{Value, Text, Number, Eight, Bytes, Truth, List', Map', Nothing}
@@ -24,11 +23,12 @@ use Rattle.jaeger_model.specs.declared.span.SpanRef.{SpanRef}
 use Rattle.jaeger_model.specs.declared.tag.Tag.{Tag}
 use Rattle.jaeger_model.specs.declared.tag.TagValue.{TagValue}
 use Rattle.jaeger_model.specs.declared.tag.TagValue.TheVariants as tags
-use Rattle.map_jaeger.specs.AttributeLaws.{all_attrs}
-use Rattle.map_jaeger.specs.Columns.{looked, row, text_in, at_most, decimal_in, count_in, text_given}
-use Rattle.map_jaeger.specs.Keys.{dropped_attributes_key, dropped_events_key, dropped_links_key, library_name_key, library_version_key, scope_name_key, scope_version_key, description_key, state_key, flags_key, service_key, event_key, reference_key, child_of_word}
-use Rattle.map_jaeger.specs.Reading.{attributes_of, without, message_by, name_in, flag_bits, high_flags, high_flags_of, is_free, event_of, link_of_reference, is_own_parent, parent_of, names, scoped_of, span_attributes, resource_of, group_of}
-use Rattle.map_jaeger.specs.Runs.{Scoped, in_front, is_of, plain_scope, runs}
+use Rattle.span_tags.specs.AttributeLaws.{all_attrs}
+use Rattle.span_tags.specs.Runs.{Scoped, in_front, is_of, plain_scope, runs}
+use Rattle.span_tags.specs.TagKeys.{dropped_attributes_key, dropped_events_key, dropped_links_key, library_name_key, library_version_key, scope_name_key, scope_version_key, state_key, service_key}
+use Rattle.span_tags.specs.TagWords.{row, text_in, at_most, decimal_in, count_in, text_given, without, name_in}
+use Rattle.map_jaeger.specs.Keys.{description_key, flags_key, event_key, reference_key, child_of_word}
+use Rattle.map_jaeger.specs.Reading.{attributes_of, message_by, flag_bits, high_flags, high_flags_of, is_free, event_of, link_of_reference, is_own_parent, parent_of, names, scoped_of, span_attributes, group_of}
 use Rattle.map_jaeger.specs.TagValues.{value_of, attribute_of}
 use Rattle.map_jaeger.proofs.GroupProper.{ascii}
 use Rattle.map_jaeger.proofs.ProperBatches.{IsProperScoped, row_proper, word, text_held}

@@ -5,14 +5,14 @@ use Rattle.jaeger_model.specs.declared.span.JSpan.{JSpan}
 use Rattle.jaeger_model.specs.declared.span.Log.{Log}
 use Rattle.trace_model.specs.declared.remark.Remark.{Remark}
 use Rattle.trace_model.specs.declared.trace.Scope.{Scope}
+use Rattle.span_tags.specs.ReadRuns.{one_of, with_behind}
+use Rattle.span_tags.specs.Runs.{in_front, runs}
+use Rattle.span_tags.specs.declared.runs.ReadSpan.{ReadSpan}
+use Rattle.span_tags.specs.declared.runs.Runs.{Runs}
 use Rattle.map_jaeger.specs.Noted.{AddsNoted, AreNumbered, IsNumberedBy}
-use Rattle.map_jaeger.specs.ReadRuns.{one_of, with_behind}
 use Rattle.map_jaeger.specs.Reading.{event_of, scoped_of}
 use Rattle.map_jaeger.specs.Remarks.{RepeatsOf, RepeatsOfSpan, log_remarks, jspan_remarks}
-use Rattle.map_jaeger.specs.Runs.{in_front, runs}
 use Rattle.map_jaeger.specs.declared.reading.events.ReadEvents.{ReadEvents}
-use Rattle.map_jaeger.specs.declared.reading.runs.ReadSpan.{ReadSpan}
-use Rattle.map_jaeger.specs.declared.reading.runs.Runs.{Runs}
 use Rattle.map_jaeger.proofs.Noted.{numbered_end, numbered_more}
 
 noted_on : {A K : Type 0} (Noted : A → K → Type 0) (remarks : ℕ → A × K → List Remark) (xs rest : List A) (i number : ℕ) (x : A) (old new : List Remark)

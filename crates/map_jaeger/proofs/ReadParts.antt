@@ -11,18 +11,17 @@ use Rattle.trace_model.specs.Attributes.{Rise, keys, attrs, at}
 use Rattle.trace_model.specs.declared.span.Event.{Event}
 use Rattle.trace_model.specs.declared.span.Span.{Span}
 use Rattle.trace_model.specs.declared.value.Value.{Value}
-use Rattle.map_jaeger.specs.AttributeLaws.{attrs_itself, attrs_rise, at_filter, below_all, filter_rise}
-use Rattle.map_jaeger.specs.Columns.{Columns, looked, row}
-use Rattle.map_jaeger.specs.Keys.{error_key, dropped_attributes_key, dropped_events_key, dropped_links_key, library_name_key, library_version_key, scope_name_key, scope_version_key, code_key, description_key, kind_key, state_key, flags_key}
+use Rattle.span_tags.specs.AttributeLaws.{attrs_itself, attrs_rise, at_filter, below_all, filter_rise}
+use Rattle.span_tags.specs.Runs.{Scoped}
+use Rattle.span_tags.specs.TagKeys.{error_key, dropped_attributes_key, dropped_events_key, dropped_links_key, library_name_key, library_version_key, scope_name_key, scope_version_key, code_key, state_key}
+use Rattle.span_tags.specs.TagWords.{Pairs, row}
+use Rattle.map_jaeger.specs.Columns.{Columns, looked}
+use Rattle.map_jaeger.specs.Keys.{description_key, kind_key, flags_key}
 use Rattle.map_jaeger.specs.ReadColumns.{ArePartsOf, own_tags, free_tags, scoped_by_parts}
 use Rattle.map_jaeger.specs.Reading.{attributes_of, event_of, high_flags_of, is_free, scoped_by, scoped_of, span_attributes}
-use Rattle.map_jaeger.specs.Runs.{Scoped}
 use Rattle.map_jaeger.specs.Remarks.{left_out}
 use Rattle.map_jaeger.specs.TagValues.{attribute_of}
 use Rattle.map_jaeger.specs.declared.reading.attributes.Parted.{Parted}
-
-abbrev Pairs : Type 0
-Pairs = List (List ℕ × Value)
 
 -- ---- rising keys
 

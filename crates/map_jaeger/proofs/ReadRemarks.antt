@@ -8,11 +8,13 @@ use Rattle.trace_model.specs.Remarks.{Keys, equal_keys, link_dropped, tags_dropp
 use Rattle.trace_model.specs.declared.place.Place.TheVariants as places
 use Rattle.trace_model.specs.declared.remark.Remark.{Remark}
 use Rattle.trace_model.specs.declared.value.Value.{Value}
+use Rattle.span_tags.specs.TagKeys.{service_key}
+use Rattle.span_tags.specs.TagWords.{if_left}
 use Rattle.map_jaeger.specs.Columns.{looked}
-use Rattle.map_jaeger.specs.Keys.{flags_key, service_key}
+use Rattle.map_jaeger.specs.Keys.{flags_key}
 use Rattle.map_jaeger.specs.Noted.{AddsNoted, AreNumbered}
 use Rattle.map_jaeger.specs.Reading.{attributes_of}
-use Rattle.map_jaeger.specs.Remarks.{AreRemarks, RepeatsOf, RepeatsOfSpan, if_left, left_out, log_remarks, jspan_remarks}
+use Rattle.map_jaeger.specs.Remarks.{AreRemarks, RepeatsOf, RepeatsOfSpan, left_out, log_remarks, jspan_remarks}
 use Rattle.map_jaeger.specs.TagValues.{attribute_of}
 
 pub if_there : {T E P : Type 0} (r : Result T E) → P → OnOk r P

@@ -15,17 +15,20 @@ use Rattle.trace_model.specs.declared.place.Place.TheVariants as places
 use Rattle.trace_model.specs.declared.span.Event.{Event}
 use Rattle.trace_model.specs.declared.span.Span.{Span}
 use Rattle.trace_model.specs.declared.value.Value.{Value, Text}
-use Rattle.map_jaeger.specs.AttributeLaws.{same_key, key_itself, other_way, option_or-none, last_at, key_of_some, at_absent, attrs_rise, at_attrs-append, same_pairs, at_filter, filter_rise, at_map, map_rise}
-use Rattle.map_jaeger.specs.Columns.{row, rows, looked, flags_in, text_in}
+use Rattle.span_tags.specs.AttributeLaws.{same_key, key_itself, other_way, option_or-none, last_at, key_of_some, at_absent, attrs_rise, at_attrs-append, same_pairs, at_filter, filter_rise, at_map, map_rise}
+use Rattle.span_tags.specs.RowLaws.{last_at-row}
+use Rattle.span_tags.specs.Runs.{Scoped}
+use Rattle.span_tags.specs.TagKeys.{error_key, dropped_attributes_key, dropped_events_key, dropped_links_key, library_name_key, library_version_key, scope_name_key, scope_version_key, code_key, state_key}
+use Rattle.span_tags.specs.TagWords.{row, text_in, without, is_idle, if_left}
+use Rattle.map_jaeger.specs.Columns.{rows, looked, flags_in}
 use Rattle.map_jaeger.specs.Faults.{in_span, in_event, IsSpanFault, IsOwnParent}
-use Rattle.map_jaeger.specs.Keys.{is_reserved, flags_key, event_key, error_key, dropped_attributes_key, dropped_events_key, dropped_links_key, library_name_key, library_version_key, scope_name_key, scope_version_key, code_key, description_key, kind_key, state_key}
+use Rattle.map_jaeger.specs.Keys.{is_reserved, flags_key, event_key, description_key, kind_key}
 use Rattle.map_jaeger.specs.Normal.{normal_scoped, normal_event, normal_link, normal_attributes}
-use Rattle.map_jaeger.specs.Reading.{attributes_of, without, high_flags, high_flags_of, is_free, span_attributes, is_own_parent, parent_of, names, event_of, link_of_reference, links_of, scoped_by, scoped_of}
-use Rattle.map_jaeger.specs.Remarks.{is_idle, left_out, if_left, log_remarks, jspan_remarks, SpanKeys, RepeatsOf, RepeatsOfSpan}
-use Rattle.map_jaeger.specs.Runs.{Scoped}
+use Rattle.map_jaeger.specs.Reading.{attributes_of, high_flags, high_flags_of, is_free, span_attributes, is_own_parent, parent_of, names, event_of, link_of_reference, links_of, scoped_by, scoped_of}
+use Rattle.map_jaeger.specs.Remarks.{left_out, log_remarks, jspan_remarks, SpanKeys, RepeatsOf, RepeatsOfSpan}
 use Rattle.map_jaeger.specs.TagValues.{attribute_of, normal_value}
 use Rattle.map_jaeger.specs.Writing.{columns_of, flags_of, log_of, reference_of, jaeger_span}
-use Rattle.map_jaeger.proofs.ColumnLemmas.{last_at-row, none_in_rows, AreFree, normal_column, looked_back_leaves}
+use Rattle.map_jaeger.proofs.ColumnLemmas.{none_in_rows, AreFree, normal_column, looked_back_leaves}
 use Rattle.map_jaeger.proofs.FlagLemmas.{count_back, count_told, own_back, low_back, high_flags_back}
 use Rattle.map_jaeger.proofs.GroupLeaves.{map_back, attributes_back}
 use Rattle.map_jaeger.proofs.SpanParts.{back_each, find_none, filter_each, none_of, kind_back, code_back, message_back, text_back, name_back, columns_leaves, text_told, error_told, code_told, description_told, kind_told, named, told_fields, event_back, event_told, root_link, kept_link, link_back}

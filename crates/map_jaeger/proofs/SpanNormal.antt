@@ -24,13 +24,13 @@ use Rattle.trace_model.specs.declared.span.Kind.TheVariants as kinds
 use Rattle.trace_model.specs.declared.span.Link.{Link}
 use Rattle.trace_model.specs.declared.span.Span.{Span}
 use Rattle.trace_model.specs.declared.value.Value.{Value, Text}
-use Rattle.map_jaeger.specs.AttributeLaws.{attrs_rise, at_map, keys_map, map_rise, map_attrs}
-use Rattle.map_jaeger.specs.Columns.{row, rows, flags_in, text_given}
+use Rattle.span_tags.specs.AttributeLaws.{attrs_rise, at_map, keys_map, map_rise, map_attrs}
+use Rattle.span_tags.specs.Runs.{Scoped}
+use Rattle.span_tags.specs.TagWords.{row, text_given, without}
+use Rattle.map_jaeger.specs.Columns.{rows, flags_in}
 use Rattle.map_jaeger.specs.Faults.{HasReserved, in_span, in_event, IsOwnParent, HasDouble, IsSpanFault}
 use Rattle.map_jaeger.specs.Keys.{flags_key, event_key, reference_key, child_of_word}
 use Rattle.map_jaeger.specs.Normal.{normal_attributes, normal_kind, normal_status, normal_event, normal_link, normal_span, normal_scoped}
-use Rattle.map_jaeger.specs.Reading.{without}
-use Rattle.map_jaeger.specs.Runs.{Scoped}
 use Rattle.map_jaeger.specs.TagValues.{normal_value, tag_of}
 use Rattle.map_jaeger.specs.Writing.{kind_given, description_given, columns_of, flags_of, tags_of, log_of, is_child_of, reference_of, jaeger_span}
 use Rattle.map_jaeger.proofs.ColumnLemmas.{normal_rows}

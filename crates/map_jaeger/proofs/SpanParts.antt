@@ -14,17 +14,19 @@ use Rattle.trace_model.specs.declared.span.Kind.TheVariants as kinds
 use Rattle.trace_model.specs.declared.span.Link.{Link}
 use Rattle.trace_model.specs.declared.span.Span.{Span}
 use Rattle.trace_model.specs.declared.value.Value.{Value, Number}
-use Rattle.map_jaeger.specs.AttributeLaws.{same_key, other_way, option_or-none, attrs_rise, at_attrs-append, same_pairs, at_filter, filter_rise, at_map, map_rise}
-use Rattle.map_jaeger.specs.Columns.{row, text_in, text_given, count_given}
+use Rattle.span_tags.specs.AttributeLaws.{same_key, other_way, option_or-none, attrs_rise, at_attrs-append, same_pairs, at_filter, filter_rise, at_map, map_rise}
+use Rattle.span_tags.specs.RowLaws.{last_at-row}
+use Rattle.span_tags.specs.Runs.{Scoped}
+use Rattle.span_tags.specs.TagWords.{row, text_in, text_given, without, code_in, name_in, is_idle, if_left, code_given}
+use Rattle.map_jaeger.specs.Columns.{count_given}
 use Rattle.map_jaeger.specs.Faults.{IsOwnParent}
 use Rattle.map_jaeger.specs.Keys.{event_key, reference_key}
 use Rattle.map_jaeger.specs.Normal.{normal_kind, normal_status, normal_event, normal_link, normal_attributes}
-use Rattle.map_jaeger.specs.Reading.{attributes_of, without, kind_in, code_in, error_in, message_by, name_in, event_of, link_of_reference, names}
-use Rattle.map_jaeger.specs.Remarks.{is_idle, is_idle_error, is_idle_description, if_left}
-use Rattle.map_jaeger.specs.Runs.{Scoped}
+use Rattle.map_jaeger.specs.Reading.{attributes_of, kind_in, error_in, message_by, event_of, link_of_reference, names}
+use Rattle.map_jaeger.specs.Remarks.{is_idle_error, is_idle_description}
 use Rattle.map_jaeger.specs.TagValues.{normal_value}
-use Rattle.map_jaeger.specs.Writing.{kind_given, code_given, error_given, description_given, columns_of, log_of, is_child_of, reference_of}
-use Rattle.map_jaeger.proofs.ColumnLemmas.{last_at-row, normal_column, normal_columns}
+use Rattle.map_jaeger.specs.Writing.{kind_given, error_given, description_given, columns_of, log_of, is_child_of, reference_of}
+use Rattle.map_jaeger.proofs.ColumnLemmas.{normal_column, normal_columns}
 use Rattle.map_jaeger.proofs.GroupLeaves.{attributes_back}
 
 -- ---- lists

@@ -15,15 +15,16 @@ use Rattle.trace_model.specs.declared.span.Code.{Code}
 use Rattle.trace_model.specs.declared.span.Code.TheVariants as statuses
 use Rattle.trace_model.specs.declared.span.Kind.TheVariants as kinds
 use Rattle.trace_model.specs.declared.value.Value.{Value, Text}
-use Rattle.map_jaeger.specs.AttributeLaws.{same_key, other_way, some_of_key, at_there, attrs_rise, at_attrs-append, all_attrs, at_filter, filter_rise}
-use Rattle.map_jaeger.specs.Columns.{row, looked, text_in, flags_in}
+use Rattle.span_tags.specs.AttributeLaws.{same_key, other_way, some_of_key, at_there, attrs_rise, at_attrs-append, all_attrs, at_filter, filter_rise}
+use Rattle.span_tags.specs.RowLaws.{last_at-row}
+use Rattle.span_tags.specs.TagWords.{row, text_in, without}
+use Rattle.map_jaeger.specs.Columns.{looked, flags_in}
 use Rattle.map_jaeger.specs.Faults.{HasReserved, in_span, in_event, IsOwnParent, HasDouble, IsSpanFault}
 use Rattle.map_jaeger.specs.Keys.{is_reserved, flags_key, event_key}
 use Rattle.map_jaeger.specs.Laws.{IsTimely}
 use Rattle.map_jaeger.specs.Normal.{normal_attributes, normal_kind, normal_status, normal_event, normal_link, normal_span}
-use Rattle.map_jaeger.specs.Reading.{attributes_of, without, kind_named, kind_in, status_of_columns, message_by, flag_bits, high_flags, high_flags_of, is_free, span_attributes, event_of, link_of_reference, is_own_parent, parent_of, names, scoped_of}
+use Rattle.map_jaeger.specs.Reading.{attributes_of, kind_named, kind_in, status_of_columns, message_by, flag_bits, high_flags, high_flags_of, is_free, span_attributes, event_of, link_of_reference, is_own_parent, parent_of, names, scoped_of}
 use Rattle.map_jaeger.specs.TagValues.{attribute_of}
-use Rattle.map_jaeger.proofs.ColumnLemmas.{last_at-row}
 use Rattle.map_jaeger.proofs.FlagLemmas.{read_formed}
 use Rattle.map_jaeger.proofs.GroupLeaves.{IsLeaf, AreLeaves, tags_leaves, leaves_normal, leaves_plain}
 use Rattle.map_jaeger.proofs.GroupResource.{at_without}

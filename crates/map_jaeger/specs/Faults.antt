@@ -1,13 +1,8 @@
 -- What Jaeger can't hold of a group. A fault stands at a place: 0 is the group's resource, and n is its span of that number, with the
 -- events and links in it, counted through the scopes from 1. Of all faults the one at the first place counts, there the one of the least
 -- number, and of equal numbers that of the least key.
-use Rattle.std.specs.Prelude.{◌≡◌, ◌≢◌, ℕ, ◌+◌, ◌<◌, ◌⊎◌, true, List, [], Any, Contains, HoldsAt, Option, Some, None}
-use Rattle.std.specs.Cmp.Lexicographic.{slice_cmp}
-use Rattle.std.specs.Ordering.{nat_cmp}
-use Rattle.std.specs.declared.cmp.Ordering.TheVariants.{Greater}
+use Rattle.std.specs.Prelude.{◌≡◌, ℕ, ◌<◌, ◌⊎◌, true, List, Any, Contains, Option, Some, None}
 use Rattle.trace_model.specs.Attributes.{keys, at}
-use Rattle.trace_model.specs.Faults.{fault_number}
-use Rattle.trace_model.specs.LeastOf.{IsLeastOf}
 use Rattle.trace_model.specs.ValueTexts.{has_double}
 use Rattle.trace_model.specs.declared.fault.Fault.{Fault}
 use Rattle.trace_model.specs.declared.fault.Fault.TheVariants.{EndBeforeStart, Reserved, OwnKey, EventText, ChildOfLink, DoubleInText}
@@ -15,9 +10,10 @@ use Rattle.trace_model.specs.declared.span.Link.{Link}
 use Rattle.trace_model.specs.declared.span.Span.{Span}
 use Rattle.trace_model.specs.declared.trace.Group.{Group}
 use Rattle.trace_model.specs.declared.value.Value.{Value, List', Map'}
+use Rattle.span_tags.specs.PlacedFaults.{CountsBy}
+use Rattle.span_tags.specs.TagKeys.{service_key}
 use Rattle.map_jaeger.specs.Columns.{flags_in}
-use Rattle.map_jaeger.specs.Keys.{is_reserved, flags_key, service_key, event_key, reference_key}
-use Rattle.map_jaeger.specs.Runs.{scoped}
+use Rattle.map_jaeger.specs.Keys.{is_reserved, flags_key, event_key, reference_key}
 use Rattle.map_jaeger.specs.Writing.{is_child_of}
 
 -- ---- the rows of a span
@@ -64,29 +60,9 @@ IsResourceFault resource other = ⊥
 
 -- ---- the group
 
-pub record Placed : Type 0 where
-  pub place : ℕ
-  pub fault : Fault
-
-pub data IsFault (group : Group) (found : Placed) : Type 0 where
-  in_resource : found.place ≡ 0 → IsResourceFault group.resource found.fault → IsFault group found
-  in_span : (n : ℕ) → found.place ≡ n + 1 → HoldsAt (λ one. IsSpanFault one.span found.fault) (scoped group.scopes) n → IsFault group found
-
--- the key of a fault, where it has one
-abbrev pub key_in : Fault → List ℕ
-key_in (Reserved key) = key
-key_in (OwnKey key) = key
-key_in other = []
-
--- by place, by number, by key
-abbrev pub AtMost : Placed → Placed → Type 0
-AtMost a b = (a.place < b.place) ⊎ ((a.place ≡ b.place) × ((fault_number a.fault < fault_number b.fault)
-    ⊎ ((fault_number a.fault ≡ fault_number b.fault) × (slice_cmp nat_cmp (key_in a.fault) (key_in b.fault) ≢ Greater))))
-
 -- the fault that counts, if there is any
 abbrev pub IsFaultOf : Group → Option Fault → Type 0
-IsFaultOf group None = (found : Placed) → IsFault group found → ⊥
-IsFaultOf group (Some fault) = (place : ℕ) × IsLeastOf AtMost (IsFault group) (Some (record { place = place; fault = fault }))
+IsFaultOf group fault = CountsBy IsResourceFault IsSpanFault group fault
 
 abbrev pub HasNoFault : Group → Type 0
 HasNoFault group = IsFaultOf group None

@@ -3,44 +3,15 @@
 use Rattle.std.specs.Prelude.{ℕ, Bool, List, [], ◌∷◌, codes}
 use Rattle.std.specs.List.{list_any}
 use Rattle.std.specs.Str.{bytes_eq}
+use Rattle.span_tags.specs.TagKeys.{error_key, dropped_attributes_key, dropped_events_key, dropped_links_key, library_name_key, library_version_key, scope_name_key, scope_version_key, code_key, state_key}
 
 -- ---- of a span's tags
-
-abbrev pub error_key : List ℕ
-error_key = codes "error"
-
-abbrev pub dropped_attributes_key : List ℕ
-dropped_attributes_key = codes "otel.dropped_attributes_count"
-
-abbrev pub dropped_events_key : List ℕ
-dropped_events_key = codes "otel.dropped_events_count"
-
-abbrev pub dropped_links_key : List ℕ
-dropped_links_key = codes "otel.dropped_links_count"
-
-abbrev pub library_name_key : List ℕ
-library_name_key = codes "otel.library.name"
-
-abbrev pub library_version_key : List ℕ
-library_version_key = codes "otel.library.version"
-
-abbrev pub scope_name_key : List ℕ
-scope_name_key = codes "otel.scope.name"
-
-abbrev pub scope_version_key : List ℕ
-scope_version_key = codes "otel.scope.version"
-
-abbrev pub code_key : List ℕ
-code_key = codes "otel.status_code"
 
 abbrev pub description_key : List ℕ
 description_key = codes "otel.status_description"
 
 abbrev pub kind_key : List ℕ
 kind_key = codes "span.kind"
-
-abbrev pub state_key : List ℕ
-state_key = codes "w3c.tracestate"
 
 -- in the order of their bytes
 abbrev pub reserved_keys : List (List ℕ)
@@ -55,9 +26,6 @@ abbrev pub flags_key : List ℕ
 flags_key = codes "jaeger.flags"
 
 -- ---- of a process, of a log and of a link
-
-abbrev pub service_key : List ℕ
-service_key = codes "service.name"
 
 abbrev pub event_key : List ℕ
 event_key = codes "event"

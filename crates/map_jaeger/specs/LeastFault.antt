@@ -1,13 +1,11 @@
 -- The fault of a group that counts, found in the order of places and numbers, and what a call answers by it.
-use Rattle.std.specs.Prelude.{ℕ, nat_lt, Bool, true, false, ◌&&◌, ◌||◌, ◌==◌, if◌then◌else◌, List, [], ◌∷◌, find, Option, Some, None, option_map, Result, Ok, Err, ⊤}
+use Rattle.std.specs.Prelude.{ℕ, nat_lt, Bool, true, false, ◌&&◌, ◌||◌, ◌==◌, if◌then◌else◌, List, find, Option, Some, None, option_map, Result, Ok, Err, ⊤}
 use Rattle.std.specs.List.{list_any}
 use Rattle.std.specs.Option.{option_or}
-use Rattle.std.specs.Cmp.Lexicographic.{slice_cmp}
-use Rattle.std.specs.Ordering.{nat_cmp}
 use Rattle.std.specs.Str.{bytes_eq}
 use Rattle.span_io.specs.declared.halt.Halt.{Halt}
 use Rattle.span_io.specs.declared.halt.Halt.TheVariants as halts
-use Rattle.trace_model.specs.Attributes.{by_order, keys, at}
+use Rattle.trace_model.specs.Attributes.{keys, at}
 use Rattle.trace_model.specs.ValueTexts.{has_double}
 use Rattle.trace_model.specs.declared.fault.Fault.{Fault}
 use Rattle.trace_model.specs.declared.fault.Fault.TheVariants.{EndBeforeStart, Reserved, OwnKey, ChildOfLink, DoubleInText}
@@ -16,24 +14,19 @@ use Rattle.trace_model.specs.declared.span.Span.{Span}
 use Rattle.trace_model.specs.declared.trace.Group.{Group}
 use Rattle.trace_model.specs.declared.trace.Scope.{Scope}
 use Rattle.trace_model.specs.declared.value.Value.{Value, List', Map'}
+use Rattle.span_tags.specs.Doubles.{double_at}
+use Rattle.span_tags.specs.FirstFault.{first_by, first_in, first_of}
+use Rattle.span_tags.specs.LeastRows.{if_so, least_key}
+use Rattle.span_tags.specs.TagKeys.{service_key}
 use Rattle.map_jaeger.specs.Columns.{flags_in}
 use Rattle.map_jaeger.specs.Faults.{HasNoFault, IsFaultOf}
-use Rattle.map_jaeger.specs.Keys.{is_reserved, flags_key, service_key, event_key, reference_key}
+use Rattle.map_jaeger.specs.Keys.{is_reserved, flags_key, event_key, reference_key}
 use Rattle.map_jaeger.specs.Writing.{is_child_of}
-
-abbrev pub if_so : Bool → Fault → Option Fault
-if_so so fault = if so then Some fault else None
 
 -- ---- the rows of a span, by their numbers
 
 abbrev pub end_fault : Span → Option Fault
 end_fault span = if_so (nat_lt span.end span.start) EndBeforeStart
-
--- the lesser of two keys
-abbrev pub least_key : Option (List ℕ) → Option (List ℕ) → Option (List ℕ)
-least_key None other = other
-least_key (Some key) None = Some key
-least_key (Some key) (Some other) = Some (by_order (slice_cmp nat_cmp key other) key key other)
 
 abbrev pub is_under : List ℕ → List ℕ × Value → Bool
 is_under key pair = bytes_eq key pair.0
@@ -95,28 +88,20 @@ span_fault span = option_or (end_fault span)
 
 -- ---- the places of a group, in their order
 
-abbrev pub double_at : Option Value → Bool
-double_at None = false
-double_at (Some value) = has_double value
-
 abbrev pub resource_has_double : List (List ℕ × Value) → Bool
 resource_has_double resource = double_at (at service_key resource) || doubles_inside resource
 
 abbrev pub resource_fault : List (List ℕ × Value) → Option Fault
 resource_fault resource = if_so (resource_has_double resource) DoubleInText
 
--- that of the first span that has one
 abbrev pub first_fault : List Span → Option Fault
-first_fault [] = None
-first_fault (span ∷ spans) = option_or (span_fault span) (first_fault spans)
+first_fault spans = first_of span_fault spans
 
--- scope by scope
 abbrev pub scopes_fault : List Scope → Option Fault
-scopes_fault [] = None
-scopes_fault (scope ∷ scopes) = option_or (first_fault scope.spans) (scopes_fault scopes)
+scopes_fault scopes = first_in span_fault scopes
 
 abbrev pub fault_of : Group → Option Fault
-fault_of group = option_or (resource_fault group.resource) (scopes_fault group.scopes)
+fault_of group = first_by span_fault resource_fault group
 
 -- ---- answers
 

@@ -1,4 +1,3 @@
-pub mod AttributeLaws
 pub mod Columns
 pub mod Doubles
 pub mod Faults
@@ -8,11 +7,8 @@ pub mod LeastFault
 pub mod Normal
 pub mod Noted
 pub mod ReadColumns
-pub mod ReadRuns
 pub mod Reading
 pub mod Remarks
-pub mod RunLaws
-pub mod Runs
 pub mod TagValues
 pub mod Writing
 pub mod WritingSoFar

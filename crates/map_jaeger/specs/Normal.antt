@@ -12,12 +12,12 @@ use Rattle.trace_model.specs.declared.span.Span.{Span}
 use Rattle.trace_model.specs.declared.span.Status.{Status}
 use Rattle.trace_model.specs.declared.trace.Group.{Group}
 use Rattle.trace_model.specs.declared.value.Value.{Value, Text}
-use Rattle.map_jaeger.specs.Columns.{row, text_given}
-use Rattle.map_jaeger.specs.Keys.{service_key, reference_key, child_of_word}
-use Rattle.map_jaeger.specs.Reading.{without}
-use Rattle.map_jaeger.specs.Runs.{Scoped, scoped, runs}
+use Rattle.span_tags.specs.Runs.{Scoped, scoped, runs}
+use Rattle.span_tags.specs.TagKeys.{service_key}
+use Rattle.span_tags.specs.TagWords.{row, text_given, without, text_or_none}
+use Rattle.map_jaeger.specs.Keys.{reference_key, child_of_word}
 use Rattle.map_jaeger.specs.TagValues.{normal_attribute}
-use Rattle.map_jaeger.specs.Writing.{is_child_of, service_of}
+use Rattle.map_jaeger.specs.Writing.{is_child_of}
 
 -- lists, maps and no value become their texts
 abbrev pub normal_attributes : List (List ℕ × Value) → List (List ℕ × Value)
@@ -67,7 +67,7 @@ normal_scoped one = record { name = one.name; version = one.version; span = norm
 
 -- `service.name` is a text, and goes where that is empty
 abbrev pub normal_resource : List (List ℕ × Value) → List (List ℕ × Value)
-normal_resource resource = attrs (row service_key (text_given (service_of (at service_key resource))) ++ normal_attributes (without service_key resource))
+normal_resource resource = attrs (row service_key (text_given (text_or_none (at service_key resource))) ++ normal_attributes (without service_key resource))
 
 -- scopes keep their names and versions; those without spans go, and then adjacent ones that are equal are joined
 abbrev pub normal_group : Group → Group

@@ -5,9 +5,10 @@ use Rattle.trace_model.specs.declared.span.Event.{Event}
 use Rattle.trace_model.specs.declared.value.Value.{Value}
 use Rattle.trace_model.specs.declared.span.Span.{Span}
 use Rattle.jaeger_model.specs.declared.span.JSpan.{JSpan}
-use Rattle.map_jaeger.specs.Columns.{Columns, looked, text_in, count_in}
-use Rattle.map_jaeger.specs.Reading.{is_free, name_in, kind_in, status_of_columns, message_by, scoped_by}
-use Rattle.map_jaeger.specs.Runs.{Scoped}
+use Rattle.span_tags.specs.Runs.{Scoped}
+use Rattle.span_tags.specs.TagWords.{text_in, count_in, name_in}
+use Rattle.map_jaeger.specs.Columns.{Columns, looked}
+use Rattle.map_jaeger.specs.Reading.{is_free, kind_in, status_of_columns, message_by, scoped_by}
 use Rattle.map_jaeger.specs.declared.reading.attributes.Parted.{Parted}
 use Rattle.map_jaeger.specs.declared.reading.columns.Told.{Told}
 

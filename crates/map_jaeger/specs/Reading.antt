@@ -19,18 +19,16 @@ use Rattle.trace_model.specs.declared.span.Link.{Link}
 use Rattle.trace_model.specs.declared.span.Span.{Span}
 use Rattle.trace_model.specs.declared.trace.Group.{Group}
 use Rattle.trace_model.specs.declared.value.Value.{Value, Text, Truth}
-use Rattle.map_jaeger.specs.Columns.{Columns, looked, row, text_in, count_in, text_given}
-use Rattle.map_jaeger.specs.Keys.{is_reserved, flags_key, service_key, event_key, reference_key, child_of_word}
-use Rattle.map_jaeger.specs.Runs.{Scoped, runs}
+use Rattle.span_tags.specs.Runs.{Scoped, runs}
+use Rattle.span_tags.specs.TagKeys.{service_key}
+use Rattle.span_tags.specs.TagWords.{row, text_in, count_in, text_given, code_in, name_in, without}
+use Rattle.map_jaeger.specs.Columns.{Columns, looked}
+use Rattle.map_jaeger.specs.Keys.{is_reserved, flags_key, event_key, reference_key, child_of_word}
 use Rattle.map_jaeger.specs.TagValues.{attribute_of}
 
 -- the attributes that tags are
 abbrev pub attributes_of : List Tag → List (List ℕ × Value)
 attributes_of tags = attrs (map attribute_of tags)
-
--- those under other keys than this one
-abbrev pub without : List ℕ → List (List ℕ × Value) → List (List ℕ × Value)
-without key attributes = filter (λ attribute. not (bytes_eq key attribute.0)) attributes
 
 -- ---- columns
 
@@ -45,13 +43,6 @@ kind_named text =
 
 abbrev pub kind_in : Option Value → Option Kind
 kind_in value = option_and_then kind_named (text_in value)
-
--- `otel.status_code`: one of two texts
-abbrev pub code_named : List ℕ → Option Code
-code_named text = if bytes_eq text (codes "OK") then Some statuses.Okay else (if bytes_eq text (codes "ERROR") then Some statuses.Fail else None)
-
-abbrev pub code_in : Option Value → Option Code
-code_in value = option_and_then code_named (text_in value)
 
 -- `error`: a truth value, or the text of one
 abbrev pub truth_named : List ℕ → Option Bool
@@ -71,10 +62,6 @@ abbrev pub message_by : Code → Option Value → List ℕ
 message_by statuses.Unset description = []
 message_by statuses.Okay description = unwrap_or (text_in description) []
 message_by statuses.Fail description = unwrap_or (text_in description) []
-
--- a name or version: the older key counts where the newer is absent
-abbrev pub name_in : Option Value → Option Value → List ℕ
-name_in newer older = unwrap_or (option_or (text_in newer) (text_in older)) []
 
 -- ---- flags: the first bit is the span's, and the others stand under a key of their own
 

@@ -1,8 +1,7 @@
 -- What is remarked on a batch: keys that stand more than once among the tags of the process, of a span or of a log; references to no span;
 -- and tags under the keys of Jaeger's own that say nothing, which are left out.
-use Rattle.std.specs.Prelude.{ℕ, nat_lt, Bool, true, false, not, ◌&&◌, if◌then◌else◌, List, [], ◌∷◌, ◌++◌, map, is_some, is_none, Option, Some, None, ◌≡◌}
+use Rattle.std.specs.Prelude.{ℕ, nat_lt, Bool, true, false, not, List, ◌++◌, map, is_some, Option, Some, None, ◌≡◌}
 use Rattle.std.specs.List.{AllZip, zip}
-use Rattle.std.specs.Str.{bytes_eq}
 use Rattle.jaeger_model.specs.declared.batch.Batch.{Batch}
 use Rattle.jaeger_model.specs.declared.span.JSpan.{JSpan}
 use Rattle.jaeger_model.specs.declared.span.Log.{Log}
@@ -13,16 +12,14 @@ use Rattle.trace_model.specs.declared.remark.Remark.{Remark}
 use Rattle.trace_model.specs.declared.span.Code.{Code}
 use Rattle.trace_model.specs.declared.span.Code.TheVariants as statuses
 use Rattle.trace_model.specs.declared.value.Value.{Value}
-use Rattle.map_jaeger.specs.Columns.{Columns, looked, text_in, count_in}
-use Rattle.map_jaeger.specs.Keys.{error_key, dropped_attributes_key, dropped_events_key, dropped_links_key, library_name_key, library_version_key, scope_name_key, scope_version_key, code_key, description_key, kind_key, state_key, flags_key, service_key, event_key}
-use Rattle.map_jaeger.specs.Reading.{attributes_of, kind_in, code_in, error_in, status_of_columns}
+use Rattle.span_tags.specs.TagKeys.{error_key, dropped_attributes_key, dropped_events_key, dropped_links_key, library_name_key, library_version_key, scope_name_key, scope_version_key, code_key, state_key, service_key}
+use Rattle.span_tags.specs.TagWords.{text_in, count_in, code_in, if_left, is_idle, is_idle_library}
+use Rattle.map_jaeger.specs.Columns.{Columns, looked}
+use Rattle.map_jaeger.specs.Keys.{description_key, kind_key, flags_key, event_key}
+use Rattle.map_jaeger.specs.Reading.{attributes_of, kind_in, error_in, status_of_columns}
 use Rattle.map_jaeger.specs.TagValues.{attribute_of}
 
 -- ---- tags that are left out
-
--- there is a tag, and nothing that it says
-abbrev pub is_idle : {A : Type 0} → Option Value → Option A → Bool
-is_idle value said = is_some value && is_none said
 
 -- with a code, `error` is true with ERROR and false with OK
 abbrev pub agrees : Option Code → Bool → Bool
@@ -35,19 +32,10 @@ abbrev pub is_idle_error : Option Value → Option Bool → Option Code → Bool
 is_idle_error value None code = is_some value
 is_idle_error value (Some truth) code = not (agrees code truth)
 
--- an older key that isn't a text, or differs from the newer
-abbrev pub is_idle_library : Option Value → Option (List ℕ) → Option (List ℕ) → Bool
-is_idle_library value None newer = is_some value
-is_idle_library value (Some text) None = false
-is_idle_library value (Some text) (Some newer) = not (bytes_eq text newer)
-
 abbrev pub is_idle_description : Option Value → Code → Bool
 is_idle_description value statuses.Unset = is_some value
 is_idle_description value statuses.Okay = is_idle value (text_in value)
 is_idle_description value statuses.Fail = is_idle value (text_in value)
-
-abbrev pub if_left : List ℕ → Bool → Keys
-if_left key left = if left then key ∷ [] else []
 
 -- of a span, by its columns and what stands under the key of Jaeger's own, in the order of their keys
 abbrev pub last_left_out : Columns → Keys

@@ -1,6 +1,6 @@
 -- The batch of a group (OpenTelemetry exporter page for Jaeger; jaeger.thrift), where nothing in it is a fault. Tags and log fields stand by
 -- rising keys.
-use Rattle.std.specs.Prelude.{ℕ, ◌+◌, ◌%◌, ℤ, Bool, true, false, List, [], ◌++◌, map, Option, Some, None, unwrap_or, codes}
+use Rattle.std.specs.Prelude.{ℕ, ◌+◌, ◌%◌, ℤ, Bool, true, false, List, ◌++◌, map, Option, Some, None, unwrap_or, codes}
 use Rattle.std.specs.Int.{w32, cast_signed}
 use Rattle.std.specs.Str.{bytes_eq}
 use Rattle.jaeger_model.specs.declared.batch.Batch.{Batch}
@@ -10,7 +10,6 @@ use Rattle.jaeger_model.specs.declared.span.SpanRef.{SpanRef}
 use Rattle.jaeger_model.specs.declared.tag.Tag.{Tag}
 use Rattle.span_ids.specs.Times.{floor}
 use Rattle.trace_model.specs.Attributes.{attrs, at}
-use Rattle.trace_model.specs.ValueTexts.{value_text}
 use Rattle.trace_model.specs.declared.span.Code.{Code}
 use Rattle.trace_model.specs.declared.span.Code.TheVariants as statuses
 use Rattle.trace_model.specs.declared.span.Event.{Event}
@@ -20,10 +19,11 @@ use Rattle.trace_model.specs.declared.span.Link.{Link}
 use Rattle.trace_model.specs.declared.span.Span.{Span}
 use Rattle.trace_model.specs.declared.trace.Group.{Group}
 use Rattle.trace_model.specs.declared.value.Value.{Value, Text, Truth}
-use Rattle.map_jaeger.specs.Columns.{Columns, rows, row, flags_in, text_given, count_given}
-use Rattle.map_jaeger.specs.Keys.{flags_key, service_key, event_key, reference_key, child_of_word}
-use Rattle.map_jaeger.specs.Reading.{without}
-use Rattle.map_jaeger.specs.Runs.{Scoped, scoped}
+use Rattle.span_tags.specs.Runs.{Scoped, scoped}
+use Rattle.span_tags.specs.TagKeys.{service_key}
+use Rattle.span_tags.specs.TagWords.{row, text_given, without, code_given, text_or_none}
+use Rattle.map_jaeger.specs.Columns.{Columns, rows, flags_in, count_given}
+use Rattle.map_jaeger.specs.Keys.{flags_key, event_key, reference_key, child_of_word}
 use Rattle.map_jaeger.specs.TagValues.{tag_of}
 
 -- ---- columns
@@ -36,12 +36,6 @@ kind_given kinds.Server = Some (Text (codes "server"))
 kind_given kinds.Client = Some (Text (codes "client"))
 kind_given kinds.Producer = Some (Text (codes "producer"))
 kind_given kinds.Consumer = Some (Text (codes "consumer"))
-
--- `otel.status_code`
-abbrev pub code_given : Code → Option Value
-code_given statuses.Unset = None
-code_given statuses.Okay = Some (Text (codes "OK"))
-code_given statuses.Fail = Some (Text (codes "ERROR"))
 
 -- `error`
 abbrev pub error_given : Code → Option Value
@@ -112,14 +106,10 @@ jaeger_span one = record {
 
 -- ---- the batch
 
--- the value text of `service.name`, or no text where it is absent
-abbrev pub service_of : Option Value → List ℕ
-service_of None = []
-service_of (Some value) = value_text value
-
+-- its service is the text of `service.name`
 abbrev pub batch_of : Group → Batch
 batch_of group = record {
-  service = service_of (at service_key group.resource);
+  service = text_or_none (at service_key group.resource);
   tags = map tag_of (without service_key group.resource);
   spans = map jaeger_span (scoped group.scopes);
 }

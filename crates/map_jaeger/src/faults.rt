@@ -2,6 +2,8 @@
 //! key of the fault.
 ghost use Rattle.std.specs.Prelude.{◌≡◌, option_map, IfOk};
 ghost use Rattle.std.specs.List.{list_any};
+ghost use Rattle.span_tags.specs.Doubles as told;
+ghost use Rattle.span_tags.specs.LeastRows as least_rows;
 ghost use Rattle.map_jaeger.specs.Keys as keys;
 ghost use Rattle.map_jaeger.specs.LeastFault as least;
 
@@ -75,7 +77,7 @@ fn event_key_in(span: &Span) -> Option<&'static str>
 // The lesser of two keys.
 fn least_key<'a>(one: Option<&'a str>, other: Option<&'a str>) -> Option<&'a str>
     ensures { option_map (λ key. key.now) result
-        ≡ least.least_key (option_map (λ key. key.now) one.entry) (option_map (λ key. key.now) other.entry) }
+        ≡ least_rows.least_key (option_map (λ key. key.now) one.entry) (option_map (λ key. key.now) other.entry) }
 {
     let Some(key) = one else {
         return other;
@@ -187,7 +189,7 @@ fn double_fault(span: &Span) -> Option<Fault>
 }
 
 fn double_at(value: Option<&Value>) -> bool
-    ensures { result ≡ least.double_at (option_map (λ value. value.now) value.entry) }
+    ensures { result ≡ told.double_at (option_map (λ value. value.now) value.entry) }
 {
     match value {
         Some(value) => value.holds_double(),

@@ -1,7 +1,6 @@
 //! Batches of Jaeger as groups of a trace, and back, by the OpenTelemetry exporter page for Jaeger.
 #![tactic(auto)]
 
-mod decimal_texts;
 mod faults;
 mod keys;
 pub mod laws;

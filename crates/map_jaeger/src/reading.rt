@@ -9,15 +9,14 @@ mod columns;
 mod events;
 mod links;
 mod remarks;
-mod runs;
 mod spans;
 mod tags;
 mod values;
 
 use attributes::process_attributes;
 use jaeger_model::Batch;
-use remarks::{is_there, remark_if};
 use span_io::{Items, OutOfMemory, Text};
+use span_tags::{is_there, remark_if};
 use spans::scopes_of;
 use std::alloc::Global;
 use tags::attributes_of;

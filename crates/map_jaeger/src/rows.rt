@@ -1,51 +1,13 @@
-//! Pairs of attributes, row by row.
+//! Rows in their places among attributes.
 ghost use Rattle.std.specs.Prelude.{◌≡◌, ◌++◌, ℕ, List, OnOk};
 ghost use Rattle.trace_model.specs.Attributes.{attrs};
-ghost use Rattle.map_jaeger.specs.Columns as told;
-ghost use Rattle.map_jaeger.specs.Reading as meant;
+ghost use Rattle.span_tags.specs.TagWords as told;
 ghost use Rattle.map_jaeger.specs.WritingSoFar.{IsPlaceOf};
 
 use span_io::{OutOfMemory, Text};
 use std::alloc::Global;
 use std::cmp::Ordering;
-use trace_model::{Attrs, Value};
-
-/// Adds a pair of this key, if there is a value.
-pub(crate) fn add_row(
-    alloc: Global,
-    pairs: &mut Attrs,
-    key: &str,
-    value: Option<Value>,
-) -> Result<(), OutOfMemory>
-    ensures { OnOk result (pairs.new ≡ pairs.old ++ told.row key.now value) }
-{
-    let Some(value) = value else {
-        return Ok(());
-    };
-    pairs.push((Text::of(alloc, key)?, value))
-}
-
-/// Adds the pairs of other keys than this one.
-pub(crate) fn add_others(pairs: &mut Attrs, key: &str, tags: Attrs) -> Result<(), OutOfMemory>
-    ensures { OnOk result (pairs.new ≡ pairs.old ++ meant.without key.now tags) }
-{
-    'tags: for pair in tags.into_vec() {
-        if key != pair.0.as_str() {
-            pairs.push(pair)?;
-        }
-    }
-    Ok(())
-}
-
-/// A text, unless it is empty.
-pub(crate) fn text_given(text: Text) -> Option<Value>
-    ensures { result ≡ told.text_given text }
-{
-    if text.len() == 0 {
-        return None;
-    }
-    Some(Value::Text(text))
-}
+use trace_model::Value;
 
 // Where a pair of this key is put in among rising ones. None where one has the key.
 fn place_of(pairs: &[(Text, Value)], key: &str) -> Option<usize>

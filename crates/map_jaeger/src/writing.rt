@@ -2,39 +2,27 @@
 ghost use Rattle.std.specs.Prelude.{◌≡◌, ◌++◌, map, option_map, false, All, IfOk, OnOk};
 ghost use Rattle.std.specs.List.{list_any};
 ghost use Rattle.trace_model.specs.Attributes.{Rise, keys as keys_of};
-ghost use Rattle.trace_model.specs.ValueTexts as texts;
 ghost use Rattle.trace_model.specs.Soundness.{IsSoundEvent, IsSoundGroup, IsSoundScope, IsSoundSpan};
+ghost use Rattle.span_tags.specs.Runs.{scoped, spans_of};
+ghost use Rattle.span_tags.specs.TagKeys.{service_key};
+ghost use Rattle.span_tags.specs.TagWords.{without};
 ghost use Rattle.map_jaeger.specs.Doubles.{event_has_double, group_has_double, scope_has_double};
-ghost use Rattle.map_jaeger.specs.Keys as keys;
 ghost use Rattle.map_jaeger.specs.Laws.{IsTimely};
 ghost use Rattle.map_jaeger.specs.LeastFault.{JudgesFault};
 ghost use Rattle.map_jaeger.specs.LeastFault as least;
-ghost use Rattle.map_jaeger.specs.Reading.{without};
-ghost use Rattle.map_jaeger.specs.Runs.{scoped, spans_of};
 ghost use Rattle.map_jaeger.specs.TagValues as values;
 ghost use Rattle.map_jaeger.specs.Writing as told;
 ghost use Rattle.map_jaeger.specs.WritingSoFar.{fields_held, tags_held, under};
 
 use crate::faults::fault_of_group;
-use crate::rows::{add_others, put_row, text_given};
+use crate::rows::put_row;
 use crate::writing_columns::{Held, put_columns};
 use crate::writing_flags::flags_of;
 use jaeger_model::{Batch, JSpan, Log, SpanRef, Tag, TagValue};
 use span_io::{Halt, Items, OutOfMemory, Text};
+use span_tags::{add_others, text_kept, text_or_none, text_told};
 use std::alloc::Global;
-use trace_model::{Attrs, Event, Fault, Group, Link, Scope, Span, Value, find, value_text};
-
-// The text of a value in which no double stands.
-fn text_told(alloc: Global, value: &Value) -> Result<Text, OutOfMemory>
-    requires { texts.has_double value.now ≡ false }
-    ensures { IfOk result (λ text. text ≡ texts.value_text value.now) }
-{
-    match value_text(alloc, value) {
-        Ok(text) => Ok(text),
-        Err(Halt::OutOfMemory) => Err(OutOfMemory),
-        Err(Halt::Why(())) => unreachable!(),
-    }
-}
+use trace_model::{Attrs, Event, Fault, Group, Link, Scope, Span, Value, find};
 
 // ---- tags
 
@@ -115,7 +103,7 @@ fn fields_of(alloc: Global, name: Text, attributes: Attrs) -> Result<Items<Tag>,
     ensures { IfOk result (λ fields. fields ≡ fields_held name attributes) }
 {
     let mut pairs = attributes.into_vec();
-    put_row(alloc, &mut pairs, "event", text_given(name))?;
+    put_row(alloc, &mut pairs, "event", text_kept(name))?;
     tags_in_order(alloc, pairs)
 }
 
@@ -248,21 +236,11 @@ fn spans_of(alloc: Global, scopes: Items<Scope>) -> Result<Items<JSpan>, OutOfMe
 
 // ---- the batch
 
-fn service_of(alloc: Global, name: Option<&Value>) -> Result<Text, OutOfMemory>
-    requires { least.double_at (option_map (λ value. value.now) name) ≡ false }
-    ensures { IfOk result (λ text. text ≡ told.service_of (option_map (λ value. value.now) name.entry)) }
-{
-    match name {
-        Some(value) => text_told(alloc, value),
-        None => Ok(Text::new(alloc)),
-    }
-}
-
 // The tags of a process.
 fn process_tags(alloc: Global, resource: Attrs) -> Result<Items<Tag>, OutOfMemory>
     requires plain { least.doubles_inside resource ≡ false }
     requires rising { Rise (keys_of resource) }
-    ensures { IfOk result (λ tags. tags ≡ map values.tag_of (without keys.service_key resource)) }
+    ensures { IfOk result (λ tags. tags ≡ map values.tag_of (without service_key resource)) }
 {
     let others = attributes_but(alloc, "service.name", resource)?;
     tags_in_order(alloc, others.into_vec())
@@ -274,7 +252,7 @@ fn batch_of(alloc: Global, group: Group) -> Result<Batch, OutOfMemory>
     ensures { IfOk result (λ batch. batch ≡ told.batch_of group) }
 {
     Ok(Batch {
-        service: service_of(alloc, find(&group.resource, "service.name"))?,
+        service: text_or_none(alloc, find(&group.resource, "service.name"))?,
         tags: process_tags(alloc, group.resource)?,
         spans: spans_of(alloc, group.scopes)?,
     })

@@ -1,13 +1,13 @@
 //! The columns of a span, as tags hold them under the reserved keys.
-ghost use Rattle.std.specs.Prelude.{◌≡◌, ◌++◌, ℕ, List, Some, IfOk, OnOk};
+ghost use Rattle.std.specs.Prelude.{◌≡◌, ◌++◌, ℕ, List, IfOk, OnOk};
 ghost use Rattle.trace_model.specs.Attributes.{attrs};
 ghost use Rattle.map_jaeger.specs.Columns as columns;
 ghost use Rattle.map_jaeger.specs.Writing as told;
-ghost use Rattle.trace_model.specs.declared.value.Value.TheVariants as values;
 ghost use Rattle.map_jaeger.specs.WritingSoFar.{columns_held};
 
-use crate::rows::{put_row, text_given};
+use crate::rows::put_row;
 use span_io::{OutOfMemory, Text};
+use span_tags::{code_given, text_given, text_kept, word_given};
 use std::alloc::Global;
 use trace_model::{Code, Kind, Status, Value};
 
@@ -20,12 +20,6 @@ pub(crate) struct Held {
     pub dropped_attributes: u32,
     pub dropped_events: u32,
     pub dropped_links: u32,
-}
-
-fn word_given(alloc: Global, word: &str) -> Result<Option<Value>, OutOfMemory>
-    ensures { IfOk result (λ value. value ≡ Some (values.Text word.now)) }
-{
-    Ok(Some(Value::Text(Text::of(alloc, word)?)))
 }
 
 fn count_given(count: u32) -> Option<Value>
@@ -46,22 +40,12 @@ fn error_given(code: Code) -> Option<Value>
     }
 }
 
-fn code_given(alloc: Global, code: Code) -> Result<Option<Value>, OutOfMemory>
-    ensures { IfOk result (λ value. value ≡ told.code_given code) }
-{
-    match code {
-        Code::Unset => Ok(None),
-        Code::Okay => word_given(alloc, "OK"),
-        Code::Fail => word_given(alloc, "ERROR"),
-    }
-}
-
 fn description_given(status: Status) -> Option<Value>
     ensures { result ≡ told.description_given status.code status.message }
 {
     match status.code {
         Code::Unset => None,
-        Code::Okay | Code::Fail => text_given(status.message),
+        Code::Okay | Code::Fail => text_kept(status.message),
     }
 }
 
@@ -89,18 +73,13 @@ pub(crate) fn put_columns(
         → OnOk result (pairs.new.items ≡ attrs (columns.rows (columns_held name.now version.now held) ++ rest)) }
 {
     let code = held.status.code;
-    put_row(alloc, pairs, "w3c.tracestate", text_given(held.state))?;
+    put_row(alloc, pairs, "w3c.tracestate", text_kept(held.state))?;
     put_row(alloc, pairs, "span.kind", kind_given(alloc, held.kind)?)?;
     let description = description_given(held.status);
     put_row(alloc, pairs, "otel.status_description", description)?;
     put_row(alloc, pairs, "otel.status_code", code_given(alloc, code)?)?;
-    put_row(
-        alloc,
-        pairs,
-        "otel.scope.version",
-        text_given(version.copy()?),
-    )?;
-    put_row(alloc, pairs, "otel.scope.name", text_given(name.copy()?))?;
+    put_row(alloc, pairs, "otel.scope.version", text_given(version)?)?;
+    put_row(alloc, pairs, "otel.scope.name", text_given(name)?)?;
     let links = count_given(held.dropped_links);
     put_row(alloc, pairs, "otel.dropped_links_count", links)?;
     let events = count_given(held.dropped_events);

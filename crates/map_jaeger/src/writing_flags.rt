@@ -3,7 +3,7 @@ ghost use Rattle.std.specs.Prelude.{◌≡◌, ◌%◌, option_map, unwrap_or, I
 ghost use Rattle.map_jaeger.specs.Columns as columns;
 ghost use Rattle.map_jaeger.specs.Writing as told;
 
-use crate::decimal_texts::decimal_in;
+use span_tags::decimal_in;
 use trace_model::{Span, Value, find};
 
 // Flags but the first bit, where the value tells some.

@@ -1,15 +1,15 @@
 //! The attributes that tags leave, and the flags among them.
 ghost use Rattle.std.specs.Prelude.{◌≡◌, ◌∷◌, ◌++◌, IfOk, OnOk};
 ghost use Rattle.trace_model.specs.Attributes.{Rise, attrs, keys};
-ghost use Rattle.map_jaeger.specs.Columns as told;
+ghost use Rattle.span_tags.specs.TagWords as told;
 ghost use Rattle.map_jaeger.specs.Keys.{flags_key};
 ghost use Rattle.map_jaeger.specs.Reading as meant;
 ghost use Rattle.map_jaeger.specs.ReadColumns.{ArePartsOf};
 
 use crate::keys::is_reserved;
-use crate::rows::{add_others, add_row, text_given};
 use jaeger_model::JSpan;
 use span_io::{Items, OutOfMemory, Text};
+use span_tags::{add_others, add_row, text_kept};
 use std::alloc::Global;
 use trace_model::{Attrs, Value, attrs_of};
 
@@ -60,7 +60,7 @@ pub(crate) fn process_attributes(
     ensures { IfOk result (λ attributes. attributes ≡ meant.process_attributes service tags) }
 {
     let mut pairs = Items::new(alloc);
-    add_row(alloc, &mut pairs, "service.name", text_given(service))?;
+    add_row(alloc, &mut pairs, "service.name", text_kept(service))?;
     add_others(&mut pairs, "service.name", tags)?;
     let parts = attrs_of(alloc, pairs)?;
     Ok(parts.0)

@@ -1,12 +1,13 @@
 //! What the tags of Jaeger's own say of a span.
-ghost use Rattle.std.specs.Prelude.{◌≡◌, [], unwrap_or, if◌then◌else◌, option_map, false, IfOk};
+ghost use Rattle.std.specs.Prelude.{◌≡◌, unwrap_or, if◌then◌else◌, option_map, false, IfOk};
 ghost use Rattle.trace_model.specs.declared.span.Code.TheVariants as statuses;
 ghost use Rattle.map_jaeger.specs.Columns as told;
 ghost use Rattle.map_jaeger.specs.Reading as meant;
 ghost use Rattle.map_jaeger.specs.ReadColumns.{IsToldBy};
 
-use crate::reading::values::{code_in, count_in, error_in, kind_in, text_in};
+use crate::reading::values::{error_in, kind_in};
 use span_io::{OutOfMemory, Text};
+use span_tags::{code_in, count_in, name_in, text_or_empty};
 use std::alloc::Global;
 use trace_model::{Attrs, Code, Kind, Status, Value, find};
 
@@ -49,27 +50,6 @@ pub(crate) fn told_by(alloc: Global, tags: &Attrs) -> Result<Told, OutOfMemory>
         dropped_links: count_in(find(tags, "otel.dropped_links_count")).unwrap_or(0),
         status,
     })
-}
-
-/// The text that a value is, else an empty one.
-pub(crate) fn text_or_empty(alloc: Global, value: Option<&Value>) -> Result<Text, OutOfMemory>
-    ensures { IfOk result (λ text. text ≡ unwrap_or (told.text_in (option_map (λ v. v.now) value.entry)) []) }
-{
-    match text_in(value) {
-        Some(text) => Text::of(alloc, text),
-        None => Ok(Text::new(alloc)),
-    }
-}
-
-// A name or version, by the newer key and the older.
-fn name_in(alloc: Global, newer: Option<&Value>, older: Option<&Value>) -> Result<Text, OutOfMemory>
-    ensures { IfOk result (λ text.
-        text ≡ meant.name_in (option_map (λ v. v.now) newer.entry) (option_map (λ v. v.now) older.entry)) }
-{
-    match text_in(newer) {
-        Some(text) => Text::of(alloc, text),
-        None => text_or_empty(alloc, older),
-    }
 }
 
 fn status_of(alloc: Global, tags: &Attrs) -> Result<Status, OutOfMemory>

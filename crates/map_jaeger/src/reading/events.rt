@@ -4,12 +4,10 @@ ghost use Rattle.map_jaeger.specs.Noted.{AddsNoted, AreNumbered};
 ghost use Rattle.map_jaeger.specs.Reading as meant;
 ghost use Rattle.map_jaeger.specs.Remarks.{RepeatsOf, is_idle_event, log_remarks};
 
-use crate::reading::columns::text_or_empty;
-use crate::reading::remarks::{is_idle_text, remark_if};
 use crate::reading::tags::attributes_of;
-use crate::rows::add_others;
 use jaeger_model::Log;
 use span_io::{Items, OutOfMemory, Text};
+use span_tags::{add_others, is_idle_text, remark_if, text_or_empty};
 use std::alloc::Global;
 use trace_model::{Event, Place, Remark, find, number_behind, remark_keys};
 

@@ -1,21 +1,21 @@
 //! Spans, and the scopes that they are of.
 ghost use Rattle.std.specs.Prelude.{◌≡◌, map, IfOk, OnOk};
+ghost use Rattle.span_tags.specs.ReadRuns.{one_of};
+ghost use Rattle.span_tags.specs.Runs.{runs};
 ghost use Rattle.map_jaeger.specs.Noted.{AddsNoted, AreNumbered};
 ghost use Rattle.map_jaeger.specs.Reading as meant;
 ghost use Rattle.map_jaeger.specs.ReadColumns.{scoped_by_parts};
-ghost use Rattle.map_jaeger.specs.ReadRuns.{one_of};
 ghost use Rattle.map_jaeger.specs.Remarks.{RepeatsOfSpan, jspan_remarks};
-ghost use Rattle.map_jaeger.specs.Runs.{runs};
 
 use crate::reading::attributes::{part_tags, span_attributes};
 use crate::reading::columns::{Told, told_by};
 use crate::reading::events::events_of;
 use crate::reading::links::{links_but, parent_of};
 use crate::reading::remarks::remark_left_out;
-use crate::reading::runs::{ReadSpan, Runs};
 use crate::reading::tags::attributes_of;
 use jaeger_model::JSpan;
 use span_io::{Items, OutOfMemory};
+use span_tags::{ReadSpan, Runs};
 use std::alloc::Global;
 use std::mem;
 use trace_model::{

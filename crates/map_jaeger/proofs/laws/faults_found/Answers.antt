@@ -1,7 +1,6 @@
 use Rattle.map_jaeger.specs.LeastFault.{fault_of}
 use Rattle.map_jaeger.proofs.GroupFault.{fault_counts}
-use Rattle.map_jaeger.proofs.RisingSpans.{spans_rise}
 use Rattle.map_jaeger.proofs.laws.faults_found.Goals as goal
 
 pub returns : goal.returns
-returns c = λ group sound. (fault_of group, fault_counts group (spans_rise group sound))
+returns c = λ group sound. (fault_of group, fault_counts group sound)

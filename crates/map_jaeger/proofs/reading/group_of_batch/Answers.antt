@@ -4,8 +4,8 @@ use Rattle.trace_model.specs.Remarks.{tags_dropped}
 use Rattle.trace_model.specs.declared.place.Place.TheVariants as places
 use Rattle.trace_model.specs.Soundness.{IsSoundScope}
 use Rattle.trace_model.specs.Values.{AreSound}
-use Rattle.map_jaeger.specs.Keys.{service_key}
-use Rattle.map_jaeger.specs.Remarks.{if_left}
+use Rattle.span_tags.specs.TagKeys.{service_key}
+use Rattle.span_tags.specs.TagWords.{if_left}
 use Rattle.map_jaeger.specs.Reading.{process_attributes, resource_of}
 use Rattle.map_jaeger.proofs.ReadRemarks.{batch_noted}
 use Rattle.map_jaeger.proofs.SoundGroups.{resource_sound, scopes_sound}

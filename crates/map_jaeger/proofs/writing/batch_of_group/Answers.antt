@@ -4,17 +4,16 @@ use Rattle.map_jaeger.specs.Faults.{IsFaultOf}
 use Rattle.map_jaeger.specs.Laws.{IsTimely}
 use Rattle.map_jaeger.proofs.GroupFault.{fault_counts}
 use Rattle.map_jaeger.proofs.NoDoubles.{group_plain}
-use Rattle.map_jaeger.proofs.RisingSpans.{spans_rise}
 use Rattle.map_jaeger.proofs.TimelySpans.{spans_timely}
 use Rattle.map_jaeger.proofs.writing.batch_of_group.Goals as goal
 
 pub returns-in-Some-clause-judged : goal.returns-in-Some-clause-judged
 returns-in-Some-clause-judged c = subst (IsFaultOf c.args.group) (sym c.in_ok-fault.ensures ∙ c.in-Some.is)
-    (fault_counts c.args.group (spans_rise c.args.group c.requires.sound))
+    (fault_counts c.args.group c.requires.sound)
 
 pub returns-in_ok-batch_of-in-None-clause-judged : goal.returns-in_ok-batch_of-in-None-clause-judged
 returns-in_ok-batch_of-in-None-clause-judged c = subst (IsFaultOf c.args.group) (sym c.in_ok-fault.ensures ∙ c.in-None.is)
-    (fault_counts c.args.group (spans_rise c.args.group c.requires.sound))
+    (fault_counts c.args.group c.requires.sound)
 
 pub returns-in_ok-batch_of-in-None-clause-timely : goal.returns-in_ok-batch_of-in-None-clause-timely
 returns-in_ok-batch_of-in-None-clause-timely c = subst (λ (batch : Batch). All IsTimely batch.spans) (sym c.in_ok-batch_of-in-None.ensures)

@@ -1,7 +1,7 @@
 use Rattle.std.proofs.Common.{◌≡◌, ◌++◌, ap, map, ◌∙◌}
 use Rattle.std.proofs.lemmas.Result.{IfOk-weaker}
 use Rattle.trace_model.specs.Attributes.{attrs}
-use Rattle.map_jaeger.specs.Columns.{row, text_given}
+use Rattle.span_tags.specs.TagWords.{row, text_given}
 use Rattle.map_jaeger.specs.Keys.{event_key}
 use Rattle.map_jaeger.specs.LeastFault.{doubles_inside}
 use Rattle.map_jaeger.specs.TagValues.{tag_of}
@@ -14,7 +14,7 @@ tags_in_order-requires c =
     let attributes = c.args.attributes in
     let put : c.put_row.new.pairs.items ≡ attrs (row event_key (text_given c.args.name) ++ attributes) =
     c.in_ok-put_row.ensures attributes (starts attributes _ c.requires.rising c.into_vec-pairs.ensures)
-    ∙ ap (λ value. attrs (row event_key value ++ attributes)) c.text_given.ensures in
+    ∙ ap (λ value. attrs (row event_key value ++ attributes)) c.text_kept.ensures in
     ap doubles_inside put ∙ attrs_plain (row event_key (text_given c.args.name) ++ attributes) (event_pairs_plain c.args.name attributes c.requires.plain)
 
 pub returns : goal.returns
@@ -22,5 +22,5 @@ returns c =
     let attributes = c.args.attributes in
     let put : c.put_row.new.pairs.items ≡ attrs (row event_key (text_given c.args.name) ++ attributes) =
     c.in_ok-put_row.ensures attributes (starts attributes _ c.requires.rising c.into_vec-pairs.ensures)
-    ∙ ap (λ value. attrs (row event_key value ++ attributes)) c.text_given.ensures in
+    ∙ ap (λ value. attrs (row event_key value ++ attributes)) c.text_kept.ensures in
     IfOk-weaker c.tags_in_order.result _ _ (λ tags is. is ∙ ap (map tag_of) put) c.tags_in_order.ensures

@@ -1,5 +1,5 @@
 use Rattle.std.proofs.Common.{ap, ◌∙◌}
-use Rattle.map_jaeger.specs.Keys.{service_key}
+use Rattle.span_tags.specs.TagKeys.{service_key}
 use Rattle.map_jaeger.specs.LeastFault.{doubles_inside}
 use Rattle.map_jaeger.proofs.NoDoubles.{without_plain}
 use Rattle.map_jaeger.proofs.writing.process_tags.Goals as goal

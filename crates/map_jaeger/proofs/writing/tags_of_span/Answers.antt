@@ -1,9 +1,9 @@
 use Rattle.std.proofs.Common.{◌++◌, ap, map, ◌∙◌}
 use Rattle.std.proofs.lemmas.Result.{IfOk-weaker}
+use Rattle.span_tags.specs.TagWords.{without}
 use Rattle.map_jaeger.specs.Columns.{rows}
 use Rattle.map_jaeger.specs.Keys.{flags_key}
 use Rattle.map_jaeger.specs.LeastFault.{doubles_inside}
-use Rattle.map_jaeger.specs.Reading.{without}
 use Rattle.map_jaeger.specs.TagValues.{tag_of}
 use Rattle.map_jaeger.specs.WritingSoFar.{columns_held}
 use Rattle.map_jaeger.proofs.NoDoubles.{attrs_plain, span_pairs_plain}

@@ -1,8 +1,9 @@
 use Rattle.std.proofs.Common.{◌≡◌, ◌++◌, refl}
 use Rattle.std.proofs.lemmas.Result.{on_ok_weaker}
 use Rattle.trace_model.specs.Remarks.{Keys, tags_dropped}
-use Rattle.map_jaeger.specs.Keys.{dropped_attributes_key, dropped_events_key, dropped_links_key, error_key, flags_key}
-use Rattle.map_jaeger.specs.Remarks.{if_left}
+use Rattle.span_tags.specs.TagKeys.{dropped_attributes_key, dropped_events_key, dropped_links_key, error_key}
+use Rattle.span_tags.specs.TagWords.{if_left}
+use Rattle.map_jaeger.specs.Keys.{flags_key}
 use Rattle.map_jaeger.proofs.LeftOut.{one_row}
 use Rattle.map_jaeger.proofs.reading.remarks.remark_first.Goals as goal
 

@@ -1,8 +1,9 @@
 use Rattle.std.proofs.Common.{◌≡◌, ◌++◌}
 use Rattle.std.proofs.lemmas.Result.{on_ok_weaker}
 use Rattle.trace_model.specs.Remarks.{tags_dropped}
-use Rattle.map_jaeger.specs.Keys.{code_key, description_key, kind_key, state_key}
-use Rattle.map_jaeger.specs.Remarks.{if_left}
+use Rattle.span_tags.specs.TagKeys.{code_key, state_key}
+use Rattle.span_tags.specs.TagWords.{if_left}
+use Rattle.map_jaeger.specs.Keys.{description_key, kind_key}
 use Rattle.map_jaeger.proofs.LeftOut.{one_row, last_row}
 use Rattle.map_jaeger.proofs.reading.remarks.remark_last.Goals as goal
 

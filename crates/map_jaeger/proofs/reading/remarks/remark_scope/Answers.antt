@@ -1,8 +1,8 @@
 use Rattle.std.proofs.Common.{◌≡◌, ◌++◌, refl}
 use Rattle.std.proofs.lemmas.Result.{on_ok_weaker}
 use Rattle.trace_model.specs.Remarks.{Keys, tags_dropped}
-use Rattle.map_jaeger.specs.Keys.{library_name_key, library_version_key, scope_name_key, scope_version_key}
-use Rattle.map_jaeger.specs.Remarks.{if_left}
+use Rattle.span_tags.specs.TagKeys.{library_name_key, library_version_key, scope_name_key, scope_version_key}
+use Rattle.span_tags.specs.TagWords.{if_left}
 use Rattle.map_jaeger.proofs.LeftOut.{one_row}
 use Rattle.map_jaeger.proofs.reading.remarks.remark_scope.Goals as goal
 

@@ -1,0 +1,2 @@
+pub mod RunsAtBack
+pub mod Decimals

@@ -1,0 +1,12 @@
+pub mod Runs
+pub mod RunLaws
+pub mod RowLaws
+pub mod AttributeLaws
+pub mod ReadRuns
+pub mod TagKeys
+pub mod TagWords
+pub mod PlacedFaults
+pub mod LeastRows
+pub mod FirstFault
+pub mod FirstFaultLaws
+pub mod Doubles

@@ -1,0 +1,16 @@
+//! What the tables of Jaeger and of Zipkin share: tags under reserved keys, runs of spans in scopes, and the fault that counts.
+#![tactic(auto)]
+
+mod decimal_texts;
+mod left_out;
+mod rows;
+mod runs;
+mod words;
+
+pub use decimal_texts::decimal_in;
+pub use left_out::{
+    is_idle_code, is_idle_count, is_idle_library, is_idle_text, is_there, remark_if,
+};
+pub use rows::{add_others, add_row, code_given, text_given, text_kept, word_given};
+pub use runs::{ReadSpan, Runs};
+pub use words::{code_in, count_in, name_in, text_in, text_or_empty, text_or_none, text_told};
