@@ -1,0 +1,228 @@
+-- The spans that are written of a group that Zipkin can hold are proper and timely.
+use Rattle.std.proofs.Common.{◌≡◌, ℕ, ◌<◌, ◌≤◌, ◌^◌, Bool, true, false, cond, ◌==◌, ◌&&◌, List, [], ◌∷◌, ◌++◌, map, filter, get_or, All, Option, Some, None, decimal, refl, sym, subst, ap, true≢false, arith}
+use Rattle.std.specs.Prelude.{not, codes, IsUtf8}
+use Rattle.std.specs.List.{list_all}
+use Rattle.std.specs.Option.{IfSome}
+use Rattle.std.specs.Str.{bytes_eq}
+use Rattle.std.proofs.Math.Dec.{ltb}
+use Rattle.std.proofs.lemmas.Bool.{ltb-true}
+use Rattle.std.proofs.lemmas.Fmt.{IsAscii-decimal}
+use Rattle.std.proofs.lemmas.List.Elements.{All-nil, All-cons, All-append, All-filter, All-map}
+use Rattle.std.proofs.lemmas.Map.Entries.{All-lookup}
+use Rattle.std.proofs.lemmas.Str.{IsUtf8-nil, IsUtf8-append, IsUtf8-from_ascii}
+use Rattle.std.proofs.lemmas.Str.Ascii.{IsAscii-from_all}
+use Rattle.span_ids.specs.Times.{floor}
+use Rattle.span_tags.specs.AttributeLaws.{attrs_rise, all_attrs}
+use Rattle.span_tags.specs.Runs.{Scoped, scoped}
+use Rattle.span_tags.specs.TagKeys.{error_key, dropped_attributes_key, dropped_events_key, dropped_links_key, scope_name_key, scope_version_key, code_key, state_key, service_key}
+use Rattle.span_tags.specs.TagWords.{Pairs, row, without, text_given, code_given, text_or_none}
+use Rattle.trace_model.specs.Attributes.{Rise, keys, attrs, at}
+use Rattle.trace_model.specs.EventTexts.{event_text}
+use Rattle.trace_model.specs.Proper.{IsProperValue, IsProperPair, AreProper, IsProperEvent}
+use Rattle.trace_model.specs.ValueTexts.{value_text}
+use Rattle.trace_model.specs.declared.fault.Fault.TheVariants.{EndBeforeStart}
+use Rattle.trace_model.specs.declared.span.Code.{Code}
+use Rattle.trace_model.specs.declared.span.Code.TheVariants as statuses
+use Rattle.trace_model.specs.declared.span.Event.{Event}
+use Rattle.trace_model.specs.declared.span.Span.{Span}
+use Rattle.trace_model.specs.declared.trace.Group.{Group}
+use Rattle.trace_model.specs.declared.value.Value.{Value, Text, Truth, Number, Eight, Bytes, List', Map', Nothing}
+use Rattle.zipkin_json.specs.Proper as written
+use Rattle.map_zipkin.specs.Faults.{HasNoZipkinFault}
+use Rattle.map_zipkin.specs.Keys.{resource_prefix, peer_key, local_ipv4_key, local_ipv6_key, local_port_key, remote_ipv4_key, remote_ipv6_key, remote_port_key}
+use Rattle.map_zipkin.specs.Laws.{IsHeldByZipkin, WrittenIsWritable}
+use Rattle.map_zipkin.specs.TagColumns.{column_rows, count_text, text_told}
+use Rattle.map_zipkin.specs.Writing.{error_message, zipkin_columns_of, as_text, as_texts, prefixed, resource_pairs, is_told, told_pairs, zipkin_tag_of, zipkin_tags_of, annotation_of, zipkin_span, spans_of_group}
+use Rattle.map_zipkin.proofs.HeldSpans.{NoSpanFault, spans_plain, IsHeldSpan, held_spans}
+use Rattle.map_zipkin.proofs.OwnForms.{port_fits}
+use Rattle.map_zipkin.proofs.SpanBack.{all_formed}
+use Rattle.map_zipkin.proofs.TagsBack.{AreFormed}
+
+-- ---- words
+
+ascii : (bs : List ℕ) → list_all (λ b. ltb b 128) bs ≡ true → All (λ b. b < 128) bs
+ascii [] e = All-nil (λ b. b < 128)
+ascii (b ∷ bs) e = by (λ rest. ascii bs rest) (ltb b 128) refl e
+  where
+    by : (list_all (λ c. ltb c 128) bs ≡ true → All (λ c. c < 128) bs) → (low : Bool) → ltb b 128 ≡ low → (low && list_all (λ c. ltb c 128) bs) ≡ true → All (λ c. c < 128) (b ∷ bs)
+    by others true low rest = All-cons (λ c. c < 128) b bs (ltb-true b 128 low) (others rest)
+    by others false low rest = absurd (true≢false (sym rest))
+
+word : (text : List ℕ) → list_all (λ b. ltb b 128) text ≡ true → IsUtf8 text
+word text e = IsUtf8-from_ascii text (IsAscii-from_all text (ascii text e))
+
+-- ---- rows
+
+abbrev Held : Option Value → Type 0
+Held None = Unit {0}
+Held (Some value) = IsProperValue value
+
+-- before proper pairs
+row_proper : (key : List ℕ) → IsUtf8 key → (value : Option Value) → Held value → (rest : Pairs) → AreProper rest → AreProper (row key value ++ rest)
+row_proper key utf8 None held rest all = all
+row_proper key utf8 (Some value) held rest all = All-cons IsProperPair (key, value) rest (record { key = utf8; value = held }) all
+
+text_held : (text : List ℕ) → IsUtf8 text → Held (text_given text)
+text_held [] utf8 = tt
+text_held (x ∷ more) utf8 = utf8
+
+count_held : (n : ℕ) → n < 2 ^ 32 → Held (count_text n)
+count_held n lt = by (n == 0)
+  where
+    by : (none : Bool) → Held (cond none None (Some (Text (decimal n))))
+    by true = tt
+    by false = IsUtf8-from_ascii (decimal n) (IsAscii-decimal n (omega (arith, lt)))
+
+error_held : (code : Code) (message : List ℕ) → IsUtf8 message → Held (error_message code message)
+error_held statuses.Unset message utf8 = tt
+error_held statuses.Okay message utf8 = tt
+error_held statuses.Fail message utf8 = utf8
+
+code_held : (code : Code) → Held (code_given code)
+code_held statuses.Unset = tt
+code_held statuses.Okay = word (codes "OK") refl
+code_held statuses.Fail = word (codes "ERROR") refl
+
+rows_proper : (one : Scoped Span) → IsHeldSpan one → (rest : Pairs) → AreProper rest → AreProper (column_rows (zipkin_columns_of one) ++ rest)
+rows_proper one h rest all =
+    let c = zipkin_columns_of one in
+    All-append IsProperPair (column_rows c) rest
+    (row_proper error_key (word error_key refl) c.error (error_held one.span.status.code one.span.status.message h.proper.status.message) _
+    (row_proper dropped_attributes_key (word dropped_attributes_key refl) c.dropped_attributes (count_held one.span.dropped_attributes h.proper.dropped_attributes) _
+    (row_proper dropped_events_key (word dropped_events_key refl) c.dropped_events (count_held one.span.dropped_events h.proper.dropped_events) _
+    (row_proper dropped_links_key (word dropped_links_key refl) c.dropped_links (count_held one.span.dropped_links h.proper.dropped_links) _
+    (row_proper scope_name_key (word scope_name_key refl) c.scope_name (text_held one.name h.name) _
+    (row_proper scope_version_key (word scope_version_key refl) c.scope_version (text_held one.version h.version) _
+    (row_proper code_key (word code_key refl) c.code (code_held one.span.status.code) _
+    (last_row state_key (word state_key refl) c.state (text_held one.span.state h.proper.state)))))))))
+    all
+  where
+    last_row : (key : List ℕ) → IsUtf8 key → (value : Option Value) → Held value → AreProper (row key value)
+    last_row key utf8 None held = All-nil IsProperPair
+    last_row key utf8 (Some value) held = All-cons IsProperPair (key, value) [] (record { key = utf8; value = held }) (All-nil IsProperPair)
+
+-- ---- endpoints
+
+told_utf8 : (value : Option Value) → IfSome value IsProperValue → IsUtf8 (text_told value)
+told_utf8 None proper = IsUtf8-nil
+told_utf8 (Some (Text text)) proper = proper
+told_utf8 (Some (Truth b)) proper = IsUtf8-nil
+told_utf8 (Some (Number z)) proper = IsUtf8-nil
+told_utf8 (Some (Eight d)) proper = IsUtf8-nil
+told_utf8 (Some (Bytes b)) proper = IsUtf8-nil
+told_utf8 (Some (List' shape members)) proper = IsUtf8-nil
+told_utf8 (Some (Map' shape members)) proper = IsUtf8-nil
+told_utf8 (Some Nothing) proper = IsUtf8-nil
+
+at_proper : (key : List ℕ) (attributes : Pairs) → AreProper attributes → IfSome (at key attributes) IsProperValue
+at_proper key attributes proper = All-lookup IsProperValue (bytes_eq key) attributes (λ k d lt. (proper k d lt).value)
+
+-- ---- times and keys
+
+floor_again : (n : ℕ) → floor (floor n) ≡ floor n
+floor_again n = omega arith
+
+floor_order : (a b : ℕ) → a ≤ b → floor a ≤ floor b
+floor_order a b le = omega arith
+
+not_after : (a b : ℕ) → (b < a → ⊥) → a ≤ b
+not_after a b never = omega (arith, never)
+
+tag_keys : (l : Pairs) → map (λ tag. tag.0) (map zipkin_tag_of l) ≡ keys l
+tag_keys [] = refl
+tag_keys (p ∷ l) = ap (λ ks. p.0 ∷ ks) (tag_keys l)
+
+-- laws of the model: texts of values and of events are UTF-8
+abbrev pub TextsAreUtf8 : Type 0
+TextsAreUtf8 = (value : Value) → IsProperValue value → IsUtf8 (value_text value)
+
+abbrev pub EventsAreUtf8 : Type 0
+EventsAreUtf8 = (name : List ℕ) (attributes : Pairs) → IsUtf8 name → AreProper attributes → IsUtf8 (event_text name attributes)
+
+-- ---- times and order
+
+pub span_timely : (resource : Pairs) (one : Scoped Span) → NoSpanFault one.span → written.IsTimelyZSpan (zipkin_span resource one)
+span_timely resource one none =
+    let pairs = column_rows (zipkin_columns_of one) ++ (resource_pairs resource ++ told_pairs one.span.attributes) in
+    record {
+      start = floor_again one.span.start;
+      end = floor_again one.span.end;
+      order = floor_order one.span.start one.span.end (not_after one.span.start one.span.end (λ early. none EndBeforeStart early));
+      annotations = All-map written.IsTimelyAnnotation annotation_of one.span.events (λ k d lt. floor_again (get_or one.span.events k d).time);
+      rising = subst Rise (sym (tag_keys (attrs pairs))) (attrs_rise pairs);
+    }
+
+pub spans_timely : (group : Group) → HasNoZipkinFault group → All written.IsTimelyZSpan (spans_of_group group)
+spans_timely group none = All-map written.IsTimelyZSpan (zipkin_span group.resource) (scoped group.scopes)
+    (λ k d lt. span_timely group.resource (get_or (scoped group.scopes) k d) (spans_plain group none k d lt))
+
+module _ (utf8 : TextsAreUtf8) (events_utf8 : EventsAreUtf8) where
+  -- ---- tags
+
+  texts_proper : (attributes : Pairs) → AreProper attributes → AreProper (as_texts attributes)
+  texts_proper attributes proper = All-map IsProperPair as_text attributes
+      (λ k d lt. record { key = (proper k d lt).key; value = utf8 (get_or attributes k d).1 (proper k d lt).value })
+
+  resource_proper : (resource : Pairs) → AreProper resource → AreProper (resource_pairs resource)
+  resource_proper resource proper =
+      let others : AreProper (as_texts (without service_key resource)) =
+      texts_proper (without service_key resource) (All-filter (λ attribute. not (bytes_eq service_key attribute.0)) IsProperPair resource proper) in
+      All-map IsProperPair prefixed (as_texts (without service_key resource)) (λ k d lt. record {
+        key = IsUtf8-append resource_prefix (get_or (as_texts (without service_key resource)) k d).0 (word resource_prefix refl) (others k d lt).key;
+        value = (others k d lt).value;
+      })
+
+  told_proper : (attributes : Pairs) → AreProper attributes → AreProper (told_pairs attributes)
+  told_proper attributes proper = texts_proper (filter (λ attribute. is_told attribute.0) attributes) (All-filter (λ attribute. is_told attribute.0) IsProperPair attributes proper)
+
+  tags_proper : (resource : Pairs) (one : Scoped Span) → AreProper resource → IsHeldSpan one → All written.IsProperZTag (zipkin_tags_of resource one)
+  tags_proper resource one proper h =
+      let pairs = column_rows (zipkin_columns_of one) ++ (resource_pairs resource ++ told_pairs one.span.attributes) in
+      let all : AreProper (attrs pairs) = all_attrs IsProperPair pairs (rows_proper one h (resource_pairs resource ++ told_pairs one.span.attributes)
+      (All-append IsProperPair (resource_pairs resource) (told_pairs one.span.attributes) (resource_proper resource proper) (told_proper one.span.attributes h.proper.attributes))) in
+      All-map written.IsProperZTag zipkin_tag_of (attrs pairs) (λ k d lt. ((all k d lt).key, utf8 (get_or (attrs pairs) k d).1 (all k d lt).value))
+
+  -- ---- the span
+
+  service_utf8 : (value : Option Value) → IfSome value IsProperValue → IsUtf8 (text_or_none value)
+  service_utf8 None proper = IsUtf8-nil
+  service_utf8 (Some value) proper = utf8 value proper
+
+  annotation_proper : (event : Event) → IsProperEvent event → written.IsProperAnnotation (annotation_of event)
+  annotation_proper event h = let early = h.time in (omega (arith, early), events_utf8 event.name event.attributes h.name h.attributes)
+
+  span_proper : (resource : Pairs) (one : Scoped Span) → AreProper resource → IsHeldSpan one → written.IsProperZSpan (zipkin_span resource one)
+  span_proper resource one proper h =
+      let its = h.proper.attributes in
+      let formed : AreFormed one.span.attributes = all_formed one.span h.no_fault in
+      let first = h.proper.start in
+      let last = h.proper.end in
+      record {
+        trace = h.proper.trace;
+        id = h.proper.id;
+        parent = h.proper.parent;
+        name = h.proper.name;
+        start = omega (arith, first);
+        end = omega (arith, last);
+        local = record {
+          service = service_utf8 (at service_key resource) (at_proper service_key resource proper);
+          ipv4 = told_utf8 (at local_ipv4_key one.span.attributes) (at_proper local_ipv4_key one.span.attributes its);
+          ipv6 = told_utf8 (at local_ipv6_key one.span.attributes) (at_proper local_ipv6_key one.span.attributes its);
+          port = port_fits (at local_port_key one.span.attributes) formed.local_port;
+        };
+        remote = record {
+          service = service_utf8 (at peer_key one.span.attributes) (at_proper peer_key one.span.attributes its);
+          ipv4 = told_utf8 (at remote_ipv4_key one.span.attributes) (at_proper remote_ipv4_key one.span.attributes its);
+          ipv6 = told_utf8 (at remote_ipv6_key one.span.attributes) (at_proper remote_ipv6_key one.span.attributes its);
+          port = port_fits (at remote_port_key one.span.attributes) formed.remote_port;
+        };
+        annotations = All-map written.IsProperAnnotation annotation_of one.span.events (λ k d lt. annotation_proper (get_or one.span.events k d) (h.proper.events k d lt));
+        tags = tags_proper resource one proper h;
+      }
+
+  group_proper : (group : Group) → IsHeldByZipkin group → All written.IsProperZSpan (spans_of_group group)
+  group_proper group is = All-map written.IsProperZSpan (zipkin_span group.resource) (scoped group.scopes)
+      (λ k d lt. span_proper group.resource (get_or (scoped group.scopes) k d) is.proper.resource (held_spans group is k d lt))
+
+  pub written_is_proper : WrittenIsWritable
+  written_is_proper = record { proper = group_proper; timely = λ group held. spans_timely group held.no_fault }

@@ -1,0 +1,219 @@
+-- A span that was written is read as its normal form, and none of its tags is left out.
+use Rattle.std.proofs.Common.{◌≡◌, ℕ, false, List, [], ◌∷◌, ◌++◌, map, get_or, All, None, is_some, unwrap_or, refl, ap, ◌∙◌, inr, arith}
+use Rattle.std.specs.List.{flat_map, AllByRecursion}
+use Rattle.std.proofs.lemmas.List.{get_or_default}
+use Rattle.std.proofs.lemmas.List.Elements.{All-head, All-tail, All-map}
+use Rattle.span_ids.specs.Times.{floor}
+use Rattle.span_tags.specs.AttributeLaws.{at_absent}
+use Rattle.span_tags.specs.Runs.{Scoped, scoped}
+use Rattle.span_tags.specs.TagKeys.{error_key, dropped_attributes_key, dropped_events_key, dropped_links_key, library_name_key, library_version_key, code_key, service_key}
+use Rattle.span_tags.specs.TagWords.{Pairs, text_in, code_in, name_in, text_given, code_given, text_or_none, is_idle, if_left}
+use Rattle.trace_model.specs.Attributes.{Rise, keys, at}
+use Rattle.trace_model.specs.declared.fault.Fault.TheVariants.{Reserved, OwnKey, EventText, DoubleInText}
+use Rattle.trace_model.specs.declared.span.Code.{Code}
+use Rattle.trace_model.specs.declared.span.Code.TheVariants as statuses
+use Rattle.trace_model.specs.declared.span.Kind.{Kind}
+use Rattle.trace_model.specs.declared.span.Kind.TheVariants as kinds
+use Rattle.trace_model.specs.declared.span.Span.{Span}
+use Rattle.trace_model.specs.declared.trace.Group.{Group}
+use Rattle.map_zipkin.specs.Faults.{IsOutOfForm, IsToldWrong, HasDoubleIn}
+use Rattle.map_zipkin.specs.Keys.{resource_prefix, peer_key, debug_key, local_ipv4_key, local_ipv6_key, local_port_key, remote_ipv4_key, remote_ipv6_key, remote_port_key, shared_key, own_keys}
+use Rattle.map_zipkin.specs.Laws.{IsHeldByZipkin, SpansReadBack}
+use Rattle.map_zipkin.specs.Normal.{zipkin_normal_kind, message_kept, zipkin_normal_event, normal_one, normal_spans}
+use Rattle.map_zipkin.specs.Reading.{pairs_of, message_of, code_of_error, zipkin_event_of, zipkin_kind_read, span_read_by, run_by, run_span_of}
+use Rattle.map_zipkin.specs.Remarks.{is_idle_message, is_idle_peer, left_out_by, zipkin_left_out}
+use Rattle.map_zipkin.specs.TagColumns.{columns_in, own_forms, is_true_text}
+use Rattle.map_zipkin.specs.Writing.{error_message, zipkin_columns_of, zipkin_kind, annotation_of, zipkin_span, spans_of_group}
+use Rattle.map_zipkin.proofs.EventsBack.{none_of, ReadsEvents, EventsReadBack, event_back}
+use Rattle.map_zipkin.proofs.HeldSpans.{NoSpanFault, IsHeldSpan, held_spans}
+use Rattle.map_zipkin.proofs.OwnForms.{count_back, count_told}
+use Rattle.map_zipkin.proofs.TagsBack.{HasNoReserved, AreFormed, held, tags_back, columns_read, resource_back, service_none, placed_none, attributes_back}
+
+-- ---- lists
+
+pub back_each : {A B C : Type 0} → (f : B → C) (g : A → B) (h : A → C) (xs : List A) → All (λ x. f (g x) ≡ h x) xs → map f (map g xs) ≡ map h xs
+back_each f g h [] all = refl
+back_each f g h (x ∷ xs) all =
+    let here : f (g x) ≡ h x = All-head (λ y. f (g y) ≡ h y) x xs all in
+    let rest : map f (map g xs) ≡ map h xs = back_each f g h xs (All-tail (λ y. f (g y) ≡ h y) x xs all) in
+    λ i. here i ∷ rest i
+
+-- ---- columns: read back
+
+kind_back : (kind : Kind) → zipkin_kind_read (zipkin_kind kind) ≡ zipkin_normal_kind kind
+kind_back kinds.Unspecified = refl
+kind_back kinds.Internal = refl
+kind_back kinds.Server = refl
+kind_back kinds.Client = refl
+kind_back kinds.Producer = refl
+kind_back kinds.Consumer = refl
+
+-- the code that the columns of a code say
+abbrev code_by : Code → List ℕ → Code
+code_by code message = unwrap_or (code_in (code_given code)) (code_of_error (error_message code message))
+
+code_back : (code : Code) (message : List ℕ) → code_by code message ≡ code
+code_back statuses.Unset message = refl
+code_back statuses.Okay message = refl
+code_back statuses.Fail message = refl
+
+message_back : (code : Code) (message : List ℕ) → message_of (code_by code message) (error_message code message) ≡ message_kept code message
+message_back statuses.Unset message = refl
+message_back statuses.Okay message = refl
+message_back statuses.Fail message = refl
+
+text_back : (text : List ℕ) → unwrap_or (text_in (text_given text)) [] ≡ text
+text_back [] = refl
+text_back (x ∷ more) = refl
+
+name_back : (text : List ℕ) → name_in (text_given text) None ≡ text
+name_back [] = refl
+name_back (x ∷ more) = refl
+
+-- ---- columns: none is idle
+
+message_told : (code : Code) (message : List ℕ) → is_idle_message (error_message code message) (code_in (code_given code)) ≡ false
+message_told statuses.Unset message = refl
+message_told statuses.Okay message = refl
+message_told statuses.Fail message = refl
+
+code_told : (code : Code) → is_idle (code_given code) (code_in (code_given code)) ≡ false
+code_told statuses.Unset = refl
+code_told statuses.Okay = refl
+code_told statuses.Fail = refl
+
+none_left_of : (l : Pairs) (ks : List (List ℕ)) → AllByRecursion (λ k. at k l ≡ None) ks → flat_map (λ key. if_left key (is_some (at key l))) ks ≡ []
+none_left_of l [] all = refl
+none_left_of l (k ∷ ks) all = ap (λ o. if_left k (is_some o) ++ flat_map (λ key. if_left key (is_some (at key l))) ks) all.0 ∙ none_left_of l ks all.1
+
+-- ---- what no fault says
+
+no_reserved : (span : Span) → NoSpanFault span → HasNoReserved span.attributes
+no_reserved span none k is = at_absent k span.attributes (λ there. none (Reserved k) (record { reserved = is; there = there }))
+
+formed_each : (span : Span) → NoSpanFault span → All (λ own. IsOutOfForm own.1 (at own.0 span.attributes) → ⊥) own_forms
+formed_each span none i d lt bad =
+    none (OwnKey (get_or own_forms i d).0) (i, get_or own_forms i d, lt, get_or_default own_forms i (get_or own_forms i d) d lt, (refl, bad))
+
+pub all_formed : (span : Span) → NoSpanFault span → AreFormed span.attributes
+all_formed span none = record {
+  debug = formed_each span none 0 (debug_key, is_true_text) (omega arith);
+  local_ipv4 = formed_each span none 1 (debug_key, is_true_text) (omega arith);
+  local_ipv6 = formed_each span none 2 (debug_key, is_true_text) (omega arith);
+  local_port = formed_each span none 3 (debug_key, is_true_text) (omega arith);
+  remote_ipv4 = formed_each span none 4 (debug_key, is_true_text) (omega arith);
+  remote_ipv6 = formed_each span none 5 (debug_key, is_true_text) (omega arith);
+  remote_port = formed_each span none 6 (debug_key, is_true_text) (omega arith);
+  shared = formed_each span none 7 (debug_key, is_true_text) (omega arith);
+}
+
+events_right : (span : Span) → NoSpanFault span → All (λ event. IsToldWrong event → ⊥) span.events
+events_right span none = none_of IsToldWrong span.events (λ any. none EventText any)
+
+events_plain : (span : Span) → NoSpanFault span → All (λ event. HasDoubleIn event.attributes → ⊥) span.events
+events_plain span none = none_of (λ event. HasDoubleIn event.attributes) span.events (λ any. none DoubleInText (inr any))
+
+module _ (resource : Pairs) (up : Rise (keys resource)) (one : Scoped Span) (known : IsHeldSpan one) where
+  free : HasNoReserved one.span.attributes
+  free = no_reserved one.span known.no_fault
+
+  abbrev its_tags : Pairs
+  its_tags = held resource one up known.sound.attributes.rising free
+
+  read_tags : pairs_of (zipkin_span resource one) ≡ its_tags
+  read_tags = tags_back resource one up known.sound.attributes.rising free
+
+  read_columns : columns_in its_tags ≡ zipkin_columns_of one
+  read_columns = columns_read resource one up known.sound.attributes.rising free
+
+  -- ---- no tag is left out
+
+  own_none : AllByRecursion (λ k. at k its_tags ≡ None) own_keys
+  own_none =
+      let none : (k : List ℕ) → _ → _ → at k its_tags ≡ None = placed_none resource one up known.sound.attributes.rising free in (
+        none debug_key refl refl,
+        (
+          none local_ipv4_key refl refl,
+          (
+            none local_ipv6_key refl refl,
+            (
+              none local_port_key refl refl,
+              (none remote_ipv4_key refl refl, (none remote_ipv6_key refl refl, (none remote_port_key refl refl, (none shared_key refl refl, tt)))),
+            ),
+          ),
+        ),
+      )
+
+  none_left : left_out_by (zipkin_span resource one).remote.service (zipkin_columns_of one) its_tags ≡ []
+  none_left = λ i. if_left error_key (message_told one.span.status.code one.span.status.message i)
+      ++ (if_left dropped_attributes_key (count_told one.span.dropped_attributes known.proper.dropped_attributes i)
+      ++ (if_left dropped_events_key (count_told one.span.dropped_events known.proper.dropped_events i)
+      ++ (if_left dropped_links_key (count_told one.span.dropped_links known.proper.dropped_links i)
+      ++ (if_left library_name_key false
+      ++ (if_left library_version_key false
+      ++ (if_left (resource_prefix ++ service_key) (is_some (service_none resource one up known.sound.attributes.rising free i))
+      ++ (if_left code_key (code_told one.span.status.code i)
+      ++ (if_left peer_key (is_idle_peer (text_or_none (at peer_key one.span.attributes)) (text_in (placed_none resource one up known.sound.attributes.rising free peer_key refl refl i)))
+      ++ none_left_of its_tags own_keys own_none i))))))))
+
+  pub span_plainly : zipkin_left_out (zipkin_span resource one) ≡ []
+  span_plainly =
+      ap (λ l. left_out_by (zipkin_span resource one).remote.service (columns_in l) l) read_tags
+      ∙ ap (λ c. left_out_by (zipkin_span resource one).remote.service c its_tags) read_columns
+      ∙ none_left
+
+  -- ---- the span
+
+  module _ (reads : ReadsEvents) (written : EventsReadBack) where
+    events_back : map zipkin_event_of (map annotation_of one.span.events) ≡ map zipkin_normal_event one.span.events
+    events_back = back_each zipkin_event_of annotation_of zipkin_normal_event one.span.events
+        (λ k d lt. event_back reads written (get_or one.span.events k d) (known.sound.events k d lt) (known.proper.events k d lt)
+        (events_right one.span known.no_fault k d lt) (events_plain one.span known.no_fault k d lt))
+
+    by_columns : (run_by (zipkin_span resource one) (zipkin_columns_of one) its_tags, span_read_by (zipkin_span resource one) (zipkin_columns_of one) its_tags) ≡ normal_one resource one
+    by_columns = λ i. (
+      record {
+        resource = resource_back resource one up known.sound.attributes.rising free i;
+        name = name_back one.name i;
+        version = name_back one.version i;
+      },
+      record {
+        trace = one.span.trace;
+        id = one.span.id;
+        state = text_back one.span.state i;
+        parent = one.span.parent;
+        name = one.span.name;
+        kind = kind_back one.span.kind i;
+        start = floor one.span.start;
+        end = floor one.span.end;
+        attributes = attributes_back resource one up known.sound.attributes.rising free (all_formed one.span known.no_fault) i;
+        dropped_attributes = count_back one.span.dropped_attributes known.proper.dropped_attributes i;
+        events = events_back i;
+        dropped_events = count_back one.span.dropped_events known.proper.dropped_events i;
+        links = [];
+        dropped_links = count_back one.span.dropped_links known.proper.dropped_links i;
+        status = record { code = code_back one.span.status.code one.span.status.message i; message = message_back one.span.status.code one.span.status.message i };
+        flags = 0;
+      },
+    )
+
+    pub span_back : run_span_of (zipkin_span resource one) ≡ normal_one resource one
+    span_back =
+        ap (λ l. (run_by (zipkin_span resource one) (columns_in l) l, span_read_by (zipkin_span resource one) (columns_in l) l)) read_tags
+        ∙ ap (λ c. (run_by (zipkin_span resource one) c its_tags, span_read_by (zipkin_span resource one) c its_tags)) read_columns
+        ∙ by_columns
+
+-- ---- the group
+
+module _ (reads : ReadsEvents) (written : EventsReadBack) where
+  group_means : (group : Group) → IsHeldByZipkin group → map run_span_of (spans_of_group group) ≡ normal_spans group
+  group_means group is =
+      back_each run_span_of (zipkin_span group.resource) (normal_one group.resource) (scoped group.scopes)
+      (λ k d lt. span_back group.resource is.sound.resource.rising (get_or (scoped group.scopes) k d) (held_spans group is k d lt) reads written)
+
+  group_plainly : (group : Group) → IsHeldByZipkin group → All (λ span. zipkin_left_out span ≡ []) (spans_of_group group)
+  group_plainly group is = All-map (λ span. zipkin_left_out span ≡ []) (zipkin_span group.resource) (scoped group.scopes)
+      (λ k d lt. span_plainly group.resource is.sound.resource.rising (get_or (scoped group.scopes) k d) (held_spans group is k d lt))
+
+  pub spans_read_back : SpansReadBack
+  spans_read_back = record { means = group_means; plainly = group_plainly }

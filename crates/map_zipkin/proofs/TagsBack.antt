@@ -1,0 +1,303 @@
+-- The tags of a span that was written: what they hold in columns, of the resource, and as attributes.
+use Rattle.std.proofs.Common.{◌≡◌, ℕ, Bool, true, false, cond, not, ◌||◌, List, [], ◌∷◌, ◌++◌, map, filter, Option, Some, None, is_some, option_map, option_and_then, refl, sym, ap, ◌∙◌, true≢false}
+use Rattle.std.specs.List.{list_any, AllByRecursion}
+use Rattle.std.specs.Option.{option_or}
+use Rattle.std.specs.Str.{bytes_eq}
+use Rattle.std.proofs.lemmas.List.{map-append}
+use Rattle.trace_model.specs.Attributes.{Rise, keys, attrs, at}
+use Rattle.trace_model.specs.declared.span.Code.{Code}
+use Rattle.trace_model.specs.declared.span.Code.TheVariants as statuses
+use Rattle.trace_model.specs.declared.span.Span.{Span}
+use Rattle.trace_model.specs.declared.value.Value.{Value}
+use Rattle.span_tags.specs.AttributeLaws.{same_key, option_or-none, last_at, last_at-append, last_at-rising, attrs_rise, at_attrs, same_pairs, at_filter, filter_rise, on_values, at_map, map_rise, map_attrs}
+use Rattle.span_tags.specs.RowLaws.{each_of, last_at-filter}
+use Rattle.span_tags.specs.Runs.{Scoped}
+use Rattle.span_tags.specs.TagKeys.{service_key}
+use Rattle.span_tags.specs.TagWords.{Pairs, row, without, text_in, text_given, code_given, text_or_none}
+use Rattle.map_zipkin.specs.Keys.{column_keys, resource_prefix, resource_key, is_zipkin_reserved, is_own, own_keys, peer_key, debug_key, local_ipv4_key, local_ipv6_key, local_port_key, remote_ipv4_key, remote_ipv6_key, remote_port_key, shared_key}
+use Rattle.map_zipkin.specs.Normal.{normal_pairs}
+use Rattle.map_zipkin.specs.Reading.{pair_of, resource_tags, resource_by, peer_of, is_free_tag, attributes_by}
+use Rattle.map_zipkin.specs.TagColumns.{column_rows, columns_in, own_rows, own_in, own_of, is_true_text, is_address, is_port_text}
+use Rattle.map_zipkin.specs.Writing.{error_message, zipkin_columns_of, as_texts, prefixed, resource_pairs, is_told, told_pairs, zipkin_tag_of, zipkin_tags_of, zipkin_span}
+use Rattle.map_zipkin.proofs.ColumnLemmas.{none_in_rows, AreFree, columns_back, textual, texts_of_columns, texts_in_rows, own_at}
+use Rattle.map_zipkin.proofs.OwnForms.{text_leaf, count_leaf, IsFormed, truth_back, address_back, port_back, truth_text_leaf, address_leaf, port_leaf}
+use Rattle.map_zipkin.proofs.ResourceTags.{last_at-resource_tags, last_at-prefixed, none_prefixed}
+
+-- ---- options and truth values
+
+none_told : (b : Bool) (o : Option Value) → o ≡ None → option_map textual (cond b o None) ≡ None
+none_told true o e = ap (option_map textual) e
+none_told false o e = refl
+
+none_kept : (b : Bool) (o : Option Value) → o ≡ None → cond b o None ≡ None
+none_kept true o e = e
+none_kept false o e = refl
+
+left_false : (a b : Bool) → (a || b) ≡ false → a ≡ false
+left_false true b e = absurd (true≢false e)
+left_false false b e = refl
+
+right_false : (a b : Bool) → (a || b) ≡ false → b ≡ false
+right_false true b e = absurd (true≢false e)
+right_false false b e = e
+
+none_is : (o : Option (List ℕ)) → is_some o ≡ false → o ≡ None
+none_is None e = refl
+none_is (Some x) e = absurd (true≢false e)
+
+-- ---- texts
+
+error_leaf : (code : Code) (message : List ℕ) → option_map textual (error_message code message) ≡ error_message code message
+error_leaf statuses.Unset message = refl
+error_leaf statuses.Okay message = refl
+error_leaf statuses.Fail message = refl
+
+code_leaf : (code : Code) → option_map textual (code_given code) ≡ code_given code
+code_leaf statuses.Unset = refl
+code_leaf statuses.Okay = refl
+code_leaf statuses.Fail = refl
+
+columns_texts : (one : Scoped Span) → texts_of_columns (zipkin_columns_of one) ≡ zipkin_columns_of one
+columns_texts one = λ i. record {
+  error = error_leaf one.span.status.code one.span.status.message i;
+  dropped_attributes = count_leaf one.span.dropped_attributes i;
+  dropped_events = count_leaf one.span.dropped_events i;
+  dropped_links = count_leaf one.span.dropped_links i;
+  library_name = None;
+  library_version = None;
+  scope_name = text_leaf one.name i;
+  scope_version = text_leaf one.version i;
+  code = code_leaf one.span.status.code i;
+  state = text_leaf one.span.state i;
+}
+
+texts_again : (l : Pairs) → on_values textual (as_texts l) ≡ as_texts l
+texts_again [] = refl
+texts_again (p ∷ l) = ap (λ more. (p.0, textual p.1) ∷ more) (texts_again l)
+
+prefixed_again : (l : Pairs) → on_values textual (map prefixed (as_texts l)) ≡ map prefixed (as_texts l)
+prefixed_again [] = refl
+prefixed_again (p ∷ l) = ap (λ more. (resource_prefix ++ p.0, textual p.1) ∷ more) (prefixed_again l)
+
+tags_read : (l : Pairs) → map pair_of (map zipkin_tag_of l) ≡ on_values textual l
+tags_read [] = refl
+tags_read (p ∷ l) = ap (λ more. (p.0, textual p.1) ∷ more) (tags_read l)
+
+-- ---- the tags are texts
+
+-- what is told in them, before it is put in order
+abbrev pub pairs_by : Pairs → Scoped Span → Pairs
+pairs_by resource one = column_rows (zipkin_columns_of one) ++ (resource_pairs resource ++ told_pairs one.span.attributes)
+
+pub pairs_texts : (resource : Pairs) (one : Scoped Span) → on_values textual (pairs_by resource one) ≡ pairs_by resource one
+pairs_texts resource one =
+    let each : List ℕ × Value → List ℕ × Value = λ pair. (pair.0, textual pair.1) in
+    map-append each (column_rows (zipkin_columns_of one)) (resource_pairs resource ++ told_pairs one.span.attributes)
+    ∙ (λ i. (texts_in_rows (zipkin_columns_of one) ∙ ap column_rows (columns_texts one)) i
+    ++ (map-append each (resource_pairs resource) (told_pairs one.span.attributes)
+    ∙ (λ j. prefixed_again (without service_key resource) j ++ texts_again (filter (λ attribute. is_told attribute.0) one.span.attributes) j)) i)
+
+-- ---- keys
+
+columns_unprefixed : AllByRecursion (λ k. resource_key k ≡ None) column_keys
+columns_unprefixed = (refl, (refl, (refl, (refl, (refl, (refl, (refl, (refl, (refl, (refl, tt))))))))))
+
+-- no reserved key stands in these
+abbrev pub HasNoReserved : Pairs → Type 0
+HasNoReserved attributes = (k : List ℕ) → is_zipkin_reserved k ≡ true → at k attributes ≡ None
+
+-- what stands at the own keys is of their forms
+pub record AreFormed (attributes : Pairs) : Type 0 where
+  pub debug : IsFormed is_true_text (at debug_key attributes)
+  pub local_ipv4 : IsFormed is_address (at local_ipv4_key attributes)
+  pub local_ipv6 : IsFormed is_address (at local_ipv6_key attributes)
+  pub local_port : IsFormed is_port_text (at local_port_key attributes)
+  pub remote_ipv4 : IsFormed is_address (at remote_ipv4_key attributes)
+  pub remote_ipv6 : IsFormed is_address (at remote_ipv6_key attributes)
+  pub remote_port : IsFormed is_port_text (at remote_port_key attributes)
+  pub shared : IsFormed is_true_text (at shared_key attributes)
+
+own_leaves : (attributes : Pairs) → AreFormed attributes → AllByRecursion (λ k. option_map textual (at k attributes) ≡ at k attributes) own_keys
+own_leaves attributes formed = (
+  truth_text_leaf (at debug_key attributes) formed.debug,
+  (
+    address_leaf (at local_ipv4_key attributes) formed.local_ipv4,
+    (
+      address_leaf (at local_ipv6_key attributes) formed.local_ipv6,
+      (
+        port_leaf (at local_port_key attributes) formed.local_port,
+        (
+          address_leaf (at remote_ipv4_key attributes) formed.remote_ipv4,
+          (
+            address_leaf (at remote_ipv6_key attributes) formed.remote_ipv6,
+            (
+              port_leaf (at remote_port_key attributes) formed.remote_port,
+              (
+                truth_text_leaf (at shared_key attributes) formed.shared,
+                tt,
+              ),
+            ),
+          ),
+        ),
+      ),
+    ),
+  ),
+)
+
+module _ (resource : Pairs) (one : Scoped Span) (up_resource : Rise (keys resource)) (up : Rise (keys one.span.attributes))
+    (free : HasNoReserved one.span.attributes) where
+  -- ---- what stands at a key
+
+  abbrev others : Pairs
+  others = as_texts (without service_key resource)
+
+  others_rise : Rise (keys others)
+  others_rise = map_rise textual (without service_key resource) (filter_rise (λ k. not (bytes_eq service_key k)) resource up_resource)
+
+  abbrev told : Pairs
+  told = told_pairs one.span.attributes
+
+  last_in_told : (k : List ℕ) → last_at k told ≡ option_map textual (cond (is_told k) (at k one.span.attributes) None)
+  last_in_told k =
+      last_at-rising k told (map_rise textual (filter (λ attribute. is_told attribute.0) one.span.attributes) (filter_rise is_told one.span.attributes up))
+      ∙ at_map textual k (filter (λ attribute. is_told attribute.0) one.span.attributes)
+      ∙ ap (option_map textual) (at_filter k is_told one.span.attributes)
+
+  none_reserved : (k : List ℕ) → is_zipkin_reserved k ≡ true → last_at k told ≡ None
+  none_reserved k is = last_in_told k ∙ none_told (is_told k) (at k one.span.attributes) (free k is)
+
+  abbrev rest : Pairs
+  rest = resource_pairs resource ++ told
+
+  rest_free : AreFree rest
+  rest_free k is =
+      let reserved : is_zipkin_reserved k ≡ true = ap (λ b. b || is_some (resource_key k)) is in
+      let unprefixed : resource_key k ≡ None = each_of (λ q. resource_key q ≡ None) column_keys columns_unprefixed k is in
+      last_at-append k (resource_pairs resource) told
+      ∙ (λ i. option_or (none_reserved k reserved i) (none_prefixed k others unprefixed i))
+
+  abbrev pairs : Pairs
+  pairs = column_rows (zipkin_columns_of one) ++ rest
+
+  abbrev pub held : Pairs
+  held = attrs pairs
+
+  last_in : (k : List ℕ) → at k held ≡ option_or (option_or (last_at k told) (last_at k (resource_pairs resource))) (last_at k (column_rows (zipkin_columns_of one)))
+  last_in k =
+      at_attrs k pairs
+      ∙ last_at-append k (column_rows (zipkin_columns_of one)) rest
+      ∙ ap (λ o. option_or o (last_at k (column_rows (zipkin_columns_of one)))) (last_at-append k (resource_pairs resource) told)
+
+  -- under other keys than reserved ones
+  at_held : (k : List ℕ) → is_zipkin_reserved k ≡ false → at k held ≡ last_at k told
+  at_held k e =
+      let unprefixed : resource_key k ≡ None = none_is (resource_key k) (right_false (list_any (bytes_eq k) column_keys) (is_some (resource_key k)) e) in
+      let no_column : list_any (bytes_eq k) column_keys ≡ false = left_false (list_any (bytes_eq k) column_keys) (is_some (resource_key k)) e in
+      last_in k
+      ∙ (λ i. option_or (option_or (last_at k told) (none_prefixed k others unprefixed i)) (none_in_rows k (zipkin_columns_of one) no_column i))
+      ∙ option_or-none (option_or (last_at k told) None)
+      ∙ option_or-none (last_at k told)
+
+  -- under the prefix
+  at_prefixed : (k : List ℕ) → at (resource_prefix ++ k) held ≡ last_at k others
+  at_prefixed k =
+      last_in (resource_prefix ++ k)
+      ∙ (λ i. option_or (option_or (none_reserved (resource_prefix ++ k) refl i) (last_at-prefixed k others i)) (none_in_rows (resource_prefix ++ k) (zipkin_columns_of one) refl i))
+      ∙ option_or-none (last_at k others)
+
+  -- ---- the tags are texts
+
+  pub tags_back : map pair_of (zipkin_tags_of resource one) ≡ held
+  tags_back = tags_read held ∙ map_attrs textual pairs ∙ ap attrs (pairs_texts resource one)
+
+  pub columns_read : columns_in held ≡ zipkin_columns_of one
+  columns_read = columns_back (zipkin_columns_of one) rest rest_free
+
+  -- ---- the resource
+
+  others_none : last_at service_key others ≡ None
+  others_none = last_at-rising service_key others others_rise ∙ at_map textual service_key (without service_key resource)
+      ∙ ap (option_map textual) (at_filter service_key (λ k. not (bytes_eq service_key k)) resource)
+
+  resource_by_key : (k : List ℕ) (b : Bool) → bytes_eq service_key k ≡ b → cond (not b) (last_at k others) None ≡ last_at k others
+  resource_by_key k true e = sym (ap (λ q. last_at q others) (sym (same_key service_key k e)) ∙ others_none)
+  resource_by_key k false e = refl
+
+  resource_at : (k : List ℕ) → last_at k (without service_key (resource_tags held)) ≡ last_at k others
+  resource_at k =
+      last_at-filter k (λ q. not (bytes_eq service_key q)) (resource_tags held)
+      ∙ ap (λ o. cond (not (bytes_eq service_key k)) o None)
+      (last_at-resource_tags k held ∙ last_at-rising (resource_prefix ++ k) held (attrs_rise pairs) ∙ at_prefixed k)
+      ∙ resource_by_key k (bytes_eq service_key k) refl
+
+  same_attrs : (first a b : Pairs) → ((k : List ℕ) → last_at k a ≡ last_at k b) → attrs (first ++ a) ≡ attrs (first ++ b)
+  same_attrs first a b same = same_pairs (attrs (first ++ a)) (attrs (first ++ b)) (attrs_rise (first ++ a)) (attrs_rise (first ++ b))
+      (λ k. at_attrs k (first ++ a) ∙ last_at-append k first a ∙ ap (λ o. option_or o (last_at k first)) (same k)
+      ∙ sym (at_attrs k (first ++ b) ∙ last_at-append k first b))
+
+  pub resource_back : resource_by (text_or_none (at service_key resource)) held ≡ normal_pairs service_key resource
+  resource_back = same_attrs (row service_key (text_given (text_or_none (at service_key resource)))) (without service_key (resource_tags held)) others resource_at
+
+  -- the service has no tag under the prefix
+  pub service_none : at (resource_prefix ++ service_key) held ≡ None
+  service_none = at_prefixed service_key ∙ others_none
+
+  -- ---- attributes
+
+  -- nor has a key with a place of its own
+  pub placed_none : (k : List ℕ) → is_zipkin_reserved k ≡ false → is_told k ≡ false → at k held ≡ None
+  placed_none k e f = at_held k e ∙ last_in_told k ∙ ap (λ b. option_map textual (cond b (at k one.span.attributes) None)) f
+
+  abbrev peer : List ℕ
+  peer = text_or_none (at peer_key one.span.attributes)
+
+  peer_back : peer_of peer (at peer_key held) ≡ text_given peer
+  peer_back = ap (λ o. option_or (text_given peer) (option_and_then text_given (text_in o))) (placed_none peer_key refl refl) ∙ option_or-none (text_given peer)
+
+  normal_at : (k : List ℕ) → last_at k (as_texts (without peer_key one.span.attributes)) ≡ option_map textual (cond (not (bytes_eq peer_key k)) (at k one.span.attributes) None)
+  normal_at k =
+      last_at-rising k (as_texts (without peer_key one.span.attributes)) (map_rise textual (without peer_key one.span.attributes) (filter_rise (λ q. not (bytes_eq peer_key q)) one.span.attributes up))
+      ∙ at_map textual k (without peer_key one.span.attributes)
+      ∙ ap (option_map textual) (at_filter k (λ q. not (bytes_eq peer_key q)) one.span.attributes)
+
+  module _ (formed : AreFormed one.span.attributes) where
+    own_back : own_of (zipkin_span resource one) ≡ own_in one.span.attributes
+    own_back = λ i. record {
+      debug = truth_back (at debug_key one.span.attributes) formed.debug i;
+      local_ipv4 = address_back (at local_ipv4_key one.span.attributes) formed.local_ipv4 i;
+      local_ipv6 = address_back (at local_ipv6_key one.span.attributes) formed.local_ipv6 i;
+      local_port = port_back (at local_port_key one.span.attributes) formed.local_port i;
+      remote_ipv4 = address_back (at remote_ipv4_key one.span.attributes) formed.remote_ipv4 i;
+      remote_ipv6 = address_back (at remote_ipv6_key one.span.attributes) formed.remote_ipv6 i;
+      remote_port = port_back (at remote_port_key one.span.attributes) formed.remote_port i;
+      shared = truth_back (at shared_key one.span.attributes) formed.shared i;
+    }
+
+    read_by : (k : List ℕ) (r o p : Bool) → is_zipkin_reserved k ≡ r → is_own k ≡ o → bytes_eq peer_key k ≡ p
+        → option_or (cond (not (r || (o || p))) (at k held) None) (cond o (at k one.span.attributes) None) ≡ option_map textual (cond (not p) (at k one.span.attributes) None)
+    read_by k true o p is own is_peer =
+        none_kept o (at k one.span.attributes) (free k is) ∙ sym (none_told (not p) (at k one.span.attributes) (free k is))
+    read_by k false true true is own is_peer = absurd (true≢false (sym own ∙ ap is_own (sym (same_key peer_key k is_peer))))
+    read_by k false true false is own is_peer =
+        sym (each_of (λ q. option_map textual (at q one.span.attributes) ≡ at q one.span.attributes) own_keys (own_leaves one.span.attributes formed) k own)
+    read_by k false false true is own is_peer = refl
+    read_by k false false false is own is_peer =
+        let free_key : is_told k ≡ true = λ i. not (own i || is_peer i) in
+        option_or-none (at k held) ∙ at_held k is ∙ last_in_told k ∙ ap (λ b. option_map textual (cond b (at k one.span.attributes) None)) free_key
+
+    abbrev read : Pairs
+    read = own_rows (own_of (zipkin_span resource one)) ++ filter (λ tag. is_free_tag tag.0) held
+
+    read_at : (k : List ℕ) → last_at k read ≡ last_at k (as_texts (without peer_key one.span.attributes))
+    read_at k =
+        last_at-append k (own_rows (own_of (zipkin_span resource one))) (filter (λ tag. is_free_tag tag.0) held)
+        ∙ (λ i. option_or
+        ((last_at-filter k is_free_tag held ∙ ap (λ o. cond (is_free_tag k) o None) (last_at-rising k held (attrs_rise pairs))) i)
+        ((ap (λ c. last_at k (own_rows c)) own_back ∙ own_at k one.span.attributes) i))
+        ∙ read_by k (is_zipkin_reserved k) (is_own k) (bytes_eq peer_key k) refl refl refl
+        ∙ sym (normal_at k)
+
+    pub attributes_back : attributes_by (zipkin_span resource one) held ≡ normal_pairs peer_key one.span.attributes
+    attributes_back =
+        ap (λ o. attrs (row peer_key o ++ read)) peer_back
+        ∙ same_attrs (row peer_key (text_given peer)) read (as_texts (without peer_key one.span.attributes)) read_at

@@ -1,0 +1,61 @@
+-- The keys of tags to which the OpenTelemetry exporter page for Zipkin gives a meaning of their own, so that no attribute may stand under
+-- them; those of Zipkin's own; and that of the service at the other end.
+use Rattle.std.specs.Prelude.{ℕ, Bool, ◌||◌, if◌then◌else◌, is_some, List, [], ◌∷◌, take, drop, Option, Some, None, codes}
+use Rattle.std.specs.List.{list_any}
+use Rattle.std.specs.Str.{bytes_eq}
+use Rattle.span_tags.specs.TagKeys.{error_key, dropped_attributes_key, dropped_events_key, dropped_links_key, library_name_key, library_version_key, scope_name_key, scope_version_key, code_key, state_key}
+
+-- ---- of the resource: tags that begin with this
+
+abbrev pub resource_prefix : List ℕ
+resource_prefix = codes "otel.resource."
+
+-- the key behind it
+abbrev pub resource_key : List ℕ → Option (List ℕ)
+resource_key key = if bytes_eq (take 14 key) resource_prefix then Some (drop 14 key) else None
+
+-- ---- of the span and its scope, in the order of their bytes
+
+abbrev pub column_keys : List (List ℕ)
+column_keys = error_key ∷ dropped_attributes_key ∷ dropped_events_key ∷ dropped_links_key ∷ library_name_key ∷ library_version_key
+    ∷ scope_name_key ∷ scope_version_key ∷ code_key ∷ state_key ∷ []
+
+abbrev pub is_zipkin_reserved : List ℕ → Bool
+is_zipkin_reserved key = list_any (bytes_eq key) column_keys || is_some (resource_key key)
+
+-- ---- of Zipkin's own: what a span has there and a trace has no place for
+
+abbrev pub debug_key : List ℕ
+debug_key = codes "zipkin.debug"
+
+abbrev pub local_ipv4_key : List ℕ
+local_ipv4_key = codes "zipkin.local.ipv4"
+
+abbrev pub local_ipv6_key : List ℕ
+local_ipv6_key = codes "zipkin.local.ipv6"
+
+abbrev pub local_port_key : List ℕ
+local_port_key = codes "zipkin.local.port"
+
+abbrev pub remote_ipv4_key : List ℕ
+remote_ipv4_key = codes "zipkin.remote.ipv4"
+
+abbrev pub remote_ipv6_key : List ℕ
+remote_ipv6_key = codes "zipkin.remote.ipv6"
+
+abbrev pub remote_port_key : List ℕ
+remote_port_key = codes "zipkin.remote.port"
+
+abbrev pub shared_key : List ℕ
+shared_key = codes "zipkin.shared"
+
+abbrev pub own_keys : List (List ℕ)
+own_keys = debug_key ∷ local_ipv4_key ∷ local_ipv6_key ∷ local_port_key ∷ remote_ipv4_key ∷ remote_ipv6_key ∷ remote_port_key ∷ shared_key ∷ []
+
+abbrev pub is_own : List ℕ → Bool
+is_own key = list_any (bytes_eq key) own_keys
+
+-- ---- the service at the other end
+
+abbrev pub peer_key : List ℕ
+peer_key = codes "peer.service"

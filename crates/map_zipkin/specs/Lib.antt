@@ -1,0 +1,14 @@
+pub mod Keys
+pub mod TagColumns
+pub mod Regrouped
+pub mod Reading
+pub mod Writing
+pub mod Normal
+pub mod Faults
+pub mod LeastZipkinFault
+pub mod Remarks
+pub mod Laws
+pub mod Unfit
+pub mod WritingSoFar
+pub mod ReadColumns
+pub mod ReadGroups

@@ -1,0 +1,130 @@
+-- The spans of Zipkin of a group (OpenTelemetry exporter page for Zipkin; Zipkin v2 API), where nothing in it is a fault. Tags stand by rising
+-- keys, and each value is told as its text.
+use Rattle.std.specs.Prelude.{ℕ, Bool, not, ◌||◌, is_some, List, ◌++◌, map, filter, Option, Some, None}
+use Rattle.std.specs.Str.{bytes_eq}
+use Rattle.span_ids.specs.Times.{floor}
+use Rattle.span_tags.specs.Runs.{Scoped, scoped}
+use Rattle.span_tags.specs.TagKeys.{service_key}
+use Rattle.span_tags.specs.TagWords.{Pairs, without, text_given, code_given, text_or_none}
+use Rattle.trace_model.specs.Attributes.{attrs, at}
+use Rattle.trace_model.specs.EventTexts.{event_text}
+use Rattle.trace_model.specs.ValueTexts.{value_text}
+use Rattle.trace_model.specs.declared.span.Code.{Code}
+use Rattle.trace_model.specs.declared.span.Code.TheVariants as statuses
+use Rattle.trace_model.specs.declared.span.Event.{Event}
+use Rattle.trace_model.specs.declared.span.Kind.{Kind}
+use Rattle.trace_model.specs.declared.span.Kind.TheVariants as kinds
+use Rattle.trace_model.specs.declared.span.Span.{Span}
+use Rattle.trace_model.specs.declared.trace.Group.{Group}
+use Rattle.trace_model.specs.declared.value.Value.{Value, Text}
+use Rattle.zipkin_json.specs.declared.span.Endpoint.{Endpoint}
+use Rattle.zipkin_json.specs.declared.span.ZKind.{ZKind}
+use Rattle.zipkin_json.specs.declared.span.ZKind.TheVariants as zkinds
+use Rattle.zipkin_json.specs.declared.span.ZSpan.{ZSpan}
+use Rattle.map_zipkin.specs.Keys.{resource_prefix, is_own, peer_key}
+use Rattle.map_zipkin.specs.TagColumns.{TagColumns, column_rows, count_text, OwnColumns, own_in, text_told, port_told}
+
+-- ---- columns
+
+-- `error` has the message, also where that is empty
+abbrev pub error_message : Code → List ℕ → Option Value
+error_message statuses.Fail message = Some (Text message)
+error_message statuses.Okay message = None
+error_message statuses.Unset message = None
+
+abbrev pub zipkin_columns_of : Scoped Span → TagColumns
+zipkin_columns_of one = record {
+  error = error_message one.span.status.code one.span.status.message;
+  dropped_attributes = count_text one.span.dropped_attributes;
+  dropped_events = count_text one.span.dropped_events;
+  dropped_links = count_text one.span.dropped_links;
+  library_name = None;
+  library_version = None;
+  scope_name = text_given one.name;
+  scope_version = text_given one.version;
+  code = code_given one.span.status.code;
+  state = text_given one.span.state;
+}
+
+abbrev pub zipkin_kind : Kind → ZKind
+zipkin_kind kinds.Unspecified = zkinds.Absent
+zipkin_kind kinds.Internal = zkinds.Absent
+zipkin_kind kinds.Server = zkinds.Server
+zipkin_kind kinds.Client = zkinds.Client
+zipkin_kind kinds.Producer = zkinds.Producer
+zipkin_kind kinds.Consumer = zkinds.Consumer
+
+-- ---- tags
+
+abbrev pub as_text : List ℕ × Value → List ℕ × Value
+as_text pair = (pair.0, Text (value_text pair.1))
+
+abbrev pub as_texts : Pairs → Pairs
+as_texts pairs = map as_text pairs
+
+-- those of the resource but its service, under the prefix
+abbrev pub prefixed : List ℕ × Value → List ℕ × Value
+prefixed pair = (resource_prefix ++ pair.0, pair.1)
+
+abbrev pub resource_pairs : Pairs → Pairs
+resource_pairs resource = map prefixed (as_texts (without service_key resource))
+
+-- those of the span but what has a place of its own
+abbrev pub is_told : List ℕ → Bool
+is_told key = not (is_own key || bytes_eq peer_key key)
+
+abbrev pub told_pairs : Pairs → Pairs
+told_pairs attributes = as_texts (filter (λ attribute. is_told attribute.0) attributes)
+
+-- a tag is a text
+abbrev pub zipkin_tag_of : List ℕ × Value → List ℕ × List ℕ
+zipkin_tag_of pair = (pair.0, value_text pair.1)
+
+abbrev pub zipkin_tags_of : Pairs → Scoped Span → List (List ℕ × List ℕ)
+zipkin_tags_of resource one = map zipkin_tag_of (attrs (column_rows (zipkin_columns_of one) ++ (resource_pairs resource ++ told_pairs one.span.attributes)))
+
+-- ---- endpoints and annotations
+
+abbrev pub local_endpoint : Pairs → OwnColumns → Endpoint
+local_endpoint resource own = record {
+  service = text_or_none (at service_key resource);
+  ipv4 = text_told own.local_ipv4;
+  ipv6 = text_told own.local_ipv6;
+  port = port_told own.local_port;
+}
+
+abbrev pub remote_endpoint : Pairs → OwnColumns → Endpoint
+remote_endpoint attributes own = record {
+  service = text_or_none (at peer_key attributes);
+  ipv4 = text_told own.remote_ipv4;
+  ipv6 = text_told own.remote_ipv6;
+  port = port_told own.remote_port;
+}
+
+abbrev pub annotation_of : Event → ℕ × List ℕ
+annotation_of event = (floor event.time, event_text event.name event.attributes)
+
+-- ---- the span
+
+abbrev pub zipkin_span_by : OwnColumns → Pairs → Scoped Span → ZSpan
+zipkin_span_by own resource one = record {
+  trace = one.span.trace;
+  id = one.span.id;
+  parent = one.span.parent;
+  name = one.span.name;
+  kind = zipkin_kind one.span.kind;
+  start = floor one.span.start;
+  end = floor one.span.end;
+  debug = is_some own.debug;
+  shared = is_some own.shared;
+  local = local_endpoint resource own;
+  remote = remote_endpoint one.span.attributes own;
+  annotations = map annotation_of one.span.events;
+  tags = zipkin_tags_of resource one;
+}
+
+abbrev pub zipkin_span : Pairs → Scoped Span → ZSpan
+zipkin_span resource one = zipkin_span_by (own_in one.span.attributes) resource one
+
+abbrev pub spans_of_group : Group → List ZSpan
+spans_of_group group = map (zipkin_span group.resource) (scoped group.scopes)

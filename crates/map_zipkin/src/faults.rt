@@ -1,0 +1,306 @@
+//! What Zipkin can't hold of a group. The spans are gone over once, and nothing is copied but the
+//! key of the fault.
+ghost use Rattle.std.specs.Prelude.{◌≡◌, is_some, option_map, IfOk};
+ghost use Rattle.std.specs.List.{list_any};
+ghost use Rattle.trace_model.specs.Attributes.{at};
+ghost use Rattle.trace_model.specs.EventReading.{event_text_read};
+ghost use Rattle.trace_model.specs.EventTexts.{holds_double};
+ghost use Rattle.trace_model.specs.Soundness.{IsSoundGroup};
+ghost use Rattle.trace_model.specs.ValueTexts.{has_double};
+ghost use Rattle.span_tags.specs.TagWords as tags;
+ghost use Rattle.map_zipkin.specs.Faults.{IsZipkinFaultOf};
+ghost use Rattle.map_zipkin.specs.Keys as keys;
+ghost use Rattle.map_zipkin.specs.LeastZipkinFault as least;
+ghost use Rattle.map_zipkin.specs.TagColumns as columns;
+
+use crate::keys::is_reserved;
+use span_io::{Items, OutOfMemory, Text};
+use span_tags::decimal_in;
+use std::alloc::Global;
+use trace_model::{Attrs, Event, Fault, Group, Scope, Span, Value, find, read_event_text};
+
+// ---- ends
+
+fn end_fault(span: &Span) -> Option<Fault>
+    ensures { result ≡ least.zipkin_end_fault span.now }
+{
+    if span.end.0 < span.start.0 {
+        return Some(Fault::EndBeforeStart);
+    }
+    None
+}
+
+// ---- reserved keys
+
+// The first key that is reserved.
+fn reserved_in(attributes: &Attrs) -> Option<&str>
+    ensures { option_map (λ key. key.now) result ≡ least.zipkin_reserved_in attributes.now }
+{
+    'attributes: for pair in attributes.as_slice() {
+        let key = pair.0.as_str();
+        if is_reserved(key) {
+            return Some(key);
+        }
+    }
+    None
+}
+
+fn reserved_fault(alloc: Global, span: &Span) -> Result<Option<Fault>, OutOfMemory>
+    ensures { IfOk result (λ fault. fault ≡ least.zipkin_reserved_fault span.now) }
+{
+    match reserved_in(&span.attributes) {
+        Some(key) => Ok(Some(Fault::Reserved(Text::of(alloc, key)?))),
+        None => Ok(None),
+    }
+}
+
+// ---- keys of Zipkin's own
+
+fn is_true_text(value: &Value) -> bool
+    ensures { result ≡ columns.is_true_text value.now }
+{
+    match value {
+        Value::Text(text) => text.as_str() == "true",
+        _ => false,
+    }
+}
+
+fn is_address(value: &Value) -> bool
+    ensures { result ≡ columns.is_address value.now }
+{
+    match value {
+        Value::Text(text) => text.len() > 0,
+        _ => false,
+    }
+}
+
+fn is_port(text: &str) -> bool
+    ensures { result ≡ columns.has_port (tags.decimal_in text.now) }
+{
+    match decimal_in(text) {
+        Some(number) => 1 <= number && number <= 65535,
+        None => false,
+    }
+}
+
+fn is_port_text(value: &Value) -> bool
+    ensures { result ≡ columns.is_port_text value.now }
+{
+    match value {
+        Value::Text(text) => is_port(text.as_str()),
+        _ => false,
+    }
+}
+
+// Whether the attribute of the key, if there is one, isn't `true`.
+fn is_no_truth(attributes: &Attrs, key: &str) -> bool
+    ensures { result ≡ least.is_out_of_form columns.is_true_text (at key.now attributes.now) }
+{
+    match find(attributes, key) {
+        Some(value) => !is_true_text(value),
+        None => false,
+    }
+}
+
+// Whether the attribute of the key, if there is one, isn't a text, or is empty.
+fn is_no_address(attributes: &Attrs, key: &str) -> bool
+    ensures { result ≡ least.is_out_of_form columns.is_address (at key.now attributes.now) }
+{
+    match find(attributes, key) {
+        Some(value) => !is_address(value),
+        None => false,
+    }
+}
+
+// Whether the attribute of the key, if there is one, isn't the decimal of a port.
+fn is_no_port(attributes: &Attrs, key: &str) -> bool
+    ensures { result ≡ least.is_out_of_form columns.is_port_text (at key.now attributes.now) }
+{
+    match find(attributes, key) {
+        Some(value) => !is_port_text(value),
+        None => false,
+    }
+}
+
+// The first of these keys of which the attribute isn't of its form.
+fn out_of_form(attributes: &Attrs) -> Option<&'static str>
+    ensures { option_map (λ key. key.now) result ≡ least.out_of_form attributes.now columns.own_forms }
+{
+    if is_no_truth(attributes, "zipkin.debug") {
+        return Some("zipkin.debug");
+    }
+    if is_no_address(attributes, "zipkin.local.ipv4") {
+        return Some("zipkin.local.ipv4");
+    }
+    if is_no_address(attributes, "zipkin.local.ipv6") {
+        return Some("zipkin.local.ipv6");
+    }
+    if is_no_port(attributes, "zipkin.local.port") {
+        return Some("zipkin.local.port");
+    }
+    if is_no_address(attributes, "zipkin.remote.ipv4") {
+        return Some("zipkin.remote.ipv4");
+    }
+    if is_no_address(attributes, "zipkin.remote.ipv6") {
+        return Some("zipkin.remote.ipv6");
+    }
+    if is_no_port(attributes, "zipkin.remote.port") {
+        return Some("zipkin.remote.port");
+    }
+    if is_no_truth(attributes, "zipkin.shared") {
+        return Some("zipkin.shared");
+    }
+    None
+}
+
+fn own_fault(alloc: Global, span: &Span) -> Result<Option<Fault>, OutOfMemory>
+    ensures { IfOk result (λ fault. fault ≡ least.zipkin_own_fault span.now) }
+{
+    match out_of_form(&span.attributes) {
+        Some(key) => Ok(Some(Fault::OwnKey(Text::of(alloc, key)?))),
+        None => Ok(None),
+    }
+}
+
+// ---- names of events
+
+// Whether the name alone is read as the text of an event with attributes.
+fn reads_as_event(alloc: Global, name: &Text) -> Result<bool, OutOfMemory>
+    ensures { IfOk result (λ reads. reads ≡ is_some (event_text_read name.now)) }
+{
+    trace_model::laws::event_texts_exact();
+    let read = read_event_text(alloc, name)?;
+    Ok(read.is_some())
+}
+
+// Whether the event has no attributes, and would be read as another that has some.
+fn is_told_wrong(alloc: Global, event: &Event) -> Result<bool, OutOfMemory>
+    ensures { IfOk result (λ wrong. wrong ≡ least.is_told_wrong event.now) }
+{
+    if event.attributes.len() > 0 {
+        return Ok(false);
+    }
+    reads_as_event(alloc, &event.name)
+}
+
+fn any_told_wrong(alloc: Global, events: &Items<Event>) -> Result<bool, OutOfMemory>
+    ensures { IfOk result (λ wrong. wrong ≡ list_any least.is_told_wrong events.now) }
+{
+    'events: for event in events.as_slice() {
+        if is_told_wrong(alloc, event)? {
+            return Ok(true);
+        }
+    }
+    Ok(false)
+}
+
+fn event_fault(alloc: Global, span: &Span) -> Result<Option<Fault>, OutOfMemory>
+    ensures { IfOk result (λ fault. fault ≡ least.event_fault span.now) }
+{
+    if any_told_wrong(alloc, &span.events)? {
+        return Ok(Some(Fault::EventText));
+    }
+    Ok(None)
+}
+
+// ---- doubles
+
+fn doubles_in(attributes: &Attrs) -> bool
+    ensures { result ≡ list_any (λ pair. has_double pair.1) attributes.now }
+{
+    'attributes: for pair in attributes.as_slice() {
+        if pair.1.holds_double() {
+            return true;
+        }
+    }
+    false
+}
+
+fn doubles_in_events(events: &Items<Event>) -> bool
+    ensures { result ≡ list_any (λ event. holds_double event.attributes) events.now }
+{
+    'events: for event in events.as_slice() {
+        if doubles_in(&event.attributes) {
+            return true;
+        }
+    }
+    false
+}
+
+fn double_fault(span: &Span) -> Option<Fault>
+    ensures { result ≡ least.zipkin_double_fault span.now }
+{
+    if doubles_in(&span.attributes) || doubles_in_events(&span.events) {
+        return Some(Fault::DoubleInText);
+    }
+    None
+}
+
+fn resource_fault(resource: &Attrs) -> Option<Fault>
+    ensures { result ≡ least.zipkin_resource_fault resource.now }
+{
+    if doubles_in(resource) {
+        return Some(Fault::DoubleInText);
+    }
+    None
+}
+
+// ---- the first fault
+
+fn span_fault(alloc: Global, span: &Span) -> Result<Option<Fault>, OutOfMemory>
+    ensures { IfOk result (λ fault. fault ≡ least.zipkin_span_fault span.now) }
+{
+    if let Some(fault) = end_fault(span) {
+        return Ok(Some(fault));
+    }
+    if let Some(fault) = reserved_fault(alloc, span)? {
+        return Ok(Some(fault));
+    }
+    if let Some(fault) = own_fault(alloc, span)? {
+        return Ok(Some(fault));
+    }
+    if let Some(fault) = event_fault(alloc, span)? {
+        return Ok(Some(fault));
+    }
+    Ok(double_fault(span))
+}
+
+fn first_fault(alloc: Global, spans: &Items<Span>) -> Result<Option<Fault>, OutOfMemory>
+    ensures { IfOk result (λ fault. fault ≡ least.first_zipkin_fault spans.now) }
+{
+    'spans: for span in spans.as_slice() {
+        if let Some(fault) = span_fault(alloc, span)? {
+            return Ok(Some(fault));
+        }
+    }
+    Ok(None)
+}
+
+fn scopes_fault(alloc: Global, scopes: &Items<Scope>) -> Result<Option<Fault>, OutOfMemory>
+    ensures { IfOk result (λ fault. fault ≡ least.zipkin_scopes_fault scopes.now) }
+{
+    'scopes: for scope in scopes.as_slice() {
+        if let Some(fault) = first_fault(alloc, &scope.spans)? {
+            return Ok(Some(fault));
+        }
+    }
+    Ok(None)
+}
+
+fn found_in_group(alloc: Global, group: &Group) -> Result<Option<Fault>, OutOfMemory>
+    ensures { IfOk result (λ fault. fault ≡ least.zipkin_fault_of group.now) }
+{
+    if let Some(fault) = resource_fault(&group.resource) {
+        return Ok(Some(fault));
+    }
+    scopes_fault(alloc, &group.scopes)
+}
+
+/// The fault of a group that counts, if there is any.
+pub(crate) fn fault_of_group(alloc: Global, group: &Group) -> Result<Option<Fault>, OutOfMemory>
+    requires sound { IsSoundGroup group.now }
+    ensures { IfOk result (λ fault. IsZipkinFaultOf group.now fault) }
+{
+    trace_model::laws::event_texts_exact();
+    found_in_group(alloc, group)
+}

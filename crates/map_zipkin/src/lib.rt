@@ -1,0 +1,19 @@
+//! Spans of Zipkin as groups of a trace, and back, by the OpenTelemetry exporter page for Zipkin.
+#![tactic(auto)]
+
+mod count_texts;
+mod faults;
+mod groups;
+mod keys;
+pub mod laws;
+mod reading;
+mod run;
+mod writing;
+
+pub use groups::{Groups, groups_of_spans};
+pub use reading::triple_of_span;
+pub use run::Run;
+pub use writing::spans_of_group;
+
+#[cfg(test)]
+mod tests;

@@ -1,0 +1,73 @@
+//! Spans of Zipkin as spans of runs.
+ghost use Rattle.std.specs.Prelude.{◌≡◌, IfOk};
+ghost use Rattle.map_zipkin.specs.Reading as meant;
+ghost use Rattle.map_zipkin.specs.Remarks.{zipkin_remarks};
+
+mod attributes;
+mod columns;
+mod events;
+mod remarks;
+mod tags;
+
+use crate::run::Run;
+use attributes::{ends_of, parted_by};
+use columns::told_by;
+use events::events_of;
+use remarks::remarks_of;
+use span_io::{Items, OutOfMemory};
+use std::alloc::Global;
+use tags::pairs_of;
+use trace_model::{Kind, Remark, Span, find};
+use zipkin_json::{ZKind, ZSpan};
+
+fn kind_of(kind: ZKind) -> Kind
+    ensures { result ≡ meant.zipkin_kind_read kind }
+{
+    match kind {
+        ZKind::Absent => Kind::Internal,
+        ZKind::Client => Kind::Client,
+        ZKind::Server => Kind::Server,
+        ZKind::Producer => Kind::Producer,
+        ZKind::Consumer => Kind::Consumer,
+    }
+}
+
+/// The run and the span that a span of Zipkin means (OpenTelemetry exporter page for Zipkin, read
+/// backwards), and the remarks on it.
+pub fn triple_of_span(alloc: Global, span: ZSpan) -> Result<(Run, Span, Items<Remark>), OutOfMemory>
+    ensures value { IfOk result (λ parts. (parts.0, parts.1) ≡ meant.run_span_of span) }
+    ensures remarks { IfOk result (λ parts. parts.2 ≡ zipkin_remarks span) }
+{
+    let tags = pairs_of(alloc, span.tags)?;
+    let remarks = remarks_of(alloc, &span.remote.service, &tags)?;
+    let told = told_by(alloc, &tags)?;
+    let events = events_of(alloc, span.annotations)?;
+    let tag = find(&tags, "peer.service");
+    let marks = (span.debug, span.shared);
+    let ends = ends_of(alloc, marks, span.local, span.remote, tag)?;
+    let parted = parted_by(alloc, ends.service, ends.pairs, tags)?;
+    let run = Run {
+        resource: parted.resource,
+        name: told.name,
+        version: told.version,
+    };
+    let read = Span {
+        trace: span.trace,
+        id: span.id,
+        state: told.state,
+        parent: span.parent,
+        name: span.name,
+        kind: kind_of(span.kind),
+        start: span.start,
+        end: span.end,
+        attributes: parted.attributes,
+        dropped_attributes: told.dropped_attributes,
+        events,
+        dropped_events: told.dropped_events,
+        links: Items::new(alloc),
+        dropped_links: told.dropped_links,
+        status: told.status,
+        flags: 0,
+    };
+    Ok((run, read, remarks))
+}

@@ -1,0 +1,84 @@
+//! What the tags under the reserved keys say of a span and its scope.
+ghost use Rattle.std.specs.Prelude.{◌≡◌, if◌then◌else◌, option_map, IfOk};
+ghost use Rattle.trace_model.specs.declared.span.Code.TheVariants as statuses;
+ghost use Rattle.map_zipkin.specs.ReadColumns.{IsZipkinToldBy};
+ghost use Rattle.map_zipkin.specs.Reading as meant;
+ghost use Rattle.map_zipkin.specs.TagColumns.{columns_in};
+
+use span_io::{OutOfMemory, Text};
+use span_tags::{code_in, count_in, is_there, name_in, text_or_empty};
+use std::alloc::Global;
+use trace_model::{Attrs, Code, Status, Value, find};
+
+/// What the columns of a span and its scope hold.
+#[derive(Debug, Drop)]
+pub(crate) struct Told {
+    pub name: Text,
+    pub version: Text,
+    pub state: Text,
+    pub dropped_attributes: u32,
+    pub dropped_events: u32,
+    pub dropped_links: u32,
+    pub status: Status,
+}
+
+/// What these tags tell.
+pub(crate) fn told_by(alloc: Global, tags: &Attrs) -> Result<Told, OutOfMemory>
+    ensures { IfOk result (λ told. IsZipkinToldBy tags.now told) }
+{
+    let name = name_in(
+        alloc,
+        find(tags, "otel.scope.name"),
+        find(tags, "otel.library.name"),
+    )?;
+    let version = name_in(
+        alloc,
+        find(tags, "otel.scope.version"),
+        find(tags, "otel.library.version"),
+    )?;
+    let state = text_or_empty(alloc, find(tags, "w3c.tracestate"))?;
+    let status = status_of(alloc, tags)?;
+    Ok(Told {
+        name,
+        version,
+        state,
+        dropped_attributes: count_in(find(tags, "otel.dropped_attributes_count")).unwrap_or(0),
+        dropped_events: count_in(find(tags, "otel.dropped_events_count")).unwrap_or(0),
+        dropped_links: count_in(find(tags, "otel.dropped_links_count")).unwrap_or(0),
+        status,
+    })
+}
+
+fn status_of(alloc: Global, tags: &Attrs) -> Result<Status, OutOfMemory>
+    ensures code { IfOk result (λ status. status.code ≡ meant.status_code (columns_in tags.now)) }
+    ensures message { IfOk result (λ status.
+        status.message ≡ meant.message_of (meant.status_code (columns_in tags.now)) (columns_in tags.now).error) }
+{
+    let code = code_of(tags);
+    let message = message_of(alloc, code, find(tags, "error"))?;
+    Ok(Status { code, message })
+}
+
+fn code_of(tags: &Attrs) -> Code
+    ensures { result ≡ meant.status_code (columns_in tags.now) }
+{
+    match code_in(find(tags, "otel.status_code")) {
+        Some(code) => code,
+        None => code_by_error(is_there(tags, "error")),
+    }
+}
+
+fn code_by_error(error: bool) -> Code
+    ensures { result ≡ (if error then statuses.Fail else statuses.Unset) }
+{
+    if error { Code::Fail } else { Code::Unset }
+}
+
+fn message_of(alloc: Global, code: Code, error: Option<&Value>) -> Result<Text, OutOfMemory>
+    ensures { IfOk result (λ text. text ≡ meant.message_of code (option_map (λ v. v.now) error.entry)) }
+{
+    match code {
+        Code::Fail => text_or_empty(alloc, error),
+        Code::Unset | Code::Okay => Ok(Text::new(alloc)),
+    }
+}

@@ -1,0 +1,87 @@
+//! The endpoints of a span.
+ghost use Rattle.std.specs.Prelude.{◌≡◌, option_and_then, option_map, false, IfOk};
+ghost use Rattle.span_tags.specs.Doubles.{double_at};
+ghost use Rattle.span_tags.specs.TagKeys.{service_key};
+ghost use Rattle.span_tags.specs.TagWords as words;
+ghost use Rattle.trace_model.specs.Attributes.{at};
+ghost use Rattle.trace_model.specs.EventTexts.{holds_double};
+ghost use Rattle.map_zipkin.specs.Keys.{peer_key};
+ghost use Rattle.map_zipkin.specs.TagColumns as columns;
+ghost use Rattle.map_zipkin.specs.Unfit.{port_unfit, ports_unfit};
+ghost use Rattle.map_zipkin.specs.Writing as told;
+
+use span_io::OutOfMemory;
+use span_tags::{decimal_in, text_in, text_or_empty, text_or_none};
+use std::alloc::Global;
+use trace_model::{Attrs, Value, find};
+use zipkin_json::Endpoint;
+
+// The number of 32 bits whose decimal the value is.
+fn number_in(value: Option<&Value>) -> Option<u32>
+    ensures { result ≡ option_and_then (words.at_most 4294967295)
+        (option_and_then words.decimal_in (words.text_in (option_map (λ value. value.now) value.entry))) }
+{
+    let text = text_in(value)?;
+    decimal_in(text)
+}
+
+fn port_told(value: Option<&Value>) -> u16
+    requires { port_unfit (option_map (λ value. value.now) value) ≡ false }
+    ensures { result ≡ columns.port_told (option_map (λ value. value.now) value.entry) }
+{
+    let number = number_in(value).unwrap_or(0);
+    match u16::try_from(number) {
+        Ok(port) => port,
+        Err(_) => 0,
+    }
+}
+
+// The endpoint of the span, which is of the resource's service.
+fn local_endpoint(
+    alloc: Global,
+    resource: &Attrs,
+    attributes: &Attrs,
+) -> Result<Endpoint, OutOfMemory>
+    requires plain { double_at (at service_key resource.now) ≡ false }
+    requires ports { ports_unfit attributes.now ≡ false }
+    ensures { IfOk result (λ endpoint. endpoint ≡ told.local_endpoint resource.now (columns.own_in attributes.now)) }
+{
+    Ok(Endpoint {
+        service: text_or_none(alloc, find(resource, "service.name"))?,
+        ipv4: text_or_empty(alloc, find(attributes, "zipkin.local.ipv4"))?,
+        ipv6: text_or_empty(alloc, find(attributes, "zipkin.local.ipv6"))?,
+        port: port_told(find(attributes, "zipkin.local.port")),
+    })
+}
+
+// The endpoint at the other end.
+fn remote_endpoint(alloc: Global, attributes: &Attrs) -> Result<Endpoint, OutOfMemory>
+    requires plain { double_at (at peer_key attributes.now) ≡ false }
+    requires ports { ports_unfit attributes.now ≡ false }
+    ensures { IfOk result (λ endpoint. endpoint ≡ told.remote_endpoint attributes.now (columns.own_in attributes.now)) }
+{
+    Ok(Endpoint {
+        service: text_or_none(alloc, find(attributes, "peer.service"))?,
+        ipv4: text_or_empty(alloc, find(attributes, "zipkin.remote.ipv4"))?,
+        ipv6: text_or_empty(alloc, find(attributes, "zipkin.remote.ipv6"))?,
+        port: port_told(find(attributes, "zipkin.remote.port")),
+    })
+}
+
+/// The endpoint of the span, and the one at the other end.
+#[tactic(auto, using(crate::proofs::PlainTags::at_plain))]
+pub(crate) fn endpoints_of(
+    alloc: Global,
+    resource: &Attrs,
+    attributes: &Attrs,
+) -> Result<(Endpoint, Endpoint), OutOfMemory>
+    requires resource { holds_double resource.now ≡ false }
+    requires attributes { holds_double attributes.now ≡ false }
+    requires ports { ports_unfit attributes.now ≡ false }
+    ensures local { IfOk result (λ ends. ends.0 ≡ told.local_endpoint resource.now (columns.own_in attributes.now)) }
+    ensures remote { IfOk result (λ ends. ends.1 ≡ told.remote_endpoint attributes.now (columns.own_in attributes.now)) }
+{
+    let local = local_endpoint(alloc, resource, attributes)?;
+    let remote = remote_endpoint(alloc, attributes)?;
+    Ok((local, remote))
+}

@@ -1,0 +1,105 @@
+//! The tags of a span.
+ghost use Rattle.std.specs.Prelude.{◌≡◌, [], ◌∷◌, ◌++◌, map, false, IfOk, OnOk};
+ghost use Rattle.trace_model.specs.EventTexts.{holds_double};
+ghost use Rattle.trace_model.specs.ValueTexts as texts;
+ghost use Rattle.map_zipkin.specs.Writing as told;
+ghost use Rattle.map_zipkin.specs.WritingSoFar.{scoped_in};
+
+use crate::keys::is_told;
+use crate::writing::columns::column_rows;
+use span_io::{Items, OutOfMemory, Text};
+use span_tags::text_told;
+use std::alloc::Global;
+use trace_model::{Attrs, Scope, Span, Value, attrs_of};
+
+/// The tags of a span of this resource and scope, by rising keys.
+pub(crate) fn tags_of(
+    alloc: Global,
+    resource: &Attrs,
+    scope: &Scope,
+    span: &Span,
+) -> Result<Items<(Text, Text)>, OutOfMemory>
+    requires resource { holds_double resource.now ≡ false }
+    requires span { holds_double span.now.attributes ≡ false }
+    ensures { IfOk result (λ tags. tags ≡ told.zipkin_tags_of resource.now (scoped_in scope.now span.now)) }
+{
+    let mut pairs = column_rows(alloc, scope, span)?;
+    add_resource(alloc, &mut pairs, resource)?;
+    add_told(alloc, &mut pairs, &span.attributes)?;
+    let (pairs, _) = attrs_of(alloc, pairs)?;
+    tags_in_order(alloc, pairs)
+}
+
+// ---- those of the resource
+
+// Adds the tag of an attribute of the resource, unless it is the service.
+fn add_prefixed(alloc: Global, pairs: &mut Attrs, pair: &(Text, Value)) -> Result<(), OutOfMemory>
+    requires { texts.has_double pair.now.1 ≡ false }
+    ensures { OnOk result (pairs.new ≡ pairs.old ++ told.resource_pairs (pair.now ∷ [])) }
+{
+    if "service.name" == pair.0.as_str() {
+        return Ok(());
+    }
+    let mut key = Text::of(alloc, "otel.resource.")?;
+    key.append(pair.0.as_str())?;
+    pairs.push((key, Value::Text(text_told(alloc, &pair.1)?)))
+}
+
+fn add_resource(alloc: Global, pairs: &mut Attrs, resource: &Attrs) -> Result<(), OutOfMemory>
+    requires { holds_double resource.now ≡ false }
+    ensures { OnOk result (pairs.new ≡ pairs.old ++ told.resource_pairs resource.now) }
+{
+    'attributes: for pair in resource.as_slice() {
+        add_prefixed(alloc, pairs, pair)?;
+    }
+    Ok(())
+}
+
+// ---- those of the span
+
+// Adds the tag of an attribute, unless it has a place of its own.
+fn add_text(alloc: Global, pairs: &mut Attrs, pair: &(Text, Value)) -> Result<(), OutOfMemory>
+    requires { texts.has_double pair.now.1 ≡ false }
+    ensures { OnOk result (pairs.new ≡ pairs.old ++ told.told_pairs (pair.now ∷ [])) }
+{
+    if !is_told(pair.0.as_str()) {
+        return Ok(());
+    }
+    pairs.push((pair.0.copy()?, Value::Text(text_told(alloc, &pair.1)?)))
+}
+
+fn add_told(alloc: Global, pairs: &mut Attrs, attributes: &Attrs) -> Result<(), OutOfMemory>
+    requires { holds_double attributes.now ≡ false }
+    ensures { OnOk result (pairs.new ≡ pairs.old ++ told.told_pairs attributes.now) }
+{
+    'attributes: for pair in attributes.as_slice() {
+        add_text(alloc, pairs, pair)?;
+    }
+    Ok(())
+}
+
+// ---- pairs as tags
+
+fn text_of(alloc: Global, value: Value) -> Result<Text, OutOfMemory>
+    requires { texts.has_double value ≡ false }
+    ensures { IfOk result (λ text. text ≡ texts.value_text value) }
+{
+    match value {
+        Value::Text(text) => Ok(text),
+        other => text_told(alloc, &other),
+    }
+}
+
+// The tags of pairs, in their order.
+fn tags_in_order(alloc: Global, pairs: Attrs) -> Result<Items<(Text, Text)>, OutOfMemory>
+    requires { holds_double pairs ≡ false }
+    ensures { IfOk result (λ tags. tags ≡ map told.zipkin_tag_of pairs) }
+{
+    let mut tags = Items::new(alloc);
+    'pairs: for pair in pairs.into_vec() {
+        let (key, value) = pair;
+        let text = text_of(alloc, value)?;
+        tags.push((key, text))?;
+    }
+    Ok(tags)
+}
