@@ -9,6 +9,7 @@ use Rattle.span_io.specs.declared.form.Form.{Form}
 use Rattle.span_io.specs.declared.limits.Limits.{Limits}
 use Rattle.span_io.specs.declared.refusal.Refusal.{Refusal}
 use Rattle.span_convert.specs.Converters.{KeepsWhy, OnlyWants}
+use Rattle.span_convert.specs.Units.{input_limit}
 use Rattle.span_convert.specs.Verdicts.{Verdict, good, refused, faulted, IsVerdict, IsJudged, Stops, WritesFront, verdict_text}
 use Rattle.span_convert.specs.declared.converter.State.{State}
 use Rattle.span_convert.specs.declared.converter.State.TheVariants as states
@@ -121,9 +122,9 @@ front_faulted verdict before now s = record { front = verdict_text verdict; is_f
 
 -- what a feed of a converter that was fed these bytes says where it stopped
 pub record StopsFeed {K : Type 0} (outlet : K → Outlet) (from to : Form) (limits : Limits) (fed : List ℕ) (stop : Stop) (state : State) (old new : K) : Type 0 where
-  pub kept : length fed ≤ limits.binary → OnlyWants {T = Unit} (Err stop) × (new ≡ old)
-  pub beyond : limits.binary < length fed → IsJudged {T = Unit} from to limits fed (Err stop)
-  pub carried : limits.binary < length fed → (v : Verdict) → IsVerdict from to limits fed v → Stops v stop (outlet old) (outlet new) × KeepsWhy v state
+  pub kept : length fed ≤ input_limit from limits → OnlyWants {T = Unit} (Err stop) × (new ≡ old)
+  pub beyond : input_limit from limits < length fed → IsJudged {T = Unit} from to limits fed (Err stop)
+  pub carried : input_limit from limits < length fed → (v : Verdict) → IsVerdict from to limits fed v → Stops v stop (outlet old) (outlet new) × KeepsWhy v state
   pub front : WritesFront from to limits fed (outlet old) (outlet new)
   pub fails : stop ≡ stops.Write → OutputFails (outlet old) (outlet new)
   pub quiet : stop ≢ stops.Write → (outlet new).faults ≡ (outlet old).faults
@@ -175,11 +176,11 @@ all_told (Some bytes) (Some rest) given P gave told holds =
 module _ {K : Type 0} (outlet : K → Outlet) (from to : Form) (before now : Inlet) (old new : K) where
   -- whatever stopped the run
   pub record Course : Type 0 where
-    pub reads : ReadsInput before now
+    pub reads : ReadsInput from before now
     pub front : WritesRead from to before now (outlet old) (outlet new)
 
   -- the input had no fault
-  input_quiet : (status : ℕ) → status ≢ 5 → (status ≡ 0 → IsAllRead before now) → now.faults ≡ before.faults → Course → EndsInput status before now
+  input_quiet : (status : ℕ) → status ≢ 5 → (status ≡ 0 → IsAllRead before now) → now.faults ≡ before.faults → Course → EndsInput from status before now
   input_quiet status other all quiet course = record {
     fails = λ e. absurd (other e);
     quiet = λ e. quiet;
@@ -189,7 +190,7 @@ module _ {K : Type 0} (outlet : K → Outlet) (from to : Form) (before now : Inl
   }
 
   -- and it wasn't read to its end
-  input_left : (status : ℕ) → status ≢ 5 → status ≢ 0 → now.faults ≡ before.faults → Course → EndsInput status before now
+  input_left : (status : ℕ) → status ≢ 5 → status ≢ 0 → now.faults ≡ before.faults → Course → EndsInput from status before now
   input_left status other some quiet course = input_quiet status other (λ e. absurd (some e)) quiet course
 
   output_quiet : (status : ℕ) → status ≢ 6 → (status ≡ 5 → new ≡ old) → (outlet new).faults ≡ (outlet old).faults → EndsOutput outlet status old new
@@ -327,9 +328,9 @@ module _ {K : Type 0} (outlet : K → Outlet) (from to : Form) (before now : Inl
   wanting endings.NoMemory stops.OutOfMemory state at devices only same = ends_no_memory devices.course devices.still same
 
   -- A feed that stopped: within the limit for want of memory alone, and beyond it by the verdict.
-  pub ends_at_feed : (fed : List ℕ) (ending : Ending) (stop : Stop) (state : State) → GaveInput before now fed → IsEndingAt ending stop state → ReadsInput before now → now.faults ≡ before.faults
+  pub ends_at_feed : (fed : List ℕ) (ending : Ending) (stop : Stop) (state : State) → GaveInput before now fed → IsEndingAt ending stop state → ReadsInput from before now → now.faults ≡ before.faults
       → StopsFeed outlet from to shipped_limits fed stop state old new → EndsRun outlet from to ending before now old new
-  ends_at_feed fed ending stop state gave at reads still feed = by_length (cases_lt shipped_limits.binary (length fed))
+  ends_at_feed fed ending stop state gave at reads still feed = by_length (cases_lt (input_limit from shipped_limits) (length fed))
     where
       devices : StopsDevices stop
       devices = record {
@@ -340,7 +341,7 @@ module _ {K : Type 0} (outlet : K → Outlet) (from to : Form) (before now : Inl
         answers = feed.answers;
       }
 
-      by_length : (shipped_limits.binary < length fed) ⊎ (length fed ≤ shipped_limits.binary) → EndsRun outlet from to ending before now old new
+      by_length : (input_limit from shipped_limits < length fed) ⊎ (length fed ≤ input_limit from shipped_limits) → EndsRun outlet from to ending before now old new
       by_length (inr within) = wanting ending stop state at devices (feed.kept within).0 (feed.kept within).1
       by_length (inl long) = ends_at_stop ending stop state at (record {
         devices = devices;
@@ -349,7 +350,7 @@ module _ {K : Type 0} (outlet : K → Outlet) (from to : Form) (before now : Inl
       })
 
   -- An end that stopped, by the verdict on all that was read.
-  pub ends_at_finish : (fed : List ℕ) (ending : Ending) (stop : Stop) (state : State) → GaveInput before now fed → IfSome before.left (λ bytes. now.left ≡ Some []) → IsEndingAt ending stop state → ReadsInput before now
+  pub ends_at_finish : (fed : List ℕ) (ending : Ending) (stop : Stop) (state : State) → GaveInput before now fed → IfSome before.left (λ bytes. now.left ≡ Some []) → IsEndingAt ending stop state → ReadsInput from before now
       → now.faults ≡ before.faults → StopsFinish outlet from to shipped_limits fed stop state old new → EndsRun outlet from to ending before now old new
   ends_at_finish fed ending stop state gave told at reads still end = ends_at_stop ending stop state at (record {
     devices = record {

@@ -1,5 +1,5 @@
 -- Of an input that is longer than its limit only a front is looked at: what stands behind changes no verdict.
-use Rattle.std.proofs.Common.{◌≡◌, ◌≤◌, ◌<◌, ℕ, List, ◌++◌, length, take, sym, subst, inl, inr, arith, length-append, Err, Option, Some, None}
+use Rattle.std.proofs.Common.{◌≡◌, ◌<◌, ℕ, List, ◌++◌, length, take, sym, subst, inl, inr, arith, length-append, Err, Option, Some, None}
 use Rattle.std.specs.Prelude.{IfSome}
 use Rattle.std.proofs.lemmas.List.{take-append-le}
 use Rattle.std.specs.Io.KnownBytes.{Consumes}
@@ -8,76 +8,116 @@ use Rattle.span_io.specs.declared.cause.Cause.{Cause}
 use Rattle.span_io.specs.declared.form.Form.{Form}
 use Rattle.span_io.specs.declared.form.Form.TheVariants as forms
 use Rattle.span_io.specs.declared.limits.Limits.{Limits}
+use Rattle.span_io.specs.declared.refusal.Refusal.{Refusal}
 use Rattle.proto_wire.specs.Wire.{records}
-use Rattle.span_convert.specs.BatchFiles.{ProtocolWords, binary, compact, batches, HoldsBatches}
-use Rattle.span_convert.specs.Units.{HoldsUnits, RestCause}
-use Rattle.span_convert.specs.Verdicts.{Verdict, good, refused, faulted, IsVerdict, IsJudged}
+use Rattle.trace_model.specs.declared.trace.Group.{Group}
+use Rattle.span_convert.specs.BatchFiles.{ProtocolWords, binary, compact, batches}
+use Rattle.span_convert.specs.FramedForms.{FramedForm, RestCause, UnitsThen, UnitsRefused}
+use Rattle.span_convert.specs.SpanFiles.{SpansRefused}
+use Rattle.span_convert.specs.Units.{InputForm, request_form, batch_form, framed_input, span_file_input, input_form, input_limit}
+use Rattle.span_convert.specs.Verdicts.{Verdict, good, refused, faulted, IsVerdict, IsVerdictOn, IsJudged}
 use Rattle.span_convert.specs.declared.stop.Stop.{Stop}
 use Rattle.span_convert.specs.declared.stop.Stop.TheVariants as stops
 
+-- what a form says of the one input short of all of it, it says of the other
+record SaysOfBoth (from : InputForm) (limits : Limits) (bytes others : List ℕ) : Type 0 where
+  begins : (groups : List Group) → from.Begins limits bytes groups → from.Begins limits others groups
+  refuses : (groups : List Group) (refusal : Refusal) → from.Refuses limits bytes groups refusal → from.Refuses limits others groups refusal
+  never_whole : (groups : List Group) → from.IsWhole limits bytes groups → ⊥
+
+same_verdict : (from : InputForm) (to : Form) (limits : Limits) (bytes others : List ℕ) → SaysOfBoth from limits bytes others → (verdict : Verdict) → IsVerdictOn from to limits bytes verdict → IsVerdictOn from to limits others verdict
+same_verdict from to limits bytes others both (good text tally) is = absurd (both.never_whole is.groups is.whole)
+same_verdict from to limits bytes others both (refused refusal text) is = record { groups = is.groups; refuses = both.refuses is.groups refusal is.refuses; held = is.held; is_text = is.is_text }
+same_verdict from to limits bytes others both (faulted found text) is = record {
+  groups = is.groups;
+  group = is.group;
+  begins = both.begins _ is.begins;
+  held = is.held;
+  fault = is.fault;
+  number = is.number;
+  is_text = is.is_text;
+}
+
+-- ---- frames
+
 -- at a rest that is refused, or needs more, where something stands there
-same_cause : (from : Form) (limits : Limits) (size other : ℕ) (rest : List ℕ) (cause : Cause) → limits.binary < size → limits.binary < other → RestCause from limits size rest cause → RestCause from limits other rest cause
+same_cause : (from : FramedForm) (limits : Limits) (size other : ℕ) (rest : List ℕ) (cause : Cause) → limits.binary < size → limits.binary < other → RestCause from limits size rest cause → RestCause from limits other rest cause
 same_cause from limits size other rest cause long longer (inl refused_as) = inl refused_as
 same_cause from limits size other rest cause long longer (inr (needs, inl (is, beyond))) = inr (needs, inl (is, longer))
 same_cause from limits size other rest cause long longer (inr (needs, inr (is, within, some))) = absurd (omega (arith, long, within))
 
-module _ (limits : Limits) (bytes others : List ℕ) (long : limits.binary < length bytes) (longer : limits.binary < length others) (same : take limits.binary bytes ≡ take limits.binary others) where
-  same_batches : (protocol : ProtocolWords) (units : List (List ℕ)) (rest : List ℕ) → HoldsBatches protocol limits bytes units rest → HoldsBatches protocol limits others units rest
-  same_batches protocol units rest held = subst (λ (l : List ℕ). ItemsThen (batches protocol) limits.unit units rest l) same held
+module _ (limits : Limits) (bytes others : List ℕ) (long : limits.binary < length bytes) (longer : limits.binary < length others) where
+  module _ (from : FramedForm) (same_units : (units : List (List ℕ)) (rest : List ℕ) → from.HoldsUnits limits bytes units rest → from.HoldsUnits limits others units rest) where
+    same_then : (groups : List Group) (rest : List ℕ) → UnitsThen from limits bytes groups rest → UnitsThen from limits others groups rest
+    same_then groups rest h = record { units = h.units; held = same_units h.units rest h.held; are_groups = h.are_groups }
 
-  same_units : (from : Form) (units : List (List ℕ)) (rest : List ℕ) → HoldsUnits from limits bytes units rest → HoldsUnits from limits others units rest
-  same_units forms.OtlpProto units rest held = record {
-    frames = held.frames;
-    framed = subst (λ (l : List ℕ). ItemsThen records limits.unit held.frames rest l) same held.framed;
-    are_units = held.are_units;
+    same_refused : (groups : List Group) (refusal : Refusal) → UnitsRefused from limits bytes groups refusal → UnitsRefused from limits others groups refusal
+    same_refused groups refusal h = record {
+      why = elim h.why [
+        | inl w ↦ inl (record { before = w.before; unit = w.unit; rest = w.rest; held = same_units _ w.rest w.held; are_groups = w.are_groups; least = w.least })
+        | inr w ↦ inr (record { rest = w.rest; units_then = same_then groups w.rest w.units_then; why = same_cause from limits (length bytes) (length others) w.rest refusal.cause long longer w.why })
+      ];
+      number = h.number;
+    }
+
+    framed_both : SaysOfBoth (framed_input from) limits bytes others
+    framed_both = record {
+      begins = λ groups h. record { rest = h.rest; units_then = same_then groups h.rest h.units_then };
+      refuses = same_refused;
+      never_whole = λ groups h. let within = h.within in omega (arith, long, within);
+    }
+
+  module _ (same : take limits.binary bytes ≡ take limits.binary others) where
+    requests_both : SaysOfBoth (framed_input request_form) limits bytes others
+    requests_both = framed_both request_form (λ units rest held. record {
+      frames = held.frames;
+      framed = subst (λ (l : List ℕ). ItemsThen records limits.unit held.frames rest l) same held.framed;
+      are_units = held.are_units;
+    })
+
+    batches_both : (protocol : ProtocolWords) → SaysOfBoth (framed_input (batch_form protocol)) limits bytes others
+    batches_both protocol = framed_both (batch_form protocol) (λ units rest held. subst (λ (l : List ℕ). ItemsThen (batches protocol) limits.unit units rest l) same held)
+
+-- ---- spans, of which nothing is read beyond the limit
+
+module _ (limits : Limits) (bytes others : List ℕ) (long : limits.json < length bytes) (longer : limits.json < length others) where
+  too_long_both : (groups : List Group) (refusal : Refusal) → SpansRefused limits bytes groups refusal → SpansRefused limits others groups refusal
+  too_long_both groups refusal h = record {
+    none = h.none;
+    why = elim h.why [
+      | inl w ↦ inl (longer, w.1)
+      | inr w ↦ absurd (let within = w.0 in omega (arith, long, within))
+    ];
   }
-  same_units forms.JaegerBinary units rest held = same_batches binary units rest held
-  same_units forms.JaegerCompact units rest held = same_batches compact units rest held
 
-  pub same_verdict : (from to : Form) (verdict : Verdict) → IsVerdict from to limits bytes verdict → IsVerdict from to limits others verdict
-  same_verdict from to (good text tally) is = absurd (let h : length bytes ≤ limits.binary = is.within in omega arith)
-  same_verdict from to (refused refusal text) (inl bad) = inl (record {
-    before = bad.before;
-    unit = bad.unit;
-    rest = bad.rest;
-    held = same_units from _ bad.rest bad.held;
-    convert = bad.convert;
-    cause = bad.cause;
-    number = bad.number;
-  })
-  same_verdict from to (refused refusal text) (inr bad) = inr (record {
-    units = bad.units;
-    rest = bad.rest;
-    held = same_units from bad.units bad.rest bad.held;
-    convert = bad.convert;
-    cause = same_cause from limits (length bytes) (length others) bad.rest refusal.cause long longer bad.cause;
-    number = bad.number;
-  })
-  same_verdict from to (faulted found text) is = record {
-    before = is.before;
-    unit = is.unit;
-    rest = is.rest;
-    held = same_units from _ is.rest is.held;
-    convert = is.convert;
-    group = is.group;
-    is_unit = is.is_unit;
-    fault = is.fault;
-    number = is.number;
+  spans_both : SaysOfBoth span_file_input limits bytes others
+  spans_both = record {
+    begins = λ groups h. absurd (let within = h.file.within in omega (arith, long, within));
+    refuses = too_long_both;
+    never_whole = λ groups h. let within = h.file.within in omega (arith, long, within);
   }
 
-module _ (from to : Form) (limits : Limits) (fed rest : List ℕ) (long : limits.binary < length fed) where
-  longer_whole : limits.binary < length (fed ++ rest)
+-- ---- each form
+
+says_of_both : (from : Form) (limits : Limits) (bytes others : List ℕ) → input_limit from limits < length bytes → input_limit from limits < length others → take (input_limit from limits) bytes ≡ take (input_limit from limits) others → SaysOfBoth (input_form from) limits bytes others
+says_of_both forms.OtlpProto limits bytes others long longer same = requests_both limits bytes others long longer same
+says_of_both forms.JaegerBinary limits bytes others long longer same = batches_both limits bytes others long longer same binary
+says_of_both forms.JaegerCompact limits bytes others long longer same = batches_both limits bytes others long longer same compact
+says_of_both forms.ZipkinJson limits bytes others long longer same = spans_both limits bytes others long longer
+
+module _ (from to : Form) (limits : Limits) (fed rest : List ℕ) (long : input_limit from limits < length fed) where
+  longer_whole : input_limit from limits < length (fed ++ rest)
   longer_whole = omega (arith, length-append fed rest)
 
-  same_front : take limits.binary (fed ++ rest) ≡ take limits.binary fed
-  same_front = take-append-le limits.binary fed rest (omega arith)
+  same_front : take (input_limit from limits) (fed ++ rest) ≡ take (input_limit from limits) fed
+  same_front = take-append-le (input_limit from limits) fed rest (omega arith)
 
   -- a verdict on a front that is too long is one on the whole, and the other way round
   pub front_whole : (verdict : Verdict) → IsVerdict from to limits fed verdict → IsVerdict from to limits (fed ++ rest) verdict
-  front_whole = same_verdict limits fed (fed ++ rest) long longer_whole (sym same_front) from to
+  front_whole = same_verdict (input_form from) to limits fed (fed ++ rest) (says_of_both from limits fed (fed ++ rest) long longer_whole (sym same_front))
 
   pub whole_front : (verdict : Verdict) → IsVerdict from to limits (fed ++ rest) verdict → IsVerdict from to limits fed verdict
-  whole_front = same_verdict limits (fed ++ rest) fed longer_whole long same_front from to
+  whole_front = same_verdict (input_form from) to limits (fed ++ rest) fed (says_of_both from limits (fed ++ rest) fed longer_whole long same_front)
 
   pub judged_whole : (stop : Stop) → IsJudged {T = Unit} from to limits fed (Err stop) → IsJudged {T = Unit} from to limits (fed ++ rest) (Err stop)
   judged_whole stops.Refused (verdict, is) = (verdict, front_whole verdict is)
@@ -85,7 +125,7 @@ module _ (from to : Form) (limits : Limits) (fed rest : List ℕ) (long : limits
   judged_whole stops.Write judged = tt
   judged_whole stops.OutOfMemory judged = tt
 
-module _ (from to : Form) (limits : Limits) (fed : List ℕ) (long : limits.binary < length fed) where
+module _ (from to : Form) (limits : Limits) (fed : List ℕ) (long : input_limit from limits < length fed) where
   -- the same of the bytes that a source tells
   pub judged_told : (left now : Option (List ℕ)) (stop : Stop) → Consumes left now fed → IsJudged {T = Unit} from to limits fed (Err stop) → IfSome left (λ bytes. IsJudged {T = Unit} from to limits bytes (Err stop))
   judged_told None now stop gave judged = tt

@@ -5,7 +5,9 @@ use Rattle.std.specs.Prelude.{IfSome}
 use Rattle.span_io.specs.Limits.{shipped_limits}
 use Rattle.span_io.specs.Outside.{Inlet}
 use Rattle.span_io.specs.declared.form.Form.{Form}
+use Rattle.span_io.specs.declared.limits.Limits.{Limits}
 use Rattle.span_convert.specs.Converters.{Fed, HasForms}
+use Rattle.span_convert.specs.Units.{input_limit}
 use Rattle.span_convert.specs.declared.converter.Converter.{Converter}
 use Rattle.span_cli.specs.Inputs.{GaveInput, ReadsInput, IsFed, piece}
 
@@ -20,8 +22,12 @@ Consumes-then (Some xs) (Some ys) None x y p q = absurd q
 Consumes-then (Some xs) (Some ys) (Some zs) x y p q = p ∙ ap (λ (l : List ℕ). x ++ l) q ∙ sym (append_assoc x y zs)
 
 -- nothing was read
-pub reads_nothing : (now : Inlet) → ReadsInput now now
-reads_nothing now = record { given = []; gave = Consumes-nothing now.left; within = omega arith }
+pub reads_nothing : (from : Form) (now : Inlet) → ReadsInput from now now
+reads_nothing from now = record { given = []; gave = Consumes-nothing now.left; within = omega arith }
+
+-- a converter was fed no more than the limit of its form
+pub given_within : (c : Converter) (from : Form) (given : List ℕ) → Fed c given → c.from ≡ from → c.limits ≡ shipped_limits → length given ≤ input_limit from shipped_limits
+given_within c from given fed form limits = subst (λ (f : Form). length given ≤ input_limit f shipped_limits) form (subst (λ (l : Limits). length given ≤ input_limit c.from l) limits fed.within)
 
 -- the source gave some bytes so far without a fault, and the converter was fed them
 pub record Feeding (from to : Form) (before now : Inlet) (c : Converter) : Type 0 where
@@ -50,9 +56,9 @@ module _ (from to : Form) where
   }
 
   -- what was read so far, and another piece that the converter took or not
-  pub Feeding-reads : (before now after : Inlet) (c : Converter) (more : List ℕ) (feeding : Feeding from to before now c) → Consumes now.left after.left more → length more ≤ piece → ReadsInput before after
+  pub Feeding-reads : (before now after : Inlet) (c : Converter) (more : List ℕ) (feeding : Feeding from to before now c) → Consumes now.left after.left more → length more ≤ piece → ReadsInput from before after
   Feeding-reads before now after c more feeding here small =
-      let bound : length feeding.given ≤ shipped_limits.binary = subst (λ l. length feeding.given ≤ l.binary) feeding.limits feeding.fed.within in
+      let bound = given_within c from feeding.given feeding.fed feeding.forms.0 feeding.limits in
       record {
         given = feeding.given ++ more;
         gave = Consumes-then before.left now.left after.left feeding.given more feeding.gave here;

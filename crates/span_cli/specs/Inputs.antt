@@ -5,6 +5,7 @@ use Rattle.span_io.specs.Limits.{shipped_limits}
 use Rattle.span_io.specs.Outside.{Inlet}
 use Rattle.span_io.specs.declared.form.Form.{Form}
 use Rattle.span_convert.specs.Converters.{Fed, HasForms}
+use Rattle.span_convert.specs.Units.{input_limit}
 use Rattle.span_convert.specs.declared.converter.Converter.{Converter}
 
 -- the source gave these bytes
@@ -15,11 +16,11 @@ GaveInput before now bytes = Consumes before.left now.left bytes
 abbrev pub piece : ℕ
 piece = 65536
 
--- Reading stopped at the first stop: at most so many bytes were read as the limit allows, and one piece.
-pub record ReadsInput (before now : Inlet) : Type 0 where
+-- Reading stopped at the first stop: at most so many bytes were read as the limit of the form allows, and one piece.
+pub record ReadsInput (from : Form) (before now : Inlet) : Type 0 where
   pub given : List ℕ
   pub gave : GaveInput before now given
-  pub within : length given ≤ shipped_limits.binary + piece
+  pub within : length given ≤ input_limit from shipped_limits + piece
 
 -- nothing is left, where the source tells it: it does if it told its bytes before
 pub record IsAllRead (before now : Inlet) : Type 0 where

@@ -31,11 +31,11 @@ IsEndingAt endings.OutputFailed stop state = stop ≡ stops.Write
 IsEndingAt endings.NoMemory stop state = (stop ≡ stops.OutOfMemory) ⊎ (stop ≡ stops.Faulted)
 
 -- What a run that ends with this status did to its input. The input failed where its count rose, and only there.
-pub record EndsInput (status : ℕ) (before now : Inlet) : Type 0 where
+pub record EndsInput (from : Form) (status : ℕ) (before now : Inlet) : Type 0 where
   pub fails : status ≡ 5 → InputFails before now
   pub quiet : status ≢ 5 → now.faults ≡ before.faults
   pub answers : IsTrue before.steady → status ≢ 5
-  pub reads : ReadsInput before now
+  pub reads : ReadsInput from before now
   pub all_read : status ≡ 0 → IsAllRead before now
 
 -- The same of its output, which a failure of the input leaves as it was.
@@ -55,7 +55,7 @@ pub record WritesRead (from to : Form) (input_before input_now : Inlet) (output_
 -- them was carried out as the ending says.
 pub record EndsRun {K : Type 0} (outlet : K → Outlet) (from to : Form) (ending : Ending)
     (input_before input_now : Inlet) (output_before output_now : K) : Type 0 where
-  pub input : EndsInput (status_of ending) input_before input_now
+  pub input : EndsInput from (status_of ending) input_before input_now
   pub output : EndsOutput outlet (status_of ending) output_before output_now
   pub front : WritesRead from to input_before input_now (outlet output_before) (outlet output_now)
   pub judged : IfSome input_before.left (IsJudgedAt from to (stage_of (status_of ending)))

@@ -4,6 +4,8 @@ mod jaeger_batches;
 mod jaeger_compact;
 mod jaeger_requests;
 mod jaeger_stops;
+mod zipkin;
+mod zipkin_stops;
 
 use super::*;
 use crate::ending::Ending;
@@ -363,7 +365,7 @@ fn knows_its_words(rt: HostRuntime) -> Result<(), Fail> {
         &["convert"],
         &["convert", "--from", "otlp-proto"],
         &["convert", "--from", "otlp-proto", "--from", "otlp-proto"],
-        &["convert", "--from", "otlp-proto", "--to", "zipkin-json"],
+        &["convert", "--from", "otlp-proto", "--to", "otlp-json"],
         &[
             "convert",
             "--from",

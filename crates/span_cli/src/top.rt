@@ -43,7 +43,7 @@ pub fn run<S: Source, K: Sink, N: Sink>(
     ensures output_answers { IsTrue (K.outlet output.old).steady → result ≢ 6 }
 
     // Reading stops at the first stop. After the whole text nothing of the input is left.
-    ensures reads { ReadsInput (S.inlet input.old) (S.inlet input.new) }
+    ensures reads { OnConversion (texts words.now) (λ from to. ReadsInput from (S.inlet input.old) (S.inlet input.new)) }
     ensures all_read { result ≡ 0 → IsAllRead (S.inlet input.old) (S.inlet input.new) }
 
     // Whatever the status, only text of the first units of what was read was written.

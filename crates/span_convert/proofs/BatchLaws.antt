@@ -14,14 +14,16 @@ use Rattle.jaeger_model.specs.Batches.{IsBatchText}
 use Rattle.jaeger_model.specs.Laws.{BatchOffends}
 use Rattle.jaeger_model.specs.declared.batch.Batch.{Batch}
 use Rattle.map_jaeger.specs.Reading.{group_of}
-use Rattle.span_convert.specs.InputLaws.{BatchLaws}
 use Rattle.span_convert.specs.BatchFiles.{ProtocolWords, batches, RefusedBatch, HoldsBatches, IsBatchUnit, ReadsBatches}
+use Rattle.span_convert.specs.FramedForms.{FramedForm}
+use Rattle.span_convert.specs.InputLaws.{BatchLaws}
+use Rattle.span_convert.specs.Units.{batch_form}
 use Rattle.span_convert.proofs.FrameLemmas.{no_items, FirstItems, first_items, nothing_begins, stops_ends, one_stop, end_fine, behind_all, same_items}
-use Rattle.span_convert.proofs.SourceLaws.{Source, batch_source, SourceLaws, HeldBy, GoOn, AllUnits}
+use Rattle.span_convert.proofs.SourceLaws.{SourceLaws, HeldBy, GoOn, AllUnits, IsDecidedUnit}
 
 module _ (protocol : ProtocolWords) (L : BatchLaws protocol) where
-  abbrev from : Source
-  from = batch_source protocol
+  abbrev from : FramedForm
+  from = batch_form protocol
 
   abbrev IsUnit : List ℕ → Group → Type 0
   IsUnit = IsBatchUnit protocol.spells
@@ -92,12 +94,9 @@ module _ (protocol : ProtocolWords) (L : BatchLaws protocol) where
 
   -- ---- each batch is decided
 
-  abbrev IsDecided : List ℕ → Type 0
-  IsDecided unit = ((group : Group) × IsUnit unit group) ⊎ ((cause : Cause) × Least (BatchOffends protocol.spells unit) (cause_number cause))
-
-  pub decided_batch : (unit : List ℕ) → (batches protocol).Whole unit → IsDecided unit
+  pub decided_batch : (unit : List ℕ) → (batches protocol).Whole unit → IsDecidedUnit from unit
   decided_batch unit whole = of (L.some whole.0 unit whole.1)
     where
-      of : ((batch : Batch) × IsBatchText protocol.spells batch unit) ⊎ ((cause : Cause) × Least (BatchOffends protocol.spells unit) (cause_number cause)) → IsDecided unit
+      of : ((batch : Batch) × IsBatchText protocol.spells batch unit) ⊎ ((cause : Cause) × Least (BatchOffends protocol.spells unit) (cause_number cause)) → IsDecidedUnit from unit
       of (inl (batch, text)) = inl (group_of batch, record { batch = batch; text = text; means = refl })
       of (inr least) = inr least

@@ -1,4 +1,4 @@
--- What is read of a batch of bytes is proper, over any protocol that binary_spells numbers of the bits of their types, as the binary one does.
+-- What is read of a batch of bytes is proper, over any protocol that spells numbers of the bits of their types, as the binary one does.
 use Rattle.std.proofs.Common.{◌≡◌, ℕ, ◌<◌, ◌^◌, zero, suc, List, [], ◌∷◌, length, map, get_or, refl, sym, ◌∙◌, ap, subst, arith}
 use Rattle.std.specs.Prelude.{FitsSigned}
 use Rattle.std.specs.Int.{w32, w64, from_be_bytes, cast_signed}
@@ -14,9 +14,9 @@ use Rattle.jaeger_model.specs.Laws.{IsProperLong, SpellsProper, ReadsProper}
 use Rattle.jaeger_model.specs.WrittenAgain.{all_kept, all_counted}
 use Rattle.jaeger_model.specs.declared.batch.Batch.{Batch}
 use Rattle.jaeger_model.specs.declared.span.JSpan.{JSpan}
+use Rattle.span_tags.specs.Runs.{Scoped, runs}
 use Rattle.map_jaeger.specs.Laws.{ReadIsProper}
 use Rattle.map_jaeger.specs.Reading.{scoped_of, resource_of, group_of}
-use Rattle.map_jaeger.specs.Runs.{Scoped, runs}
 use Rattle.span_convert.specs.BatchFiles.{IsBatchUnit}
 use Rattle.span_convert.proofs.SourceLaws.{AreBytes}
 

@@ -17,18 +17,19 @@ use Rattle.jaeger_model.specs.Batches.{IsBatchText}
 use Rattle.jaeger_model.specs.Writable.{IsWritable}
 use Rattle.jaeger_model.specs.WrittenAgain.{HasAllKept}
 use Rattle.jaeger_model.specs.declared.batch.Batch.{Batch}
+use Rattle.span_tags.specs.RunLaws.{scoped_runs}
+use Rattle.span_tags.specs.Runs.{Scoped, scoped, spans_of, runs}
 use Rattle.map_jaeger.specs.Faults.{HasNoFault}
 use Rattle.map_jaeger.specs.Laws.{IsHeld, NormalForms, IsTimely, ReadIsNormal}
 use Rattle.map_jaeger.specs.Normal.{normal, normal_group, normal_scoped}
-use Rattle.map_jaeger.specs.RunLaws.{scoped_runs}
-use Rattle.map_jaeger.specs.Runs.{Scoped, scoped, spans_of, runs}
 use Rattle.map_jaeger.specs.Writing.{jaeger_span, batch_of}
 use Rattle.span_convert.specs.BatchFiles.{ProtocolWords, batches, group_batch, batches_text, IsBatchUnit, IsPlainBatchUnit, ReadsBatches, ReadsBatchesPlainly, AreBatchesWithin}
-use Rattle.span_convert.specs.Canonical.{IsHeldBy, IsProperTrace}
+use Rattle.span_convert.specs.Canonical.{IsHeldBy}
+use Rattle.span_convert.specs.FramedForms.{AreAllUnits}
 use Rattle.span_convert.specs.InputLaws.{BatchLaws, TextLaws}
-use Rattle.span_convert.specs.Units.{CanHold, IsSizedGroup, span_count}
+use Rattle.span_convert.specs.Units.{batch_form, CanHold, IsSizedGroup, span_count}
+use Rattle.span_convert.specs.Verdicts.{IsProperTrace}
 use Rattle.span_convert.proofs.BatchTimes.{all_timely}
-use Rattle.span_convert.proofs.SourceLaws.{batch_source, HeldWhole}
 
 -- ---- groups in normal form
 
@@ -68,16 +69,18 @@ module _ (N : NormalForms) where
 -- they are held by each form of Jaeger
 pub normal_held_by : (to : Form) → ((g : Group) → HasNoFault g → CanHold to g) → ((g : Group) → IsWritable (batch_of g) → IsSizedGroup to g) → (groups : List Group) → All IsNormal groups → IsHeldBy to groups
 normal_held_by to can sized groups all = record {
-  sound = All-weaker IsNormal IsSoundGroup (λ g n. n.held.sound) groups all;
-  proper = All-weaker IsNormal IsProperGroup (λ g n. n.held.proper) groups all;
-  no_fault = All-weaker IsNormal (CanHold to) (λ g n. can g n.held.no_fault) groups all;
+  can_hold = record {
+    sound = All-weaker IsNormal IsSoundGroup (λ g n. n.held.sound) groups all;
+    proper = All-weaker IsNormal IsProperGroup (λ g n. n.held.proper) groups all;
+    no_fault = All-weaker IsNormal (CanHold to) (λ g n. can g n.held.no_fault) groups all;
+  };
   sized = All-weaker IsNormal (IsSizedGroup to) (λ g n. sized g n.sized) groups all;
 }
 
 -- ---- without remarks
 
 module _ (protocol : ProtocolWords) where
-  pub plainly_units : (units : List (List ℕ)) (groups : List Group) → AllZip (IsPlainBatchUnit protocol.spells) units groups → AllZip (IsBatchUnit protocol.spells) units groups
+  plainly_units : (units : List (List ℕ)) (groups : List Group) → AllZip (IsPlainBatchUnit protocol.spells) units groups → AllZip (IsBatchUnit protocol.spells) units groups
   plainly_units [] [] h = tt
   plainly_units [] (g ∷ groups) h = absurd h
   plainly_units (unit ∷ units) [] h = absurd h
@@ -133,11 +136,13 @@ module _ (protocol : ProtocolWords) where
     }
 
     -- their text is their batches, and nothing else
-    pub batches_whole : (limits : Limits) (groups : List Group) → All IsNormal groups → AreBatchesWithin protocol limits groups → HeldWhole (batch_source protocol) limits (text groups) groups
+    pub batches_whole : (limits : Limits) (groups : List Group) → All IsNormal groups → AreBatchesWithin protocol limits groups → AreAllUnits (batch_form protocol) limits (text groups) groups
     batches_whole limits groups all within = record {
-      units = map its_batch groups;
-      held = subst (λ (l : List ℕ). ItemsThen (batches protocol) limits.unit (map its_batch groups) [] l) (sym (take_all limits.binary (text groups) within.text)) (frames limits.unit groups all within.units);
-      are_groups = plainly_units protocol (map its_batch groups) groups (plain_units groups all);
+      units_then = record {
+        units = map its_batch groups;
+        held = subst (λ (l : List ℕ). ItemsThen (batches protocol) limits.unit (map its_batch groups) [] l) (sym (take_all limits.binary (text groups) within.text)) (frames limits.unit groups all within.units);
+        are_groups = plainly_units protocol (map its_batch groups) groups (plain_units groups all);
+      };
       within = within.text;
     }
 

@@ -1,16 +1,15 @@
 -- What a walk wrote carries out each verdict on the input.
-use Rattle.std.proofs.Common.{◌≡◌, ℕ, ◌+◌, ◌-◌, ◌<◌, ◌≤◌, true, false, List, [], ◌++◌, length, take, All, Result, Ok, Err, refl, sym, ap, subst, ◌∙◌, append_assoc, arith}
-use Rattle.std.proofs.lemmas.List.{take_all, append-nil}
+use Rattle.std.proofs.Common.{◌≡◌, ℕ, ◌+◌, ◌-◌, ◌<◌, ◌≤◌, true, List, [], ◌++◌, length, take, Result, Ok, Err, refl, sym, ap, subst, ◌∙◌, append_assoc, arith}
+use Rattle.std.proofs.lemmas.List.{append-nil}
 use Rattle.std.proofs.Math.Seq.{take-append-add}
 use Rattle.span_io.specs.Limits.{AreLimits}
 use Rattle.span_io.specs.Outside.{Outlet, Gains, GainsFront, OutputFails, IsFront}
 use Rattle.span_io.specs.declared.form.Form.{Form}
 use Rattle.span_io.specs.declared.limits.Limits.{Limits}
 use Rattle.span_io.specs.declared.refusal.Refusal.{Refusal}
-use Rattle.trace_model.specs.declared.trace.Group.{Group}
 use Rattle.span_convert.specs.Converters.{KeepsWhy, Stopped}
-use Rattle.span_convert.specs.Units.{HoldsUnits, AreGroups, CanHold, canonical_text}
-use Rattle.span_convert.specs.Verdicts.{Verdict, good, refused, faulted, IsVerdict, verdict_text, WritesFront, Stops, Ends, Answers}
+use Rattle.span_convert.specs.Units.{input_form}
+use Rattle.span_convert.specs.Verdicts.{Verdict, good, refused, faulted, IsVerdict, IsTextSoFar, none, all, verdict_text, WritesFront, Stops, Ends, Answers}
 use Rattle.span_convert.specs.Walks.{IsLookedAt, WritesRefused, WritesFaulted, WritesWhole, EndsWalk}
 use Rattle.span_convert.specs.declared.bad.Bad.TheVariants as bads
 use Rattle.span_convert.specs.declared.converter.State.{State}
@@ -21,16 +20,13 @@ use Rattle.span_convert.specs.declared.tally.Tally.{Tally}
 use Rattle.span_convert.specs.declared.target_fault.TargetFault.{TargetFault}
 use Rattle.span_convert.specs.declared.progress.WalkStop.{WalkStop}
 use Rattle.span_convert.specs.declared.progress.WalkStop.TheVariants as walk_stops
-use Rattle.span_convert.proofs.WalkLemmas.{gains_none, none_held, none_convert}
+use Rattle.span_convert.proofs.WalkLemmas.{gains_none}
 
 -- ---- what is looked at
 
-pub looked_whole : (limits : Limits) (whole : List ℕ) → length whole ≤ limits.binary → IsLookedAt limits whole whole false
-looked_whole limits whole within = record { front = take_all limits.binary whole within; exceeds = within }
-
-pub looked_front : (limits : Limits) (held bytes piece : List ℕ) (size room : ℕ) → held ≡ bytes → size ≡ length held → room ≡ limits.binary - size → length bytes ≤ limits.binary → limits.binary < length (bytes ++ piece) → IsLookedAt limits (bytes ++ piece) (held ++ take room piece) true
-looked_front limits held bytes piece size room same measured e within beyond =
-    let split : limits.binary ≡ length bytes + room = omega (arith, ap length same) in
+pub looked_front : (limit bound : ℕ) (held bytes piece : List ℕ) (size room : ℕ) → bound ≡ limit → held ≡ bytes → size ≡ length held → room ≡ bound - size → length bytes ≤ limit → limit < length (bytes ++ piece) → IsLookedAt limit (bytes ++ piece) (held ++ take room piece) true
+looked_front limit bound held bytes piece size room bounds same measured e within beyond =
+    let split : limit ≡ length bytes + room = omega (arith, ap length same) in
     record { front = ap (λ n. take n (bytes ++ piece)) split ∙ take-append-add bytes piece room ∙ ap (λ l. l ++ take room piece) (sym same); exceeds = beyond }
 
 -- ---- what is written
@@ -54,11 +50,6 @@ stopped_early now v result state e f =
     let early = stops_early now v in
     (subst (λ (r : Result (Unit {0}) Stop). Stopped r (λ stop. Stops v stop now now)) (sym e) early.0, subst (λ (s : State). KeepsWhy v s) (sym f) early.1)
 
--- a walk between two forms is the walk that these ask for
-pub walk_between : (a b from to : Form) → from ≡ a → to ≡ b → (limits : Limits) (whole : List ℕ) (result : Result Tally WalkStop) (before now : Outlet) → EndsWalk a b limits whole result before now → EndsWalk from to limits whole result before now
-walk_between a b from to e f limits whole result before now w =
-    subst (λ (x : Form). EndsWalk x to limits whole result before now) (sym e) (subst (λ (x : Form). EndsWalk a x limits whole result before now) (sym f) w)
-
 -- ---- a front of the text of the first units
 
 gains_all : (before now : Outlet) (text : List ℕ) → Gains before now text → GainsFront before now text
@@ -66,22 +57,13 @@ gains_all before now text gains = record { front = text; is_front = ([], sym (ap
 
 -- nothing was written
 pub writes_none : (from to : Form) (limits : Limits) (bytes : List ℕ) (now : Outlet) → WritesFront from to limits bytes now now
-writes_none from to limits bytes now = record {
-  text = [];
-  so_far = record {
-    units = [];
-    rest = take limits.binary bytes;
-    held = none_held from limits bytes (take limits.binary bytes) refl;
-    convert = none_convert from to;
-  };
-  gains = record { front = []; is_front = ([], refl); gains = gains_none now };
-}
+writes_none from to limits bytes now = record { text = []; so_far = none refl; gains = record { front = []; is_front = ([], refl); gains = gains_none now } }
 
 -- whatever the walk came to
-pub ends_front : (from to : Form) (limits : Limits) (whole : List ℕ) (result : Result Tally WalkStop) (before now : Outlet) → EndsWalk from to limits whole result before now → WritesFront from to limits whole before now
+pub ends_front : (from to : Form) (limits : Limits) (whole : List ℕ) (result : Result Tally WalkStop) (before now : Outlet) → EndsWalk (input_form from) to limits whole result before now → WritesFront from to limits whole before now
 ends_front from to limits whole (Ok tally) before now w = record {
   text = w.text;
-  so_far = record { units = w.is_good.units; rest = []; held = w.is_good.held; convert = w.is_good.convert };
+  so_far = all tally w.is_good;
   gains = gains_all before now w.text w.gains;
 }
 ends_front from to limits whole (Err (walk_stops.Refused refusal)) before now w = record { text = w.text; so_far = w.so_far; gains = gains_all before now w.text w.gains }
@@ -94,49 +76,48 @@ ends_front from to limits whole (Err walk_stops.OutOfMemory) before now w = w
 abbrev pub OneVerdict : Type 0
 OneVerdict = (from to : Form) (limits : Limits) (bytes : List ℕ) (v w : Verdict) → AreLimits limits → IsVerdict from to limits bytes v → IsVerdict from to limits bytes w → v ≡ w
 
-abbrev pub BeginsSo : Type 0
-BeginsSo = (from to : Form) (limits : Limits) (bytes rest : List ℕ) (units : List (List ℕ)) (groups : List Group) (v : Verdict) → AreLimits limits → HoldsUnits from limits bytes units rest → AreGroups from units groups → All (CanHold to) groups → IsVerdict from to limits bytes v → IsFront (canonical_text to groups) (verdict_text v)
+abbrev pub TextsSoFar : Type 0
+TextsSoFar = (from to : Form) (limits : Limits) (bytes text : List ℕ) (v : Verdict) → AreLimits limits → IsTextSoFar (input_form from) to limits bytes text → IsVerdict from to limits bytes v → IsFront text (verdict_text v)
 
 module _ (from to : Form) (limits : Limits) (whole : List ℕ) (valid : AreLimits limits) (v : Verdict) (is_verdict : IsVerdict from to limits whole v) where
   module _ (once : OneVerdict) where
-    pub carries_refused : (before now : Outlet) (refusal : Refusal) → WritesRefused from to limits whole refusal before now → Stops v stops.Refused before now × KeepsWhy v (states.Refused refusal)
+    pub carries_refused : (before now : Outlet) (refusal : Refusal) → WritesRefused (input_form from) to limits whole refusal before now → Stops v stops.Refused before now × KeepsWhy v (states.Refused refusal)
     carries_refused before now refusal w =
-        let same = once from to limits whole (refused refusal w.text) v valid w.is_bad is_verdict in
+        let same = once from to limits whole (refused refusal w.text) v valid w.is_refused is_verdict in
         subst (λ (x : Verdict). Stops x stops.Refused before now × KeepsWhy x (states.Refused refusal)) same (w.gains, refl)
 
-    pub carries_faulted : (before now : Outlet) (found : TargetFault) → WritesFaulted from to limits whole found before now → Stops v stops.Faulted before now × KeepsWhy v (states.Faulted found)
+    pub carries_faulted : (before now : Outlet) (found : TargetFault) → WritesFaulted (input_form from) to limits whole found before now → Stops v stops.Faulted before now × KeepsWhy v (states.Faulted found)
     carries_faulted before now found w =
         let same = once from to limits whole (faulted found w.text) v valid w.is_faulted is_verdict in
         subst (λ (x : Verdict). Stops x stops.Faulted before now × KeepsWhy x (states.Faulted found)) same (w.gains, refl)
 
-    pub carries_whole : (before now : Outlet) (tally : Tally) → WritesWhole from to limits whole tally before now → Ends v tally before now × KeepsWhy v states.Ended
+    pub carries_whole : (before now : Outlet) (tally : Tally) → WritesWhole (input_form from) to limits whole tally before now → Ends v tally before now × KeepsWhy v states.Ended
     carries_whole before now tally w =
         let same = once from to limits whole (good w.text tally) v valid w.is_good is_verdict in
         subst (λ (x : Verdict). Ends x tally before now × KeepsWhy x states.Ended) same ((refl, w.gains), tt)
 
-    pub answers_refused : (before now : Outlet) (refusal : Refusal) → WritesRefused from to limits whole refusal before now → Answers v (Err (bads.Refused refusal))
+    pub answers_refused : (before now : Outlet) (refusal : Refusal) → WritesRefused (input_form from) to limits whole refusal before now → Answers v (Err (bads.Refused refusal))
     answers_refused before now refusal w =
-        let same = once from to limits whole (refused refusal w.text) v valid w.is_bad is_verdict in
+        let same = once from to limits whole (refused refusal w.text) v valid w.is_refused is_verdict in
         subst (λ (x : Verdict). Answers x (Err (bads.Refused refusal))) same refl
 
-    pub answers_faulted : (before now : Outlet) (found : TargetFault) → WritesFaulted from to limits whole found before now → Answers v (Err (bads.Faulted found))
+    pub answers_faulted : (before now : Outlet) (found : TargetFault) → WritesFaulted (input_form from) to limits whole found before now → Answers v (Err (bads.Faulted found))
     answers_faulted before now found w =
         let same = once from to limits whole (faulted found w.text) v valid w.is_faulted is_verdict in
         subst (λ (x : Verdict). Answers x (Err (bads.Faulted found))) same refl
 
-    pub answers_whole : (before now : Outlet) (tally : Tally) (w : WritesWhole from to limits whole tally before now) (out : List ℕ) → out ≡ w.text → Answers v (Ok out)
+    pub answers_whole : (before now : Outlet) (tally : Tally) (w : WritesWhole (input_form from) to limits whole tally before now) (out : List ℕ) → out ≡ w.text → Answers v (Ok out)
     answers_whole before now tally w out e =
         let same = once from to limits whole (good w.text tally) v valid w.is_good is_verdict in
         subst (λ (x : Verdict). Answers x (Ok out)) same e
 
-  module _ (begins : BeginsSo) where
+  module _ (texts : TextsSoFar) where
     front_of : (before now : Outlet) → WritesFront from to limits whole before now → GainsFront before now (verdict_text v)
     front_of before now w =
-        let so_far = w.so_far in
-        let first = begins from to limits whole so_far.rest so_far.units so_far.convert.groups v valid so_far.held so_far.convert.are_groups so_far.convert.fine is_verdict in
+        let more = texts from to limits whole w.text v valid w.so_far is_verdict in
         record {
           front = w.gains.front;
-          is_front = (w.gains.is_front.0 ++ first.0, first.1 ∙ ap (λ l. l ++ first.0) (sym so_far.convert.is_text ∙ w.gains.is_front.1) ∙ append_assoc w.gains.front w.gains.is_front.0 first.0);
+          is_front = (w.gains.is_front.0 ++ more.0, more.1 ∙ ap (λ l. l ++ more.0) w.gains.is_front.1 ∙ append_assoc w.gains.front w.gains.is_front.0 more.0);
           gains = w.gains.gains;
         }
 

@@ -1,4 +1,4 @@
--- What the Thrift compact protocol compact_spells has the bits of its type.
+-- What the compact protocol of Thrift spells has the bits of its type.
 use Rattle.std.proofs.Common.{◌≡◌, ℕ, zero, suc, ◌+◌, ◌-◌, ◌*◌, ◌^◌, ◌<◌, ℤ, pos, negsuc, List, [], ◌∷◌, length, reverse, sym, ◌∙◌, ap, subst, arith}
 use Rattle.std.proofs.Math.Nat as nat
 use Rattle.std.proofs.lemmas.List.{length-reverse, get_or-reverse}

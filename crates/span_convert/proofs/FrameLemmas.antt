@@ -51,16 +51,16 @@ stops_weaker F EndsIn limit Long Longer Short Shorter f g rest cause (inr (needs
 
 module _ (F : Framing) (EndsIn : Cause → List ℕ → Type 0) (S : OneStep F EndsIn) (limits : Limits) (size : ℕ) where
   -- why the rest of an input of so many bytes isn't read
-  abbrev pub RestStops : List ℕ → Cause → Type 0
-  RestStops = StopsRest F EndsIn limits.unit (limits.binary < size) (size ≤ limits.binary)
+  abbrev StopsThere : List ℕ → Cause → Type 0
+  StopsThere = StopsRest F EndsIn limits.unit (limits.binary < size) (size ≤ limits.binary)
 
   -- nothing begins there
-  pub stops_ends : (rest : List ℕ) (cause : Cause) → RestStops rest cause → (n : ℕ) → BeginsFrame F limits.unit n rest → ⊥
+  pub stops_ends : (rest : List ℕ) (cause : Cause) → StopsThere rest cause → (n : ℕ) → BeginsFrame F limits.unit n rest → ⊥
   stops_ends rest cause (inl h) n b = S.no_frame limits.unit n rest cause h b
   stops_ends rest cause (inr h) n b = S.open_frame limits.unit n rest h.0 b
 
   -- at the end of an input within its limit nothing is wrong
-  pub end_fine : AreLimits limits → (rest : List ℕ) (cause : Cause) → rest ≡ [] → size ≤ limits.binary → RestStops rest cause → ⊥
+  pub end_fine : AreLimits limits → (rest : List ℕ) (cause : Cause) → rest ≡ [] → size ≤ limits.binary → StopsThere rest cause → ⊥
   end_fine valid rest cause e within (inl h) = S.open_refused limits.unit [] cause (S.empty limits.unit valid.unit.0) (subst (λ (l : List ℕ). NoFrame F EndsIn limits.unit l cause) e h)
   end_fine valid rest cause e within (inr (needs, inl h)) = omega (arith, h.1, within)
   end_fine valid rest cause e within (inr (needs, inr h)) = h.2 e
@@ -71,19 +71,19 @@ module _ (F : Framing) (EndsIn : Cause → List ℕ → Type 0) (S : OneStep F E
   one_open rest a b (inr x) (inl y) = absurd (omega (arith, x.1, y.1))
   one_open rest a b (inr x) (inr y) = x.0 ∙ sym y.0
 
-  pub one_stop : (rest : List ℕ) (a b : Cause) → RestStops rest a → RestStops rest b → a ≡ b
+  pub one_stop : (rest : List ℕ) (a b : Cause) → StopsThere rest a → StopsThere rest b → a ≡ b
   one_stop rest a b (inl h) (inl g) = S.one_cause limits.unit rest a b h g
   one_stop rest a b (inl h) (inr g) = absurd (S.open_refused limits.unit rest a g.0 h)
   one_stop rest a b (inr h) (inl g) = absurd (S.open_refused limits.unit rest b h.0 g)
   one_stop rest a b (inr h) (inr g) = one_open rest a b h.1 g.1
 
   -- the rest ends the input, or a cause stops a walk there
-  open_rest : (rest : List ℕ) → NeedsMore F limits.unit rest → (limits.binary < size) ⊎ (size ≤ limits.binary) → (rest ≡ []) × (size ≤ limits.binary) ⊎ ((cause : Cause) × RestStops rest cause)
+  open_rest : (rest : List ℕ) → NeedsMore F limits.unit rest → (limits.binary < size) ⊎ (size ≤ limits.binary) → (rest ≡ []) × (size ≤ limits.binary) ⊎ ((cause : Cause) × StopsThere rest cause)
   open_rest rest needs (inl long) = inr (causes.InputTooLong, inr (needs, inl (refl, long)))
   open_rest [] needs (inr short) = inl (refl, short)
   open_rest (x ∷ rest) needs (inr short) = inr (causes.Truncated, inr (needs, inr (refl, short, λ e. cc)))
 
-  pub behind_all : (rest : List ℕ) → RestIs F EndsIn limits.unit rest → (rest ≡ []) × (size ≤ limits.binary) ⊎ ((cause : Cause) × RestStops rest cause)
+  pub behind_all : (rest : List ℕ) → RestIs F EndsIn limits.unit rest → (rest ≡ []) × (size ≤ limits.binary) ⊎ ((cause : Cause) × StopsThere rest cause)
   behind_all rest (inr (cause, none)) = inr (cause, inl none)
   behind_all rest (inl needs) = open_rest rest needs (cases_lt limits.binary size)
 

@@ -3,7 +3,6 @@ use Rattle.std.proofs.Common.{◌≡◌, ◌≤◌, ◌++◌, ◌∷◌, ◌⊎�
 use Rattle.std.specs.Prelude.{◌==◌, if◌then◌else◌}
 use Rattle.std.proofs.lemmas.List.{append_assoc, append-nil}
 use Rattle.span_io.specs.Frames.{ItemsThen, GoesOn}
-use Rattle.span_io.specs.declared.form.Form.TheVariants as forms
 use Rattle.span_io.specs.declared.limits.Limits.{Limits}
 use Rattle.proto_wire.specs.Records.{Held, varint, fixed64, bytes, fixed32, Record}
 use Rattle.proto_wire.specs.Wire.{SpellsRecord, records, RefusedBy}
@@ -11,8 +10,9 @@ use Rattle.trace_model.specs.declared.trace.Group.{Group}
 use Rattle.otlp_proto.specs.Rows.{bytes_in}
 use Rattle.span_convert.specs.InputLaws.{RequestLaws}
 use Rattle.span_convert.specs.Requests.{AreRequestUnits, HoldsRequestUnits, IsRequestUnit}
+use Rattle.span_convert.specs.Units.{request_form}
 use Rattle.span_convert.proofs.FrameLemmas.{no_items, nothing_begins, stops_ends, one_stop, end_fine}
-use Rattle.span_convert.proofs.SourceLaws.{source_of, SourceLaws, HeldBy, GoOn}
+use Rattle.span_convert.proofs.SourceLaws.{SourceLaws, HeldBy, GoOn}
 
 -- ---- lists
 
@@ -20,10 +20,10 @@ some_last : {A : Type 0} (l : List A) (x : A) → l ++ x ∷ [] ≡ [] → ⊥
 some_last [] x e = cc
 some_last (y ∷ l) x e = cc
 
-tail_is : {A : Type 0} (x y : A) (l m : List A) → x ∷ l ≡ y ∷ m → l ≡ m
+pub tail_is : {A : Type 0} (x y : A) (l m : List A) → x ∷ l ≡ y ∷ m → l ≡ m
 tail_is x y l m e = cc
 
-head_is : {A : Type 0} (x y : A) (l m : List A) → x ∷ l ≡ y ∷ m → x ≡ y
+pub head_is : {A : Type 0} (x y : A) (l m : List A) → x ∷ l ≡ y ∷ m → x ≡ y
 head_is x y l m e = cc
 
 -- ---- what a record of number 1 holds
@@ -109,7 +109,7 @@ module _ (L : RequestLaws) where
   no_units (f ∷ frames) behind e h = cc
 
   go_on : (limits : Limits) (text : List ℕ) (units others : List (List ℕ)) (rest other : List ℕ) (h : HoldsRequestUnits limits text units rest) (g : HoldsRequestUnits limits text others other) → GoesOn records limits.unit h.frames g.frames rest other
-      → GoOn (source_of forms.OtlpProto) limits units others rest other
+      → GoOn request_form limits units others rest other
   go_on limits text units others rest other h g w =
       let d : Divided h.frames w.more others = divided h.frames w.more others (subst (λ (l : List (List ℕ)). AreRequestUnits l others) w.parts g.are_units) in
       let parts : others ≡ units ++ d.behind = d.parts ∙ ap (λ (l : List (List ℕ)). l ++ d.behind) (units_once h.frames d.first units d.of_first h.are_units) in
@@ -122,13 +122,13 @@ module _ (L : RequestLaws) where
       }
 
   units_walk : (limits : Limits) (text : List ℕ) (units others : List (List ℕ)) (rest other : List ℕ) → HoldsRequestUnits limits text units rest → HoldsRequestUnits limits text others other
-      → GoOn (source_of forms.OtlpProto) limits units others rest other ⊎ GoOn (source_of forms.OtlpProto) limits others units other rest
+      → GoOn request_form limits units others rest other ⊎ GoOn request_form limits others units other rest
   units_walk limits text units others rest other h g = elim (L.framing.walks limits.unit (take limits.binary text) rest other h.frames g.frames h.framed g.framed) [
     | inl w ↦ inl (go_on limits text units others rest other h g w)
     | inr w ↦ inr (go_on limits text others units other rest g h w)
   ]
 
-  before_unit : (limits : Limits) (text : List ℕ) (before : List (List ℕ)) (unit rest : List ℕ) → HoldsRequestUnits limits text (before ++ unit ∷ []) rest → HeldBy (source_of forms.OtlpProto) limits text before
+  before_unit : (limits : Limits) (text : List ℕ) (before : List (List ℕ)) (unit rest : List ℕ) → HoldsRequestUnits limits text (before ++ unit ∷ []) rest → HeldBy request_form limits text before
   before_unit limits text before unit rest h =
       let w : Before limits.unit h.frames before (take limits.binary text) = before_last limits.unit h.frames before unit rest (take limits.binary text) h.framed h.are_units in
       record { rest = w.rest; held = record { frames = w.earlier; framed = w.items_then; are_units = w.units_of } }
@@ -138,7 +138,7 @@ module _ (L : RequestLaws) where
   pub one_group : (unit : List ℕ) (g h : Group) → IsRequestUnit unit g → IsRequestUnit unit h → g ≡ h
   one_group unit g h a b = (L.group.once unit g h a.remarks b.remarks a.text b.text).0
 
-  pub request_laws : SourceLaws (source_of forms.OtlpProto)
+  pub request_laws : SourceLaws request_form
   request_laws = record {
     one_group = one_group;
     fine = λ unit g is. L.group.fine unit g is.remarks is.text;

@@ -1,49 +1,41 @@
 -- What is known of an input, by its form.
-use Rattle.std.proofs.Common.{◌≡◌, ◌⊎◌, inl, inr, ℕ, List}
-use Rattle.span_io.specs.Causes.{cause_number}
-use Rattle.span_io.specs.Offences.{Offence, Least}
-use Rattle.span_io.specs.declared.cause.Cause.{Cause}
+use Rattle.std.proofs.Common.{◌≡◌, ℕ, List}
 use Rattle.span_io.specs.declared.form.Form.{Form}
 use Rattle.span_io.specs.declared.form.Form.TheVariants as forms
-use Rattle.span_io.specs.declared.limits.Limits.{Limits}
-use Rattle.proto_wire.specs.Messages.{messages}
-use Rattle.trace_model.specs.declared.remark.Remark.{Remark}
 use Rattle.trace_model.specs.declared.trace.Group.{Group}
-use Rattle.otlp_proto.specs.Group.{IsGroupText, group_rules}
 use Rattle.otlp_proto.specs.Laws.{SomeGroup}
+use Rattle.map_jaeger.specs.Laws.{ReadIsSound, ReadIsProper}
 use Rattle.span_convert.specs.BatchFiles.{binary, compact}
 use Rattle.span_convert.specs.Canonical.{Reads}
 use Rattle.span_convert.specs.InputLaws.{InputLaws}
-use Rattle.span_convert.proofs.BatchLaws.{batch_laws, batch_units, decided_batch, one_file}
-use Rattle.span_convert.proofs.RequestLaws.{request_laws}
-use Rattle.span_convert.proofs.RequestUnits.{request_units}
-use Rattle.span_convert.proofs.SomeVerdict.{Decides, IsDecidedUnit}
-use Rattle.span_convert.proofs.SourceLaws.{source_of, SourceLaws, AllUnits}
+use Rattle.span_convert.specs.Units.{input_form}
+use Rattle.span_convert.proofs.BatchLaws.{one_file}
+use Rattle.span_convert.proofs.BatchProper.{binary_proper}
+use Rattle.span_convert.proofs.CompactProper.{compact_proper}
+use Rattle.span_convert.proofs.FramedInputs.{request_input, request_some, batch_input, batch_some}
+use Rattle.span_convert.proofs.InputForms.{InputFormLaws, SomeInput}
+use Rattle.span_convert.proofs.SpanFileInputs.{span_file_laws, span_file_some}
+use Rattle.span_convert.proofs.SpanFileTexts.{span_file_once}
 use Rattle.span_convert.proofs.TextLaws.{one_request}
+use Rattle.span_convert.proofs.UnitGroups.{GroupIsProper}
 
-pub sources : InputLaws → (from : Form) → SourceLaws (source_of from)
-sources L forms.OtlpProto = request_laws L.requests
-sources L forms.JaegerBinary = batch_laws binary L.binary
-sources L forms.JaegerCompact = batch_laws compact L.compact
+-- an input has one list of groups, or is refused in one way
+pub inputs : InputLaws → (from : Form) → InputFormLaws (input_form from)
+inputs L forms.OtlpProto = request_input L.requests
+inputs L forms.JaegerBinary = batch_input binary L.binary
+inputs L forms.JaegerCompact = batch_input compact L.compact
+inputs L forms.ZipkinJson = span_file_laws L.spans
+
+-- each input has groups, or is refused
+pub some_inputs : InputLaws → SomeGroup → GroupIsProper → ReadIsSound → ReadIsProper → (from : Form) → SomeInput (input_form from)
+some_inputs L some own sound proper forms.OtlpProto = request_some L.requests some own
+some_inputs L some own sound proper forms.JaegerBinary = batch_some binary binary_proper L.binary sound proper
+some_inputs L some own sound proper forms.JaegerCompact = batch_some compact compact_proper L.compact sound proper
+some_inputs L some own sound proper forms.ZipkinJson = span_file_some L.spans
 
 -- bytes are read as one trace at most
 pub one_trace : InputLaws → (from : Form) (text : List ℕ) (a b : List Group) → Reads from text a → Reads from text b → a ≡ b
 one_trace L forms.OtlpProto text a b h g = one_request L.requests text a b h g
 one_trace L forms.JaegerBinary text a b h g = one_file binary L.binary text a b h g
 one_trace L forms.JaegerCompact text a b h g = one_file compact L.compact text a b h g
-
--- each input has units, and behind them all it ends or isn't read for a cause
-pub all_units : InputLaws → (from : Form) (limits : Limits) (bytes : List ℕ) → AllUnits (source_of from) limits bytes
-all_units L forms.OtlpProto = request_units L.requests
-all_units L forms.JaegerBinary = batch_units binary L.binary
-all_units L forms.JaegerCompact = batch_units compact L.compact
-
--- a unit of each form is decided
-pub decided : SomeGroup → InputLaws → (from : Form) → Decides from
-decided some L forms.OtlpProto unit all framed = of (some unit)
-  where
-    of : ((g : Group) × (r : List Remark) × IsGroupText g r unit) ⊎ ((cause : Cause) × Least (Offence messages group_rules unit) (cause_number cause)) → IsDecidedUnit forms.OtlpProto unit
-    of (inl (g, r, is)) = inl (g, record { remarks = r; text = is })
-    of (inr least) = inr least
-decided some L forms.JaegerBinary unit all framed = decided_batch binary L.binary unit framed
-decided some L forms.JaegerCompact unit all framed = decided_batch compact L.compact unit framed
+one_trace L forms.ZipkinJson text a b h g = span_file_once L.spans text a b h g

@@ -1,9 +1,8 @@
 -- How a walk over the units of an input goes on, and how it ends.
-use Rattle.std.proofs.Common.{◌≡◌, ℕ, ◌+◌, min, ◌<◌, ◌≤◌, ◌⊎◌, inl, inr, Bool, true, false, List, [], ◌∷◌, ◌++◌, length, take, drop, get_or, Option, Some, None, Result, Ok, Err, IfOk, OnErr, refl, sym, ap, subst, ◌∙◌, append_assoc, arith, length-append}
+use Rattle.std.proofs.Common.{◌≡◌, ℕ, ◌+◌, min, ◌<◌, ◌≤◌, inl, inr, Bool, true, false, List, [], ◌∷◌, ◌++◌, length, All, take, drop, get_or, Option, Some, None, Result, Ok, Err, IfOk, IfErr, refl, sym, ap, subst, ◌∙◌, append_assoc, arith, length-append}
 use Rattle.std.proofs.lemmas.List.{append-nil, take_at, take_more, take-append-drop, length-take-le, length-drop}
 use Rattle.std.proofs.lemmas.List.Concat.{flat_map-append, flat_map-cons}
-use Rattle.std.proofs.lemmas.Bool.{false≢true}
-use Rattle.std.proofs.lemmas.List.Elements.{All-nil, All-push}
+use Rattle.std.proofs.lemmas.List.Elements.{All-nil, All-cons, All-append}
 use Rattle.std.proofs.KnownBytes.{Appends-nil}
 use Rattle.std.specs.List.{flat_map}
 use Rattle.span_io.specs.RowLaws.{all_zip_push}
@@ -14,28 +13,30 @@ use Rattle.span_io.specs.Offences.{Least}
 use Rattle.span_io.specs.Outside.{Outlet, Gains, GainsFront, OutputFails, Rises, last_count}
 use Rattle.span_io.specs.declared.cause.Cause.{Cause}
 use Rattle.span_io.specs.declared.form.Form.{Form}
-use Rattle.span_io.specs.declared.form.Form.TheVariants as forms
 use Rattle.span_io.specs.declared.limits.Limits.{Limits}
 use Rattle.proto_wire.specs.FirstFrames.{IsFirst}
 use Rattle.proto_wire.specs.Records.{Record, plain_record}
 use Rattle.proto_wire.specs.Wire.{SpellsRecord, records}
 use Rattle.proto_wire.specs.declared.record.Frame.{Frame}
-use Rattle.trace_model.specs.declared.fault.Fault.{Fault}
+use Rattle.trace_model.specs.Proper.{IsProperGroup}
+use Rattle.trace_model.specs.Soundness.{IsSoundGroup}
 use Rattle.trace_model.specs.declared.trace.Group.{Group}
 use Rattle.trace_model.specs.declared.trace.Scope.{Scope}
 use Rattle.otlp_proto.specs.Rows.{bytes_in}
-use Rattle.span_convert.specs.BatchFiles.{ProtocolWords, binary, compact, batches, IsOwnUnit, HoldsBatches}
+use Rattle.span_convert.specs.BatchFiles.{ProtocolWords, batches, IsOwnUnit, HoldsBatches}
+use Rattle.span_convert.specs.Canonical.{IsHeldBy}
+use Rattle.span_convert.specs.FramedForms.{FramedForm, RestCause, UnitsThen, UnitsBegin, UnitsRefused}
 use Rattle.span_convert.specs.Requests.{HoldsUnit, AreRequestUnits, HoldsRequestUnits}
 use Rattle.span_convert.specs.Rests.{Cuts}
-use Rattle.span_convert.specs.Units.{frames_of, RefusedFrame, HoldsUnits, IsUnitOf, UnitOffence, RestCause, FaultOf, CanHold, IsSizedGroup, span_count, unit_text}
-use Rattle.span_convert.specs.Verdicts.{tally_of, ConvertTo, IsBadUnit, IsBadRest, IsFaultedUnit, IsTextSoFar, WritesFront}
-use Rattle.span_convert.specs.Walks.{Exceeds, IsLookedAt, CutsFrame, StopsFrames, WalkedUnits, AddsGroup, IsNextUnit, StopsWalk, EndsWalk, WritesOut}
+use Rattle.span_convert.specs.Units.{InputForm, framed_input, request_form, batch_form, FaultOf, CanHold, IsSizedGroup, span_count, canonical_text, partial_text}
+use Rattle.span_convert.specs.Verdicts.{CanHoldTrace, tally_of, IsTextSoFar, first, all, WritesFrontOn}
+use Rattle.span_convert.specs.Walks.{Exceeds, IsLookedAt, CutsFrame, HeldByFrames, StopsFrames, IsNextUnit, Converted, WalkedUnits, WritesGroup, AddsGroup, WritesFrontOf, StopsWriting, StopsGroup, EndsText, StopsText, StopsWalk, EndsWalk, WritesOut}
 use Rattle.span_convert.specs.declared.progress.Progress.{Progress}
 use Rattle.span_convert.specs.declared.progress.WalkStop.{WalkStop}
 use Rattle.span_convert.specs.declared.progress.WalkStop.TheVariants as walk_stops
 use Rattle.span_convert.specs.declared.tally.Tally.{Tally}
 use Rattle.span_convert.proofs.FrameLemmas.{items_push, stops_weaker}
-use Rattle.span_convert.proofs.TargetLaws.{text_none, text_more}
+use Rattle.span_convert.proofs.TargetLaws.{partial_none}
 
 -- ---- a frame at the front
 
@@ -101,14 +102,28 @@ scopes_push count next scopes i scope lt is so_far e =
     ∙ length-append (flat_map (λ (s : Scope). s.spans) (take i scopes)) scope.spans in
     omega arith
 
--- ---- the walk
+-- ---- the units of an input are those that its frames hold
 
-exceeds_as : (limits : Limits) (whole : List ℕ) (a b : Bool) → Exceeds a limits whole → a ≡ b → Exceeds b limits whole
-exceeds_as limits whole a b exceeds same = subst (λ (x : Bool). Exceeds x limits whole) same exceeds
+request_next : (limits : Limits) (whole rest behind : List ℕ) (units more : List (List ℕ)) → Cuts records HoldsUnit limits.unit rest more behind → HoldsRequestUnits limits whole units rest → HoldsRequestUnits limits whole (units ++ more) behind
+request_next limits whole rest behind units more cut held = record {
+  frames = held.frames ++ cut.frame ∷ [];
+  framed = items_push records limits.unit held.frames cut.frame behind rest (take limits.binary whole) cut.whole cut.within cut.parts held.framed;
+  are_units = subst (λ (l : List (List ℕ)). AreRequestUnits (held.frames ++ cut.frame ∷ []) (units ++ l)) (sym cut.holds.holds) (units_push held.frames units cut.frame cut.holds.this held.are_units cut.holds.spelled);
+}
 
-rest_cause : (from : Form) (limits : Limits) (whole rest : List ℕ) (cause : Cause) (too_long : Bool) → Exceeds too_long limits whole → StopsFrames from limits.unit too_long rest cause → RestCause from limits (length whole) rest cause
-rest_cause from limits whole rest cause too_long exceeds why =
-    stops_weaker (frames_of from) (RefusedFrame from) limits.unit (too_long ≡ true) (limits.binary < length whole) (too_long ≡ false) (length whole ≤ limits.binary) (exceeds_as limits whole too_long true exceeds) (exceeds_as limits whole too_long false exceeds) rest cause why
+batch_next : (protocol : ProtocolWords) (limits : Limits) (whole rest behind : List ℕ) (units more : List (List ℕ)) → Cuts (batches protocol) IsOwnUnit limits.unit rest more behind → HoldsBatches protocol limits whole units rest → HoldsBatches protocol limits whole (units ++ more) behind
+batch_next protocol limits whole rest behind units more cut held =
+    subst (λ (l : List (List ℕ)). HoldsBatches protocol limits whole (units ++ l) behind) (sym cut.holds) (items_push (batches protocol) limits.unit units cut.frame behind rest (take limits.binary whole) cut.whole cut.within cut.parts held)
+
+pub request_frames : HeldByFrames request_form
+unfolding ItemsThen AreRequestUnits
+request_frames = record { none = λ limits whole looked front. record { frames = []; framed = front; are_units = refl }; next = request_next }
+
+pub batch_frames : (protocol : ProtocolWords) → HeldByFrames (batch_form protocol)
+unfolding ItemsThen
+batch_frames protocol = record { none = λ limits whole looked front. front; next = batch_next protocol }
+
+-- ---- what was converted so far
 
 pub gains_none : (a : Outlet) → Gains a a []
 gains_none a = record { held = Appends-nil a.held; taken = rises_none a.taken; faults = omega arith }
@@ -116,30 +131,6 @@ gains_none a = record { held = Appends-nil a.held; taken = rises_none a.taken; f
     rises_none : (n : Option ℕ) → Rises n n 0
     rises_none None = tt
     rises_none (Some n) = omega arith
-
--- an input begins with no unit
-pub none_held : (from : Form) (limits : Limits) (whole looked : List ℕ) → take limits.binary whole ≡ looked → HoldsUnits from limits whole [] looked
-unfolding ItemsThen AreRequestUnits
-none_held forms.OtlpProto limits whole looked front = record { frames = []; framed = front; are_units = refl }
-none_held forms.JaegerBinary limits whole looked front = front
-none_held forms.JaegerCompact limits whole looked front = front
-
--- no units convert to nothing
-pub none_convert : (from to : Form) → ConvertTo from to [] []
-none_convert from to = record { groups = []; are_groups = tt; fine = All-nil (CanHold to); is_text = sym (text_none to) }
-
-pub walked_none : (from to : Form) (limits : Limits) (whole looked : List ℕ) (too_long : Bool) (before : Outlet) → IsLookedAt limits whole looked too_long
-    → WalkedUnits from to limits whole looked before before (record { unwritten = []; tally = record { units = 0; spans = 0 } })
-unfolding none_convert
-walked_none from to limits whole looked too_long before seen = record {
-  units = [];
-  held = none_held from limits whole looked seen.front;
-  written = [];
-  gains = gains_none before;
-  convert = none_convert from to;
-  sized = All-nil (IsSizedGroup to);
-  counts = refl;
-}
 
 abbrev counts : ℕ → ℕ → Tally
 counts units spans = record { units = units; spans = spans }
@@ -154,184 +145,288 @@ spans_more old next groups more e f = omega arith
 rose_since : (a b c : Outlet) → a.faults ≤ b.faults → OutputFails b c → OutputFails a c
 rose_since a b c h rose = omega arith
 
-request_then : (limits : Limits) (whole rest behind : List ℕ) (units more : List (List ℕ)) → Cuts records HoldsUnit limits.unit rest more behind → HoldsRequestUnits limits whole units rest → HoldsRequestUnits limits whole (units ++ more) behind
-request_then limits whole rest behind units more cut held = record {
-  frames = held.frames ++ cut.frame ∷ [];
-  framed = items_push records limits.unit held.frames cut.frame behind rest (take limits.binary whole) cut.whole cut.within cut.parts held.framed;
-  are_units = subst (λ (l : List (List ℕ)). AreRequestUnits (held.frames ++ cut.frame ∷ []) (units ++ l)) (sym cut.holds.holds) (units_push held.frames units cut.frame cut.holds.this held.are_units cut.holds.spelled);
+all_one : {X : Type 0} (P : X → Type 0) (x : X) → P x → All P (x ∷ [])
+all_one P x h = All-cons P x [] h (All-nil P)
+
+-- a group that the form can hold
+pub held_one : (to : Form) (group : Group) → IsSoundGroup group → IsProperGroup group → CanHold to group → IsSizedGroup to group → IsHeldBy to (group ∷ [])
+held_one to group sound proper no_fault sized = record {
+  can_hold = record { sound = all_one IsSoundGroup group sound; proper = all_one IsProperGroup group proper; no_fault = all_one (CanHold to) group no_fault };
+  sized = all_one (IsSizedGroup to) group sized;
 }
 
-batch_then : (protocol : ProtocolWords) (limits : Limits) (whole rest behind : List ℕ) (units more : List (List ℕ)) → Cuts (batches protocol) IsOwnUnit limits.unit rest more behind → HoldsBatches protocol limits whole units rest → HoldsBatches protocol limits whole (units ++ more) behind
-batch_then protocol limits whole rest behind units more cut held =
-    subst (λ (l : List (List ℕ)). HoldsBatches protocol limits whole (units ++ l) behind) (sym cut.holds) (items_push (batches protocol) limits.unit units cut.frame behind rest (take limits.binary whole) cut.whole cut.within cut.parts held)
+-- and what it adds
+pub writes_group : (to : Form) (group : Group) (tally : Tally) (before now added : List ℕ) → IsSoundGroup group → IsProperGroup group → CanHold to group → IsSizedGroup to group → now ≡ before ++ added
+    → ((groups : List Group) → IsHeldBy to groups → tally ≡ tally_of (length groups) (span_count groups) → partial_text to (groups ++ group ∷ []) ≡ partial_text to groups ++ added)
+    → WritesGroup to group tally before now
+writes_group to group tally before now added sound proper no_fault sized appended text = record {
+  held = held_one to group sound proper no_fault sized;
+  added = added;
+  appended = appended;
+  text = text;
+}
 
--- behind a frame its units are held as well
-held_then : (from : Form) (limits : Limits) (whole rest behind : List ℕ) (units more : List (List ℕ)) → CutsFrame from limits.unit rest more behind → HoldsUnits from limits whole units rest → HoldsUnits from limits whole (units ++ more) behind
-held_then forms.OtlpProto limits whole rest behind units more cut held = request_then limits whole rest behind units more cut held
-held_then forms.JaegerBinary limits whole rest behind units more cut held = batch_then binary limits whole rest behind units more cut held
-held_then forms.JaegerCompact limits whole rest behind units more cut held = batch_then compact limits whole rest behind units more cut held
+pub held_push : (to : Form) (groups : List Group) (group : Group) → IsHeldBy to groups → IsHeldBy to (group ∷ []) → IsHeldBy to (groups ++ group ∷ [])
+held_push to groups group held one = record {
+  can_hold = record {
+    sound = All-append IsSoundGroup groups (group ∷ []) held.can_hold.sound one.can_hold.sound;
+    proper = All-append IsProperGroup groups (group ∷ []) held.can_hold.proper one.can_hold.proper;
+    no_fault = All-append (CanHold to) groups (group ∷ []) held.can_hold.no_fault one.can_hold.no_fault;
+  };
+  sized = All-append (IsSizedGroup to) groups (group ∷ []) held.sized one.sized;
+}
 
-module _ (from to : Form) (limits : Limits) (whole : List ℕ) (before now : Outlet) (progress : Progress) where
-  abbrev Walked : List ℕ → Type 0
-  Walked rest = WalkedUnits from to limits whole rest before now progress
+pub converted_none : (to : Form) (before : Outlet) → Converted to [] before before (record { unwritten = []; tally = record { units = 0; spans = 0 } })
+converted_none to before = record {
+  held = record {
+    can_hold = record { sound = All-nil IsSoundGroup; proper = All-nil IsProperGroup; no_fault = All-nil (CanHold to) };
+    sized = All-nil (IsSizedGroup to);
+  };
+  written = [];
+  gains = gains_none before;
+  is_text = sym (partial_none to);
+  counts = refl;
+}
 
-  pub walked_free : (rest behind : List ℕ) → CutsFrame from limits.unit rest [] behind → Walked rest → Walked behind
-  walked_free rest behind cut w = record {
-    units = w.units;
-    held = subst (λ (l : List (List ℕ)). HoldsUnits from limits whole l behind) (append-nil w.units) (held_then from limits whole rest behind w.units [] cut w.held);
-    written = w.written;
-    gains = w.gains;
-    convert = w.convert;
-    sized = w.sized;
-    counts = w.counts;
-  }
-
-  pub walked_unit : (next : Progress) (rest behind : List ℕ) (group : Group) → IsNextUnit from limits rest behind group → AddsGroup to group progress next → Walked rest → WalkedUnits from to limits whole behind before now next
-  walked_unit next rest behind group here adds w = record {
-    units = w.units ++ here.unit ∷ [];
-    held = held_then from limits whole rest behind w.units (here.unit ∷ []) here.cut w.held;
-    written = w.written;
-    gains = w.gains;
-    convert = record {
-      groups = w.convert.groups ++ group ∷ [];
-      are_groups = all_zip_push (IsUnitOf from) w.units w.convert.groups here.unit group w.convert.are_groups here.is_unit;
-      fine = All-push (CanHold to) w.convert.groups group w.convert.fine adds.writes.fine;
-      is_text = ap (λ l. w.written ++ l) adds.writes.text ∙ sym (append_assoc w.written progress.unwritten (unit_text to group)) ∙ ap (λ l. l ++ unit_text to group) w.convert.is_text ∙ sym (text_more to w.convert.groups group);
-    };
-    sized = All-push (IsSizedGroup to) w.convert.groups group w.sized adds.writes.sized;
-    counts = tally_from next.tally (length (w.units ++ here.unit ∷ [])) (span_count (w.convert.groups ++ group ∷ []))
-        (adds.units ∙ ap (λ (t : Tally). t.units + 1) w.counts ∙ sym (length-append w.units (here.unit ∷ [])))
-        (spans_more progress.tally.spans next.tally.spans (span_count w.convert.groups) (span_count (group ∷ [])) (ap (λ (t : Tally). t.spans) w.counts) adds.spans ∙ ap (λ n. min n last_count) (sym (spans_push w.convert.groups group)));
-  }
-
-  so_far : (rest : List ℕ) (w : Walked rest) → IsTextSoFar from to limits whole (w.written ++ progress.unwritten)
-  so_far rest w = record { units = w.units; rest = rest; held = w.held; convert = w.convert }
+module _ (to : Form) (groups : List Group) (before now : Outlet) (progress : Progress) (w : Converted to groups before now progress) where
+  -- with another group
+  pub converted_more : (group : Group) (next : Progress) → AddsGroup to group progress next → Converted to (groups ++ group ∷ []) before now next
+  converted_more group next adds =
+      let one = adds.writes in
+      record {
+        held = held_push to groups group w.held one.held;
+        written = w.written;
+        gains = w.gains;
+        is_text = ap (λ l. w.written ++ l) one.appended ∙ sym (append_assoc w.written progress.unwritten one.added) ∙ ap (λ l. l ++ one.added) w.is_text ∙ sym (one.text groups w.held w.counts);
+        counts = tally_from next.tally (length (groups ++ group ∷ [])) (span_count (groups ++ group ∷ []))
+            (adds.units ∙ ap (λ (t : Tally). t.units + 1) w.counts ∙ sym (length-append groups (group ∷ [])))
+            (spans_more progress.tally.spans next.tally.spans (span_count groups) (span_count (group ∷ [])) (ap (λ (t : Tally). t.spans) w.counts) adds.spans ∙ ap (λ n. min n last_count) (sym (spans_push groups group)));
+      }
 
   -- nothing more is written
-  pub stays_front : (rest : List ℕ) → Walked rest → WritesFront from to limits whole before now
-  stays_front rest w = record {
-    text = w.written ++ progress.unwritten;
-    so_far = so_far rest w;
-    gains = record { front = w.written; is_front = (progress.unwritten, refl); gains = w.gains };
-  }
+  pub front_now : WritesFrontOf to groups before now
+  front_now = record { held = w.held.can_hold; gains = record { front = w.written; is_front = (progress.unwritten, sym w.is_text); gains = w.gains } }
+
+  -- the number of the next unit
+  pub next_number : progress.tally.units + 1 ≡ length groups + 1
+  next_number = ap (λ (t : Tally). t.units + 1) w.counts
 
   module _ (both : (a b c : Outlet) (first second : List ℕ) → Gains a b first → Gains b c second → Gains a c (first ++ second)) (later : Outlet) where
-    pub walked_written : (next : Progress) (rest : List ℕ) → next.tally ≡ progress.tally → next.unwritten ≡ [] → Gains now later progress.unwritten → Walked rest → WalkedUnits from to limits whole rest before later next
-    walked_written next rest same empty gains w = record {
-      units = w.units;
+    -- the text so far is written
+    gains_so_far : Gains now later progress.unwritten → Gains before later (partial_text to groups)
+    gains_so_far gains = subst (λ (l : List ℕ). Gains before later l) w.is_text (both before now later w.written progress.unwritten w.gains gains)
+
+    pub converted_written : (next : Progress) → next.tally ≡ progress.tally → next.unwritten ≡ [] → Gains now later progress.unwritten → Converted to groups before later next
+    converted_written next same empty gains = record {
       held = w.held;
-      written = w.written ++ progress.unwritten;
-      gains = both before now later w.written progress.unwritten w.gains gains;
-      convert = record {
-        groups = w.convert.groups;
-        are_groups = w.convert.are_groups;
-        fine = w.convert.fine;
-        is_text = ap (λ l. (w.written ++ progress.unwritten) ++ l) empty ∙ append-nil (w.written ++ progress.unwritten) ∙ w.convert.is_text;
-      };
-      sized = w.sized;
+      written = partial_text to groups;
+      gains = gains_so_far gains;
+      is_text = ap (λ l. partial_text to groups ++ l) empty ∙ append-nil (partial_text to groups);
       counts = same ∙ w.counts;
     }
 
     module _ (front : (a b c : Outlet) (first second : List ℕ) → Gains a b first → GainsFront b c second → GainsFront a c (first ++ second)) where
-      pub writes_front : (rest : List ℕ) → GainsFront now later progress.unwritten → Walked rest → WritesFront from to limits whole before later
-      writes_front rest gains w = record {
-        text = w.written ++ progress.unwritten;
-        so_far = so_far rest w;
-        gains = front before now later w.written progress.unwritten w.gains gains;
+      front_so_far : GainsFront now later progress.unwritten → WritesFrontOf to groups before later
+      front_so_far gains = record {
+        held = w.held.can_hold;
+        gains = subst (λ (l : List ℕ). GainsFront before later l) w.is_text (front before now later w.written progress.unwritten w.gains gains);
       }
 
       -- the sink failed
-      pub stops_write : (rest : List ℕ) → OutputFails now later → GainsFront now later progress.unwritten → Walked rest → StopsWalk from to limits whole walk_stops.Write before later
-      stops_write rest fails gains w = (rose_since before now later w.gains.faults fails, writes_front rest gains w)
+      pub failed_so_far : OutputFails now later → GainsFront now later progress.unwritten → OutputFails before later × WritesFrontOf to groups before later
+      failed_so_far fails gains = (rose_since before now later w.gains.faults fails, front_so_far gains)
 
-      -- what is said of the text so far where the walk stops for this
-      abbrev IsWhy : List ℕ → WalkStop → Type 0
-      IsWhy text (walk_stops.Refused refusal) = IsBadUnit from to limits whole text refusal ⊎ IsBadRest from to limits whole text refusal
-      IsWhy text (walk_stops.Faulted found) = IsFaultedUnit from to limits whole text found
-      IsWhy text walk_stops.Write = ⊥
-      IsWhy text walk_stops.OutOfMemory = ⊥
+      -- what is said of the stop at a group that has a fault
+      abbrev HasFault : Group → WalkStop → Type 0
+      HasFault group (walk_stops.Refused refusal) = ⊥
+      HasFault group (walk_stops.Faulted found) = FaultOf to group found.fault × (found.unit ≡ length groups + 1)
+      HasFault group walk_stops.Write = ⊥
+      HasFault group walk_stops.OutOfMemory = ⊥
 
-      stops_out : (stop why : WalkStop) (rest : List ℕ) (w : Walked rest) → IsWhy (w.written ++ progress.unwritten) why → WritesOut stop why progress.unwritten now later → StopsWalk from to limits whole stop before later
-      stops_out (walk_stops.Refused refusal) why rest w is out = record {
-        text = w.written ++ progress.unwritten;
-        is_bad = subst (λ (x : WalkStop). IsWhy (w.written ++ progress.unwritten) x) (sym out.0) is;
-        so_far = so_far rest w;
-        gains = both before now later w.written progress.unwritten w.gains out.1;
+      pub stops_fault : (group : Group) (stop why : WalkStop) → HasFault group why → WritesOut stop why progress.unwritten now later → StopsGroup to groups group stop before later
+      stops_fault group (walk_stops.Refused refusal) why has out = subst (HasFault group) (sym out.0) has
+      stops_fault group (walk_stops.Faulted found) why has out =
+          let here : HasFault group (walk_stops.Faulted found) = subst (HasFault group) (sym out.0) has in
+          record { held = w.held.can_hold; fault = here.0; number = here.1; gains = gains_so_far out.1 }
+      stops_fault group walk_stops.Write why has out = let failed = failed_so_far out.0 out.1 in (failed.0, inl failed.1)
+      stops_fault group walk_stops.OutOfMemory why has out = absurd out
+
+-- ---- what a walk comes to, whatever the form of its input is
+
+module _ (from : InputForm) (to : Form) (limits : Limits) (whole : List ℕ) (groups : List Group) (before : Outlet) where
+  so_far : CanHoldTrace to groups → from.Begins limits whole groups → IsTextSoFar from to limits whole (partial_text to groups)
+  so_far held begins = first (record { groups = groups; begins = begins; held = held; is_text = refl })
+
+  -- a front of the text so far was written
+  writes_front : (now : Outlet) → from.Begins limits whole groups → WritesFrontOf to groups before now → WritesFrontOn from to limits whole before now
+  writes_front now begins w = record { text = partial_text to groups; so_far = so_far w.held begins; gains = w.gains }
+
+  all_written : (now : Outlet) → from.IsWhole limits whole groups → CanHoldTrace to groups → GainsFront before now (canonical_text to groups) → WritesFrontOn from to limits whole before now
+  all_written now is_whole held gains = record {
+    text = canonical_text to groups;
+    so_far = all (tally_of (length groups) (span_count groups)) (record { groups = groups; whole = is_whole; held = held; is_text = refl; counts = refl });
+    gains = gains;
+  }
+
+  -- the input is all of the groups
+  pub ends_whole : (now later : Outlet) (progress : Progress) (result : Result Tally WalkStop) → from.IsWhole limits whole groups → Converted to groups before now progress
+      → IfOk result (λ tally. (groups : List Group) (before : Outlet) → Converted to groups before now progress → EndsText to groups tally before later)
+      → IfErr result (λ stop. (groups : List Group) (before : Outlet) → Converted to groups before now progress → StopsText to groups stop before later)
+      → EndsWalk from to limits whole result before later
+  ends_whole now later progress (Ok tally) is_whole w ok stopped =
+      let ends = ok groups before w in
+      record {
+        text = canonical_text to groups;
+        is_good = record { groups = groups; whole = is_whole; held = w.held.can_hold; is_text = refl; counts = ends.counts };
+        sized = w.held.sized;
+        gains = ends.gains;
       }
-      stops_out (walk_stops.Faulted found) why rest w is out = record {
-        text = w.written ++ progress.unwritten;
-        is_faulted = subst (λ (x : WalkStop). IsWhy (w.written ++ progress.unwritten) x) (sym out.0) is;
-        so_far = so_far rest w;
-        gains = both before now later w.written progress.unwritten w.gains out.1;
+  ends_whole now later progress (Err (walk_stops.Refused refusal)) is_whole w ok stopped = absurd (stopped groups before w)
+  ends_whole now later progress (Err (walk_stops.Faulted found)) is_whole w ok stopped = absurd (stopped groups before w)
+  ends_whole now later progress (Err walk_stops.Write) is_whole w ok stopped =
+      let failed = stopped groups before w in
+      (failed.0, all_written later is_whole w.held.can_hold failed.1)
+  ends_whole now later progress (Err walk_stops.OutOfMemory) is_whole w ok stopped = all_written later is_whole w.held.can_hold (stopped groups before w)
+
+-- the next group stops it
+module _ (from : InputForm) (to : Form) (limits : Limits) (whole : List ℕ) (groups : List Group) (group : Group) (before now : Outlet) (begins : from.Begins limits whole groups) (more : from.Begins limits whole (groups ++ group ∷ [])) where
+  writes_either : StopsWriting to groups group before now → WritesFrontOn from to limits whole before now
+  writes_either (inl w) = writes_front from to limits whole groups before now begins w
+  writes_either (inr w) = writes_front from to limits whole (groups ++ group ∷ []) before now more w
+
+  pub stops_at_group : (stop : WalkStop) → StopsGroup to groups group stop before now → StopsWalk from to limits whole stop before now
+  stops_at_group (walk_stops.Refused refusal) stopped = absurd stopped
+  stops_at_group (walk_stops.Faulted found) stopped = record {
+    text = partial_text to groups;
+    is_faulted = record { groups = groups; group = group; begins = more; held = stopped.held; fault = stopped.fault; number = stopped.number; is_text = refl };
+    so_far = so_far from to limits whole groups before stopped.held begins;
+    gains = stopped.gains;
+  }
+  stops_at_group walk_stops.Write stopped = (stopped.0, writes_either stopped.1)
+  stops_at_group walk_stops.OutOfMemory stopped = writes_either stopped
+
+-- ---- the walk over frames
+
+exceeds_as : (limit : ℕ) (whole : List ℕ) (a b : Bool) → Exceeds a limit whole → a ≡ b → Exceeds b limit whole
+exceeds_as limit whole a b exceeds same = subst (λ (x : Bool). Exceeds x limit whole) same exceeds
+
+rest_cause : (from : FramedForm) (limits : Limits) (whole rest : List ℕ) (cause : Cause) (too_long : Bool) → Exceeds too_long limits.binary whole → StopsFrames from limits.unit too_long rest cause → RestCause from limits (length whole) rest cause
+rest_cause from limits whole rest cause too_long exceeds why =
+    stops_weaker from.frames from.Refused limits.unit (too_long ≡ true) (limits.binary < length whole) (too_long ≡ false) (length whole ≤ limits.binary) (exceeds_as limits.binary whole too_long true exceeds) (exceeds_as limits.binary whole too_long false exceeds) rest cause why
+
+module _ (from : FramedForm) (to : Form) (limits : Limits) (whole : List ℕ) (before : Outlet) where
+  abbrev Walked : List ℕ → Outlet → Progress → Type 0
+  Walked rest now progress = WalkedUnits from to limits whole rest before now progress
+
+  begins_so : (groups : List Group) (rest : List ℕ) → UnitsThen from limits whole groups rest → UnitsBegin from limits whole groups
+  begins_so groups rest held = record { rest = rest; units_then = held }
+
+  module _ (frames : HeldByFrames from) where
+    pub walked_none : (looked : List ℕ) (too_long : Bool) → IsLookedAt limits.binary whole looked too_long → Walked looked before (record { unwritten = []; tally = record { units = 0; spans = 0 } })
+    walked_none looked too_long seen = record {
+      groups = [];
+      units_then = record { units = []; held = frames.none limits whole looked seen.front; are_groups = tt };
+      converted = converted_none to before;
+    }
+
+    -- behind a frame with a unit
+    units_more : (groups : List Group) (rest behind : List ℕ) (group : Group) → IsNextUnit from limits rest behind group → UnitsThen from limits whole groups rest → UnitsThen from limits whole (groups ++ group ∷ []) behind
+    units_more groups rest behind group here so_far = record {
+      units = so_far.units ++ here.unit ∷ [];
+      held = frames.next limits whole rest behind so_far.units (here.unit ∷ []) here.cut so_far.held;
+      are_groups = all_zip_push from.IsUnit so_far.units groups here.unit group so_far.are_groups here.is_unit;
+    }
+
+    -- behind a frame without one
+    pub walked_free : (rest behind : List ℕ) (now : Outlet) (progress : Progress) → CutsFrame from limits.unit rest [] behind → Walked rest now progress → Walked behind now progress
+    walked_free rest behind now progress cut w = record {
+      groups = w.groups;
+      units_then = record {
+        units = w.units_then.units;
+        held = subst (λ (l : List (List ℕ)). from.HoldsUnits limits whole l behind) (append-nil w.units_then.units) (frames.next limits whole rest behind w.units_then.units [] cut w.units_then.held);
+        are_groups = w.units_then.are_groups;
+      };
+      converted = w.converted;
+    }
+
+    -- behind one whose group was converted
+    pub walked_group : (rest behind : List ℕ) (now later : Outlet) (progress next : Progress) (group : Group) → IsNextUnit from limits rest behind group
+        → ((groups : List Group) (before : Outlet) → Converted to groups before now progress → Converted to (groups ++ group ∷ []) before later next) → Walked rest now progress → Walked behind later next
+    walked_group rest behind now later progress next group here converts w = record {
+      groups = w.groups ++ group ∷ [];
+      units_then = units_more w.groups rest behind group here w.units_then;
+      converted = converts w.groups before w.converted;
+    }
+
+    -- at one whose group stops the walk
+    pub walk_stops_group : (rest behind : List ℕ) (now later : Outlet) (progress : Progress) (group : Group) (stop : WalkStop) → IsNextUnit from limits rest behind group
+        → ((groups : List Group) (before : Outlet) → Converted to groups before now progress → StopsGroup to groups group stop before later) → Walked rest now progress → StopsWalk (framed_input from) to limits whole stop before later
+    walk_stops_group rest behind now later progress group stop here stopped w =
+        stops_at_group (framed_input from) to limits whole w.groups group before later (begins_so w.groups rest w.units_then) (begins_so (w.groups ++ group ∷ []) behind (units_more w.groups rest behind group here w.units_then))
+        stop (stopped w.groups before w.converted)
+
+  -- memory was wanted before the next group
+  pub walk_stays : (rest : List ℕ) (now : Outlet) (progress : Progress) → Walked rest now progress → StopsWalk (framed_input from) to limits whole walk_stops.OutOfMemory before now
+  walk_stays rest now progress w = writes_front (framed_input from) to limits whole w.groups before now (begins_so w.groups rest w.units_then) (front_now to w.groups before now progress w.converted)
+
+  -- the end
+  pub walk_ends : (now later : Outlet) (progress : Progress) (result : Result Tally WalkStop) (looked : List ℕ) (too_long : Bool) → too_long ≡ false → IsLookedAt limits.binary whole looked too_long → Walked [] now progress
+      → IfOk result (λ tally. (groups : List Group) (before : Outlet) → Converted to groups before now progress → EndsText to groups tally before later)
+      → IfErr result (λ stop. (groups : List Group) (before : Outlet) → Converted to groups before now progress → StopsText to groups stop before later)
+      → EndsWalk (framed_input from) to limits whole result before later
+  walk_ends now later progress result looked too_long short seen w =
+      ends_whole (framed_input from) to limits whole w.groups before now later progress result (record { units_then = w.units_then; within = exceeds_as limits.binary whole too_long false seen.exceeds short }) w.converted
+
+  module _ (both : (a b c : Outlet) (first second : List ℕ) → Gains a b first → Gains b c second → Gains a c (first ++ second)) (front : (a b c : Outlet) (first second : List ℕ) → Gains a b first → GainsFront b c second → GainsFront a c (first ++ second)) where
+    module _ (rest : List ℕ) (now later : Outlet) (progress : Progress) (w : Walked rest now progress) where
+      -- what is said of the stop where the input is refused
+      abbrev IsRefusal : WalkStop → Type 0
+      IsRefusal (walk_stops.Refused refusal) = UnitsRefused from limits whole w.groups refusal
+      IsRefusal (walk_stops.Faulted found) = ⊥
+      IsRefusal walk_stops.Write = ⊥
+      IsRefusal walk_stops.OutOfMemory = ⊥
+
+      refused_out : (stop why : WalkStop) → IsRefusal why → WritesOut stop why progress.unwritten now later → StopsWalk (framed_input from) to limits whole stop before later
+      refused_out (walk_stops.Refused refusal) why is out = record {
+        text = partial_text to w.groups;
+        is_refused = record { groups = w.groups; refuses = subst IsRefusal (sym out.0) is; held = w.converted.held.can_hold; is_text = refl };
+        so_far = so_far (framed_input from) to limits whole w.groups before w.converted.held.can_hold (begins_so w.groups rest w.units_then);
+        gains = gains_so_far to w.groups before now progress w.converted both later out.1;
       }
-      stops_out walk_stops.Write why rest w is out = stops_write rest out.0 out.1 w
-      stops_out walk_stops.OutOfMemory why rest w is out = absurd out
+      refused_out (walk_stops.Faulted found) why is out = absurd (subst IsRefusal (sym out.0) is)
+      refused_out walk_stops.Write why is out =
+          let failed = failed_so_far to w.groups before now progress w.converted both later front out.0 out.1 in
+          (failed.0, writes_front (framed_input from) to limits whole w.groups before later (begins_so w.groups rest w.units_then) failed.1)
+      refused_out walk_stops.OutOfMemory why is out = absurd out
+
+      abbrev stop_for : Cause → WalkStop
+      stop_for cause = walk_stops.Refused (record { unit = progress.tally.units + 1; cause = cause })
 
       -- the unit in the frame offends
-      pub stops_unit : (stop : WalkStop) (cause : Cause) (rest behind unit : List ℕ) → CutsFrame from limits.unit rest (unit ∷ []) behind → Least (UnitOffence from unit) (cause_number cause)
-          → WritesOut stop (walk_stops.Refused (record { unit = progress.tally.units + 1; cause = cause })) progress.unwritten now later → Walked rest → StopsWalk from to limits whole stop before later
-      stops_unit stop cause rest behind unit cut least out w =
-          stops_out stop (walk_stops.Refused (record { unit = progress.tally.units + 1; cause = cause })) rest w
-          (inl (record {
-            before = w.units;
-            unit = unit;
-            rest = behind;
-            held = held_then from limits whole rest behind w.units (unit ∷ []) cut w.held;
-            convert = w.convert;
-            cause = least;
-            number = ap (λ (t : Tally). t.units + 1) w.counts;
-          }))
-          out
-
-      -- its group has a fault
-      pub stops_fault : (stop : WalkStop) (fault : Fault) (rest behind : List ℕ) (group : Group) → IsNextUnit from limits rest behind group → FaultOf to group fault
-          → WritesOut stop (walk_stops.Faulted (record { unit = progress.tally.units + 1; fault = fault })) progress.unwritten now later → Walked rest → StopsWalk from to limits whole stop before later
-      stops_fault stop fault rest behind group here has out w =
-          stops_out stop (walk_stops.Faulted (record { unit = progress.tally.units + 1; fault = fault })) rest w
+      pub walk_stops_unit : HeldByFrames from → (stop : WalkStop) (cause : Cause) (behind unit : List ℕ) → CutsFrame from limits.unit rest (unit ∷ []) behind → Least (from.Offends unit) (cause_number cause)
+          → WritesOut stop (stop_for cause) progress.unwritten now later → StopsWalk (framed_input from) to limits whole stop before later
+      walk_stops_unit frames stop cause behind unit cut least out =
+          refused_out stop (stop_for cause)
           (record {
-            before = w.units;
-            unit = here.unit;
-            rest = behind;
-            held = held_then from limits whole rest behind w.units (here.unit ∷ []) here.cut w.held;
-            convert = w.convert;
-            group = group;
-            is_unit = here.is_unit;
-            fault = has;
-            number = ap (λ (t : Tally). t.units + 1) w.counts;
+            why = inl (record {
+              before = w.units_then.units;
+              unit = unit;
+              rest = behind;
+              held = frames.next limits whole rest behind w.units_then.units (unit ∷ []) cut w.units_then.held;
+              are_groups = w.units_then.are_groups;
+              least = least;
+            });
+            number = next_number to w.groups before now progress w.converted;
           })
           out
 
       -- no frame begins here
-      pub stops_rest : (stop : WalkStop) (cause : Cause) (rest looked : List ℕ) (too_long : Bool) → StopsFrames from limits.unit too_long rest cause → IsLookedAt limits whole looked too_long
-          → WritesOut stop (walk_stops.Refused (record { unit = progress.tally.units + 1; cause = cause })) progress.unwritten now later → Walked rest → StopsWalk from to limits whole stop before later
-      stops_rest stop cause rest looked too_long why seen out w =
-          stops_out stop (walk_stops.Refused (record { unit = progress.tally.units + 1; cause = cause })) rest w
-          (inr (record {
-            units = w.units;
-            rest = rest;
-            held = w.held;
-            convert = w.convert;
-            cause = rest_cause from limits whole rest cause too_long seen.exceeds why;
-            number = ap (λ (t : Tally). t.units + 1) w.counts;
-          }))
+      pub walk_stops_rest : (stop : WalkStop) (cause : Cause) (looked : List ℕ) (too_long : Bool) → StopsFrames from limits.unit too_long rest cause → IsLookedAt limits.binary whole looked too_long
+          → WritesOut stop (stop_for cause) progress.unwritten now later → StopsWalk (framed_input from) to limits whole stop before later
+      walk_stops_rest stop cause looked too_long why seen out =
+          refused_out stop (stop_for cause)
+          (record {
+            why = inr (record { rest = rest; units_then = w.units_then; why = rest_cause from limits whole rest cause too_long seen.exceeds why });
+            number = next_number to w.groups before now progress w.converted;
+          })
           out
-
-      -- the end
-      pub ends : (result : Result Tally WalkStop) (looked : List ℕ) (too_long : Bool) → too_long ≡ false → IsLookedAt limits whole looked too_long → IfOk result (λ tally. (tally ≡ progress.tally) × Gains now later progress.unwritten)
-          → OnErr result ((result ≡ Err walk_stops.Write) × OutputFails now later) → OnErr result (GainsFront now later progress.unwritten) → Walked [] → EndsWalk from to limits whole result before later
-      ends (Ok tally) looked true short seen ok failed gains w = absurd (false≢true (sym short))
-      ends (Ok tally) looked false short seen ok failed gains w = record {
-        text = w.written ++ progress.unwritten;
-        is_good = record {
-          units = w.units;
-          held = w.held;
-          within = seen.exceeds;
-          convert = w.convert;
-          counts = ok.0 ∙ w.counts;
-        };
-        sized = w.sized;
-        gains = both before now later w.written progress.unwritten w.gains ok.1;
-      }
-      ends (Err stop) looked too_long short seen ok failed gains w =
-          let same : stop ≡ walk_stops.Write = cc (failed.0) in
-          subst (λ (s : WalkStop). StopsWalk from to limits whole s before later) (sym same) (stops_write [] failed.1 gains w)

@@ -4,6 +4,7 @@ use Rattle.span_io.specs.Limits.{AreLimits}
 use Rattle.span_io.specs.Outside.{Outlet}
 use Rattle.span_io.specs.declared.form.Form.{Form}
 use Rattle.span_io.specs.declared.refusal.Refusal.{Refusal}
+use Rattle.span_convert.specs.Units.{input_limit}
 use Rattle.span_convert.specs.Verdicts.{Verdict, good, refused, faulted, IsVerdict, IsJudged, WritesFront}
 use Rattle.span_convert.specs.declared.converter.Converter.{Converter}
 use Rattle.span_convert.specs.declared.converter.State.{State}
@@ -51,6 +52,10 @@ is_ended states.OutOfMemory = false
 abbrev pub HasForms : Converter → Form → Form → Type 0
 HasForms c from to = (c.from ≡ from) × (c.to ≡ to)
 
+-- the most bytes that its input may have
+abbrev pub limit_of : Converter → ℕ
+limit_of c = input_limit c.from c.limits
+
 -- the verdict on these bytes, by the forms and limits of the converter
 abbrev pub IsVerdictBy : Converter → List ℕ → Verdict → Type 0
 IsVerdictBy c bytes verdict = IsVerdict c.from c.to c.limits bytes verdict
@@ -66,7 +71,7 @@ WritesFrontBy c bytes before now = WritesFront c.from c.to c.limits bytes before
 pub record Fed (c : Converter) (bytes : List ℕ) : Type 0 where
   pub going : c.state ≡ states.Open
   pub held : c.held ≡ bytes
-  pub within : length bytes ≤ c.limits.binary
+  pub within : length bytes ≤ limit_of c
   pub limits : AreLimits c.limits
 
 -- the refusal or fault that is kept is that of the verdict

@@ -12,6 +12,8 @@ use Rattle.otlp_proto.specs.Texts.{group_text, group_record}
 use Rattle.jaeger_model.specs.Laws.{OneBatch, SomeBatch, ReadsTimes, ReadsProper}
 use Rattle.jaeger_model.specs.WrittenAgain.{WrittenAgain}
 use Rattle.map_jaeger.specs.Laws.{BatchesReadBack, NormalForms, WrittenIsProper}
+use Rattle.map_zipkin.specs.Laws.{ReadIsHeld, ReadIsZipkinNormal, Regroupings, SpansReadBack, WrittenIsWritable, ZipkinNormalForms}
+use Rattle.zipkin_json.specs.Laws.{OneList, SomeList, SpansWrittenAgain, ReadsWritable}
 use Rattle.span_convert.specs.BatchFiles.{ProtocolWords, binary, compact, batches, RefusedBatch}
 
 pub record RequestLaws : Type 0 where
@@ -30,10 +32,24 @@ pub record BatchLaws (protocol : ProtocolWords) : Type 0 where
   pub proper : ReadsProper protocol.spells
   pub again : WrittenAgain protocol.spells protocol.keeps protocol.writes
 
+-- the same of spans in JSON, and what is read and written of them
+pub record SpanFileLaws : Type 0 where
+  pub one : OneList
+  pub some : SomeList
+  pub writable : ReadsWritable
+  pub again : SpansWrittenAgain
+  pub held : ReadIsHeld
+  pub itself : ReadIsZipkinNormal
+  pub back : SpansReadBack
+  pub written : WrittenIsWritable
+  pub normal : ZipkinNormalForms
+  pub regrouped : Regroupings
+
 pub record InputLaws : Type 0 where
   pub requests : RequestLaws
   pub binary : BatchLaws binary
   pub compact : BatchLaws compact
+  pub spans : SpanFileLaws
 
 pub record TextLaws : Type 0 where
   pub input : InputLaws

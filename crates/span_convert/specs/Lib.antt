@@ -1,9 +1,11 @@
 pub mod BatchFiles
 pub mod Canonical
 pub mod Converters
+pub mod FramedForms
 pub mod InputLaws
 pub mod Requests
 pub mod Rests
+pub mod SpanFiles
 pub mod Units
 pub mod Verdicts
 pub mod Walks

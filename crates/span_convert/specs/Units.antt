@@ -1,80 +1,80 @@
--- The units of an input, what a target can't hold of a group, and the texts of a trace, each by its form.
-use Rattle.std.specs.Prelude.{ℕ, ◌<◌, ◌≤◌, List, length, Some, None}
-use Rattle.std.specs.List.{AllZip}
-use Rattle.span_io.specs.Frames.{Framing}
+-- What an input is read as, what the target can't hold of a group, and the texts of a trace, each by its form.
+use Rattle.std.specs.Prelude.{ℕ, List, [], length, Some, None}
 use Rattle.span_io.specs.Offences.{Offence}
-use Rattle.span_io.specs.declared.cause.Cause.{Cause}
 use Rattle.span_io.specs.declared.form.Form.{Form}
 use Rattle.span_io.specs.declared.form.Form.TheVariants as forms
 use Rattle.span_io.specs.declared.limits.Limits.{Limits}
+use Rattle.span_io.specs.declared.refusal.Refusal.{Refusal}
 use Rattle.proto_wire.specs.Messages.{messages}
 use Rattle.proto_wire.specs.Wire.{records, RefusedBy}
 use Rattle.trace_model.specs.Flat.{flat}
 use Rattle.trace_model.specs.declared.fault.Fault.{Fault}
 use Rattle.trace_model.specs.declared.trace.Group.{Group}
 use Rattle.otlp_proto.specs.Group.{group_rules}
-use Rattle.otlp_proto.specs.Texts.{group_record}
 use Rattle.jaeger_model.specs.Laws.{BatchOffends}
 use Rattle.jaeger_model.specs.Writable.{IsWritable}
 use Rattle.map_jaeger.specs.Faults.{IsFaultOf}
-use Rattle.map_jaeger.specs.Normal.{normal, normal_group}
+use Rattle.map_jaeger.specs.Normal.{normal}
 use Rattle.map_jaeger.specs.Writing.{batch_of}
-use Rattle.span_convert.specs.BatchFiles.{binary, compact, batches, RefusedBatch, IsOwnUnit, HoldsBatches, IsBatchUnit, group_batch, batches_text}
+use Rattle.map_zipkin.specs.Faults.{IsZipkinFaultOf}
+use Rattle.map_zipkin.specs.Normal.{zipkin_normal}
+use Rattle.span_convert.specs.BatchFiles.{ProtocolWords, binary, compact, batches, RefusedBatch, IsOwnUnit, HoldsBatches, IsBatchUnit, batches_text}
+use Rattle.span_convert.specs.FramedForms.{FramedForm, UnitsBegin, AreAllUnits, UnitsRefused}
 use Rattle.span_convert.specs.Requests.{HoldsUnit, HoldsRequestUnits, IsRequestUnit, request_text}
-use Rattle.span_convert.specs.Rests.{StopsRest}
+use Rattle.span_convert.specs.SpanFiles.{SpansBegin, AreAllSpans, SpansRefused, span_file_text, partial_file_text, closing_brackets}
 
 -- ---- sources
 
--- the frames of an input
-abbrev pub frames_of : Form → Framing
-frames_of forms.OtlpProto = records
-frames_of forms.JaegerBinary = batches binary
-frames_of forms.JaegerCompact = batches compact
+-- The frame of a unit tells nothing of it in OTLP, and of Jaeger that it is the text of a struct.
+abbrev pub request_form : FramedForm
+request_form = record {
+  frames = records;
+  Refused = RefusedBy;
+  FrameHolds = HoldsUnit;
+  HoldsUnits = HoldsRequestUnits;
+  Tells = λ unit. Unit {0};
+  IsUnit = IsRequestUnit;
+  Offends = λ unit. Offence messages group_rules unit;
+}
 
--- what refuses a frame, by the cause that this names
-abbrev pub RefusedFrame : Form → Cause → List ℕ → Type 0
-RefusedFrame forms.OtlpProto = RefusedBy
-RefusedFrame forms.JaegerBinary = RefusedBatch binary
-RefusedFrame forms.JaegerCompact = RefusedBatch compact
+abbrev pub batch_form : ProtocolWords → FramedForm
+batch_form protocol = record {
+  frames = batches protocol;
+  Refused = RefusedBatch protocol;
+  FrameHolds = IsOwnUnit;
+  HoldsUnits = HoldsBatches protocol;
+  Tells = (batches protocol).Whole;
+  IsUnit = IsBatchUnit protocol.spells;
+  Offends = BatchOffends protocol.spells;
+}
 
--- the frame holds these units: one or none
-abbrev pub FrameHolds : Form → List ℕ → List (List ℕ) → Type 0
-FrameHolds forms.OtlpProto = HoldsUnit
-FrameHolds forms.JaegerBinary = IsOwnUnit
-FrameHolds forms.JaegerCompact = IsOwnUnit
+-- what a form says of an input
+pub record InputForm : Type 1 where
+  -- it begins with these groups
+  pub Begins : Limits → List ℕ → List Group → Type 0
+  -- these groups are all of it
+  pub IsWhole : Limits → List ℕ → List Group → Type 0
+  -- behind these groups it isn't read, and is refused so
+  pub Refuses : Limits → List ℕ → List Group → Refusal → Type 0
 
--- the input begins with these units, and then comes the rest
-abbrev pub HoldsUnits : Form → Limits → List ℕ → List (List ℕ) → List ℕ → Type 0
-HoldsUnits forms.OtlpProto = HoldsRequestUnits
-HoldsUnits forms.JaegerBinary = HoldsBatches binary
-HoldsUnits forms.JaegerCompact = HoldsBatches compact
+abbrev pub framed_input : FramedForm → InputForm
+framed_input form = record { Begins = UnitsBegin form; IsWhole = AreAllUnits form; Refuses = UnitsRefused form }
 
--- What the frame of a unit tells of it: nothing in OTLP, and of Jaeger that it is the text of a struct.
-abbrev pub FrameTells : Form → List ℕ → Type 0
-FrameTells forms.OtlpProto unit = Unit {0}
-FrameTells forms.JaegerBinary unit = (batches binary).Whole unit
-FrameTells forms.JaegerCompact unit = (batches compact).Whole unit
+abbrev pub span_file_input : InputForm
+span_file_input = record { Begins = SpansBegin; IsWhole = AreAllSpans; Refuses = SpansRefused }
 
--- the unit is a text of the group
-abbrev pub IsUnitOf : Form → List ℕ → Group → Type 0
-IsUnitOf forms.OtlpProto = IsRequestUnit
-IsUnitOf forms.JaegerBinary = IsBatchUnit binary.spells
-IsUnitOf forms.JaegerCompact = IsBatchUnit compact.spells
+abbrev pub input_form : Form → InputForm
+input_form forms.OtlpProto = framed_input request_form
+input_form forms.JaegerBinary = framed_input (batch_form binary)
+input_form forms.JaegerCompact = framed_input (batch_form compact)
+input_form forms.ZipkinJson = span_file_input
 
--- the units are texts of these groups, in order
-abbrev pub AreGroups : Form → List (List ℕ) → List Group → Type 0
-AreGroups from units groups = AllZip (IsUnitOf from) units groups
-
--- what offends in a unit: at this place a cause of this number
-abbrev pub UnitOffence : Form → List ℕ → ℕ → ℕ → Type 0
-UnitOffence forms.OtlpProto unit = Offence messages group_rules unit
-UnitOffence forms.JaegerBinary unit = BatchOffends binary.spells unit
-UnitOffence forms.JaegerCompact unit = BatchOffends compact.spells unit
-
--- why the rest behind the units isn't read, if the input has so many bytes
-abbrev pub RestCause : Form → Limits → ℕ → List ℕ → Cause → Type 0
-RestCause from limits size rest cause =
-    StopsRest (frames_of from) (RefusedFrame from) limits.unit (limits.binary < size) (size ≤ limits.binary) rest cause
+-- the most bytes that an input may have
+abbrev pub input_limit : Form → Limits → ℕ
+input_limit forms.OtlpProto limits = limits.binary
+input_limit forms.JaegerBinary limits = limits.binary
+input_limit forms.JaegerCompact limits = limits.binary
+input_limit forms.ZipkinJson limits = limits.json
 
 -- ---- targets
 
@@ -83,40 +83,52 @@ abbrev pub FaultOf : Form → Group → Fault → Type 0
 FaultOf forms.OtlpProto group fault = ⊥
 FaultOf forms.JaegerBinary group fault = IsFaultOf group (Some fault)
 FaultOf forms.JaegerCompact group fault = IsFaultOf group (Some fault)
+FaultOf forms.ZipkinJson group fault = IsZipkinFaultOf group (Some fault)
 
 -- the form can hold the group
 abbrev pub CanHold : Form → Group → Type 0
 CanHold forms.OtlpProto group = Unit {0}
 CanHold forms.JaegerBinary group = IsFaultOf group None
 CanHold forms.JaegerCompact group = IsFaultOf group None
+CanHold forms.ZipkinJson group = IsZipkinFaultOf group None
 
--- No part of the group is longer than the form can tell. OTLP can tell each length.
+-- No part of the group is longer than the form can tell. OTLP and JSON can tell each length.
 abbrev pub IsSizedGroup : Form → Group → Type 0
 IsSizedGroup forms.OtlpProto group = Unit {0}
 IsSizedGroup forms.JaegerBinary group = IsWritable (batch_of group)
 IsSizedGroup forms.JaegerCompact group = IsWritable (batch_of group)
+IsSizedGroup forms.ZipkinJson group = Unit {0}
 
 -- What the form holds of a trace in which nothing is a fault. OTLP can hold all of it, so that its normal form is the trace.
 abbrev pub normal_form : Form → List Group → List Group
 normal_form forms.OtlpProto groups = groups
 normal_form forms.JaegerBinary groups = normal groups
 normal_form forms.JaegerCompact groups = normal groups
+normal_form forms.ZipkinJson groups = zipkin_normal groups
 
 -- the text of a trace in normal form
 abbrev pub trace_text : Form → List Group → List ℕ
 trace_text forms.OtlpProto groups = request_text groups
 trace_text forms.JaegerBinary groups = batches_text binary groups
 trace_text forms.JaegerCompact groups = batches_text compact groups
+trace_text forms.ZipkinJson groups = span_file_text groups
 
 -- the canonical text of a trace: that of its normal form
 abbrev pub canonical_text : Form → List Group → List ℕ
 canonical_text to groups = trace_text to (normal_form to groups)
 
--- what one group adds to it
-abbrev pub unit_text : Form → Group → List ℕ
-unit_text forms.OtlpProto group = group_record group
-unit_text forms.JaegerBinary group = group_batch binary (normal_group group)
-unit_text forms.JaegerCompact group = group_batch compact (normal_group group)
+-- The same without the bytes that close it, which Zipkin's text has alone. It is empty for no group.
+abbrev pub partial_text : Form → List Group → List ℕ
+partial_text forms.OtlpProto groups = request_text groups
+partial_text forms.JaegerBinary groups = batches_text binary (normal groups)
+partial_text forms.JaegerCompact groups = batches_text compact (normal groups)
+partial_text forms.ZipkinJson groups = partial_file_text groups
+
+abbrev pub closing_text : Form → List Group → List ℕ
+closing_text forms.OtlpProto groups = []
+closing_text forms.JaegerBinary groups = []
+closing_text forms.JaegerCompact groups = []
+closing_text forms.ZipkinJson groups = closing_brackets groups
 
 -- how many spans there are
 abbrev pub span_count : List Group → ℕ

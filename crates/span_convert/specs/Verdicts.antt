@@ -1,21 +1,39 @@
 -- What is to be said of an input in one form that is converted to another. Of its units the first that has a cause counts,
 -- or whose group has a fault of the target, or the rest behind them all. In one unit a cause goes before a fault. What was
--- written is then the text of the groups before.
-use Rattle.std.specs.Prelude.{◌≡◌, ℕ, ◌+◌, ◌≤◌, ◌⊎◌, min, List, [], ◌∷◌, ◌++◌, length, All, Result, Ok, Err}
-use Rattle.span_io.specs.Causes.{cause_number}
-use Rattle.span_io.specs.Offences.{Least}
+-- written is then the text of the groups before. In an input that is read whole a cause goes before every fault.
+use Rattle.std.specs.Prelude.{◌≡◌, ℕ, ◌+◌, min, List, [], ◌∷◌, ◌++◌, length, All, Result, Ok, Err}
 use Rattle.span_io.specs.Outside.{Outlet, Gains, GainsFront, OutputFails, last_count}
 use Rattle.span_io.specs.declared.form.Form.{Form}
 use Rattle.span_io.specs.declared.limits.Limits.{Limits}
 use Rattle.span_io.specs.declared.refusal.Refusal.{Refusal}
+use Rattle.trace_model.specs.Proper.{IsProperGroup}
+use Rattle.trace_model.specs.Soundness.{IsSoundTrace}
 use Rattle.trace_model.specs.declared.trace.Group.{Group}
-use Rattle.span_convert.specs.Units.{HoldsUnits, IsUnitOf, AreGroups, UnitOffence, RestCause, FaultOf, CanHold, canonical_text, span_count}
+use Rattle.span_convert.specs.Units.{InputForm, input_form, FaultOf, CanHold, canonical_text, partial_text, span_count}
 use Rattle.span_convert.specs.declared.bad.Bad.{Bad}
 use Rattle.span_convert.specs.declared.bad.Bad.TheVariants as bads
 use Rattle.span_convert.specs.declared.stop.Stop.{Stop}
 use Rattle.span_convert.specs.declared.stop.Stop.TheVariants as stops
 use Rattle.span_convert.specs.declared.tally.Tally.{Tally}
 use Rattle.span_convert.specs.declared.target_fault.TargetFault.{TargetFault}
+
+-- ---- traces that a form can hold
+
+-- each number, text and identifier in the groups lies in its range
+abbrev pub IsProperTrace : List Group → Type 0
+IsProperTrace groups = All IsProperGroup groups
+
+-- no group of the trace has a fault
+abbrev pub IsFaultless : Form → List Group → Type 0
+IsFaultless to groups = All (CanHold to) groups
+
+-- a sound trace in whose groups nothing is out of range and nothing a fault
+pub record CanHoldTrace (to : Form) (groups : List Group) : Type 0 where
+  pub sound : IsSoundTrace groups
+  pub proper : IsProperTrace groups
+  pub no_fault : IsFaultless to groups
+
+-- ---- verdicts
 
 pub data Verdict : Type 0 where
   -- the whole canonical text, and how many units and spans it has
@@ -29,57 +47,39 @@ pub data Verdict : Type 0 where
 abbrev pub tally_of : ℕ → ℕ → Tally
 tally_of units spans = record { units = units; spans = min spans last_count }
 
--- the units are texts of groups in which nothing is a fault of the target, and this is the canonical text of the groups
-pub record ConvertTo (from to : Form) (units : List (List ℕ)) (text : List ℕ) : Type 0 where
+-- the groups are all of the input, and this is their canonical text
+pub record IsGood (from : InputForm) (to : Form) (limits : Limits) (bytes text : List ℕ) (tally : Tally) : Type 0 where
   pub groups : List Group
-  pub are_groups : AreGroups from units groups
-  pub fine : All (CanHold to) groups
+  pub whole : from.IsWhole limits bytes groups
+  pub held : CanHoldTrace to groups
   pub is_text : text ≡ canonical_text to groups
+  pub counts : tally ≡ tally_of (length groups) (span_count groups)
 
--- all of the input is units that convert to the text, and other frames
-pub record IsGood (from to : Form) (limits : Limits) (bytes text : List ℕ) (tally : Tally) : Type 0 where
-  pub units : List (List ℕ)
-  pub held : HoldsUnits from limits bytes units []
-  pub within : length bytes ≤ limits.binary
-  pub convert : ConvertTo from to units text
-  pub counts : tally ≡ tally_of (length units) (span_count convert.groups)
+-- behind the groups it is refused, and this is their text so far
+pub record IsRefusal (from : InputForm) (to : Form) (limits : Limits) (bytes text : List ℕ) (refusal : Refusal) : Type 0 where
+  pub groups : List Group
+  pub refuses : from.Refuses limits bytes groups refusal
+  pub held : CanHoldTrace to groups
+  pub is_text : text ≡ partial_text to groups
 
--- the units before this one convert to the text, and it offends
-pub record IsBadUnit (from to : Form) (limits : Limits) (bytes text : List ℕ) (refusal : Refusal) : Type 0 where
-  pub before : List (List ℕ)
-  pub unit : List ℕ
-  pub rest : List ℕ
-  pub held : HoldsUnits from limits bytes (before ++ unit ∷ []) rest
-  pub convert : ConvertTo from to before text
-  pub cause : Least (UnitOffence from unit) (cause_number refusal.cause)
-  pub number : refusal.unit ≡ length before + 1
-
--- the units before this one convert to the text, and it is a text of a group that has this fault
-pub record IsFaultedUnit (from to : Form) (limits : Limits) (bytes text : List ℕ) (found : TargetFault) : Type 0 where
-  pub before : List (List ℕ)
-  pub unit : List ℕ
-  pub rest : List ℕ
-  pub held : HoldsUnits from limits bytes (before ++ unit ∷ []) rest
-  pub convert : ConvertTo from to before text
+-- behind the groups comes one that has this fault, and this is their text so far
+pub record IsFaulted (from : InputForm) (to : Form) (limits : Limits) (bytes text : List ℕ) (found : TargetFault) : Type 0 where
+  pub groups : List Group
   pub group : Group
-  pub is_unit : IsUnitOf from unit group
+  pub begins : from.Begins limits bytes (groups ++ group ∷ [])
+  pub held : CanHoldTrace to groups
   pub fault : FaultOf to group found.fault
-  pub number : found.unit ≡ length before + 1
+  pub number : found.unit ≡ length groups + 1
+  pub is_text : text ≡ partial_text to groups
 
--- the units convert to the text, and behind them no frame begins
-pub record IsBadRest (from to : Form) (limits : Limits) (bytes text : List ℕ) (refusal : Refusal) : Type 0 where
-  pub units : List (List ℕ)
-  pub rest : List ℕ
-  pub held : HoldsUnits from limits bytes units rest
-  pub convert : ConvertTo from to units text
-  pub cause : RestCause from limits (length bytes) rest refusal.cause
-  pub number : refusal.unit ≡ length units + 1
+abbrev pub IsVerdictOn : InputForm → Form → Limits → List ℕ → Verdict → Type 0
+IsVerdictOn from to limits bytes (good text tally) = IsGood from to limits bytes text tally
+IsVerdictOn from to limits bytes (refused refusal text) = IsRefusal from to limits bytes text refusal
+IsVerdictOn from to limits bytes (faulted found text) = IsFaulted from to limits bytes text found
 
 -- the verdict on these bytes, where they are converted from the one form to the other
 abbrev pub IsVerdict : Form → Form → Limits → List ℕ → Verdict → Type 0
-IsVerdict from to limits bytes (good text tally) = IsGood from to limits bytes text tally
-IsVerdict from to limits bytes (refused refusal text) = IsBadUnit from to limits bytes text refusal ⊎ IsBadRest from to limits bytes text refusal
-IsVerdict from to limits bytes (faulted found text) = IsFaultedUnit from to limits bytes text found
+IsVerdict from to limits bytes verdict = IsVerdictOn (input_form from) to limits bytes verdict
 
 -- what is written: the whole text, or that of the groups before
 abbrev pub verdict_text : Verdict → List ℕ
@@ -97,18 +97,27 @@ IsJudged from to limits bytes (Err stops.Faulted) = (verdict : Verdict) × IsVer
 IsJudged from to limits bytes (Err stops.Write) = Unit {0}
 IsJudged from to limits bytes (Err stops.OutOfMemory) = Unit {0}
 
--- the first units of the input convert to the text
-pub record IsTextSoFar (from to : Form) (limits : Limits) (bytes text : List ℕ) : Type 0 where
-  pub units : List (List ℕ)
-  pub rest : List ℕ
-  pub held : HoldsUnits from limits bytes units rest
-  pub convert : ConvertTo from to units text
+-- the text so far of the first groups of the input
+pub record IsPartial (from : InputForm) (to : Form) (limits : Limits) (bytes text : List ℕ) : Type 0 where
+  pub groups : List Group
+  pub begins : from.Begins limits bytes groups
+  pub held : CanHoldTrace to groups
+  pub is_text : text ≡ partial_text to groups
+
+-- nothing, or that, or the text of all of it
+pub data IsTextSoFar (from : InputForm) (to : Form) (limits : Limits) (bytes text : List ℕ) : Type 0 where
+  none : text ≡ [] → IsTextSoFar from to limits bytes text
+  first : IsPartial from to limits bytes text → IsTextSoFar from to limits bytes text
+  all : (tally : Tally) → IsGood from to limits bytes text tally → IsTextSoFar from to limits bytes text
 
 -- a front of such a text was written
-pub record WritesFront (from to : Form) (limits : Limits) (bytes : List ℕ) (before now : Outlet) : Type 0 where
+pub record WritesFrontOn (from : InputForm) (to : Form) (limits : Limits) (bytes : List ℕ) (before now : Outlet) : Type 0 where
   pub text : List ℕ
   pub so_far : IsTextSoFar from to limits bytes text
   pub gains : GainsFront before now text
+
+abbrev pub WritesFront : Form → Form → Limits → List ℕ → Outlet → Outlet → Type 0
+WritesFront from to limits bytes before now = WritesFrontOn (input_form from) to limits bytes before now
 
 -- how the verdict was carried out where a call stopped: whole, or the sink failed or memory was wanted, and a front was written
 abbrev pub Stops : Verdict → Stop → Outlet → Outlet → Type 0

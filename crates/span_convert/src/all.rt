@@ -1,5 +1,5 @@
 //! Conversion in one call.
-ghost use Rattle.std.specs.Prelude.{◌≡◌, ◌<◌, ◌^◌, length, All, IfOk};
+ghost use Rattle.std.specs.Prelude.{◌≡◌, ◌<◌, ◌^◌, length, IfOk};
 ghost use Rattle.span_io.specs.Limits.{AreLimits};
 ghost use Rattle.span_convert.specs.Canonical.{ReadsBack};
 ghost use Rattle.span_convert.specs.Verdicts.{Verdict, IsVerdict, Answers, IsAnswered};
@@ -8,6 +8,7 @@ ghost use Rattle.span_convert.specs.Walks.{IsLookedAt};
 use crate::bad::Bad;
 use crate::laws::{one_verdict, output_read_back};
 use crate::progress::WalkStop;
+use crate::units::input_limit;
 use crate::walk::write_units;
 use span_io::{Blob, Failed, Form, Limits, OutOfMemory, Sink};
 use std::alloc::Global;
@@ -36,19 +37,18 @@ impl Sink for GrowingSink {
 }
 
 // The bytes of an input that are looked at, and whether it has others.
-fn looked_at<'a>(bytes: &'a [u8], limits: &Limits) -> (&'a [u8], bool)
-    ensures { IsLookedAt limits.now bytes.now result.0.now result.1 }
+fn looked_at(bytes: &[u8], limit: u64) -> (&[u8], bool)
+    ensures { IsLookedAt limit bytes.now result.0.now result.1 }
 {
-    if bytes.len() as u64 > limits.binary {
-        return (&bytes[..limits.binary as usize], true);
+    if bytes.len() as u64 > limit {
+        return (&bytes[..limit as usize], true);
     }
     (bytes, false)
 }
 
-// Bytes in memory are below 256, and fewer than 2^63.
+// Bytes in memory are fewer than 2^63.
 fn bytes_known(bytes: &[u8])
-    ensures size { length bytes.now < 2 ^ 63 }
-    ensures each { All (λ b. b < 256) bytes.now }
+    ensures { length bytes.now < 2 ^ 63 }
 {
     // The type keeps it.
 }
@@ -70,14 +70,13 @@ pub fn convert_all(
 {
     one_verdict();
     output_read_back();
-    let (looked, too_long) = looked_at(bytes, limits);
+    let (looked, too_long) = looked_at(bytes, input_limit(from, limits));
     let mut out = GrowingSink {
         text: Blob::new(alloc),
         faults: 0,
     };
     match write_units(alloc, from, to, looked, too_long, limits, &mut out) {
         Ok(_) => {
-            bytes_known(bytes);
             bytes_known(out.text.as_slice());
             Ok(out.text)
         }

@@ -3,10 +3,10 @@ ghost use Rattle.std.specs.Prelude.{◌≡◌, ◌<◌, true, false, [], length,
 ghost use Rattle.jaeger_model.specs.Laws.{BatchOffends};
 ghost use Rattle.span_io.specs.Causes.{cause_number};
 ghost use Rattle.span_io.specs.Offences.{Least};
-ghost use Rattle.span_io.specs.declared.form.Form.TheVariants as forms;
 ghost use Rattle.thrift_core.specs.Values.{struct_frames, RefusedStruct};
 ghost use Rattle.trace_model.specs.Soundness.{IsSoundGroup};
-ghost use Rattle.span_convert.specs.BatchFiles.{IsOwnUnit, IsBatchUnit};
+ghost use Rattle.span_convert.specs.BatchFiles.{binary, compact, IsOwnUnit, IsBatchUnit};
+ghost use Rattle.span_convert.specs.Units.{batch_form};
 ghost use Rattle.span_convert.specs.Rests.{Cuts, StopsRest};
 ghost use Rattle.span_convert.specs.Walks.{lent_bytes, IfWhy};
 
@@ -25,7 +25,11 @@ use trace_model::Group;
 pub(crate) struct BinaryBatches;
 
 impl UnitReader for BinaryBatches {
-    ghost form = { forms.JaegerBinary };
+    ghost form = { batch_form binary };
+
+    fn held_by_frames() {
+        // The clause is the law.
+    }
 
     fn next_frame<'a>(
         rest: &'a [u8],
@@ -45,7 +49,11 @@ impl UnitReader for BinaryBatches {
 pub(crate) struct CompactBatches;
 
 impl UnitReader for CompactBatches {
-    ghost form = { forms.JaegerCompact };
+    ghost form = { batch_form compact };
+
+    fn held_by_frames() {
+        // The clause is the law.
+    }
 
     fn next_frame<'a>(
         rest: &'a [u8],

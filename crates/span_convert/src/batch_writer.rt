@@ -3,6 +3,7 @@ ghost use Rattle.std.specs.Prelude.{◌≡◌, ◌++◌, Some, IfOk, OnOk};
 ghost use Rattle.jaeger_model.specs.Canonical.{batch_text};
 ghost use Rattle.jaeger_model.specs.Writable.{IsWritable};
 ghost use Rattle.map_jaeger.specs.Faults.{HasNoFault, IsFaultOf};
+ghost use Rattle.map_jaeger.specs.Laws.{IsHeld};
 ghost use Rattle.map_jaeger.specs.Normal.{normal_group};
 ghost use Rattle.map_jaeger.specs.Writing.{batch_of};
 ghost use Rattle.span_io.specs.declared.form.Form.TheVariants as forms;
@@ -10,11 +11,12 @@ ghost use Rattle.span_convert.specs.Walks.{IfWhy};
 ghost use Rattle.trace_model.specs.Soundness.{IsSoundGroup};
 
 use crate::batch_file::{BinaryBatches, CompactBatches};
+use crate::tally::Tally;
 use crate::units::UnitWriter;
 use jaeger_model::{Batch, has_sizes, write_batch};
 use map_jaeger::batch_of_group;
 use map_jaeger::laws::normal_forms;
-use span_io::{Blob, Halt};
+use span_io::{Blob, Halt, OutOfMemory};
 use std::alloc::Global;
 use thrift_binary::Binary;
 use thrift_compact::Compact;
@@ -38,8 +40,8 @@ fn writable_batch(alloc: Global, group: Group) -> Result<Batch, Halt<Fault>>
 // Appends the batch of a group, or answers the fault in it, and leaves `out` as it was.
 fn write_unit<P: Protocol>(alloc: Global, out: &mut Blob, group: Group) -> Result<(), Halt<Fault>>
     requires sound { IsSoundGroup group }
-    ensures fine { OnOk result (HasNoFault group × IsWritable (batch_of group)) }
-    ensures text { OnOk result (out.new ≡ out.old ++ batch_text P.keeps P.writes (batch_of (normal_group group))) }
+    ensures ok { OnOk result (IsHeld group × IsWritable (batch_of group)
+        × (out.new ≡ out.old ++ batch_text P.keeps P.writes (batch_of (normal_group group)))) }
     ensures why { IfWhy result (λ fault. IsFaultOf group (Some fault) × (out.new ≡ out.old)) }
 {
     normal_forms();
@@ -51,15 +53,33 @@ fn write_unit<P: Protocol>(alloc: Global, out: &mut Blob, group: Group) -> Resul
 impl UnitWriter for BinaryBatches {
     ghost form = { forms.JaegerBinary };
 
-    fn write(alloc: Global, out: &mut Blob, group: Group) -> Result<(), Halt<Fault>> {
+    fn write(
+        alloc: Global,
+        out: &mut Blob,
+        _before: Tally,
+        group: Group,
+    ) -> Result<(), Halt<Fault>> {
         write_unit::<Binary>(alloc, out, group)
+    }
+
+    fn close(_out: &mut Blob, _all: Tally) -> Result<(), OutOfMemory> {
+        Ok(())
     }
 }
 
 impl UnitWriter for CompactBatches {
     ghost form = { forms.JaegerCompact };
 
-    fn write(alloc: Global, out: &mut Blob, group: Group) -> Result<(), Halt<Fault>> {
+    fn write(
+        alloc: Global,
+        out: &mut Blob,
+        _before: Tally,
+        group: Group,
+    ) -> Result<(), Halt<Fault>> {
         write_unit::<Compact>(alloc, out, group)
+    }
+
+    fn close(_out: &mut Blob, _all: Tally) -> Result<(), OutOfMemory> {
+        Ok(())
     }
 }

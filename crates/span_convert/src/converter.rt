@@ -2,7 +2,7 @@
 ghost use Rattle.std.specs.Prelude.{◌≡◌, ◌≢◌, ◌++◌, [], ℕ, List, length, ◌≤◌, ◌<◌, true, Err, None, OnOk, OnErr, IsErr, IsTrue};
 ghost use Rattle.span_io.specs.Limits.{AreLimits};
 ghost use Rattle.span_io.specs.Outside.{OutputFails};
-ghost use Rattle.span_convert.specs.Converters.{HasForms, IsVerdictBy, IsJudgedBy, WritesFrontBy, Fed, KeepsWhy, SameStop, KeepsStop, OnlyWants, Stopped, IsWhy, stop_in, is_ended};
+ghost use Rattle.span_convert.specs.Converters.{HasForms, IsVerdictBy, IsJudgedBy, WritesFrontBy, Fed, KeepsWhy, SameStop, KeepsStop, OnlyWants, Stopped, IsWhy, limit_of, stop_in, is_ended};
 ghost use Rattle.span_convert.specs.Verdicts.{Verdict, Carries, Stops};
 ghost use Rattle.span_convert.specs.Walks.{IsLookedAt};
 ghost use Rattle.span_convert.specs.declared.converter.State.TheVariants as states;
@@ -13,6 +13,7 @@ use crate::progress::WalkStop;
 use crate::stop::Stop;
 use crate::tally::Tally;
 use crate::target_fault::TargetFault;
+use crate::units::input_limit;
 use crate::walk::write_units;
 use crate::why::Why;
 use span_io::{Blob, Form, Limits, OutOfMemory, Refusal, Sink};
@@ -45,8 +46,8 @@ impl State {
     }
 }
 
-/// Converts an input that is fed in pieces. Binary input is kept until it ends, or is longer than
-/// its limit; then its text is written.
+/// Converts an input that is fed in pieces. It is kept until it ends, or is longer than its limit;
+/// then its text is written.
 #[derive(Debug, Drop)]
 pub struct Converter {
     alloc: Global,
@@ -97,12 +98,14 @@ impl Converter {
         ensures ended { OnOk result (self.new.state ≡ states.Ended) }
         ensures forms { HasForms self.new self.old.from self.old.to }
         ensures limits { self.new.limits ≡ self.old.limits }
-        ensures judged { (whole : List ℕ) → AreLimits self.old.limits → IsLookedAt self.old.limits whole self.old.held too_long
+        ensures judged { (whole : List ℕ) → AreLimits self.old.limits
+            → IsLookedAt (limit_of self.old) whole self.old.held too_long
             → IsJudgedBy self.old whole result }
-        ensures verdict { (whole : List ℕ) → AreLimits self.old.limits → IsLookedAt self.old.limits whole self.old.held too_long
+        ensures verdict { (whole : List ℕ) → AreLimits self.old.limits
+            → IsLookedAt (limit_of self.old) whole self.old.held too_long
             → (verdict : Verdict) → IsVerdictBy self.old whole verdict
             → Carries verdict result (K.outlet out.old) (K.outlet out.new) × KeepsWhy verdict self.new.state }
-        ensures front { (whole : List ℕ) → IsLookedAt self.old.limits whole self.old.held too_long
+        ensures front { (whole : List ℕ) → IsLookedAt (limit_of self.old) whole self.old.held too_long
             → WritesFrontBy self.old whole (K.outlet out.old) (K.outlet out.new) }
         ensures fails { result ≡ Err stops.Write → OutputFails (K.outlet out.old) (K.outlet out.new) }
         ensures quiet { result ≢ Err stops.Write → (K.outlet out.new).faults ≡ (K.outlet out.old).faults }
@@ -151,14 +154,14 @@ impl Converter {
         ensures limits { self.new.limits ≡ self.old.limits }
         ensures ended { IsErr result }
         ensures judged { (whole : List ℕ) → AreLimits self.old.limits
-            → IsLookedAt self.old.limits whole (self.old.held ++ piece.now) true
+            → IsLookedAt (limit_of self.old) whole (self.old.held ++ piece.now) true
             → Stopped result (λ stop. IsJudgedBy {T = Unit} self.old whole (Err stop)) }
         ensures verdict { (whole : List ℕ) → AreLimits self.old.limits
-            → IsLookedAt self.old.limits whole (self.old.held ++ piece.now) true
+            → IsLookedAt (limit_of self.old) whole (self.old.held ++ piece.now) true
             → (verdict : Verdict) → IsVerdictBy self.old whole verdict
             → Stopped result (λ stop. Stops verdict stop (K.outlet out.old) (K.outlet out.new))
             × KeepsWhy verdict self.new.state }
-        ensures front { (whole : List ℕ) → IsLookedAt self.old.limits whole (self.old.held ++ piece.now) true
+        ensures front { (whole : List ℕ) → IsLookedAt (limit_of self.old) whole (self.old.held ++ piece.now) true
             → WritesFrontBy self.old whole (K.outlet out.old) (K.outlet out.new) }
         ensures fails { result ≡ Err stops.Write → OutputFails (K.outlet out.old) (K.outlet out.new) }
         ensures quiet { result ≢ Err stops.Write → (K.outlet out.new).faults ≡ (K.outlet out.old).faults }
@@ -183,14 +186,14 @@ impl Converter {
         ensures limits { self.new.limits ≡ self.old.limits }
 
         // Within the limit the bytes are kept, and nothing is written.
-        ensures kept { (bytes : List ℕ) → Fed self.old bytes → length (bytes ++ piece.now) ≤ self.old.limits.binary
+        ensures kept { (bytes : List ℕ) → Fed self.old bytes → length (bytes ++ piece.now) ≤ limit_of self.old
             → OnlyWants result × (out.new ≡ out.old) }
         ensures fed { (bytes : List ℕ) → Fed self.old bytes → OnOk result (Fed self.new (bytes ++ piece.now)) }
 
         // Beyond it the verdict on all bytes so far is carried out, which is a refusal or a fault.
-        ensures beyond { (bytes : List ℕ) → Fed self.old bytes → self.old.limits.binary < length (bytes ++ piece.now)
+        ensures beyond { (bytes : List ℕ) → Fed self.old bytes → limit_of self.old < length (bytes ++ piece.now)
             → Stopped result (λ stop. IsJudgedBy {T = Unit} self.old (bytes ++ piece.now) (Err stop)) }
-        ensures verdict { (bytes : List ℕ) → Fed self.old bytes → self.old.limits.binary < length (bytes ++ piece.now)
+        ensures verdict { (bytes : List ℕ) → Fed self.old bytes → limit_of self.old < length (bytes ++ piece.now)
             → (verdict : Verdict) → IsVerdictBy self.old (bytes ++ piece.now) verdict
             → Stopped result (λ stop. Stops verdict stop (K.outlet out.old) (K.outlet out.new))
             × KeepsWhy verdict self.new.state }
@@ -211,7 +214,8 @@ impl Converter {
         if let Some(stop) = self.state.stop() {
             return Err(stop);
         }
-        let room = self.limits.binary.saturating_sub(self.held.len() as u64);
+        let limit = input_limit(self.from, &self.limits);
+        let room = limit.saturating_sub(self.held.len() as u64);
         if piece.len() as u64 <= room {
             return self.hold(piece);
         }

@@ -1,15 +1,15 @@
 //! Laws of verdicts, as contracts of functions that do nothing.
-ghost use Rattle.std.specs.Prelude.{◌≡◌, ◌↔◌, ◌<◌, ◌^◌, ℕ, List, length, All};
+ghost use Rattle.std.specs.Prelude.{◌≡◌, ◌↔◌, ◌<◌, ◌^◌, ◌++◌, ℕ, List, length, All};
 ghost use Rattle.span_io.specs.Limits.{AreLimits};
 ghost use Rattle.span_io.specs.Outside.{Outlet, IsFront};
 ghost use Rattle.span_io.specs.declared.form.Form.{Form};
 ghost use Rattle.span_io.specs.declared.limits.Limits.{Limits};
 ghost use Rattle.trace_model.specs.declared.trace.Group.{Group};
-ghost use Rattle.span_convert.specs.Canonical.{Reads, ReadsPlainly, ReadsBack, IsFaultless, IsHeldBy, IsSized, IsWithin};
+ghost use Rattle.span_convert.specs.Canonical.{ConvertsToItself, Reads, ReadsPlainly, ReadsBack, IsHeldBy, IsSized, IsWithin};
 ghost use Rattle.span_convert.specs.BatchFiles.{words};
-ghost use Rattle.span_convert.specs.InputLaws.{BatchLaws, InputLaws, TextLaws};
-ghost use Rattle.span_convert.specs.Units.{HoldsUnits, AreGroups, IsSizedGroup, normal_form, canonical_text, span_count};
-ghost use Rattle.span_convert.specs.Verdicts.{Verdict, good, IsVerdict, IsGood, WritesFront, verdict_text, tally_of};
+ghost use Rattle.span_convert.specs.InputLaws.{BatchLaws, InputLaws, SpanFileLaws, TextLaws};
+ghost use Rattle.span_convert.specs.Units.{input_form, IsSizedGroup, normal_form, canonical_text, partial_text, closing_text, span_count};
+ghost use Rattle.span_convert.specs.Verdicts.{Verdict, IsFaultless, IsVerdict, IsGood, IsTextSoFar, WritesFront, verdict_text};
 
 use crate::tally::Tally;
 use thrift_binary::Binary;
@@ -29,6 +29,22 @@ fn batch_laws<P: Protocol>()
     jaeger_model::written_laws::written_again::<P>();
 }
 
+// What they say of spans in JSON.
+fn span_file_laws()
+    ensures { SpanFileLaws }
+{
+    zipkin_json::laws::one_list();
+    zipkin_json::laws::some_list();
+    zipkin_json::laws::reads_proper();
+    zipkin_json::laws::written_again();
+    map_zipkin::laws::read_is_held();
+    map_zipkin::laws::read_is_zipkin_normal();
+    map_zipkin::laws::spans_read_back();
+    map_zipkin::laws::written_is_proper();
+    map_zipkin::laws::zipkin_normal_forms();
+    map_zipkin::laws::regroupings();
+}
+
 // What they say of the frames and units of an input.
 fn input_laws()
     ensures { InputLaws }
@@ -39,16 +55,16 @@ fn input_laws()
     otlp_proto::laws::one_group();
     batch_laws::<Binary>();
     batch_laws::<Compact>();
+    span_file_laws();
 }
 
-/// Bytes have one verdict at most. Where the units so far are texts of groups without a fault, what
-/// is written for the bytes begins with the text of these groups.
+/// Bytes have one verdict at most. What is written for the bytes begins with each text so far of their
+/// first groups.
 pub fn one_verdict()
     ensures once { (from to : Form) (limits : Limits) (bytes : List ℕ) (v w : Verdict) → AreLimits limits
         → IsVerdict from to limits bytes v → IsVerdict from to limits bytes w → v ≡ w }
-    ensures so_far { (from to : Form) (limits : Limits) (bytes rest : List ℕ) (units : List (List ℕ)) (groups : List Group)
-        (v : Verdict) → AreLimits limits → HoldsUnits from limits bytes units rest → AreGroups from units groups
-        → IsFaultless to groups → IsVerdict from to limits bytes v → IsFront (canonical_text to groups) (verdict_text v) }
+    ensures so_far { (from to : Form) (limits : Limits) (bytes text : List ℕ) (v : Verdict) → AreLimits limits
+        → IsTextSoFar (input_form from) to limits bytes text → IsVerdict from to limits bytes v → IsFront text (verdict_text v) }
 {
     input_laws();
 }
@@ -60,8 +76,19 @@ pub fn some_verdict()
 {
     input_laws();
     otlp_proto::laws::some_group();
+    otlp_proto::laws::read_proper();
     map_jaeger::laws::read_is_sound();
+    map_jaeger::laws::read_is_proper();
     map_jaeger::laws::faults_found();
+    map_zipkin::laws::zipkin_faults_found();
+}
+
+/// The canonical text of a trace is its text so far, and then the bytes that close it.
+pub fn closed_texts()
+    ensures { (to : Form) (groups : List Group)
+        → canonical_text to groups ≡ partial_text to groups ++ closing_text to groups }
+{
+    // The clause is the law.
 }
 
 /// A sink that wasn't called gained a front of the text of the first units, of whatever bytes.
@@ -121,9 +148,7 @@ pub fn equal_texts()
 /// Canonical text converts to itself, where it is within the limits.
 pub fn converts_to_itself()
     ensures { (to : Form) (limits : Limits) (groups : List Group) → AreLimits limits → IsHeldBy to groups
-        → IsWithin to limits groups
-        → IsVerdict to to limits (canonical_text to groups)
-        (good (canonical_text to groups) (tally_of (length groups) (span_count groups))) }
+        → IsWithin to limits groups → ConvertsToItself to limits (canonical_text to groups) groups }
 {
     text_laws();
 }
@@ -131,21 +156,17 @@ pub fn converts_to_itself()
 /// What was written for an input is read as the normal form of the input's trace, without remarks,
 /// and is the text of no trace of another normal form; and within the limits it converts to itself.
 pub fn output_read_back()
-    ensures read { (from to : Form) (limits : Limits) (bytes text : List ℕ) (tally : Tally) → All (λ b. b < 256) bytes
-        → length text < 2 ^ 63 → (h : IsGood from to limits bytes text tally) → All (IsSizedGroup to) h.convert.groups
-        → ReadsPlainly to text (normal_form to h.convert.groups) }
+    ensures read { (from to : Form) (limits : Limits) (bytes text : List ℕ) (tally : Tally) → length text < 2 ^ 63
+        → (h : IsGood (input_form from) to limits bytes text tally) → All (IsSizedGroup to) h.groups
+        → ReadsPlainly to text (normal_form to h.groups) }
     ensures again { (from to : Form) (limits : Limits) (bytes text : List ℕ) (tally : Tally) → AreLimits limits
-        → All (λ b. b < 256) bytes → (h : IsGood from to limits bytes text tally) → All (IsSizedGroup to) h.convert.groups
-        → IsWithin to limits h.convert.groups → IsVerdict to to limits text (good text tally) }
+        → (h : IsGood (input_form from) to limits bytes text tally) → All (IsSizedGroup to) h.groups
+        → IsWithin to limits h.groups → ConvertsToItself to limits text h.groups }
     ensures back { (from to : Form) (limits : Limits) (bytes text : List ℕ) (tally : Tally) → AreLimits limits
-        → All (λ b. b < 256) bytes → length text < 2 ^ 63 → (h : IsGood from to limits bytes text tally)
-        → All (IsSizedGroup to) h.convert.groups → ReadsBack from to limits bytes text }
+        → length text < 2 ^ 63 → (h : IsGood (input_form from) to limits bytes text tally)
+        → All (IsSizedGroup to) h.groups → ReadsBack from to limits bytes text }
 {
     equal_texts();
     text_read_back();
     converts_to_itself();
-    input_laws();
-    otlp_proto::laws::read_proper();
-    map_jaeger::laws::read_is_sound();
-    map_jaeger::laws::read_is_proper();
 }

@@ -9,6 +9,8 @@ mod converter;
 pub mod laws;
 mod progress;
 mod request;
+mod span_file;
+mod span_writer;
 mod stop;
 mod tally;
 mod target_fault;

@@ -1,13 +1,16 @@
 //! What a walk over the units of an input has converted so far.
-ghost use Rattle.std.specs.Prelude.{◌≡◌, ◌≢◌, ◌+◌, ◌<◌, min, [], ◌∷◌, ℕ, List, ◌++◌, length, IfOk, IsOk, OnOk, OnErr, IsTrue, Err};
-ghost use Rattle.span_io.specs.Outside.{Gains, GainsFront, OutputFails, last_count};
+ghost use Rattle.std.specs.Prelude.{◌≡◌, ◌≢◌, ◌+◌, ◌<◌, min, [], ◌∷◌, ℕ, List, ◌++◌, length, IfOk, IfErr, IsOk, OnOk, OnErr, IsTrue, Err};
+ghost use Rattle.span_io.specs.Outside.{Outlet, Gains, GainsFront, OutputFails, last_count};
 ghost use Rattle.trace_model.specs.Soundness.{IsSoundGroup};
 ghost use Rattle.span_convert.specs.Units.{FaultOf, span_count};
-ghost use Rattle.span_convert.specs.Walks.{AddsGroup, IfWhy, WritesOut};
+ghost use Rattle.trace_model.specs.declared.trace.Group as model;
+ghost use Rattle.span_convert.specs.Walks.{AddsGroup, Converted, EndsText, IfWhy, StopsText, WritesOut};
 
+use crate::laws::closed_texts;
 use crate::tally::Tally;
 use crate::target_fault::TargetFault;
 use crate::units::UnitWriter;
+use span_io::laws::gains_then;
 use span_io::{Blob, Cause, Failed, Halt, Refusal, Sink, write_all};
 use std::alloc::Global;
 use trace_model::{Fault, Group};
@@ -70,7 +73,7 @@ impl Progress {
         ensures why { IfWhy result (λ fault. FaultOf W.form group fault × (self.new ≡ self.old)) }
     {
         let spans = spans_in(&group);
-        W::write(alloc, &mut self.unwritten, group)?;
+        W::write(alloc, &mut self.unwritten, self.tally, group)?;
         self.tally.units += 1;
         self.tally.spans = self.tally.spans.saturating_add(spans);
         Ok(())
@@ -91,16 +94,24 @@ impl Progress {
         Ok(())
     }
 
-    /// Writes the last text, and answers how much was converted.
-    pub(crate) fn finish<K: Sink>(&mut self, out: &mut K) -> Result<Tally, WalkStop>
-        ensures ok { IfOk result (λ tally.
-            (tally ≡ self.old.tally) × Gains (K.outlet out.old) (K.outlet out.new) self.old.unwritten) }
-        ensures failed { OnErr result ((result ≡ Err WalkStop.Write) × OutputFails (K.outlet out.old) (K.outlet out.new)) }
-        ensures front { OnErr result (GainsFront (K.outlet out.old) (K.outlet out.new) self.old.unwritten) }
-        ensures quiet { OnOk result ((K.outlet out.new).faults ≡ (K.outlet out.old).faults) }
-        ensures answers { IsTrue (K.outlet out.old).steady → IsOk result }
+    /// Writes the rest of the text of all groups, and answers how much was converted.
+    pub(crate) fn finish<W: UnitWriter, K: Sink>(&mut self, out: &mut K) -> Result<Tally, WalkStop>
+        ensures ok { IfOk result (λ tally. (groups : List model.Group) (before : Outlet)
+            → Converted W.form groups before (K.outlet out.old) self.old
+            → EndsText W.form groups tally before (K.outlet out.new)) }
+        ensures stop { IfErr result (λ stop. (groups : List model.Group) (before : Outlet)
+            → Converted W.form groups before (K.outlet out.old) self.old
+            → StopsText W.form groups stop before (K.outlet out.new)) }
+        ensures fails { result ≡ Err WalkStop.Write → OutputFails (K.outlet out.old) (K.outlet out.new) }
+        ensures quiet { result ≢ Err WalkStop.Write → (K.outlet out.new).faults ≡ (K.outlet out.old).faults }
+        ensures answers { IsTrue (K.outlet out.old).steady → result ≢ Err WalkStop.Write }
         ensures steady { (K.outlet out.new).steady ≡ (K.outlet out.old).steady }
     {
+        gains_then();
+        closed_texts();
+        if W::close(&mut self.unwritten, self.tally).is_err() {
+            return Err(WalkStop::OutOfMemory);
+        }
         match self.flush(out) {
             Ok(()) => Ok(self.tally),
             Err(Failed) => Err(WalkStop::Write),

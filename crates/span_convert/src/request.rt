@@ -6,21 +6,27 @@ ghost use Rattle.otlp_proto.specs.Rows.{bytes_in};
 ghost use Rattle.proto_wire.specs.Wire.{records, RefusedBy};
 ghost use Rattle.span_convert.specs.Requests.{HoldsUnit};
 ghost use Rattle.span_convert.specs.Rests.{Cuts, StopsRest};
+ghost use Rattle.span_convert.specs.Units.{request_form};
 ghost use Rattle.span_convert.specs.Walks.{lent_bytes};
 
+use crate::tally::Tally;
 use crate::units::{Cut, UnitReader, UnitWriter};
 use otlp_proto::{read_group, write_group};
 use proto_wire::{Payload, WireRecord, first_record};
-use span_io::{Blob, Cause, Halt};
+use span_io::{Blob, Cause, Halt, OutOfMemory};
 use std::alloc::Global;
-use trace_model::{Fault, Group};
+use trace_model::{Fault, Group, proper_group};
 
 /// OTLP in protobuf. It can hold all of a group.
 #[derive(Clone, Copy, Debug)]
 pub(crate) struct Request;
 
 impl UnitReader for Request {
-    ghost form = { forms.OtlpProto };
+    ghost form = { request_form };
+
+    fn held_by_frames() {
+        // The clause is the law.
+    }
 
     fn next_frame<'a>(
         rest: &'a [u8],
@@ -39,8 +45,18 @@ impl UnitReader for Request {
 impl UnitWriter for Request {
     ghost form = { forms.OtlpProto };
 
-    fn write(_alloc: Global, out: &mut Blob, group: Group) -> Result<(), Halt<Fault>> {
+    fn write(
+        _alloc: Global,
+        out: &mut Blob,
+        _before: Tally,
+        group: Group,
+    ) -> Result<(), Halt<Fault>> {
+        proper_group(&group);
         Ok(write_group(out, &group)?)
+    }
+
+    fn close(_out: &mut Blob, _all: Tally) -> Result<(), OutOfMemory> {
+        Ok(())
     }
 }
 

@@ -4,12 +4,25 @@ ghost use Rattle.span_io.specs.Causes.{cause_number};
 ghost use Rattle.span_io.specs.Offences.{Least};
 ghost use Rattle.span_io.specs.declared.form.Form.{Form};
 ghost use Rattle.trace_model.specs.Soundness.{IsSoundGroup};
-ghost use Rattle.span_convert.specs.Units.{FrameTells, IsUnitOf, UnitOffence, FaultOf};
-ghost use Rattle.span_convert.specs.Walks.{lent_bytes, CutsFrame, StopsFrames, WritesGroup, IfWhy};
+ghost use Rattle.span_convert.specs.FramedForms.{FramedForm};
+ghost use Rattle.span_convert.specs.Units as told;
+ghost use Rattle.span_convert.specs.Units.{FaultOf};
+ghost use Rattle.span_convert.specs.Walks.{lent_bytes, ClosesText, CutsFrame, HeldByFrames, StopsFrames, WritesGroup, IfWhy};
 
-use span_io::{Blob, Cause, Halt};
+use crate::tally::Tally;
+use span_io::{Blob, Cause, Form, Halt, Limits, OutOfMemory};
 use std::alloc::Global;
 use trace_model::{Fault, Group};
+
+/// The most bytes that an input may have.
+pub(crate) fn input_limit(from: Form, limits: &Limits) -> u64
+    ensures { result ≡ told.input_limit from limits.now }
+{
+    match from {
+        Form::OtlpProto | Form::JaegerBinary | Form::JaegerCompact => limits.binary,
+        Form::ZipkinJson => limits.json as u64,
+    }
+}
 
 /// A frame at the front of some bytes: the unit in it, if it holds one, and the bytes behind it.
 #[derive(Clone, Copy, Debug)]
@@ -18,9 +31,13 @@ pub(crate) struct Cut<'a> {
     pub(crate) behind: &'a [u8],
 }
 
-/// Reads the units of an input of one form.
+/// Reads the units of an input of one form, whose units stand in frames.
 pub(crate) trait UnitReader {
-    ghost form: { Form };
+    ghost form: { FramedForm };
+
+    /// The units of an input are those that its frames hold.
+    fn held_by_frames()
+        ensures { HeldByFrames form };
 
     /// The frame at the front of a rest, behind which the input may have other bytes, or why there is
     /// none. None at the end.
@@ -32,24 +49,29 @@ pub(crate) trait UnitReader {
         ensures cut { IfOk result (λ next. MatchOption next ((rest.now ≡ []) × (too_long ≡ false))
             (λ cut. CutsFrame form limit rest.now (lent_bytes cut.unit) cut.behind.now)) }
         ensures nearer { IfOk result (λ next. IfSome next (λ cut. length cut.behind.now < length rest.now)) }
-        ensures framed { IfOk result (λ next. IfSome next (λ cut. IfSome cut.unit (λ unit. FrameTells form unit.now))) }
+        ensures framed { IfOk result (λ next. IfSome next (λ cut. IfSome cut.unit (λ unit. form.Tells unit.now))) }
         ensures why { IfErr result (λ cause. StopsFrames form limit too_long rest.now cause) };
 
     /// The group that a unit is a text of, or the least offence in it.
     fn read(alloc: Global, unit: &[u8]) -> Result<Group, Halt<Cause>>
-        requires framed { FrameTells form unit.now }
-        ensures value { IfOk result (λ group. IsUnitOf form unit.now group) }
+        requires framed { form.Tells unit.now }
+        ensures value { IfOk result (λ group. form.IsUnit unit.now group) }
         ensures sound { IfOk result (λ group. IsSoundGroup group) }
-        ensures why { IfWhy result (λ cause. Least (UnitOffence form unit.now) (cause_number cause)) };
+        ensures why { IfWhy result (λ cause. Least (form.Offends unit.now) (cause_number cause)) };
 }
 
 /// Writes the units of an output of one form.
 pub(crate) trait UnitWriter {
     ghost form: { Form };
 
-    /// Appends the canonical text of a group, or answers the fault in it, and leaves `out` as it was.
-    fn write(alloc: Global, out: &mut Blob, group: Group) -> Result<(), Halt<Fault>>
+    /// Appends what a group adds to the text of so many groups and spans, or answers the fault in it,
+    /// and leaves `out` as it was.
+    fn write(alloc: Global, out: &mut Blob, before: Tally, group: Group) -> Result<(), Halt<Fault>>
         requires sound { IsSoundGroup group }
-        ensures ok { OnOk result (WritesGroup form group out.old out.new) }
+        ensures ok { OnOk result (WritesGroup form group before out.old out.new) }
         ensures why { IfWhy result (λ fault. FaultOf form group fault × (out.new ≡ out.old)) };
+
+    /// Appends what closes the text of so many groups and spans.
+    fn close(out: &mut Blob, all: Tally) -> Result<(), OutOfMemory>
+        ensures { OnOk result (ClosesText form all out.old out.new) };
 }

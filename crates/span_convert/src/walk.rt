@@ -1,15 +1,17 @@
 //! The walk over the units of an input, which writes the text of each.
-ghost use Rattle.std.specs.Prelude.{◌≡◌, ◌≢◌, ◌≤◌, ◌+◌, ◌<◌, ℕ, List, true, OnOk, IfErr, IfSome, IsErr, IsTrue, Err};
+ghost use Rattle.std.specs.Prelude.{◌≡◌, ◌≢◌, ◌≤◌, ◌+◌, ◌<◌, ◌++◌, ◌∷◌, [], ℕ, List, true, OnOk, IfErr, IfSome, IsErr, IsTrue, Err};
 ghost use Rattle.span_io.specs.Outside.{Outlet, OutputFails, last_count};
 ghost use Rattle.span_io.specs.declared.form.Form.{Form};
 ghost use Rattle.span_io.specs.declared.limits.Limits.{Limits};
 ghost use Rattle.trace_model.specs.Soundness.{IsSoundGroup};
-ghost use Rattle.span_convert.specs.Units.{FrameTells};
-ghost use Rattle.span_convert.specs.Walks.{lent_bytes, IsLookedAt, CutsFrame, IsNextUnit, WalkedUnits, StopsWalk, EndsWalk};
+ghost use Rattle.trace_model.specs.declared.trace.Group as model;
+ghost use Rattle.span_convert.specs.Units.{framed_input, input_form, input_limit};
+ghost use Rattle.span_convert.specs.Walks.{lent_bytes, Converted, IsLookedAt, CutsFrame, WalkedUnits, StopsGroup, StopsWalk, EndsWalk};
 
 use crate::batch_file::{BinaryBatches, CompactBatches};
 use crate::progress::{Progress, WalkStop};
 use crate::request::Request;
+use crate::span_file::{SpanFile, write_spans_to};
 use crate::tally::Tally;
 use crate::units::{Cut, UnitReader, UnitWriter};
 use span_io::laws::gains_then;
@@ -22,12 +24,12 @@ const FULL: usize = 65_536;
 
 // Writes what was converted, once it is much.
 fn write_full<K: Sink>(progress: &mut Progress, out: &mut K) -> Result<(), WalkStop>
-    ensures ok { OnOk result ((from to : Form) (limits : Limits) (whole rest : List ℕ) (before : Outlet)
-        → WalkedUnits from to limits whole rest before (K.outlet out.old) progress.old
-        → WalkedUnits from to limits whole rest before (K.outlet out.new) progress.new) }
-    ensures stop { IfErr result (λ stop. (from to : Form) (limits : Limits) (whole rest : List ℕ) (before : Outlet)
-        → WalkedUnits from to limits whole rest before (K.outlet out.old) progress.old
-        → StopsWalk from to limits whole stop before (K.outlet out.new)) }
+    ensures ok { OnOk result ((to : Form) (groups : List model.Group) (before : Outlet)
+        → Converted to groups before (K.outlet out.old) progress.old
+        → Converted to groups before (K.outlet out.new) progress.new) }
+    ensures stop { IfErr result (λ stop. (to : Form) (groups : List model.Group) (group : model.Group) (before : Outlet)
+        → Converted to (groups ++ group ∷ []) before (K.outlet out.old) progress.old
+        → StopsGroup to groups group stop before (K.outlet out.new)) }
     ensures units { OnOk result (progress.new.tally.units ≡ progress.old.tally.units) }
     ensures fails { result ≡ Err WalkStop.Write → OutputFails (K.outlet out.old) (K.outlet out.new) }
     ensures quiet { result ≢ Err WalkStop.Write → (K.outlet out.new).faults ≡ (K.outlet out.old).faults }
@@ -44,8 +46,8 @@ fn write_full<K: Sink>(progress: &mut Progress, out: &mut K) -> Result<(), WalkS
     }
 }
 
-// Converts the group of a unit.
-fn convert_group<W: UnitWriter, K: Sink>(
+/// Converts a group.
+pub(crate) fn convert_group<W: UnitWriter, K: Sink>(
     progress: &mut Progress,
     alloc: Global,
     group: Group,
@@ -53,15 +55,13 @@ fn convert_group<W: UnitWriter, K: Sink>(
 ) -> Result<(), WalkStop>
     requires room { progress.old.tally.units < last_count }
     requires sound { IsSoundGroup group }
-    ensures ok { OnOk result ((from : Form) (limits : Limits) (whole rest behind : List ℕ) (before : Outlet)
-        → IsNextUnit from limits rest behind group
-        → WalkedUnits from W.form limits whole rest before (K.outlet out.old) progress.old
-        → WalkedUnits from W.form limits whole behind before (K.outlet out.new) progress.new) }
-    ensures stop { IfErr result (λ stop. (from : Form) (limits : Limits) (whole rest behind : List ℕ) (before : Outlet)
-        → IsNextUnit from limits rest behind group
-        → WalkedUnits from W.form limits whole rest before (K.outlet out.old) progress.old
-        → StopsWalk from W.form limits whole stop before (K.outlet out.new)) }
-    ensures units { OnOk result (progress.new.tally.units ≤ progress.old.tally.units + 1) }
+    ensures ok { OnOk result ((groups : List model.Group) (before : Outlet)
+        → Converted W.form groups before (K.outlet out.old) progress.old
+        → Converted W.form (groups ++ group ∷ []) before (K.outlet out.new) progress.new) }
+    ensures stop { IfErr result (λ stop. (groups : List model.Group) (before : Outlet)
+        → Converted W.form groups before (K.outlet out.old) progress.old
+        → StopsGroup W.form groups group stop before (K.outlet out.new)) }
+    ensures units { OnOk result (progress.new.tally.units ≡ progress.old.tally.units + 1) }
     ensures fails { result ≡ Err WalkStop.Write → OutputFails (K.outlet out.old) (K.outlet out.new) }
     ensures quiet { result ≢ Err WalkStop.Write → (K.outlet out.new).faults ≡ (K.outlet out.old).faults }
     ensures answers { IsTrue (K.outlet out.old).steady → result ≢ Err WalkStop.Write }
@@ -83,7 +83,7 @@ fn convert_frame<R: UnitReader, W: UnitWriter, K: Sink>(
     out: &mut K,
 ) -> Result<(), WalkStop>
     requires room { progress.old.tally.units < last_count }
-    requires framed { IfSome cut.now.unit (λ unit. FrameTells R.form unit.now) }
+    requires framed { IfSome cut.now.unit (λ unit. R.form.Tells unit.now) }
     ensures ok { OnOk result ((limits : Limits) (whole rest : List ℕ) (before : Outlet)
         → CutsFrame R.form limits.unit rest (lent_bytes cut.now.unit) cut.now.behind.now
         → WalkedUnits R.form W.form limits whole rest before (K.outlet out.old) progress.old
@@ -91,7 +91,7 @@ fn convert_frame<R: UnitReader, W: UnitWriter, K: Sink>(
     ensures stop { IfErr result (λ stop. (limits : Limits) (whole rest : List ℕ) (before : Outlet)
         → CutsFrame R.form limits.unit rest (lent_bytes cut.now.unit) cut.now.behind.now
         → WalkedUnits R.form W.form limits whole rest before (K.outlet out.old) progress.old
-        → StopsWalk R.form W.form limits whole stop before (K.outlet out.new)) }
+        → StopsWalk (framed_input R.form) W.form limits whole stop before (K.outlet out.new)) }
     ensures units { OnOk result (progress.new.tally.units ≤ progress.old.tally.units + 1) }
     ensures fails { result ≡ Err WalkStop.Write → OutputFails (K.outlet out.old) (K.outlet out.new) }
     ensures quiet { result ≢ Err WalkStop.Write → (K.outlet out.new).faults ≡ (K.outlet out.old).faults }
@@ -99,6 +99,7 @@ fn convert_frame<R: UnitReader, W: UnitWriter, K: Sink>(
     ensures steady { (K.outlet out.new).steady ≡ (K.outlet out.old).steady }
 {
     gains_then();
+    R::held_by_frames();
     let Some(unit) = cut.unit else {
         return Ok(());
     };
@@ -117,8 +118,8 @@ fn walk_units<R: UnitReader, W: UnitWriter, K: Sink>(
     limits: &Limits,
     out: &mut K,
 ) -> Result<Tally, WalkStop>
-    ensures walk { (whole : List ℕ) → IsLookedAt limits.now whole bytes.now too_long
-        → EndsWalk R.form W.form limits.now whole result (K.outlet out.old) (K.outlet out.new) }
+    ensures walk { (whole : List ℕ) → IsLookedAt limits.now.binary whole bytes.now too_long
+        → EndsWalk (framed_input R.form) W.form limits.now whole result (K.outlet out.old) (K.outlet out.new) }
     ensures fails { result ≡ Err WalkStop.Write → OutputFails (K.outlet out.old) (K.outlet out.new) }
     ensures quiet { result ≢ Err WalkStop.Write → (K.outlet out.new).faults ≡ (K.outlet out.old).faults }
     ensures answers { IsTrue (K.outlet out.old).steady → result ≢ Err WalkStop.Write }
@@ -126,6 +127,7 @@ fn walk_units<R: UnitReader, W: UnitWriter, K: Sink>(
     ensures long { too_long ≡ true → IsErr result }
 {
     gains_then();
+    R::held_by_frames();
     let mut progress = Progress::none(alloc);
     let mut rest = bytes;
     'frames: loop {
@@ -134,7 +136,7 @@ fn walk_units<R: UnitReader, W: UnitWriter, K: Sink>(
                 convert_frame::<R, W, K>(&mut progress, alloc, &cut, out)?;
                 rest = cut.behind;
             }
-            Ok(None) => return progress.finish(out),
+            Ok(None) => return progress.finish::<W, K>(out),
             Err(cause) => return Err(progress.refuse(cause, out)),
         }
     }
@@ -149,8 +151,8 @@ fn write_to<R: UnitReader, K: Sink>(
     limits: &Limits,
     out: &mut K,
 ) -> Result<Tally, WalkStop>
-    ensures walk { (whole : List ℕ) → IsLookedAt limits.now whole bytes.now too_long
-        → EndsWalk R.form to limits.now whole result (K.outlet out.old) (K.outlet out.new) }
+    ensures walk { (whole : List ℕ) → IsLookedAt limits.now.binary whole bytes.now too_long
+        → EndsWalk (framed_input R.form) to limits.now whole result (K.outlet out.old) (K.outlet out.new) }
     ensures fails { result ≡ Err WalkStop.Write → OutputFails (K.outlet out.old) (K.outlet out.new) }
     ensures quiet { result ≢ Err WalkStop.Write → (K.outlet out.new).faults ≡ (K.outlet out.old).faults }
     ensures answers { IsTrue (K.outlet out.old).steady → result ≢ Err WalkStop.Write }
@@ -165,6 +167,7 @@ fn write_to<R: UnitReader, K: Sink>(
         Form::JaegerCompact => walk_units::<R, CompactBatches, K>(
             alloc, bytes, too_long, limits, out,
         ),
+        Form::ZipkinJson => walk_units::<R, SpanFile, K>(alloc, bytes, too_long, limits, out),
     }
 }
 
@@ -178,8 +181,8 @@ pub(crate) fn write_units<K: Sink>(
     limits: &Limits,
     out: &mut K,
 ) -> Result<Tally, WalkStop>
-    ensures walk { (whole : List ℕ) → IsLookedAt limits.now whole bytes.now too_long
-        → EndsWalk from to limits.now whole result (K.outlet out.old) (K.outlet out.new) }
+    ensures walk { (whole : List ℕ) → IsLookedAt (input_limit from limits.now) whole bytes.now too_long
+        → EndsWalk (input_form from) to limits.now whole result (K.outlet out.old) (K.outlet out.new) }
     ensures fails { result ≡ Err WalkStop.Write → OutputFails (K.outlet out.old) (K.outlet out.new) }
     ensures quiet { result ≢ Err WalkStop.Write → (K.outlet out.new).faults ≡ (K.outlet out.old).faults }
     ensures answers { IsTrue (K.outlet out.old).steady → result ≢ Err WalkStop.Write }
@@ -192,5 +195,6 @@ pub(crate) fn write_units<K: Sink>(
         Form::JaegerCompact => write_to::<CompactBatches, K>(
             alloc, to, bytes, too_long, limits, out,
         ),
+        Form::ZipkinJson => write_spans_to(alloc, to, bytes, too_long, out),
     }
 }

@@ -11,6 +11,8 @@ pub enum Form {
     JaegerBinary,
     /// The same batches in the Thrift compact protocol.
     JaegerCompact,
+    /// Spans of the Zipkin v2 API, in a JSON array.
+    ZipkinJson,
 }
 
 impl Form {
@@ -26,6 +28,9 @@ impl Form {
         }
         if word == b"jaeger-compact".as_slice() {
             return Some(Form::JaegerCompact);
+        }
+        if word == b"zipkin-json".as_slice() {
+            return Some(Form::ZipkinJson);
         }
         None
     }

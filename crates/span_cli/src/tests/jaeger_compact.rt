@@ -2,7 +2,7 @@
 use super::jaeger::{BATCHES, REQUESTS, Row, converts_row};
 use std::test::Fail;
 
-const COMPACT: &str = "jaeger-compact";
+pub const COMPACT: &str = "jaeger-compact";
 
 const SPAN: [Row; 4] = [
     Row {

@@ -9,7 +9,7 @@ returns-in_default-clause-ended g c =
     let now = g.S.Source.inlet c.args.input.now in
     let from = c.args.converter.now.from in
     let to = c.args.converter.now.to in
-    let none = reads_nothing now in
+    let none = reads_nothing from now in
     ends_no_memory g.K.Sink.outlet from to now now c.args.output.now c.args.output.now (record {
       reads = none;
       front = record { given = none.given; gave = none.gave; front = c.nothing_written.ensures from to shipped_limits none.given (g.K.Sink.outlet c.args.output.now) };

@@ -1,6 +1,6 @@
 use Rattle.std.proofs.Common.{◌≤◌, Err, ◌++◌, length, take, ap, subst, ◌∙◌, arith}
 use Rattle.std.proofs.lemmas.List.{length-take}
-use Rattle.span_convert.specs.Converters.{stop_in}
+use Rattle.span_convert.specs.Converters.{limit_of, stop_in}
 use Rattle.span_io.specs.Limits.{shipped_limits}
 use Rattle.span_cli.specs.Inputs.{piece}
 use Rattle.span_cli.specs.Runs.{EndsRun}
@@ -51,5 +51,5 @@ pieces-preserved g c =
       room = c.read.auto.buf ∙ c.pieces.invariant.room;
       feeding = Feeding-step from to before (g.S.Source.inlet c.pieces.input) (g.S.Source.inlet c.read.new.self) c.pieces.converter c.feed.new.self more feeding c.in-Ok.ensures.bytes.0 c.in-Ok.ensures.quiet c.read.ensures.steady
           (feed.fed feeding.given feeding.fed) feed.forms feed.limits;
-      unwritten = fed_within c.pieces.converter.limits.binary (length (feeding.given ++ more)) c.pieces.output c.feed.new.out (feed.kept feeding.given feeding.fed) (feed.beyond feeding.given feeding.fed) ∙ c.pieces.invariant.unwritten;
+      unwritten = fed_within (limit_of c.pieces.converter) (length (feeding.given ++ more)) c.pieces.output c.feed.new.out (feed.kept feeding.given feeding.fed) (feed.beyond feeding.given feeding.fed) ∙ c.pieces.invariant.unwritten;
     }

@@ -1,5 +1,5 @@
 use Rattle.std.proofs.Common.{◌≡◌, ◌-◌, suc, length}
-use Rattle.span_io.specs.Limits.{shipped_limits}
+use Rattle.span_convert.specs.Converters.{limit_of}
 use Rattle.span_cli.specs.Inputs.{piece}
 use Rattle.span_cli.proofs.InputLemmas.{Feeding}
 use Rattle.span_cli.proofs.input.feed_pieces.Given as goal
@@ -12,4 +12,4 @@ invariant-pieces g l = record {
 }
 
 abbrev pub decreases-pieces : goal.decreases-pieces
-decreases-pieces g l = suc shipped_limits.binary - length l.converter.held
+decreases-pieces g l = suc (limit_of l.initial.converter) - length l.converter.held

@@ -1,9 +1,10 @@
-use Rattle.std.proofs.Common.{◌≤◌, length, Err, ap, ◌∙◌, subst, arith}
+use Rattle.std.proofs.Common.{Err, ap, ◌∙◌, arith}
 use Rattle.span_io.specs.Limits.{shipped_limits}
 use Rattle.span_convert.specs.Converters.{stop_in}
 use Rattle.span_convert.specs.declared.stop.Stop.{Stop}
 use Rattle.span_convert.specs.declared.stop.Stop.TheVariants as stops
 use Rattle.span_cli.proofs.EndingLaws.{ends_at_finish, same_finish, stop_of}
+use Rattle.span_cli.proofs.InputLemmas.{given_within}
 use Rattle.span_cli.proofs.top.convert.Goals as goal
 
 pub returns : goal.returns
@@ -11,7 +12,7 @@ returns g c =
     let fed = c.in_default.ensures.fed in
     let end = c.in-Err-finish.ensures in
     let going = ap stop_in fed.fed.going in
-    let bound : length fed.given ≤ shipped_limits.binary = subst (λ l. length fed.given ≤ l.binary) fed.limits fed.fed.within in
+    let bound = given_within c.feed_input.new.converter c.args.from fed.given fed.fed (fed.forms.0 ∙ c.new-converter.ensures.forms.0) fed.limits in
     ends_at_finish g.K.Sink.outlet c.args.from c.args.to (g.S.Source.inlet c.args.input.now) (g.S.Source.inlet c.feed_input.new.input) c.args.output.now c.finish.new.out
     fed.given c.at_stop.result c.in-Err-finish.stop c.finish.new.self.state fed.gave fed.all_read.told c.at_stop.ensures
     (record { given = fed.given; gave = fed.gave; within = omega (arith, bound) }) fed.quiet

@@ -17,6 +17,14 @@ returns-clause-usage g c = (
 pub returns-clause-statuses : goal.returns-clause-statuses
 returns-clause-statuses g c = subst (λ (status : ℕ). IsRunStatus status) (sym c.status.ensures) (is_status c.convert-ending.result)
 
+pub returns-in_default-clause-reads : goal.returns-in_default-clause-reads
+returns-in_default-clause-reads g c = λ from to spelled. absurd (let h : ◌≡◌ {A = Option Command} None (Some (Convert from to)) = sym c.in_default.is ∙ (c.read_words.ensures (Convert from to)).1 spelled in cc)
+
+pub returns-clause-reads : goal.returns-clause-reads
+returns-clause-reads g c = λ from to spelled.
+    let same = command_read c.in-Some.command (Convert from to) ((c.in-Some.ensures (Convert from to)).1 spelled) in
+    (rw same at c.convert-ending.ensures).input.reads
+
 pub returns-in_default-clause-front : goal.returns-in_default-clause-front
 returns-in_default-clause-front g c = λ from to spelled. absurd (let h : ◌≡◌ {A = Option Command} None (Some (Convert from to)) = sym c.in_default.is ∙ (c.read_words.ensures (Convert from to)).1 spelled in cc)
 

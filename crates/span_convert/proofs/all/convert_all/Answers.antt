@@ -6,37 +6,37 @@ use Rattle.span_convert.proofs.all.convert_all.Goals as goal
 
 pub returns-in-Ok-clause-judged : goal.returns-in-Ok-clause-judged
 returns-in-Ok-clause-judged c =
-    let w = c.in-Ok.ensures.walk c.args.bytes.now c.looked_at-too_long.ensures in
+    let w = c.in-Ok.ensures.walk c.args.bytes.now (rw c.input_limit.ensures at c.looked_at-too_long.ensures) in
     (good w.text c.in-Ok.field-0, w.is_good)
 
 pub returns-in-Ok-clause-verdict : goal.returns-in-Ok-clause-verdict
 returns-in-Ok-clause-verdict c = λ verdict is_verdict.
-    let w = c.in-Ok.ensures.walk c.args.bytes.now c.looked_at-too_long.ensures in
+    let w = c.in-Ok.ensures.walk c.args.bytes.now (rw c.input_limit.ensures at c.looked_at-too_long.ensures) in
     answers_whole _ _ _ c.args.bytes.now c.requires.limits verdict is_verdict c.one_verdict.ensures.once _ _ c.in-Ok.field-0 w _ (w.gains.held ∙ ap (λ l. l ++ w.text) c.new.ensures)
 
 pub returns-in-Err-Refused-clause-judged : goal.returns-in-Err-Refused-clause-judged
 returns-in-Err-Refused-clause-judged c =
-    let w = (rw c.in-Err-Refused.field-0-is at c.in-Err-Refused.ensures).walk c.args.bytes.now c.looked_at-too_long.ensures in
-    (refused c.in-Err-Refused.refusal w.text, w.is_bad)
+    let w = (rw c.in-Err-Refused.field-0-is at c.in-Err-Refused.ensures).walk c.args.bytes.now (rw c.input_limit.ensures at c.looked_at-too_long.ensures) in
+    (refused c.in-Err-Refused.refusal w.text, w.is_refused)
 
 pub returns-in-Err-Refused-clause-verdict : goal.returns-in-Err-Refused-clause-verdict
 returns-in-Err-Refused-clause-verdict c = λ verdict is_verdict.
     answers_refused _ _ _ c.args.bytes.now c.requires.limits verdict is_verdict c.one_verdict.ensures.once _ _ c.in-Err-Refused.refusal
-    ((rw c.in-Err-Refused.field-0-is at c.in-Err-Refused.ensures).walk c.args.bytes.now c.looked_at-too_long.ensures)
+    ((rw c.in-Err-Refused.field-0-is at c.in-Err-Refused.ensures).walk c.args.bytes.now (rw c.input_limit.ensures at c.looked_at-too_long.ensures))
 
 pub returns-in-Err-Faulted-clause-judged : goal.returns-in-Err-Faulted-clause-judged
 returns-in-Err-Faulted-clause-judged c =
-    let w = (rw c.in-Err-Faulted.field-0-is at c.in-Err-Faulted.ensures).walk c.args.bytes.now c.looked_at-too_long.ensures in
+    let w = (rw c.in-Err-Faulted.field-0-is at c.in-Err-Faulted.ensures).walk c.args.bytes.now (rw c.input_limit.ensures at c.looked_at-too_long.ensures) in
     (faulted c.in-Err-Faulted.found w.text, w.is_faulted)
 
 pub returns-in-Err-Faulted-clause-verdict : goal.returns-in-Err-Faulted-clause-verdict
 returns-in-Err-Faulted-clause-verdict c = λ verdict is_verdict.
     answers_faulted _ _ _ c.args.bytes.now c.requires.limits verdict is_verdict c.one_verdict.ensures.once _ _ c.in-Err-Faulted.found
-    ((rw c.in-Err-Faulted.field-0-is at c.in-Err-Faulted.ensures).walk c.args.bytes.now c.looked_at-too_long.ensures)
+    ((rw c.in-Err-Faulted.field-0-is at c.in-Err-Faulted.ensures).walk c.args.bytes.now (rw c.input_limit.ensures at c.looked_at-too_long.ensures))
 
 pub returns-in-Ok-clause-back : goal.returns-in-Ok-clause-back
 returns-in-Ok-clause-back c =
-    let w = c.in-Ok.ensures.walk c.args.bytes.now c.looked_at-too_long.ensures in
+    let w = c.in-Ok.ensures.walk c.args.bytes.now (rw c.input_limit.ensures at c.looked_at-too_long.ensures) in
     let text : c.write_units.new.out.text ≡ w.text = w.gains.held ∙ ap (λ l. l ++ w.text) c.new.ensures in
     subst (λ (l : List ℕ). ReadsBack c.args.from c.args.to c.args.limits.now c.args.bytes.now l) (sym text) (c.output_read_back.ensures.back c.args.from c.args.to c.args.limits.now c.args.bytes.now w.text c.in-Ok.field-0 c.requires.limits
-    c.bytes_known.ensures.each (subst (λ (l : List ℕ). length l < 2 ^ 63) (c.as_slice.ensures ∙ text) c.bytes_known-in-Ok.ensures.size) w.is_good w.sized)
+    (subst (λ (l : List ℕ). length l < 2 ^ 63) (c.as_slice.ensures ∙ text) c.bytes_known.ensures) w.is_good w.sized)

@@ -5,4 +5,5 @@ returns c = record {
   requests = record { reading = c.one_reading.ensures; framing = c.one_framing.ensures; step = c.one_step.ensures; group = c.one_group.ensures };
   binary = c.batch_laws.ensures;
   compact = c.batch_laws-2.ensures;
+  spans = c.span_file_laws.ensures;
 }

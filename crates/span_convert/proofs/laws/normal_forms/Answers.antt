@@ -3,13 +3,13 @@ use Rattle.span_convert.proofs.TextLaws.{normal_held, normal_again, normal_spans
 use Rattle.span_convert.proofs.laws.normal_forms.Goals as goal
 
 pub returns-clause-held : goal.returns-clause-held
-returns-clause-held c = normal_held c.normal_forms.ensures
+returns-clause-held c = normal_held c.normal_forms.ensures c.input_laws.ensures.spans
 
 pub returns-clause-again : goal.returns-clause-again
-returns-clause-again c = normal_again c.normal_forms.ensures
+returns-clause-again c = normal_again c.normal_forms.ensures c.input_laws.ensures.spans
 
 pub returns-clause-spans : goal.returns-clause-spans
-returns-clause-spans c = normal_spans
+returns-clause-spans c = normal_spans c.input_laws.ensures.spans
 
 pub returns-clause-no_fault : goal.returns-clause-no_fault
 returns-clause-no_fault c = faultless_read c.read_is_normal.ensures c.input_laws.ensures
@@ -18,4 +18,4 @@ pub returns-clause-read : goal.returns-clause-read
 returns-clause-read c = normal_read c.read_is_normal.ensures c.input_laws.ensures
 
 pub returns-clause-once : goal.returns-clause-once
-returns-clause-once c = λ from bytes a b h g. one_trace c.input_laws.ensures from bytes a b h g
+returns-clause-once c = one_trace c.input_laws.ensures

@@ -1,26 +1,27 @@
-use Rattle.std.proofs.Common.{sym, subst}
+use Rattle.std.proofs.Common.{◌+◌, inl, sym, subst}
 use Rattle.std.proofs.lemmas.Result.{on_ok_weaker, IfErr-weaker}
-use Rattle.span_convert.specs.Walks.{WalkedUnits}
+use Rattle.span_convert.specs.Walks.{Converted}
 use Rattle.span_convert.specs.declared.progress.Progress.{Progress}
-use Rattle.span_convert.proofs.WalkLemmas.{walked_unit, stops_fault, stays_front}
+use Rattle.span_convert.specs.declared.progress.WalkStop.TheVariants as walk_stops
+use Rattle.span_convert.proofs.WalkLemmas.{converted_more, stops_fault, front_now, next_number}
 use Rattle.span_convert.proofs.walk.convert_group.Goals as goal
 
 pub returns-in-Ok-clause-ok : goal.returns-in-Ok-clause-ok
 returns-in-Ok-clause-ok g c =
-    on_ok_weaker c.write_full.result (λ full. λ from limits whole rest behind before here w.
-    full from _ limits whole behind before (walked_unit from _ limits whole before _ _ _ rest behind c.args.group here c.in-Ok.ensures.ok w)) c.write_full.ensures.ok
+    on_ok_weaker c.write_full.result (λ full. λ groups before w.
+    full _ _ before (converted_more _ groups before _ _ w c.args.group _ c.in-Ok.ensures.ok)) c.write_full.ensures.ok
 
 pub returns-in-Ok-clause-stop : goal.returns-in-Ok-clause-stop
 returns-in-Ok-clause-stop g c =
-    IfErr-weaker c.write_full.result _ _ (λ stop full. λ from limits whole rest behind before here w.
-    full from _ limits whole behind before (walked_unit from _ limits whole before _ _ _ rest behind c.args.group here c.in-Ok.ensures.ok w)) c.write_full.ensures.stop
+    IfErr-weaker c.write_full.result _ _ (λ stop full. λ groups before w.
+    full _ groups c.args.group before (converted_more _ groups before _ _ w c.args.group _ c.in-Ok.ensures.ok)) c.write_full.ensures.stop
 
 pub returns-in-Err-Why-clause-stop : goal.returns-in-Err-Why-clause-stop
-returns-in-Err-Why-clause-stop g c = λ from limits whole rest behind before here w.
+returns-in-Err-Why-clause-stop g c = λ groups before w.
     let why = (rw c.in-Err-Why.field-0-is at c.in-Err-Why.ensures).why in
-    stops_fault from g.W.UnitWriter.form limits whole before _ c.add_group.new.self c.gains_then.ensures.both _ c.gains_then.ensures.front c.stop_at_fault.result c.in-Err-Why.fault rest behind c.args.group here why.0 c.stop_at_fault.ensures.written
-    (subst (λ (p : Progress). WalkedUnits from g.W.UnitWriter.form limits whole rest before (g.K.Sink.outlet c.args.out.now) p) (sym why.1) w)
+    let here = subst (λ (p : Progress). Converted g.W.UnitWriter.form groups before (g.K.Sink.outlet c.args.out.now) p) (sym why.1) w in
+    stops_fault g.W.UnitWriter.form groups before _ c.add_group.new.self here c.gains_then.ensures.both _ c.gains_then.ensures.front c.args.group c.stop_at_fault.result
+    (walk_stops.Faulted (record { unit = c.add_group.new.self.tally.units + 1; fault = c.in-Err-Why.fault })) (why.0, next_number g.W.UnitWriter.form groups before _ c.add_group.new.self here) c.stop_at_fault.ensures.written
 
 pub returns-in-Err-OutOfMemory-clause-stop : goal.returns-in-Err-OutOfMemory-clause-stop
-returns-in-Err-OutOfMemory-clause-stop g c = λ from limits whole rest behind before here w.
-    stays_front from _ limits whole before _ _ rest w
+returns-in-Err-OutOfMemory-clause-stop g c = λ groups before w. inl (front_now _ groups before _ _ w)

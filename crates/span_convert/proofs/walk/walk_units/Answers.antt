@@ -1,7 +1,7 @@
 use Rattle.std.proofs.Common.{refl, ap, sym, subst, arith}
 use Rattle.span_convert.specs.Walks.{WalkedUnits}
 use Rattle.span_convert.specs.declared.progress.Progress.{Progress}
-use Rattle.span_convert.proofs.WalkLemmas.{walked_none, ends, stops_rest}
+use Rattle.span_convert.proofs.WalkLemmas.{walked_none, walk_ends, walk_stops_rest}
 use Rattle.span_convert.proofs.walk.walk_units.Goals as goal
 
 pub frames-init : goal.frames-init
@@ -10,7 +10,7 @@ frames-init g c =
     record {
       walked = λ whole seen.
           subst (λ (p : Progress). WalkedUnits g.R.UnitReader.form g.W.UnitWriter.form c.args.limits.now whole c.args.bytes.now (g.K.Sink.outlet c.args.out.now) (g.K.Sink.outlet c.args.out.now) p) (sym none)
-          (walked_none _ _ c.args.limits.now whole c.args.bytes.now c.args.too_long _ seen);
+          (walked_none _ _ c.args.limits.now whole _ c.held_by_frames.ensures c.args.bytes.now c.args.too_long seen);
       room = omega (arith, ap (λ (p : Progress). p.tally.units) none);
       quiet = refl;
       steady = refl;
@@ -19,10 +19,9 @@ frames-init g c =
 pub returns-in-Ok-None-clause-walk : goal.returns-in-Ok-None-clause-walk
 returns-in-Ok-None-clause-walk g c = λ whole seen.
     let here = (rw c.in-Ok-None.field-0-is at c.in-Ok-None.ensures).cut in
-    ends _ _ c.args.limits.now whole _ _ c.frames.progress c.gains_then.ensures.both _ c.gains_then.ensures.front c.finish.result c.args.bytes.now c.args.too_long here.1 seen c.finish.ensures.ok c.finish.ensures.failed c.finish.ensures.front
-    (rw here.0 at (c.frames.invariant.walked whole seen))
+    walk_ends g.R.UnitReader.form g.W.UnitWriter.form c.args.limits.now whole _ _ _ c.frames.progress c.finish.result c.args.bytes.now c.args.too_long here.1 seen (rw here.0 at (c.frames.invariant.walked whole seen)) c.finish.ensures.ok c.finish.ensures.stop
 
 pub returns-in-Err-clause-walk : goal.returns-in-Err-clause-walk
 returns-in-Err-clause-walk g c = λ whole seen.
-    stops_rest _ _ c.args.limits.now whole _ _ c.frames.progress c.gains_then.ensures.both _ c.gains_then.ensures.front c.refuse.result c.in-Err.cause c.frames.rest.now c.args.bytes.now c.args.too_long c.in-Err.ensures.why seen c.refuse.ensures.written
-    (c.frames.invariant.walked whole seen)
+    walk_stops_rest g.R.UnitReader.form g.W.UnitWriter.form c.args.limits.now whole _ c.gains_then.ensures.both c.gains_then.ensures.front c.frames.rest.now _ _ c.frames.progress (c.frames.invariant.walked whole seen)
+    c.refuse.result c.in-Err.cause c.args.bytes.now c.args.too_long c.in-Err.ensures.why seen c.refuse.ensures.written

@@ -1,10 +1,12 @@
-use Rattle.span_convert.proofs.WalkLemmas.{walked_written, stops_write}
+use Rattle.std.proofs.Common.{inr}
+use Rattle.span_convert.proofs.WalkLemmas.{converted_written, failed_so_far}
 use Rattle.span_convert.proofs.walk.write_full.Goals as goal
 
 pub returns-in-Ok-clause-ok : goal.returns-in-Ok-clause-ok
-returns-in-Ok-clause-ok g c = λ from to limits whole rest before w.
-    walked_written from to limits whole before _ _ c.gains_then.ensures.both _ _ rest c.in-Ok.ensures.tally c.in-Ok.ensures.ok.0 c.in-Ok.ensures.ok.1 w
+returns-in-Ok-clause-ok g c = λ to groups before w.
+    converted_written to groups before _ _ w c.gains_then.ensures.both _ _ c.in-Ok.ensures.tally c.in-Ok.ensures.ok.0 c.in-Ok.ensures.ok.1
 
 pub returns-in-Err-clause-stop : goal.returns-in-Err-clause-stop
-returns-in-Err-clause-stop g c = λ from to limits whole rest before w.
-    stops_write from to limits whole before _ _ c.gains_then.ensures.both _ c.gains_then.ensures.front rest c.in-Err.ensures.failed c.in-Err.ensures.front w
+returns-in-Err-clause-stop g c = λ to groups group before w.
+    let failed = failed_so_far to _ before _ _ w c.gains_then.ensures.both _ c.gains_then.ensures.front c.in-Err.ensures.failed c.in-Err.ensures.front in
+    (failed.0, inr failed.1)

@@ -1,13 +1,12 @@
 use Rattle.std.proofs.Common.{Bool, List, ℕ, ◌≡◌, Ok, Err, sym, subst}
-use Rattle.span_io.specs.declared.limits.Limits.{Limits}
 use Rattle.span_convert.specs.Verdicts.{good, refused, faulted}
 use Rattle.span_convert.specs.Walks.{IsLookedAt}
 use Rattle.span_convert.specs.declared.progress.WalkStop.TheVariants as walk_stops
 use Rattle.span_convert.proofs.CarryLemmas.{carries_whole, carries_refused, carries_faulted, carries_write, carries_memory, ends_front}
 use Rattle.span_convert.proofs.converter.Converter.carry_out.Goals as goal
 
-seen_there : (limits : Limits) (whole held lent : List ℕ) (too_long : Bool) → lent ≡ held → IsLookedAt limits whole held too_long → IsLookedAt limits whole lent too_long
-seen_there limits whole held lent too_long same seen = subst (λ (l : List ℕ). IsLookedAt limits whole l too_long) (sym same) seen
+seen_there : (limit : ℕ) (whole held lent : List ℕ) (too_long : Bool) → lent ≡ held → IsLookedAt limit whole held too_long → IsLookedAt limit whole lent too_long
+seen_there limit whole held lent too_long same seen = subst (λ (l : List ℕ). IsLookedAt limit whole l too_long) (sym same) seen
 
 pub returns-in-Ok-clause-judged : goal.returns-in-Ok-clause-judged
 returns-in-Ok-clause-judged g c = λ whole valid seen.
@@ -21,7 +20,7 @@ returns-in-Ok-clause-verdict g c = λ whole valid seen verdict is_verdict.
 pub returns-in-Err-Refused-clause-judged : goal.returns-in-Err-Refused-clause-judged
 returns-in-Err-Refused-clause-judged g c = λ whole valid seen.
     let w = (rw c.in-Err-Refused.field-0-is at c.in-Err-Refused.ensures).walk whole (seen_there _ whole _ _ _ c.as_slice.ensures seen) in
-    (refused c.in-Err-Refused.refusal w.text, w.is_bad)
+    (refused c.in-Err-Refused.refusal w.text, w.is_refused)
 
 pub returns-in-Err-Refused-clause-verdict : goal.returns-in-Err-Refused-clause-verdict
 returns-in-Err-Refused-clause-verdict g c = λ whole valid seen verdict is_verdict.

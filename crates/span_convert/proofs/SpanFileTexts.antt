@@ -1,0 +1,231 @@
+-- The texts of a Zipkin file, and what is read of them.
+use Rattle.std.proofs.Common.{◌≡◌, ℕ, ◌+◌, ◌≤◌, ◌++◌, ◌∷◌, true, List, [], length, map, codes, All, refl, ap, sym, ◌∙◌, subst, append_assoc, append-nil}
+use Rattle.std.proofs.lemmas.Grind.{flat_map-append}
+use Rattle.std.proofs.lemmas.List.{length-append, length-map, map-append}
+use Rattle.std.proofs.lemmas.List.Elements.{All-nil, All-cons, All-head, All-tail, All-append, All-weaker}
+use Rattle.std.specs.List.{flat_map, join_with_byte}
+use Rattle.span_io.specs.Outside.{IsFront}
+use Rattle.span_io.specs.declared.form.Form.TheVariants as forms
+use Rattle.span_io.specs.declared.limits.Limits.{Limits}
+use Rattle.span_tags.specs.Runs.{Scoped, spans_of, scoped}
+use Rattle.trace_model.specs.Flat.{flat}
+use Rattle.trace_model.specs.Proper.{IsProperGroup}
+use Rattle.trace_model.specs.Soundness.{IsSoundGroup, IsSoundTrace}
+use Rattle.trace_model.specs.declared.span.Span.{Span}
+use Rattle.trace_model.specs.declared.trace.Group.{Group}
+use Rattle.trace_model.specs.declared.trace.Scope.{Scope}
+use Rattle.zipkin_json.specs.Canonical.{zspan_text, spans_text}
+use Rattle.zipkin_json.specs.Proper.{IsProperZSpan, IsTimelyZSpan, IsWritableZSpan}
+use Rattle.zipkin_json.specs.Texts.{AreSpansText}
+use Rattle.zipkin_json.specs.declared.span.ZSpan.{ZSpan}
+use Rattle.map_zipkin.specs.Faults.{HasNoZipkinFault}
+use Rattle.map_zipkin.specs.Laws.{IsHeldByZipkin, ZipkinNormalForms}
+use Rattle.map_zipkin.specs.Normal.{normal_one, normal_spans, zipkin_normal}
+use Rattle.map_zipkin.specs.Reading.{run_span_of, groups_of}
+use Rattle.map_zipkin.specs.Regrouped.{RunSpan, run_of, regrouped}
+use Rattle.map_zipkin.specs.Remarks.{zipkin_left_out}
+use Rattle.map_zipkin.specs.Writing.{spans_of_group}
+use Rattle.span_convert.specs.Canonical.{IsHeldBy}
+use Rattle.span_convert.specs.InputLaws.{SpanFileLaws}
+use Rattle.span_convert.specs.SpanFiles.{AreAllSpans, ReadsSpans, ReadsSpansPlainly, spans_of_groups, span_file_text, open_file_text, partial_file_text, closing_brackets, opening, is_some_span, spans_added}
+use Rattle.span_convert.specs.Units.{IsSizedGroup, normal_form, canonical_text, span_count}
+use Rattle.span_convert.specs.Verdicts.{CanHoldTrace, IsFaultless, IsProperTrace}
+use Rattle.span_convert.proofs.SpanFileInputs.{all_first, one_spans, proper_read, timely_read}
+
+-- ---- what a group adds
+
+-- the texts of spans, with commas between them
+abbrev joined : List ZSpan → List ℕ
+joined spans = join_with_byte 44 (map zspan_text spans)
+
+-- more spans behind one
+joined_behind : (span : ZSpan) (more : List ZSpan) → joined (span ∷ more) ≡ zspan_text span ++ spans_added true more
+joined_behind span [] = sym (append-nil (zspan_text span))
+joined_behind span (next ∷ more) = ap (λ (l : List ℕ). zspan_text span ++ (44 ∷ l)) (joined_behind next more)
+
+joined_added : (spans more : List ZSpan) → joined (spans ++ more) ≡ joined spans ++ spans_added (is_some_span spans) more
+joined_added [] [] = refl
+joined_added [] (span ∷ more) = joined_behind span more
+joined_added (span ∷ []) more = joined_behind span more
+joined_added (span ∷ next ∷ spans) more =
+    ap (λ (l : List ℕ). zspan_text span ++ (44 ∷ l)) (joined_added (next ∷ spans) more)
+    ∙ sym (append_assoc (zspan_text span) (44 ∷ joined (next ∷ spans)) (spans_added true more))
+
+held_groups : (groups : List Group) → CanHoldTrace forms.ZipkinJson groups → All IsHeldByZipkin groups
+held_groups groups held = of groups held.sound held.proper held.no_fault
+  where
+    of : (groups : List Group) → IsSoundTrace groups → IsProperTrace groups → All HasNoZipkinFault groups → All IsHeldByZipkin groups
+    of [] sound proper fine = All-nil IsHeldByZipkin
+    of (g ∷ groups) sound proper fine = All-cons IsHeldByZipkin g groups
+        (record { sound = All-head IsSoundGroup g groups sound; proper = All-head IsProperGroup g groups proper; no_fault = All-head HasNoZipkinFault g groups fine })
+        (of groups (All-tail IsSoundGroup g groups sound) (All-tail IsProperGroup g groups proper) (All-tail HasNoZipkinFault g groups fine))
+
+-- the open text of a trace that Zipkin can hold is that of the trace's own spans
+open_own : (Z : ZipkinNormalForms) (groups : List Group) → CanHoldTrace forms.ZipkinJson groups
+    → open_file_text (zipkin_normal groups) ≡ codes "[" ++ joined (spans_of_groups groups)
+open_own Z groups held = ap (λ (l : List ZSpan). codes "[" ++ joined l) (Z.same_spans groups (held_groups groups held))
+
+-- ---- the front of a trace
+
+front_held : (a b : List Group) → CanHoldTrace forms.ZipkinJson (a ++ b) → CanHoldTrace forms.ZipkinJson a
+front_held a b held = record {
+  sound = all_first IsSoundGroup a b held.sound;
+  proper = all_first IsProperGroup a b held.proper;
+  no_fault = all_first HasNoZipkinFault a b held.no_fault;
+}
+
+-- the text of more groups behind these
+more_text : (Z : ZipkinNormalForms) (group : Group) (groups more : List Group) → CanHoldTrace forms.ZipkinJson (group ∷ (groups ++ more))
+    → partial_file_text (group ∷ (groups ++ more))
+    ≡ partial_file_text (group ∷ groups) ++ spans_added (is_some_span (spans_of_groups (group ∷ groups))) (spans_of_groups more)
+more_text Z group groups more held =
+    let before : List ZSpan = spans_of_groups (group ∷ groups) in
+    let added : List ℕ = spans_added (is_some_span before) (spans_of_groups more) in
+    open_own Z (group ∷ (groups ++ more)) held
+    ∙ ap (λ (l : List ZSpan). codes "[" ++ joined l) (flat_map-append spans_of_group (group ∷ groups) more)
+    ∙ ap (λ (l : List ℕ). codes "[" ++ l) (joined_added before (spans_of_groups more))
+    ∙ ap (λ (l : List ℕ). l ++ added) (sym (open_own Z (group ∷ groups) (front_held (group ∷ groups) more held)))
+
+-- what a group adds to the text of those before it
+pub added_text : (Z : ZipkinNormalForms) (groups : List Group) (group : Group) → CanHoldTrace forms.ZipkinJson (groups ++ group ∷ [])
+    → partial_file_text (groups ++ group ∷ [])
+    ≡ partial_file_text groups ++ (opening groups ++ spans_added (is_some_span (spans_of_groups groups)) (spans_of_group group))
+added_text Z [] group held =
+    open_own Z (group ∷ []) held
+    ∙ ap (λ (l : List ZSpan). codes "[" ++ joined l) (append-nil (spans_of_group group))
+    ∙ ap (λ (l : List ℕ). codes "[" ++ l) (joined_added [] (spans_of_group group))
+added_text Z (first ∷ groups) group held =
+    more_text Z first groups (group ∷ []) held
+    ∙ ap (λ (l : List ZSpan). partial_file_text (first ∷ groups) ++ spans_added (is_some_span (spans_of_groups (first ∷ groups))) l) (append-nil (spans_of_group group))
+
+pub span_file_front : (Z : ZipkinNormalForms) (a b : List Group) → CanHoldTrace forms.ZipkinJson (a ++ b) → IsFront (partial_file_text a) (partial_file_text (a ++ b))
+span_file_front Z [] b held = (partial_file_text b, refl)
+span_file_front Z (group ∷ a) b held = (spans_added (is_some_span (spans_of_groups (group ∷ a))) (spans_of_groups b), more_text Z group a b held)
+
+pub span_file_closed : (groups : List Group) → span_file_text (zipkin_normal groups) ≡ partial_file_text groups ++ closing_brackets groups
+unfolding spans_text
+span_file_closed [] = refl
+span_file_closed (group ∷ groups) = sym (append_assoc (codes "[") (joined (spans_of_groups (zipkin_normal (group ∷ groups)))) (codes "]"))
+
+-- ---- how many spans there are
+
+abbrev spans_in : List Scope → List Span
+spans_in scopes = flat_map (λ scope. scope.spans) scopes
+
+scopes_count : (scopes : List Scope) → length (scoped scopes) ≡ length (spans_in scopes)
+scopes_count [] = refl
+scopes_count (scope ∷ scopes) =
+    length-append (spans_of scope) (scoped scopes)
+    ∙ ap (λ n. n + length (scoped scopes)) (length-map scope.spans (λ (span : Span). record { name = scope.name; version = scope.version; span = span }))
+    ∙ ap (λ n. length scope.spans + n) (scopes_count scopes)
+    ∙ sym (length-append scope.spans (spans_in scopes))
+
+-- the spans of groups, told in one way or another
+module _ {A : Type 0} (told : Group → Scoped Span → A) where
+  pub spans_counted : (groups : List Group) → length (flat_map (λ group. map (told group) (scoped group.scopes)) groups) ≡ span_count groups
+  spans_counted [] = refl
+  spans_counted (group ∷ groups) =
+      length-append (map (told group) (scoped group.scopes)) (flat_map (λ group. map (told group) (scoped group.scopes)) groups)
+      ∙ ap (λ n. n + length (flat_map (λ group. map (told group) (scoped group.scopes)) groups)) (length-map (scoped group.scopes) (told group) ∙ scopes_count group.scopes)
+      ∙ ap (λ n. length (spans_in group.scopes) + n) (spans_counted groups)
+      ∙ sym (length-append (spans_in group.scopes) (flat groups))
+      ∙ sym (ap (λ (l : List Span). length l) (flat_map-append (λ (scope : Scope). scope.spans) group.scopes (flat_map (λ group. group.scopes) groups)))
+
+-- ---- lists
+
+map_flat : {A B C : Type 0} → (f : B → C) (g : A → List B) (xs : List A) → map f (flat_map g xs) ≡ flat_map (λ x. map f (g x)) xs
+map_flat f g [] = refl
+map_flat f g (x ∷ xs) = map-append f (g x) (flat_map g xs) ∙ ap (λ l. map f (g x) ++ l) (map_flat f g xs)
+
+all_flat : {A B : Type 0} (P : B → Type 0) (f : A → List B) (xs : List A) → All (λ x. All P (f x)) xs → All P (flat_map f xs)
+all_flat P f [] all = All-nil P
+all_flat P f (x ∷ xs) all = All-append P (f x) (flat_map f xs) (All-head (λ x. All P (f x)) x xs all) (all_flat P f xs (All-tail (λ x. All P (f x)) x xs all))
+
+all_both : (spans : List ZSpan) → All IsProperZSpan spans → All IsTimelyZSpan spans → All IsWritableZSpan spans
+all_both [] proper timely = All-nil IsWritableZSpan
+all_both (span ∷ spans) proper timely = All-cons IsWritableZSpan span spans
+    (record { proper = All-head IsProperZSpan span spans proper; timely = All-head IsTimelyZSpan span spans timely })
+    (all_both spans (All-tail IsProperZSpan span spans proper) (All-tail IsTimelyZSpan span spans timely))
+
+-- ---- what is read of a text
+
+pub span_file_plainly : (bytes : List ℕ) (groups : List Group) → ReadsSpansPlainly bytes groups → ReadsSpans bytes groups
+span_file_plainly bytes groups h = record { spans = h.spans; text = h.text; means = h.means }
+
+module _ (L : SpanFileLaws) where
+  pub span_file_spans : (groups : List Group) → span_count (zipkin_normal groups) ≡ span_count groups
+  span_file_spans groups =
+      sym (spans_counted (λ group. run_of group.resource) (zipkin_normal groups))
+      ∙ ap (λ (l : List RunSpan). length l) (L.regrouped.spans (flat_map normal_spans groups))
+      ∙ spans_counted (λ group. normal_one group.resource) groups
+
+  -- it has no fault, and is its own normal form
+  pub span_file_faultless : (bytes : List ℕ) (groups : List Group) → ReadsSpans bytes groups → IsFaultless forms.ZipkinJson groups
+  span_file_faultless bytes groups h =
+      subst (All HasNoZipkinFault) (sym h.means) (L.itself.no_fault h.spans (timely_read L.writable bytes h.spans h.text) (proper_read L.writable bytes h.spans h.text))
+
+  pub span_file_normal_read : (bytes : List ℕ) (groups : List Group) → ReadsSpans bytes groups → zipkin_normal groups ≡ groups
+  span_file_normal_read bytes groups h =
+      subst (λ (l : List Group). zipkin_normal l ≡ l) (sym h.means) (L.itself.itself h.spans (timely_read L.writable bytes h.spans h.text) (proper_read L.writable bytes h.spans h.text))
+
+  -- it is one trace
+  pub span_file_once : (bytes : List ℕ) (a b : List Group) → ReadsSpans bytes a → ReadsSpans bytes b → a ≡ b
+  span_file_once bytes a b h k = h.means ∙ ap groups_of (one_spans L.one bytes h.spans k.spans h.text k.text) ∙ sym k.means
+
+  -- ---- the normal form of a trace that Zipkin can hold
+
+  module _ (groups : List Group) (held : IsHeldBy forms.ZipkinJson groups) where
+    all_held : All IsHeldByZipkin groups
+    all_held = held_groups groups held.can_hold
+
+    normal_held : All IsHeldByZipkin (zipkin_normal groups)
+    normal_held = L.normal.held groups all_held
+
+    pub span_file_normal_held : IsHeldBy forms.ZipkinJson (zipkin_normal groups)
+    span_file_normal_held = record {
+      can_hold = record {
+        sound = All-weaker IsHeldByZipkin IsSoundGroup (λ g h. h.sound) (zipkin_normal groups) normal_held;
+        proper = All-weaker IsHeldByZipkin IsProperGroup (λ g h. h.proper) (zipkin_normal groups) normal_held;
+        no_fault = All-weaker IsHeldByZipkin HasNoZipkinFault (λ g h. h.no_fault) (zipkin_normal groups) normal_held;
+      };
+      sized = All-weaker IsHeldByZipkin (IsSizedGroup forms.ZipkinJson) (λ g h. tt) (zipkin_normal groups) normal_held;
+    }
+
+    pub span_file_normal_again : zipkin_normal (zipkin_normal groups) ≡ zipkin_normal groups
+    span_file_normal_again = L.normal.itself groups all_held
+
+    -- ---- its text is read back
+
+    own_text : AreSpansText (spans_of_groups (zipkin_normal groups)) (canonical_text forms.ZipkinJson groups)
+    own_text = L.again.text (spans_of_groups (zipkin_normal groups)) (all_both (spans_of_groups (zipkin_normal groups))
+        (all_flat IsProperZSpan spans_of_group (zipkin_normal groups) (All-weaker IsHeldByZipkin (λ g. All IsProperZSpan (spans_of_group g)) L.written.proper (zipkin_normal groups) normal_held))
+        (all_flat IsTimelyZSpan spans_of_group (zipkin_normal groups) (All-weaker IsHeldByZipkin (λ g. All IsTimelyZSpan (spans_of_group g)) L.written.timely (zipkin_normal groups) normal_held)))
+
+    own_means : zipkin_normal groups ≡ groups_of (spans_of_groups (zipkin_normal groups))
+    own_means =
+        sym span_file_normal_again
+        ∙ sym (ap regrouped (map_flat run_span_of spans_of_group (zipkin_normal groups) ∙ each_back (zipkin_normal groups) normal_held))
+      where
+        each_back : (l : List Group) → All IsHeldByZipkin l → flat_map (λ g. map run_span_of (spans_of_group g)) l ≡ flat_map normal_spans l
+        each_back [] all = refl
+        each_back (g ∷ l) all =
+            let here : map run_span_of (spans_of_group g) ≡ normal_spans g = L.back.means g (All-head IsHeldByZipkin g l all) in
+            let rest : flat_map (λ g. map run_span_of (spans_of_group g)) l ≡ flat_map normal_spans l = each_back l (All-tail IsHeldByZipkin g l all) in
+            λ i. here i ++ rest i
+
+    pub span_file_back : ReadsSpansPlainly (canonical_text forms.ZipkinJson groups) (normal_form forms.ZipkinJson groups)
+    span_file_back = record {
+      spans = spans_of_groups (zipkin_normal groups);
+      text = own_text;
+      means = own_means;
+      plain = all_flat (λ span. zipkin_left_out span ≡ []) spans_of_group (zipkin_normal groups)
+          (All-weaker IsHeldByZipkin (λ g. All (λ span. zipkin_left_out span ≡ []) (spans_of_group g)) L.back.plainly (zipkin_normal groups) normal_held);
+    }
+
+    -- within the limit it is a whole file
+    pub span_file_whole : (limits : Limits) → length (canonical_text forms.ZipkinJson groups) ≤ limits.json → AreAllSpans limits (canonical_text forms.ZipkinJson groups) (zipkin_normal groups)
+    span_file_whole limits within = record {
+      spans = spans_of_groups (zipkin_normal groups);
+      file = record { within = within; text = own_text };
+      means = own_means;
+    }
