@@ -1,28 +1,41 @@
 #!/usr/bin/python3
-"""Checks the readers, tables and writers of jaeger.py and otlp.py, on which other scripts rest, without the program.
+"""Checks the readers, tables and writers of otlp.py, jaeger.py and zipkin.py, on which other scripts rest, without the
+program.
 
 It needs Debian's python3-protobuf and protobuf-compiler, and is run at the top as bench/check_readers.py. Worked texts
 must have their verdicts, random traces must have the stock protobuf library's text, each front of a spoilt batch must be
-judged as the whole is, and what is written of a random trace must be read back as its normal form. It prints a line for
-each part, and ends with 1 where one is wrong.
+judged as the whole is, JSON must be read as Python's `json` reads it, random Zipkin spans must be read in each spelling,
+and what is written of a random trace must be read back as its normal form. It prints a line for each part, and ends with 1
+where one is wrong.
 """
 import itertools
+import json
 import random
+import re
 import sys
 
+import forms
 import jaeger
+import json_text
 import otlp
+import zipkin
 from drawn import Batches, Traces
+from drawn_spans import Documents, DocumentSpoiler, ZipkinTraces
 from protocols import PROTOCOLS
 from real_input import Maker, newer, normal, request_class, schema
 from refused_batches import BatchSpoiler
 
 SEEDS = 150
-OTLP, JAEGER, COMPACT = "otlp-proto", "jaeger-binary", "jaeger-compact"
+OTLP, JAEGER, COMPACT, ZIPKIN = "otlp-proto", "jaeger-binary", "jaeger-compact", "zipkin-json"
 
 
 def hexed(text):
     return bytes.fromhex(text)
+
+
+def unwrapped(text):
+    """The bytes of a text without its line breaks."""
+    return text.replace("\n", "").encode()
 
 
 # ---- worked texts
@@ -102,8 +115,9 @@ def worked():
 
 def check_worked():
     wrong = 0
-    for number, (text, source, target, wanted) in enumerate(worked() + worked_compact()):
-        got = jaeger.verdict(text, source, target)[:3]
+    texts = worked() + worked_compact() + worked_zipkin() + worked_documents() + worked_causes()
+    for number, (text, source, target, wanted) in enumerate(texts):
+        got = forms.verdict(text, source, target)[:3]
         if got != wanted:
             print(f"WRONG: worked text {number}, {source} to {target}: {got}; wanted {wanted}")
             wrong += 1
@@ -168,6 +182,133 @@ def worked_compact():
     ]
 
 
+# The same in Zipkin's JSON: the span of an SDK, a client's batch, a client span with a null and as it is written, and two
+# spans of one identifier.
+SPAN_ZIPKIN = unwrapped("""
+[{"duration":100000,"id":"b7ad6b7169203331","kind":"CLIENT","localEndpoint":{"serviceName":"shop"},
+"name":"GET /cart","tags":{"http.request.method":"GET","http.response.status_code":"200",
+"otel.resource.host.name":"n1","otel.scope.name":"lib","otel.scope.version":"1.0"},
+"timestamp":1700000000123456,"traceId":"0af7651916cd43dd8448eb211c80319c"}]
+""")
+CLIENT_ZIPKIN = unwrapped("""
+[{"annotations":[{"timestamp":1000100,"value":"done"}],"duration":250,"id":"0000000000000007",
+"kind":"SERVER","localEndpoint":{"serviceName":"api"},"name":"get",
+"parentId":"0000000000000005","tags":{"otel.resource.hostname":"h1","otel.resource.ip":"10.0.0.1"},
+"timestamp":1000000,"traceId":"00000000000000000000000000000005"}]
+""")
+REFUSED_CALL = unwrapped("""
+[{"traceId":"463ac35c9f6413ad","parentId":null,"id":"463ac35c9f6413ad",
+"kind":"CLIENT","name":"get","timestamp":1472470996199000,"duration":207000,
+"localEndpoint":{"serviceName":"frontend","ipv4":"127.0.0.1"},
+"remoteEndpoint":{"serviceName":"backend","ipv4":"192.168.99.101","port":9000},
+"tags":{"error":"refused","http.path":"/api"}}]
+""")
+REFUSED_CALL_WRITTEN = unwrapped("""
+[{"duration":207000,"id":"463ac35c9f6413ad","kind":"CLIENT",
+"localEndpoint":{"ipv4":"127.0.0.1","serviceName":"frontend"},"name":"get",
+"remoteEndpoint":{"ipv4":"192.168.99.101","port":9000,"serviceName":"backend"},
+"tags":{"error":"refused","http.path":"/api","otel.status_code":"ERROR"},
+"timestamp":1472470996199000,"traceId":"0000000000000000463ac35c9f6413ad"}]
+""")
+SHARED = unwrapped("""
+[{"traceId":"463ac35c9f6413ad","id":"a2fb4a1d1a96d312","kind":"CLIENT"},
+{"traceId":"463ac35c9f6413ad","id":"a2fb4a1d1a96d312","kind":"SERVER","shared":true}]
+""")
+SHARED_WRITTEN = unwrapped("""
+[{"id":"a2fb4a1d1a96d312","kind":"CLIENT","traceId":"0000000000000000463ac35c9f6413ad"},
+{"id":"a2fb4a1d1a96d312","kind":"SERVER","shared":true,"traceId":"0000000000000000463ac35c9f6413ad"}]
+""")
+NO_SERVICE = SMALL_BATCH.replace(hexed("0b00010000000173"), hexed("0b000100000000"))
+NAMELESS = NO_SERVICE.replace(hexed("0b00050000000161"), hexed("0b000500000000"))
+IDS = b'"traceId":"1","id":"2"'
+
+
+def request(**parts):
+    """The request of the small span with more parts."""
+    return otlp.write_group(otlp.Group(scopes=[otlp.Scope(spans=[otlp.Span(1, 2, name="a", **parts)])]))
+
+
+def small_zipkin(front="", middle="", behind=""):
+    """The small span in Zipkin, with these members before its identifier, before its name and behind it, without the end."""
+    return f'[{{{front}"id":"0000000000000002",{middle}"name":"a"{behind},"traceId":"00000000000000000000000000000001"}}'.encode()
+
+
+SERVICE = '"localEndpoint":{"serviceName":"s"},'
+FLAGS_ZIPKIN = small_zipkin("", SERVICE, ',"tags":{"jaeger.flags":"2"}') + b"]"
+
+
+def attribute(key, kind, held):
+    return {"attributes": {key: (kind, held)}}
+
+
+def event(name, attributes=()):
+    return {"events": [otlp.Event(1000, name, dict(attributes))]}
+
+
+def worked_zipkin():
+    """Each worked text that is written in Zipkin's JSON."""
+    to = lambda text, *parts: (text, OTLP, ZIPKIN, (0, "", small_zipkin(*parts) + b"]"))
+    faulted = lambda text, fault: (text, OTLP, ZIPKIN, (4, f"unit 1: fault {fault}\n", b""))
+    written = lambda text: (0, "", text)
+    link = otlp.Link(1, 1, attributes=dict(jaeger.CHILD_OF))
+    annotation = '"annotations":[{"timestamp":1,"value":"\\"e\\":{\\"event\\":\\"x\\"}"}],'
+    return [
+        (b"", OTLP, ZIPKIN, written(b"[]")), (b"", JAEGER, ZIPKIN, written(b"[]")), (b"\x0a\0" * 2, OTLP, ZIPKIN, written(b"[]")),
+        (REQUEST, OTLP, ZIPKIN, written(SPAN_ZIPKIN)), (BATCH, JAEGER, ZIPKIN, written(SPAN_ZIPKIN)),
+        (CLIENT, COMPACT, ZIPKIN, written(CLIENT_ZIPKIN)),
+        to(request(start=1999, end=2000), '"duration":1,', "", ',"timestamp":1'), to(request(start=5000, end=5000), "", "", ',"timestamp":5'),
+        to(request(**attribute("ok", "truth", True)), "", "", ',"tags":{"ok":"true"}'), to(request(links=[link])),
+        to(request(**event("e", {"event": ("text", "x")})), annotation), (FLAGS, COMPACT, ZIPKIN, written(FLAGS_ZIPKIN)),
+        (REPEATED, COMPACT, ZIPKIN, written(small_zipkin("", SERVICE, ',"tags":{"error":"","k":"2","otel.status_code":"ERROR"}') + b"]")),
+        (SMALL + SMALL, OTLP, ZIPKIN, written(small_zipkin() + b"," + small_zipkin()[1:] + b"]")),
+        faulted(request(start=2001, end=2000), "20 EndBeforeStart"), faulted(request(**event('"a":{"b":"c"}')), "23 EventText"),
+        faulted(request(**attribute("zipkin.debug", "truth", True)), '22 OwnKey "zipkin.debug"'),
+        (SMALL_BATCH + DOUBLE_BATCH, JAEGER, ZIPKIN, (4, "unit 2: fault 25 DoubleInText\n", small_zipkin("", SERVICE))),
+        (b"\x0a\0" * 2 + request(start=1), OTLP, ZIPKIN, (4, "unit 3: fault 20 EndBeforeStart\n", b"[")),
+        (b"\x0a\0" + SMALL[:-1], OTLP, ZIPKIN, (3, "unit 2: cause 1 Truncated\n", b"[")),
+    ]
+
+
+def worked_documents():
+    """Each worked document that is read."""
+    written = lambda text: (0, "", text)
+    good = written(otlp.write_group(otlp.Group(scopes=[otlp.Scope(spans=[otlp.Span(1, 2, kind=1)])])))
+    two = b'[{%b},{%b,"tags":{"otel.resource.a":"","span.kind":"x"}}]' % (IDS, IDS)
+    return [
+        (b"[]", ZIPKIN, OTLP, written(b"")), (b" [ ] ", ZIPKIN, ZIPKIN, written(b"[]")), (SPAN_ZIPKIN, ZIPKIN, ZIPKIN, written(SPAN_ZIPKIN)),
+        (CLIENT_ZIPKIN, ZIPKIN, COMPACT, written(CLIENT.replace(hexed("2502"), hexed("2500")))),
+        (small_zipkin("", "", ',"timestamp":5') + b"]", ZIPKIN, OTLP, written(request(kind=1, start=5000, end=5000))),
+        (FLAGS_ZIPKIN, ZIPKIN, COMPACT, written(FLAGS.replace(hexed("2506"), hexed("2504")))),
+        (SHARED, ZIPKIN, ZIPKIN, written(SHARED_WRITTEN)), (REFUSED_CALL, ZIPKIN, ZIPKIN, written(REFUSED_CALL_WRITTEN)),
+        (deep(127), ZIPKIN, OTLP, good),
+        (b'[{"id":7,"traceId":"1","id":"0002","parentId":"00","kind":null}]', ZIPKIN, OTLP, good),
+        (b'[{%b,"tags":{"error":""}},{"id":"0"}]' % IDS, ZIPKIN, JAEGER, (3, "unit 2: cause 8 Missing\n", b"")),
+        (two, ZIPKIN, JAEGER, (4, 'unit 2: fault 21 Reserved "span.kind"\n', NAMELESS)),
+    ]
+
+
+def deep(levels):
+    """A document that is so deep."""
+    return b'[{%b,"x":%b}]' % (IDS, b"[" * (levels - 2) + b"]" * (levels - 2))
+
+
+def worked_causes():
+    """Documents that are refused."""
+    refused = lambda text, cause, unit=1: (text, ZIPKIN, OTLP, (3, f"unit {unit}: cause {cause}\n", b""))
+    with_member = lambda member, cause: refused(b"[{%b,%b}]" % (IDS, member), cause)
+    no_json = [b"", b"[1e400]", b'[{%b,"x":"\\ud800"}]' % IDS, b"[{%b}" % IDS, b"[NaN]", b"[01]", b"\xef\xbb\xbf[]", b'["\x01"]', deep(128)]
+    return [refused(text, "10 BadJson", 0) for text in no_json] + [
+        refused(b"{}", "11 BadShape", 0), refused(b"[null]", "11 BadShape"), refused(b'[{"traceId":"0","id":"1"}]', "12 BadId"),
+        with_member(b'"timestamp":-1', "16 BadTime"), with_member(b'"timestamp":1.0', "11 BadShape"), with_member(b'"timestamp":-0', "11 BadShape"),
+        with_member(b'"timestamp":18446744073709551616', "11 BadShape"), with_member(b'"timestamp":18446744073709552', "16 BadTime"),
+        with_member(b'"duration":1,"timestamp":18446744073709551', "16 BadTime"), with_member(b'"duration":"1","kind":"x"', "13 BadEnum"),
+        with_member(b'"parentId":""', "12 BadId"), with_member(b'"annotations":[{"value":"x"}]', "8 Missing"),
+        with_member(b'"tags":{"a":1}', "11 BadShape"),
+        with_member(b'"localEndpoint":{"port":65536}', "11 BadShape"), with_member(b'"debug":0', "11 BadShape"),
+        refused(b'[{"id":"g"}]', "8 Missing"), refused(b"[{%b},{}]" % IDS, "8 Missing", 2),
+    ]
+
+
 # ---- against the stock protobuf library
 
 
@@ -182,7 +323,7 @@ def check_requests():
         if seed % 2:
             maker.add_later(made)
         text = made.SerializeToString()
-        if jaeger.verdict(text, OTLP, OTLP)[:3] != (0, "", normal(request, text)):
+        if forms.verdict(text, OTLP, OTLP)[:3] != (0, "", normal(request, text)):
             print(f"WRONG: random request {seed}")
             wrong += 1
     return wrong
@@ -214,6 +355,89 @@ def check_fronts():
     return wrong
 
 
+# ---- Zipkin's JSON
+
+
+def may_refuse(text):
+    """Whether Python's `json` may read what has no reading: numbers too large for a float, halves of surrogate pairs, deep values."""
+    return re.search(rb"[eE]\+?[0-9]{3}|[0-9]{309}|\\u[dD][89a-fA-F]", text) or text.count(b"[") + text.count(b"{") > json_text.DEEPEST
+
+
+def stock_number(text):
+    """An integer, as a float where it doesn't fit 64 bits or is -0."""
+    return int(text) if text != "-0" and -(2**63) <= int(text) < 2**64 else float(text)
+
+
+def stock_value(text):
+    """What Python's `json` reads."""
+    refuse = lambda text: json_text.Reader(text).must(False)
+    try:
+        return json.loads(text.decode(), parse_constant=refuse, parse_int=stock_number)
+    except (ValueError, RecursionError, json_text.NoReading):
+        return "no reading"
+
+
+def check_json():
+    """JSON is read as Python's `json` reads it, but for what that reads beyond."""
+    wrong = 0
+    for seed in range(SEEDS * 10):
+        text = DocumentSpoiler(seed).spoil()
+        try:
+            own = json_text.read(text)
+        except json_text.NoReading:
+            own = "no reading"
+        if repr(own) != repr(stock_value(text)) and not (own == "no reading" and may_refuse(text)):
+            print(f"WRONG: JSON of document {seed}")
+            wrong += 1
+    return wrong
+
+
+def check_spellings():
+    """Spans are read of each of their spellings; what they mean is its own normal form, without a fault, and is read back."""
+    wrong = 0
+    for seed in range(SEEDS * 10):
+        documents = Documents(seed)
+        state = documents.random.getstate()
+        spans = documents.spans()
+        documents.random.setstate(state)
+        groups = zipkin.groups_of_spans(spans)
+        text = forms.write(groups, ZIPKIN)
+        is_normal = zipkin.normal(groups) == groups and not any(map(zipkin.faults, groups))
+        is_read = zipkin.read_spans(documents.document()) == spans and list(forms.groups(text, ZIPKIN)) == groups
+        if not is_normal or not is_read or zipkin.read_spans(b"[" + b",".join(map(zipkin.write_span, spans)) + b"]") != spans:
+            print(f"WRONG: Zipkin spans {seed}")
+            wrong += 1
+    return wrong
+
+
+def check_normal():
+    """What is written in Zipkin of a trace without a fault is read back as its normal form, has no fault, is the stock library's
+    JSON of the spans, and converts to itself, also by way of the other forms where they can hold it."""
+    wrong = 0
+    for seed in range(SEEDS * 4):
+        text = ZipkinTraces(seed, 0).whole()
+        status, note, written, _ = forms.verdict(text, OTLP, ZIPKIN)
+        groups = list(forms.groups(text, OTLP))
+        normal = zipkin.normal(groups)
+        spans = [zipkin.span_json(span) for group in groups for span in zipkin.spans_of_group(group)]
+        is_right = (status, note) == (0, "") and list(forms.groups(written, ZIPKIN)) == normal == zipkin.normal(normal)
+        is_right = is_right and json.loads(written) == spans and forms.verdict(written, ZIPKIN, ZIPKIN)[:3] == (0, "", written)
+        is_right = is_right and forms.verdict(forms.verdict(written, ZIPKIN, OTLP)[2], OTLP, ZIPKIN)[2] == written
+        if not is_right or forms.write(normal, ZIPKIN) != written:
+            print(f"WRONG: normal form {seed}: {note}")
+            wrong += 1
+    return wrong
+
+
+def check_limit():
+    """An input of more bytes than its limit is refused, whatever it is."""
+    try:
+        zipkin.read_spans(b"[ ]", 2)
+    except zipkin.Refusal as why:
+        return int(why.args != (0, 17))
+    return 1
+
+
 # ---- there and back
 
 
@@ -223,10 +447,10 @@ def check_back():
     wrong = 0
     for seed, form in itertools.product(range(SEEDS * 4), PROTOCOLS):
         text = Traces(seed, 0).whole()
-        status, note, batches, _ = jaeger.verdict(text, OTLP, form)
-        back = jaeger.verdict(batches, form, OTLP)
-        again = jaeger.verdict(back[2], OTLP, form)
-        by_way = [jaeger.verdict(jaeger.verdict(batches, form, other)[2], other, form)[2] for other in PROTOCOLS]
+        status, note, batches, _ = forms.verdict(text, OTLP, form)
+        back = forms.verdict(batches, form, OTLP)
+        again = forms.verdict(back[2], OTLP, form)
+        by_way = [forms.verdict(forms.verdict(batches, form, other)[2], other, form)[2] for other in PROTOCOLS]
         if {(status, note), back[:2], again[:2]} != {(0, "")} or {again[2], *by_way} != {batches}:
             print(f"WRONG: there and back {seed}, {form}: {note}{back[1]}{again[1]}")
             wrong += 1
@@ -235,7 +459,7 @@ def check_back():
 
 def main():
     wrong = 0
-    for check in [check_worked, check_requests, check_fronts, check_back]:
+    for check in [check_worked, check_requests, check_fronts, check_back, check_json, check_spellings, check_normal, check_limit]:
         found = check()
         print(f"{check.__name__}: {found} wrong")
         wrong += found

@@ -5,8 +5,9 @@ Run it at the top as bench/hostile.py, after ./spanx has built the program; it n
 given choose the cases whose names, with those of the forms, hold them. It prints seconds, the peak of memory, the bytes
 written, status and note of each, and ends with 1 where one takes more than 5 seconds or ends otherwise than it must.
 `--list` only makes the inputs and prints their sizes; `--small` makes them for a limit of 40,000 bytes in place of 16 MiB,
-and has them judged by the readers of jaeger.py in place of the program.
+and has them judged by the readers beside this in place of the program.
 """
+import base64
 import itertools
 import os
 import random
@@ -21,12 +22,13 @@ if SMALL:
     # Before the modules that stand on it are loaded.
     otlp.UNIT = 40_000
 
-import jaeger
+import forms
 from jaeger import LAST_MICROS
 from otlp import UNIT
 from program import BUILD, PROGRAM, Measured, command
 from protocols import BINARY, DOUBLE, I8, I32, I64, LIST, MAP, SET, STRUCT
 from wire import bytes_field, varint
+from zipkin import LIMIT
 
 SLOW = 5.0
 SAME_FORM = "otlp-proto", "otlp-proto"
@@ -569,6 +571,175 @@ def compact_cases():
     ]
 
 
+# ---- Zipkin documents
+
+SAME_DOCUMENT, FROM_DOCUMENT, TO_DOCUMENT = ("zipkin-json", "zipkin-json"), ("zipkin-json", "otlp-proto"), ("otlp-proto", "zipkin-json")
+DOCUMENT_TO_BATCH, BATCH_TO_DOCUMENT = ("zipkin-json", "jaeger-binary"), ("jaeger-binary", "zipkin-json")
+MANY = LIMIT // 64
+DIGITS = LIMIT // 67
+
+
+def json_span(front=b"", middle=b""):
+    """The span that spans here are, with members before its identifier and behind it."""
+    return b'{%b"id":"0000000000000002"%b,"traceId":"00000000000000000000000000000001"}' % (front, middle)
+
+
+JSON_SPAN = json_span()
+
+
+def document(*spans):
+    return b"[" + b",".join(spans) + b"]"
+
+
+ONE_SPAN, NAMELESS = document(JSON_SPAN), document(json_span(middle=b',"name":""'))
+
+
+def listed_parts(piece, size, last=None):
+    """A piece as often as it fits a size, with commas between, and perhaps another last one."""
+    count = (size + 1) // (len(piece) + 1) - (last is not None)
+    return b",".join([piece] * count + [last] * (last is not None))
+
+
+def one_member(held):
+    """A document of one span with an unknown member, or another one behind its identifier, which goes."""
+    return writes(document(json_span(middle=b"," + held)), ONE_SPAN)
+
+
+def one_json_tag_again():
+    around = document(json_span(middle=b',"tags":{}'))
+    tags = listed_parts(b'"a":"x"', LIMIT - len(around), b'"a":"y"')
+    return writes(document(json_span(middle=b',"tags":{%b}' % tags)), document(json_span(middle=b',"tags":{"a":"y"}')))
+
+
+def many_json_tags(order):
+    """One span with as many different tags as fit 16 MiB."""
+    keys = [bytes(key) for key in itertools.islice(itertools.product(bytes(range(48, 91)), repeat=5), UNIT // len(b'"00000":"",'))]
+    tags = lambda keys: document(json_span(middle=b',"tags":{%b}' % b",".join(b'"%b":""' % key for key in keys)))
+    return writes(tags(order(list(keys))), tags(keys))
+
+
+def json_name(spelled, said):
+    """A span whose name is a piece again and again, spelled with escapes, and as it is written."""
+    count = (LIMIT - len(NAMELESS)) // len(spelled)
+    texts = [document(json_span(middle=b',"name":"%b"' % (piece * count))) for piece in [spelled, said]]
+    return writes(*texts)
+
+
+def filled_document(more):
+    """A document of 64 MiB and so many bytes."""
+    return document(json_span(middle=b',"name":"%b"' % (b"x" * (LIMIT - len(NAMELESS) + more))))
+
+
+def annotated(texts):
+    """A span with annotations whose values are spelled so."""
+    return document(json_span(b'"annotations":[%b],' % b",".join(b'{"timestamp":1,"value":"%b"}' % text for text in texts)))
+
+
+def good_spans(last=None):
+    return document(listed_parts(JSON_SPAN, UNIT - 2, last))
+
+
+def changing_services():
+    """Spans of which each has another service than the one before, as a document and as requests."""
+    spans = [json_span(middle=b',"localEndpoint":{"serviceName":"%b"}' % name) for name in [b"a", b"b"]]
+    count = UNIT // (2 * len(spans[0]) + 2)
+    resources = [{"service.name": ("text", name)} for name in ["a", "b"]]
+    groups = b"".join(otlp.write_group(otlp.Group(resource, scopes=[otlp.Scope(spans=[otlp.Span(1, 2, kind=1)])])) for resource in resources)
+    return writes(document(*spans * count), groups * count)
+
+
+def json_spans():
+    """As many smallest good spans as fit a request, as a document."""
+    count = SCOPE_ROOM // len(GOOD_SPAN)
+    return writes(one_scope(GOOD_SPAN * count), document(*[JSON_SPAN] * count))
+
+
+def heavy_resource():
+    """A resource that is written in each of many spans."""
+    heavy, count = b"x" * (UNIT // 1600), UNIT // 3200
+    resource = bytes_field(1, bytes_field(1, bytes_field(1, b"a") + bytes_field(2, bytes_field(1, heavy))))
+    span = json_span(middle=b',"tags":{"otel.resource.a":"%b"}' % heavy)
+    return writes(group(resource + bytes_field(2, GOOD_SPAN * count)), document(*[span] * count))
+
+
+def text_in_tag(value, text):
+    return writes(one_value(value), document(json_span(middle=b',"tags":{"a":"%b"}' % text)))
+
+
+def document_causes():
+    """The name of each case of a document that is refused, with its text, the number of what is refused, and the cause."""
+    last = (UNIT - 1) // (len(JSON_SPAN) + 1)
+    member = lambda held: document(json_span(middle=b"," + held))
+    return [
+        ("empty objects as spans", lambda: document(*[b"{}"] * MANY), 1, "8 Missing"),
+        ("64 MiB of empty arrays as spans", lambda: document(listed_parts(b"[]", LIMIT - 2)), 1, "11 BadShape"),
+        ("empty objects as annotations", lambda: member(b'"annotations":[%b]' % b",".join([b"{}"] * MANY)), 1, "8 Missing"),
+        ("128 deep", lambda: member(b'"x":' + b"[" * 126 + b"]" * 126), 0, "10 BadJson"),
+        ("arrays without an end", lambda: b"[" * (LIMIT * 10 // 67), 0, "10 BadJson"),
+        ("objects without an end", lambda: b'{"a":' * (LIMIT // 5), 0, "10 BadJson"),
+        ("escaped pairs, the last half a pair", lambda: member(b'"name":"%b\\ud800"' % (b"\\ud83d\\ude00" * (UNIT // 12))), 0, "10 BadJson"),
+        ("a text without an end", lambda: b'["' + b"x" * (LIMIT - 2), 0, "10 BadJson"),
+        ("a text, its last byte no UTF-8", lambda: filled_document(0).replace(b'x"', b'\xff"', 1), 0, "10 BadJson"),
+        ("a time of a million digits", lambda: member(b'"timestamp":' + b"9" * DIGITS), 0, "10 BadJson"),
+        ("a time with a million digits behind the point", lambda: member(b'"timestamp":1.' + b"9" * DIGITS), 1, "11 BadShape"),
+        ("an exponent of a million digits", lambda: member(b'"x":1e' + b"9" * DIGITS), 0, "10 BadJson"),
+        ("64 MiB + 1", lambda: filled_document(1), 0, "17 InputTooLong"),
+        ("64 MiB + 1, no JSON", lambda: b"[" * (LIMIT + 1), 0, "17 InputTooLong"),
+        ("blanks behind it up to 64 MiB + 1", lambda: b"[]".ljust(LIMIT + 1), 0, "17 InputTooLong"),
+        ("smallest good spans, the last empty", lambda: good_spans(b"{}"), last, "8 Missing"),
+        ("smallest good spans, cut", lambda: good_spans()[:-1], 0, "10 BadJson"),
+    ]
+
+
+def event_spelled(held):
+    """The text of an event with an attribute, as it is spelled within a text."""
+    return b'\\"e\\":{\\"k\\":%b}' % held
+
+
+def document_cases():
+    """The name of each case of documents with its pair of forms, and what makes its input and what must be seen."""
+    fault, batch = json_span(middle=b',"tags":{"span.kind":"x"}'), DOCUMENT_TO_BATCH
+    request = lambda text: bytes_field(1, bytes_field(2, REQUEST_SPAN * text.count(b"{")))
+    chains = lambda: listed_parts(b"[" * 124 + b"]" * 124, UNIT)
+    cases = [
+        ("one tag again and again, 64 MiB", one_json_tag_again), ("different tags, rising", lambda: many_json_tags(list)),
+        ("different tags, falling", lambda: many_json_tags(lambda keys: keys[::-1])), ("different tags, shuffled", lambda: many_json_tags(shuffled)),
+        ("empty objects in an unknown member", lambda: one_member(b'"x":[%b]' % b",".join([b"{}"] * MANY))),
+        ("one unknown member again and again", lambda: one_member(b",".join([b'"x":[]'] * MANY))),
+        ("127 deep", lambda: one_member(b'"x":' + b"[" * 125 + b"]" * 125)),
+        ("127 deep, again and again", lambda: one_member(b'"x":[%b]' % chains())),
+        ("a text of escapes", lambda: json_name(b"\\u0041", b"A")), ("a text of escaped pairs", lambda: json_name(b"\\ud83d\\ude00", "😀".encode())),
+        ("a text of control characters", lambda: json_name(b"\\u0001", b"\\u0001")),
+        ("a member of a million digits", lambda: one_member(b'"x":0.' + b"9" * DIGITS)), ("64 MiB", lambda: same(filled_document(0))),
+        ("blanks behind it up to 64 MiB", lambda: writes(b"[]".ljust(LIMIT), b"[]")), ("smallest good spans", lambda: same(good_spans())),
+        ("annotations", lambda: same(annotated([b""] * (MANY // 4)))), ("event texts", lambda: same(annotated([event_spelled(b"1")] * (MANY // 4)))),
+        ("one long event text", lambda: same(annotated([event_spelled(b'\\"%b\\"' % (b"x" * (UNIT // 2)))]))),
+        ("an event text too deep to be one", lambda: same(annotated([event_spelled(b"[" * (UNIT // 2))]))),
+        ("annotations of one quote each", lambda: same(annotated([b'\\"'] * (MANY // 4)))),
+    ]
+    out = [(name, SAME_DOCUMENT, make) for name, make in cases]
+    out.append(("spans of other services than the one before", FROM_DOCUMENT, changing_services))
+    out.append(("smallest good spans", FROM_DOCUMENT, lambda: writes(good_spans(), request(good_spans()))))
+    out.append(("smallest good spans, the last with a reserved tag", batch, lambda: faulted(good_spans(fault), 1, '21 Reserved "span.kind"')))
+    return out + [(name, FROM_DOCUMENT, lambda make=make, unit=unit, cause=cause: refused(make(), unit, cause)) for name, make, unit, cause in document_causes()]
+
+
+def to_document_cases():
+    """The same of what is written in a document."""
+    nothings = LIST_ROOM // 2
+    empty_events = lambda: annotated([b""] * (REST_ROOM // 2)).replace(b":1,", b":0,")
+    last_double = lambda: one_value(list_value(filled(DEEP_LIST, LIST_ROOM - 11) + LAST_DOUBLE))
+    many_nulls = lambda: text_in_tag(list_value(b"\x0a\0" * nothings), b"[" + b",".join([b"null"] * nothings) + b"]")
+    cases = [
+        ("smallest good spans", json_spans), ("empty groups", lambda: writes(b"\x0a\0" * UNIT, b"[]")), ("a heavy resource of many spans", heavy_resource),
+        ("empty events", lambda: writes(one_span(filled(b"\x5a\0", REST_ROOM)), empty_events())), ("a list of empty values", many_nulls),
+        ("a byte value", lambda: text_in_tag(bytes_field(7, bytes(LIST_ROOM)), base64.b64encode(bytes(LIST_ROOM)))),
+        ("a double in the last of many lists", lambda: faulted(last_double(), 1, "25 DoubleInText")),
+    ]
+    batches = lambda: writes(spans_list(SPAN)[0], document(*[JSON_SPAN] * spans_list(SPAN)[1]))
+    return [(name, TO_DOCUMENT, make) for name, make in cases] + [("smallest good spans", BATCH_TO_DOCUMENT, batches)]
+
+
 # ---- running
 
 
@@ -579,7 +750,7 @@ def judge(name, pair, make):
     except AssertionError:
         print(f"left out: {name}, {' to '.join(pair)}: larger than a small unit")
         return True
-    got = jaeger.verdict(text, *pair)[:3]
+    got = forms.verdict(text, *pair)[:3]
     right = got == (status, note and note + "\n", output)
     print(f"{'ok' if right else 'WRONG'}: {name}, {' to '.join(pair)}: {len(text)} bytes, status {got[0]} {got[1].strip()!r}, wrote {len(got[2])}")
     return right
@@ -608,7 +779,7 @@ def run(name, pair, text, status, note, output):
 
 def main():
     words = [word for word in sys.argv[1:] if not word.startswith("--")]
-    every = [(name, SAME_FORM, make) for name, make in cases()] + batch_cases() + compact_cases()
+    every = [(name, SAME_FORM, make) for name, make in cases()] + batch_cases() + compact_cases() + document_cases() + to_document_cases()
     chosen = [(name, pair, make) for name, pair, make in every if not words or any(word in f"{name}, {' to '.join(pair)}" for word in words)]
     if "--list" in sys.argv:
         for name, pair, make in chosen:

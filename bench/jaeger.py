@@ -5,18 +5,17 @@ of a unit, each a place and the number of a cause, and every fault of a group; w
 """
 import base64
 import dataclasses
-import functools
 import itertools
 import json
 import re
 
 import otlp
-from otlp import NAMES, UNIT, Refused, by_key, is_text
+from otlp import UNIT, by_key, is_text
 from protocols import BINARY, DOUBLE, I32, I64, LIST, PROTOCOLS, STRUCT, TRUTH, Struct
 
 FORMS = ["otlp-proto", *PROTOCOLS]
 PAIRS = list(itertools.product(FORMS, FORMS))
-FAULTS = {20: "EndBeforeStart", 21: "Reserved", 22: "OwnKey", 24: "ChildOfLink", 25: "DoubleInText"}
+FAULTS = [20, 21, 22, 24, 25]
 LAST_MICROS = (2**64 - 1) // 1000
 
 # Of each struct its known fields: the id with the type and what the field is.
@@ -444,65 +443,3 @@ def faults(group):
         found.append((0, 25, ""))
     spans = [span for scope in group.scopes for span in scope.spans]
     return found + [(place, *fault) for place, span in enumerate(spans, 1) for fault in span_faults(span)]
-
-
-# ---- what the program must answer
-
-# Of each form how its next unit is found, the offences of a unit, and the group that it means.
-SOURCES = {
-    "otlp-proto": (otlp.next_unit, otlp.unit_offences, otlp.read_group),
-    **{form: (functools.partial(next_unit, form=form), offences, lambda unit: group_of_batch(read_batch(unit))) for form in PROTOCOLS},
-}
-# Of each form the faults of a group, and its text.
-TARGETS = {
-    "otlp-proto": (lambda group: [], otlp.write_group),
-    **{form: (faults, lambda group, form=form: write_batch(batch_of_group(group), form)) for form in PROTOCOLS},
-}
-
-
-def refused(number, cause):
-    return 3, f"unit {number}: cause {cause} {NAMES[cause]}\n", NAMES[cause]
-
-
-def faulted(number, fault):
-    place, cause, key = fault
-    key = f" {json.dumps(key, ensure_ascii=False)}" if cause in [21, 22] else ""
-    return 4, f"unit {number}: fault {cause} {FAULTS[cause]}{key}\n", FAULTS[cause]
-
-
-def groups(text, source):
-    """The groups of a text that isn't refused."""
-    find, _, read = SOURCES[source]
-    found = find(text, 0)
-    while found is not None:
-        _, unit, at = found
-        yield read(unit)
-        found = find(text, at)
-
-
-def verdict(text, source, target):
-    """The status, the note and the output that an input must have, and the name of that outcome."""
-    find, offences_of, read = SOURCES[source]
-    faults_of, write = TARGETS[target]
-    at, written = 0, []
-    for number in itertools.count(1):
-        try:
-            found = find(text, at)
-        except Refused as why:
-            status, note, name = refused(number, why.args[0])
-            break
-        if found is None:
-            status, note, name = 0, "", "written"
-            break
-        _, unit, at = found
-        bad = offences_of(unit)
-        if bad:
-            status, note, name = refused(number, min(bad)[1])
-            break
-        group = read(unit)
-        bad = faults_of(group)
-        if bad:
-            status, note, name = faulted(number, min(bad, key=lambda fault: (fault[0], fault[1], fault[2].encode())))
-            break
-        written.append(write(group))
-    return status, note, b"".join(written), name

@@ -339,15 +339,21 @@ def difference(types, request, text, source, target):
     return None, wanted, written
 
 
+def batch_classes():
+    """The stock library's classes, and those of a later schema."""
+    with open(os.path.join(HERE, "jaeger.thrift")) as file, tempfile.TemporaryDirectory() as folder:
+        text = file.read()
+        sys.path.insert(0, folder)
+        classes = compiled(folder, "jaeger_batches", text), compiled(folder, "later_batches", later_schema(text))
+        sys.path.remove(folder)
+        return classes
+
+
 def main():
     if not os.path.exists(PROGRAM):
         sys.exit(BUILD)
     request, wrong = request_class(schema()), 0
-    with open(os.path.join(HERE, "jaeger.thrift")) as file, tempfile.TemporaryDirectory() as folder:
-        text = file.read()
-        sys.path.insert(0, folder)
-        types, later = compiled(folder, "jaeger_batches", text), compiled(folder, "later_batches", later_schema(text))
-        sys.path.remove(folder)
+    types, later = batch_classes()
     for source, target in itertools.product(PROTOCOLS, jaeger.FORMS):
         for name, text in cases(types, later, source, sys.argv[1:]):
             what, wanted, written = difference(types, request, text, source, target)

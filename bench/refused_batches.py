@@ -11,6 +11,7 @@ import os
 import random
 import sys
 
+import forms
 import jaeger
 from drawn import Batches, Loose, Traces
 from program import BUILD, PROGRAM, convert
@@ -125,18 +126,19 @@ def case(seed):
 
 def difference(text, source, target):
     """What is wrong with the program's answer, if something is, the name of the outcome, and both outputs."""
-    status, note, wanted, name = jaeger.verdict(text, source, target)
+    status, note, wanted, name = forms.verdict(text, source, target)
     got, written, got_note = convert(text, source, target)
     if (got, got_note) != (status, note):
         return f"status {got}, note {got_note!r}; wanted {status}, {note!r}", name, wanted, written
     return "another text was written" if written != wanted else None, name, wanted, written
 
 
-def main():
+def try_cases(case, count):
+    """Tries the cases of so many seeds, or of as many as are given, and ends the script."""
     if not os.path.exists(PROGRAM):
         sys.exit(BUILD)
     wrong, outcomes = 0, collections.Counter()
-    for seed in range(int(sys.argv[1]) if len(sys.argv) > 1 else 4_000):
+    for seed in range(int(sys.argv[1]) if len(sys.argv) > 1 else count):
         text, source, target = case(seed)
         what, name, wanted, written = difference(text, source, target)
         outcomes[name] += 1
@@ -149,4 +151,4 @@ def main():
 
 
 if __name__ == "__main__":
-    main()
+    try_cases(case, 4_000)

@@ -1,10 +1,12 @@
 #!/usr/bin/env python3
-"""Times the built program on spans as exporters write them, as a trace request and as Jaeger batches, beside `cat`.
+"""Times the built program on spans as exporters write them, as a trace request, as Jaeger batches and as a Zipkin document,
+beside `cat`.
 
 Run it at the top as bench/speed.py, after ./spanx has built the program. It makes requests of about 1 MB and 25 MB and the
-batches of the same spans, which takes half a minute, runs each pair of forms five times over them, and prints the best
-time of each with its user time, and the peak of memory. These figures are no test: they hang on the machine and its load.
-With `--write FILE MEGABYTES` it only writes such a request, and with the word `jaeger-binary` behind it the batches.
+batches and documents of the same spans, which takes a minute, runs each pair of forms five times over them, and prints the
+best time of each with its user time, and the peak of memory. Words that are given choose the pairs whose names, as in
+`otlp-proto to zipkin-json`, hold one of them. These figures are no test: they hang on the machine and its load. With
+`--write FILE MEGABYTES` it only writes such a request, and with the word of another form behind it the text of that form.
 """
 import os
 import struct
@@ -12,7 +14,7 @@ import subprocess
 import sys
 import tempfile
 
-import jaeger
+import forms
 from program import BUILD, PROGRAM, Measured, command, seconds_of
 from protocols import PROTOCOLS
 from wire import bytes_field, fixed32_field, fixed64_field, number_field
@@ -137,8 +139,8 @@ def request(size):
 def inputs(size):
     """The text of each form, and the number of spans."""
     text, spans = request(size)
-    batches = [jaeger.batch_of_group(group) for group in jaeger.groups(text, "otlp-proto")]
-    return {"otlp-proto": text, **{form: b"".join(jaeger.write_batch(batch, form) for batch in batches) for form in PROTOCOLS}}, spans
+    groups = list(forms.groups(text, forms.OTLP))
+    return {form: text if form == forms.OTLP else forms.write(groups, form) for form in forms.FORMS}, spans
 
 
 def converted(text, source, target):
@@ -150,15 +152,19 @@ def converted(text, source, target):
 
 def check(texts):
     """What is written must be canonical: a request of the input's size, since that has no defaults, which is written again
-    as it is, and the very batches, also of the request that they are converted to."""
-    written = {pair: converted(texts[pair[0]], *pair) for pair in jaeger.PAIRS}
-    first = written["otlp-proto", "otlp-proto"]
-    if len(first) != len(texts["otlp-proto"]) or converted(first, "otlp-proto", "otlp-proto") != first:
+    as it is, and the very batches and document, also of what these are converted to. In Zipkin values are texts, so that
+    of a document come other batches."""
+    written = {pair: converted(texts[pair[0]], *pair) for pair in forms.PAIRS}
+    first = written[forms.OTLP, forms.OTLP]
+    if len(first) != len(texts[forms.OTLP]) or converted(first, forms.OTLP, forms.OTLP) != first:
         sys.exit("the program doesn't write the canonical text of the request")
     for form in PROTOCOLS:
-        back = converted(written[form, "otlp-proto"], "otlp-proto", form)
-        if {back, *(written[source, form] for source in texts)} != {texts[form]}:
+        back = converted(written[form, forms.OTLP], forms.OTLP, form)
+        if {back, *(written[source, form] for source in texts if source != forms.ZIPKIN)} != {texts[form]}:
             sys.exit("the program doesn't write the batches of the input")
+    backs = {converted(written[forms.ZIPKIN, form], form, forms.ZIPKIN) for form in texts}
+    if {*backs, *(written[source, forms.ZIPKIN] for source in texts)} != {texts[forms.ZIPKIN]}:
+        sys.exit("the program doesn't write the document of the input")
 
 
 def show(name, words, path, size):
@@ -169,7 +175,7 @@ def show(name, words, path, size):
     print(f"  {name}: {seconds * 1000:.1f} ms, {user * 1000:.1f} ms of it user time, {speed:.0f} MB/s, memory {memory:.1f} MB")
 
 
-def measure(size):
+def measure(size, words):
     texts, spans = inputs(size)
     check(texts)
     for source, text in texts.items():
@@ -179,7 +185,8 @@ def measure(size):
             file.flush()
             show("cat", ["cat"], file.name, len(text))
             for target in texts:
-                show(f"spanx to {target}", command(source, target), file.name, len(text))
+                if not words or any(word in f"{source} to {target}" for word in words):
+                    show(f"spanx to {target}", command(source, target), file.name, len(text))
 
 
 def main():
@@ -191,7 +198,7 @@ def main():
     if not os.path.exists(PROGRAM):
         sys.exit(BUILD)
     for size in [1_000_000, 25_000_000]:
-        measure(size)
+        measure(size, sys.argv[1:])
 
 
 if __name__ == "__main__":

@@ -1,0 +1,354 @@
+"""Draws random Zipkin documents, and traces that Zipkin can hold or can't, for the scripts that compare the program with
+zipkin.py."""
+import json
+
+import jaeger
+import json_text
+import zipkin
+from drawn import KEYS, Drawn, Traces
+from zipkin import FLAGS, LAST_MICROS, MEMBERS, RESERVED, RESOURCE
+
+OWN = [*FLAGS, *MEMBERS]
+# Texts that stand behind an event's name and its colon: with attributes, and with what no event has.
+EVENT_ENDS = [
+    '{"b":1}', '{"b":null,"c":[{}]}', ' { "b" : -9223372036854775808 }\n', '{"b":9223372036854775807,"b":"\\ud83d\\ude00"}',
+    '{"b":{"c":true}},"a":{"x":[]}',
+]
+NO_EVENT_ENDS = [
+    "{}", "1", "[1]", '{"b":1.0}', '{"b":-0}', '{"b":1e3}', '{"b":9223372036854775808}', '{"b":1},"z":{"b":1}',
+    '{"b":1}}', '{"b":"\\ud83d"}', '{"b":1',
+    '{"b":1e400}', '{"b":-9223372036854775809}', '{"b":1},"a":{}', "null", '{"b":\x01}', '{"b":01}', "{'b':1}",
+]
+BAD_OWN = ["", "0", "080", "65536", "99999", "True", "false", "+1", " 1", "1\n", "١", "-1", "9" * 5000]
+
+
+def deep_event(levels):
+    """An event text whose one value is so deep."""
+    return '"a":{"b":' + "[" * levels + "]" * levels + "}"
+
+
+class Members(list):
+    """The members of an object, pairs of which some may have equal names."""
+
+
+class Raw(str):
+    """A piece of JSON as it stands."""
+
+
+# ---- spans
+
+
+class Spans(Drawn):
+    """Makes random Zipkin spans; many of their tags have a meaning of their own, or would have it with another value."""
+
+    def attributes(self):
+        """What an event may have, read back as it is."""
+        held = {self.choice(*KEYS, self.text()): self.leaf() for _ in range(self.some(4))}
+        return {key: ("number", 5) if kind in ["double", "bytes"] else (kind, value) for key, (kind, value) in held.items()}
+
+    def annotation(self):
+        name = json.dumps(self.choice("a", "", self.text()), ensure_ascii=self.chance(0.3))
+        end, no_end = self.choice(*EVENT_ENDS), self.choice(*NO_EVENT_ENDS)
+        read = zipkin.event_text(self.text(), self.attributes())
+        spelled = [read, f"{name}:{end}", f"{name}:{no_end}", f" \t{name} \r\n: {end}", deep_event(self.choice(15, 16, 17))]
+        return self.time(), self.choice(self.text(), "", name, *spelled)
+
+    def time(self):
+        return self.choice(0, 1, LAST_MICROS, self.random.randrange(LAST_MICROS))
+
+    def tag_value(self, key):
+        texts = {
+            "otel.status_code": ["OK", "ERROR", "ERROR", "ok", "UNSET", ""],
+            **{key: ["0", "7", "4294967295", "4294967296", "07", "-1", "", "9" * 5000] for key in jaeger.DROPPED_KEYS},
+        }
+        return self.choice(*texts.get(key, ["", "x", "true", "8080", self.text()]))
+
+    def tags(self, resource):
+        special = [*RESERVED, *OWN, "peer.service", RESOURCE + "service.name", "span.kind"]
+        keys = [self.choice(*special) if self.chance(0.5) else self.choice(*KEYS, self.text()) for _ in range(self.some(12))]
+        keys = [key for key in keys if not key.startswith(("otel.scope", "otel.library"))]
+        return {key: self.tag_value(key) for key in keys} | {RESOURCE + key: text for key, text in resource.items()}
+
+    def endpoint(self, service):
+        if self.chance(0.5):
+            return zipkin.Endpoint(service)
+        addresses = self.choice("", "10.0.0.7", "no address"), self.choice("", "2001:db8::c001")
+        return zipkin.Endpoint(service, *addresses, self.choice(0, 1, 8080, 65535))
+
+    def span(self, service, resource, scope):
+        start, kind = self.time(), self.choice("", "", *zipkin.KINDS)
+        duration = min(self.choice(0, 1, 207_000, LAST_MICROS), LAST_MICROS - start)
+        return zipkin.Span(
+            self.id(128), self.id(64), self.choice(0, 0, self.id(64)), self.choice("", "get", self.text()), kind, start, duration,
+            self.chance(0.2), self.chance(0.2), self.endpoint(service), self.endpoint(self.choice("", "", "db", self.text())),
+            [self.annotation() for _ in range(self.some(3))], self.tags(resource) | scope,
+        )
+
+    def scope(self):
+        parts = {"name": ["", "lib", "lib", self.text()], "version": ["1.0", "1.0", "2"]}
+        families = ["scope", "library"] if self.chance(0.3) else ["scope"]
+        return {f"otel.{family}.{part}": self.choice(*texts) for family in families for part, texts in parts.items() if self.chance(0.7)}
+
+    def spans(self):
+        """Spans in runs of equal resources and scopes."""
+        out, service, resource, scope = [], "shop", {}, {}
+        for _ in range(self.choice(0, 1, 1, 2, 3, 8)):
+            if self.chance(0.3):
+                service = self.choice("", "shop", "shop", self.text())
+            if self.chance(0.3):
+                resource = {self.choice(*KEYS): self.choice("", "h1", self.text()) for _ in range(self.some(3))}
+            if self.chance(0.4):
+                scope = self.scope()
+            out.append(self.span(service, resource, scope))
+        return out
+
+
+# ---- documents
+
+
+class Documents(Spans):
+    """Spells spans in ways in which no writer does, so that they keep their meaning."""
+
+    def __init__(self, seed):
+        super().__init__(seed)
+        self.part = self.choice(0, 0, 0.05, 0.3)
+
+    def is_odd(self):
+        return self.chance(self.part)
+
+    def any_value(self, levels=2):
+        """A value as unknown members have it."""
+        kind = self.choice("leaf", "leaf", "list", "map") if levels else "leaf"
+        if kind == "list":
+            return [self.any_value(levels - 1) for _ in range(self.some(3))]
+        if kind == "map":
+            return Members((self.text(), self.any_value(levels - 1)) for _ in range(self.some(3)))
+        numbers = map(Raw, ["1.5e-3", "-0", "18446744073709551616", "1e308"])
+        return self.choice(None, True, False, 7, "id", self.text(), self.number(), *numbers)
+
+    def digits(self, n, most):
+        """The digits of an identifier, not all of those that a writer gives."""
+        text = f"{n:0{self.choice(most, most, most // 2, 1)}x}"
+        return text.upper() if self.is_odd() else text
+
+    def absent(self, *defaults):
+        """Members for what is absent: none, or null or a default."""
+        return [self.choice(None, *defaults)] if self.is_odd() else []
+
+    def some_member(self, name, held, *defaults):
+        return [(name, value) for value in ([held] if held else self.absent(*defaults))]
+
+    def object(self, members):
+        """An object with more members than it needs, in another order."""
+        out = list(members)
+        while self.is_odd():
+            out.append((self.choice("", "traceID", "Tags", "id ", "annotation", "x", self.text() + "?"), self.any_value()))
+        if self.is_odd():
+            self.random.shuffle(out)
+        elif self.chance(0.5):
+            out.sort(key=lambda member: member[0])
+        while out and self.is_odd():
+            name = self.choice(*out)[0]
+            out.insert(0, (name, self.any_value()))
+        return Members(out)
+
+    def spelled_endpoint(self, endpoint):
+        members = []
+        for name, held in [("serviceName", endpoint.service), ("ipv4", endpoint.ipv4), ("ipv6", endpoint.ipv6)]:
+            members += self.some_member(name, held, "")
+        return self.object(members + self.some_member("port", endpoint.port, 0))
+
+    def spelled_annotation(self, time, value):
+        return self.object([("timestamp", time), ("value", value)])
+
+    def spelled_span(self, span):
+        """A span as a tree of members."""
+        members = [("traceId", self.digits(span.trace, 32)), ("id", self.digits(span.id, 16))]
+        members += self.some_member("parentId", span.parent and self.digits(span.parent, 16), "0", "0" * 16)
+        members += self.some_member("name", span.name, "") + self.some_member("kind", span.kind)
+        members += self.some_member("timestamp", span.start, 0) + self.some_member("duration", span.duration, 0)
+        members += self.some_member("debug", span.debug, False) + self.some_member("shared", span.shared, False)
+        for name, endpoint in [("localEndpoint", span.local), ("remoteEndpoint", span.remote)]:
+            members += self.some_member(name, endpoint != zipkin.Endpoint() and self.spelled_endpoint(endpoint), Members())
+        members += self.some_member("annotations", [self.spelled_annotation(*annotation) for annotation in span.annotations], [])
+        tags = list(span.tags.items()) + [(key, None) for key in ["nothing", "error"] if key not in span.tags and self.is_odd()]
+        self.random.shuffle(tags)
+        return self.object(members + self.some_member("tags", Members(tags), Members()))
+
+    def tree(self):
+        return [self.spelled_span(span) for span in self.spans()]
+
+    def character(self, one):
+        """A character as itself or as an escape."""
+        escapes = {held: [f"\\{letter}"] for letter, held in json_text.ESCAPED.items()} | {"/": ["/", "\\/"]}
+        units = one.encode("utf-16-be", "surrogatepass")
+        escape = "".join(f"\\u{int.from_bytes(units[i : i + 2], 'big'):04{self.random.choice('xX')}}" for i in range(0, len(units), 2))
+        return self.choice(*escapes.get(one, [one if one >= " " else escape]), escape)
+
+    def spelled_text(self, text):
+        if self.is_odd():
+            return '"' + "".join(map(self.character, text)) + '"'
+        return json.dumps(text, ensure_ascii=self.chance(0.3))
+
+    def blank(self):
+        return self.choice(" ", "\n", "\r\n\t", "  ") if self.is_odd() else ""
+
+    def spelled(self, tree):
+        """The text of a tree."""
+        if isinstance(tree, Raw):
+            out = tree
+        elif isinstance(tree, Members):
+            members = [f"{self.blank()}{self.spelled_text(name)}{self.blank()}:{self.spelled(held)}" for name, held in tree]
+            out = "{" + ",".join(members) + self.blank() + "}"
+        elif isinstance(tree, list):
+            out = "[" + ",".join(map(self.spelled, tree)) + self.blank() + "]"
+        else:
+            out = self.spelled_text(tree) if isinstance(tree, str) else json.dumps(tree)
+        return self.blank() + out + self.blank()
+
+    def document(self):
+        """The text of random spans."""
+        return self.spelled(self.tree()).encode()
+
+
+# ---- spoilt documents
+
+# For each known member values that it may refuse, and others.
+BAD_IDS = ["", "0", "00", "0" * 40, "g", "+1", " 1", "1\n", "0x1", "1" * 17, "1" * 33, "f" * 32, "f" * 16, "１", "-1", "ab\0", "é"]
+BAD_TIMES = [
+    -1, 0, LAST_MICROS, LAST_MICROS + 1, 2**63, 2**64 - 1, -(2**63), "5", *map(Raw, ["18446744073709551616", "-9223372036854775809", "1.0"]),
+    *map(Raw, ["1e3", "-0", "-0.0", "1e400", "9" * 400, "000", "1.", "--1"]),
+]
+BAD = {
+    **{name: BAD_IDS for name in ["traceId", "id", "parentId"]}, **{name: BAD_TIMES for name in ["timestamp", "duration"]},
+    "kind": ["", "client", "INTERNAL", "CLIENT ", "SERVER", "\0"], "port": [-1, 0, 65535, 65536, 2**64, "80", Raw("80.0"), Raw("8e1")],
+    **{name: ["true", 0, 1, True] for name in ["debug", "shared"]},
+}
+ANY = [
+    None, True, False, 1, "x", "", [], Members(), [None], [Members()], [[]], Members([("a", None)]), Members([("a", 1)]),
+    Members([("timestamp", 1)]), Raw("1.5"), Raw('"\\ud800"'), Raw("nul"),
+]
+PIECES = [
+    b'"', b"\\", b"{", b"}", b"[", b"]", b",", b":", b"\xff", b"\xed\xa0\x80", b"\xc0\x80", b"\0", b"\x1f", b"\\ud83d", b"\\udc00", b"\\u12",
+    b"1e999", b"NaN", b"-", b"0", b".5", b"null", b"\xef\xbb\xbf", b"\xe2\x80\xa8", b"/**/", b"[" * 126, b"\x0c",
+]
+
+
+class DocumentSpoiler(Documents):
+    """Spoils members of spans, so that the document stays JSON, or any bytes."""
+
+    def __init__(self, seed):
+        super().__init__(seed)
+        self.chance_of_wrong = self.choice(0.002, 0.01, 0.05)
+
+    def is_wrong(self):
+        return self.chance(self.chance_of_wrong)
+
+    def wrong_members(self, members):
+        out = Members()
+        for name, held in members:
+            held = self.spoilt(held)
+            if self.is_wrong():
+                held = self.choice(*BAD[name]) if name in BAD and self.chance(0.7) else self.choice(*ANY)
+                out += self.choice([(name, held)], [(name, held)], [], [(name, held), (name, held)])
+            else:
+                out.append((name, held))
+        while "traceId" in dict(members) and self.chance(3 * self.chance_of_wrong):
+            name = self.choice(*BAD)
+            out.append((name, self.choice(*BAD[name])))
+        return out
+
+    def spoilt(self, tree):
+        """A tree with some of its parts spoilt."""
+        if isinstance(tree, Members):
+            return self.wrong_members(tree)
+        if isinstance(tree, list):
+            return [self.choice(*ANY) if self.is_wrong() else self.spoilt(element) for element in tree]
+        return tree
+
+    def spoilt_bytes(self, text):
+        """Changes, drops, doubles or adds some bytes, or cuts the end."""
+        out = bytearray(text)
+        for _ in range(self.choice(1, 1, 2, 5)):
+            at = self.random.randrange(len(out) + 1)
+            kind = self.random.randrange(5)
+            if kind == 0 and at < len(out):
+                out[at] = self.choice(*b'"\\{}[],:0 \x7f', self.random.randrange(256))
+            elif kind == 1:
+                del out[at : at + self.choice(1, 1, 4, 30)]
+            elif kind == 2:
+                out[at:at] = out[at : at + self.choice(1, 4, 30, 1000)]
+            elif kind == 3:
+                out[at:at] = self.choice(*PIECES)
+            elif self.chance(0.3):
+                del out[at:]
+        return bytes(out)
+
+    def nested(self, levels):
+        """A document that is so deep in an unknown member."""
+        begins = [self.choice("[", '{"a":') for _ in range(levels - 2)]
+        ends = ["]" if mark == "[" else "}" for mark in reversed(begins)]
+        deep = "".join([*begins, self.choice("1", "null"), *ends])
+        return f'[{{"traceId":"1","id":"2","deep":{deep}}}]'.encode()
+
+    def spoil(self):
+        """The text of spans, spoilt."""
+        if self.chance(0.03):
+            return self.nested(self.choice(2, 100, 126, 127, 128, 129, 5000))
+        tree = self.tree()
+        out = self.spelled(self.choice(*ANY) if self.is_wrong() else self.spoilt(tree)).encode()
+        return self.spoilt_bytes(out) if self.chance(0.3) else out
+
+
+# ---- traces
+
+
+class ZipkinTraces(Traces):
+    """Makes random traces in OTLP. Of the faults for which Zipkin can't hold a part some are drawn, which parts have by this
+    chance."""
+
+    def __init__(self, seed, chance):
+        super().__init__(seed, 0)
+        self.chances = {number: self.choice(0, chance) for number in [*jaeger.FAULTS, *zipkin.FAULTS]}
+
+    def leaf(self):
+        kind, held = super().leaf()
+        return ("number", 7) if kind == "double" and not self.fault(25) else (kind, held)
+
+    def attributes(self, reserved=()):
+        """Attributes with none of these keys but by chance."""
+        return super().attributes([] if reserved == ["event"] else reserved)
+
+    def own(self):
+        """Attributes under the own keys."""
+        texts = {"debug": ["true"], "shared": ["true"], "ipv4": ["10.0.0.7", "x"], "ipv6": ["::1"], "port": ["1", "80", "65535"]}
+        out = {key: ("text", self.choice(*texts[key.split(".")[-1]])) for key in OWN if self.chance(0.15)}
+        if self.fault(22):
+            out[self.choice(*OWN)] = self.choice(("truth", True), ("number", 80), ("nothing", None), ("text", self.choice(*BAD_OWN)))
+        if self.chance(0.3):
+            out["peer.service"] = self.choice(("text", "db"), ("text", ""), ("nothing", None), ("list", []), ("bytes", b"x"))
+        return out
+
+    def event(self):
+        event = super().event()
+        if not event.attributes and zipkin.read_event_text(event.name) is not None:
+            event.name = ""
+        if self.fault(23):
+            event.name, event.attributes = '"a":' + self.choice(*EVENT_ENDS), self.choice({}, {}, event.attributes)
+        return event
+
+    def span(self):
+        span = super().span()
+        attributes = {key: value for key, value in span.attributes.items() if not zipkin.is_reserved(key) and key not in OWN}
+        span.attributes = attributes | self.own()
+        if self.fault(21):
+            span.attributes[self.choice(*RESERVED, RESOURCE, RESOURCE + "a", RESOURCE + "service.name")] = self.leaf()
+        return span
+
+    def group(self):
+        """Groups of which some follow others of the same resource."""
+        group = super().group()
+        if self.chance(0.3):
+            group.resource = self.choice({}, {"service.name": ("text", "shop")})
+        return group
+

@@ -1,0 +1,94 @@
+"""What the program must answer to an input, for each pair of forms, by the readers, tables and writers beside this."""
+import functools
+import itertools
+import json
+
+import jaeger
+import otlp
+import zipkin
+from otlp import NAMES
+from protocols import PROTOCOLS
+
+OTLP, ZIPKIN = "otlp-proto", "zipkin-json"
+FORMS = [OTLP, *PROTOCOLS, ZIPKIN]
+PAIRS = list(itertools.product(FORMS, FORMS))
+FAULTS = {20: "EndBeforeStart", 21: "Reserved", 22: "OwnKey", 23: "EventText", 24: "ChildOfLink", 25: "DoubleInText"}
+
+# Of each binary form how its next unit is found, the offences of a unit, and the group that it means.
+SOURCES = {
+    OTLP: (otlp.next_unit, otlp.unit_offences, otlp.read_group),
+    **{
+        form: (functools.partial(jaeger.next_unit, form=form), jaeger.offences, lambda unit: jaeger.group_of_batch(jaeger.read_batch(unit)))
+        for form in PROTOCOLS
+    },
+}
+# Of each form the faults of a group, the texts that are written of one, and what stands before, between and behind all texts.
+BINARY = b"", b"", b""
+TARGETS = {
+    OTLP: (lambda group: [], lambda group: [otlp.write_group(group)], BINARY),
+    **{
+        form: (jaeger.faults, lambda group, form=form: [jaeger.write_batch(jaeger.batch_of_group(group), form)], BINARY)
+        for form in PROTOCOLS
+    },
+    ZIPKIN: (zipkin.faults, lambda group: [zipkin.write_span(span) for span in zipkin.spans_of_group(group)], (b"[", b",", b"]")),
+}
+
+
+def groups(text, source):
+    """The groups of a text one after the other, until it is refused."""
+    if source == ZIPKIN:
+        yield from zipkin.groups_of_spans(zipkin.read_spans(text))
+        return
+    find, offences_of, read = SOURCES[source]
+    at = 0
+    for number in itertools.count(1):
+        try:
+            found = find(text, at)
+        except otlp.Refused as why:
+            raise zipkin.Refusal(number, why.args[0]) from None
+        if found is None:
+            return
+        _, unit, at = found
+        bad = offences_of(unit)
+        if bad:
+            raise zipkin.Refusal(number, min(bad)[1])
+        yield read(unit)
+
+
+def partial(written, target):
+    """The text of groups without what closes it; that of no group is empty."""
+    opening, between, _ = TARGETS[target][2]
+    return opening + between.join(itertools.chain(*written)) if written else b""
+
+
+def whole(written, target):
+    opening, _, closing = TARGETS[target][2]
+    return (partial(written, target) or opening) + closing
+
+
+def write(groups, target):
+    """The text of groups without a fault."""
+    return whole([TARGETS[target][1](group) for group in groups], target)
+
+
+def faulted(number, fault):
+    place, cause, key = fault
+    key = f" {json.dumps(key, ensure_ascii=False)}" if cause in [21, 22] else ""
+    return 4, f"unit {number}: fault {cause} {FAULTS[cause]}{key}\n", FAULTS[cause]
+
+
+def verdict(text, source, target):
+    """The status, the note and the output that an input must have, and the name of that outcome."""
+    faults_of, texts_of, _ = TARGETS[target]
+    written = []
+    try:
+        for number, group in enumerate(groups(text, source), 1):
+            bad = faults_of(group)
+            if bad:
+                status, note, name = faulted(number, min(bad, key=lambda fault: (fault[0], fault[1], fault[2].encode())))
+                return status, note, partial(written, target), name
+            written.append(texts_of(group))
+    except zipkin.Refusal as why:
+        number, cause = why.args
+        return 3, f"unit {number}: cause {cause} {NAMES[cause]}\n", partial(written, target), NAMES[cause]
+    return 0, "", whole(written, target), "written"
