@@ -63,7 +63,7 @@ fn annotations_of(alloc: Global, events: &Items<Event>) -> Result<Items<(Nanos, 
     requires { list_any event_unfit events.now ≡ false }
     ensures { IfOk result (λ annotations. annotations ≡ map told.annotation_of events.now) }
 {
-    let mut annotations = Items::new(alloc);
+    let mut annotations = Items::with_room(alloc, events.len())?;
     'events: for event in events.as_slice() {
         annotations.push(annotation_of(alloc, event)?)?;
     }

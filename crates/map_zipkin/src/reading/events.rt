@@ -45,7 +45,7 @@ pub(crate) fn events_of(
 ) -> Result<Items<Event>, OutOfMemory>
     ensures { IfOk result (λ events. events ≡ map meant.zipkin_event_of annotations) }
 {
-    let mut events = Items::new(alloc);
+    let mut events = Items::with_room(alloc, annotations.len())?;
     'annotations: for annotation in annotations.into_vec() {
         events.push(event_of(alloc, annotation)?)?;
     }

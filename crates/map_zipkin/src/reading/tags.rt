@@ -10,7 +10,7 @@ use trace_model::{Attrs, Value};
 pub(crate) fn pairs_of(alloc: Global, tags: Items<(Text, Text)>) -> Result<Attrs, OutOfMemory>
     ensures { IfOk result (λ pairs. pairs ≡ map meant.pair_of tags) }
 {
-    let mut pairs = Items::new(alloc);
+    let mut pairs = Items::with_room(alloc, tags.len())?;
     'tags: for tag in tags.into_vec() {
         let (key, text) = tag;
         pairs.push((key, Value::Text(text)))?;

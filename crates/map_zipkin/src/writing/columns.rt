@@ -10,6 +10,9 @@ use span_tags::{add_row, code_given, text_given};
 use std::alloc::Global;
 use trace_model::{Attrs, Code, Scope, Span, Value};
 
+/// A span has so many columns at most.
+const COLUMNS: usize = 8;
+
 fn error_message(code: Code, message: &Text) -> Result<Option<Value>, OutOfMemory>
     ensures { IfOk result (λ value. value ≡ told.error_message code message.now) }
 {
@@ -19,8 +22,13 @@ fn error_message(code: Code, message: &Text) -> Result<Option<Value>, OutOfMemor
     }
 }
 
-/// The tags of the columns, in the order of their keys.
-pub(crate) fn column_rows(alloc: Global, scope: &Scope, span: &Span) -> Result<Attrs, OutOfMemory>
+/// The tags of the columns, in the order of their keys, with room for so many others.
+pub(crate) fn column_rows(
+    alloc: Global,
+    scope: &Scope,
+    span: &Span,
+    others: usize,
+) -> Result<Attrs, OutOfMemory>
     ensures { IfOk result (λ pairs. pairs ≡ columns.column_rows (told.zipkin_columns_of (scoped_in scope.now span.now))) }
 {
     let code = span.status.code;
@@ -29,7 +37,7 @@ pub(crate) fn column_rows(alloc: Global, scope: &Scope, span: &Span) -> Result<A
     let version = text_given(&scope.version)?;
     let code = code_given(alloc, code)?;
     let state = text_given(&span.state)?;
-    let mut pairs = Items::new(alloc);
+    let mut pairs = Items::with_room(alloc, others.saturating_add(COLUMNS))?;
     add_row(alloc, &mut pairs, "error", error)?;
     add_counts(alloc, &mut pairs, span)?;
     add_row(alloc, &mut pairs, "otel.scope.name", name)?;

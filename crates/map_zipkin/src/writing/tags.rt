@@ -2,6 +2,7 @@
 ghost use Rattle.std.specs.Prelude.{◌≡◌, [], ◌∷◌, ◌++◌, map, false, IfOk, OnOk};
 ghost use Rattle.trace_model.specs.EventTexts.{holds_double};
 ghost use Rattle.trace_model.specs.ValueTexts as texts;
+ghost use Rattle.map_zipkin.specs.Keys.{resource_prefix};
 ghost use Rattle.map_zipkin.specs.Writing as told;
 ghost use Rattle.map_zipkin.specs.WritingSoFar.{scoped_in};
 
@@ -23,7 +24,8 @@ pub(crate) fn tags_of(
     requires span { holds_double span.now.attributes ≡ false }
     ensures { IfOk result (λ tags. tags ≡ told.zipkin_tags_of resource.now (scoped_in scope.now span.now)) }
 {
-    let mut pairs = column_rows(alloc, scope, span)?;
+    let room = resource.len().saturating_add(span.attributes.len());
+    let mut pairs = column_rows(alloc, scope, span, room)?;
     add_resource(alloc, &mut pairs, resource)?;
     add_told(alloc, &mut pairs, &span.attributes)?;
     let (pairs, _) = attrs_of(alloc, pairs)?;
@@ -31,6 +33,16 @@ pub(crate) fn tags_of(
 }
 
 // ---- those of the resource
+
+// The key behind the prefix.
+fn prefixed(alloc: Global, key: &str) -> Result<Text, OutOfMemory>
+    ensures { IfOk result (λ text. text ≡ resource_prefix ++ key.now) }
+{
+    let mut text = String::with_capacity(alloc, key.len().saturating_add(14))?;
+    text.push_str("otel.resource.")?;
+    text.push_str(key)?;
+    Ok(Text::from_string(text))
+}
 
 // Adds the tag of an attribute of the resource, unless it is the service.
 fn add_prefixed(alloc: Global, pairs: &mut Attrs, pair: &(Text, Value)) -> Result<(), OutOfMemory>
@@ -40,8 +52,7 @@ fn add_prefixed(alloc: Global, pairs: &mut Attrs, pair: &(Text, Value)) -> Resul
     if "service.name" == pair.0.as_str() {
         return Ok(());
     }
-    let mut key = Text::of(alloc, "otel.resource.")?;
-    key.append(pair.0.as_str())?;
+    let key = prefixed(alloc, pair.0.as_str())?;
     pairs.push((key, Value::Text(text_told(alloc, &pair.1)?)))
 }
 
@@ -95,7 +106,7 @@ fn tags_in_order(alloc: Global, pairs: Attrs) -> Result<Items<(Text, Text)>, Out
     requires { holds_double pairs ≡ false }
     ensures { IfOk result (λ tags. tags ≡ map told.zipkin_tag_of pairs) }
 {
-    let mut tags = Items::new(alloc);
+    let mut tags = Items::with_room(alloc, pairs.len())?;
     'pairs: for pair in pairs.into_vec() {
         let (key, value) = pair;
         let text = text_of(alloc, value)?;
