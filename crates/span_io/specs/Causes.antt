@@ -1,7 +1,7 @@
 -- The numbers and names of causes, as notes print them.
 use Rattle.std.specs.Prelude.{ℕ, List, codes}
 use Rattle.span_io.specs.declared.cause.Cause.{Cause}
-use Rattle.span_io.specs.declared.cause.Cause.TheVariants.{Truncated, BadVarint, BadWire, BadSize, TooDeep, UnitTooLong, FieldTwice, Missing, NotText, BadJson, BadShape, BadId, BadEnum, BadElement, BadTime, InputTooLong}
+use Rattle.span_io.specs.declared.cause.Cause.TheVariants.{Truncated, BadVarint, BadWire, BadSize, TooDeep, UnitTooLong, FieldTwice, Missing, NotText, BadJson, BadShape, BadId, BadEnum, BadElement, DoubleInJson, BadTime, InputTooLong}
 
 abbrev pub cause_number : Cause → ℕ
 cause_number Truncated = 1
@@ -18,6 +18,7 @@ cause_number BadShape = 11
 cause_number BadId = 12
 cause_number BadEnum = 13
 cause_number BadElement = 14
+cause_number DoubleInJson = 15
 cause_number BadTime = 16
 cause_number InputTooLong = 17
 
@@ -36,5 +37,6 @@ cause_name BadShape = codes "BadShape"
 cause_name BadId = codes "BadId"
 cause_name BadEnum = codes "BadEnum"
 cause_name BadElement = codes "BadElement"
+cause_name DoubleInJson = codes "DoubleInJson"
 cause_name BadTime = codes "BadTime"
 cause_name InputTooLong = codes "InputTooLong"

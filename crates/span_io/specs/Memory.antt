@@ -1,5 +1,5 @@
 -- What contracts see of sources and sinks in memory.
-use Rattle.std.specs.Prelude.{◌≡◌, ℕ, ◌+◌, ◌<◌, ◌⊎◌, List, length, Contains, Some, Result, Ok, Err, false, ◌==◌}
+use Rattle.std.specs.Prelude.{◌≡◌, ℕ, ◌+◌, ◌<◌, ◌⊎◌, max, List, length, drop, Contains, Some, Result, Ok, Err, false, ◌==◌}
 use Rattle.span_io.specs.Outside.{Inlet, Outlet, counted}
 
 -- the bytes still to come, how many a call gives at the most, the calls that fail, and two counts
@@ -9,6 +9,11 @@ pub record SourceState : Type 0 where
   pub fail : List ℕ
   pub calls : ℕ
   pub faults : ℕ
+
+-- of bytes, of which those from this place are still to come; a call gives at least one
+abbrev pub source_state : List ℕ → ℕ → ℕ → List ℕ → ℕ → ℕ → SourceState
+source_state bytes place cut fail calls faults =
+    record { left = drop place bytes; cut = max cut 1; fail = fail; calls = calls; faults = faults }
 
 -- a source with no call that fails is steady
 abbrev pub inlet_of : SourceState → Inlet

@@ -35,6 +35,8 @@ pub enum Cause {
     BadEnum,
     /// A known list that isn't empty names another element type (jaeger.thrift).
     BadElement,
+    /// A value is a double, which otlp-json doesn't hold exactly (OTLP/JSON).
+    DoubleInJson,
     /// A count of microseconds, or a start and a duration together, is negative or above
     /// 18446744073709551, the last whose nanoseconds fit 64 bits.
     BadTime,
@@ -61,6 +63,7 @@ impl Cause {
             Cause::BadId => 12,
             Cause::BadEnum => 13,
             Cause::BadElement => 14,
+            Cause::DoubleInJson => 15,
             Cause::BadTime => 16,
             Cause::InputTooLong => 17,
         }
@@ -84,6 +87,7 @@ impl Cause {
             Cause::BadId => "BadId",
             Cause::BadEnum => "BadEnum",
             Cause::BadElement => "BadElement",
+            Cause::DoubleInJson => "DoubleInJson",
             Cause::BadTime => "BadTime",
             Cause::InputTooLong => "InputTooLong",
         }

@@ -7,6 +7,8 @@ ghost use Rattle.span_io.specs.declared.form.Form.{Form};
 pub enum Form {
     /// OTLP `ExportTraceServiceRequest` in the proto3 wire format.
     OtlpProto,
+    /// The same message in OTLP/JSON.
+    OtlpJson,
     /// Batches of `jaeger.thrift`, one after the other, in the Thrift binary protocol.
     JaegerBinary,
     /// The same batches in the Thrift compact protocol.
@@ -22,6 +24,9 @@ impl Form {
     {
         if word == b"otlp-proto".as_slice() {
             return Some(Form::OtlpProto);
+        }
+        if word == b"otlp-json".as_slice() {
+            return Some(Form::OtlpJson);
         }
         if word == b"jaeger-binary".as_slice() {
             return Some(Form::JaegerBinary);

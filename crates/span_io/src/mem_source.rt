@@ -23,12 +23,12 @@ pub struct MemSource {
 }
 
 impl Model for MemSource {
-    ghost use Rattle.std.specs.Prelude.{◌≤◌, length, drop, max};
-    ghost use Rattle.span_io.specs.Memory.{SourceState};
+    ghost use Rattle.std.specs.Prelude.{◌≤◌, length};
+    ghost use Rattle.span_io.specs.Memory.{SourceState, source_state};
 
     ghost Value = { SourceState };
 
-    ghost view = { λ s. record { left = drop s.place s.bytes; cut = max s.cut 1; fail = s.fail; calls = s.calls; faults = s.faults } };
+    ghost view = { λ s. source_state s.bytes s.place s.cut s.fail s.calls s.faults };
 
     ghost invariant = { λ s. s.place ≤ length s.bytes };
 }

@@ -180,6 +180,7 @@ fn causes(rt: HostRuntime) {
         (Cause::BadId, 12, "BadId"),
         (Cause::BadEnum, 13, "BadEnum"),
         (Cause::BadElement, 14, "BadElement"),
+        (Cause::DoubleInJson, 15, "DoubleInJson"),
         (Cause::BadTime, 16, "BadTime"),
         (Cause::InputTooLong, 17, "InputTooLong"),
     ] {
@@ -191,7 +192,10 @@ fn causes(rt: HostRuntime) {
 #[test]
 fn forms(rt: HostRuntime) {
     assert_eq!(rt; Form::of_word(b"otlp-proto"), Some(Form::OtlpProto));
+    assert_eq!(rt; Form::of_word(b"otlp-json"), Some(Form::OtlpJson));
     assert_eq!(rt; Form::of_word(b"jaeger-binary"), Some(Form::JaegerBinary));
+    assert_eq!(rt; Form::of_word(b"jaeger-compact"), Some(Form::JaegerCompact));
+    assert_eq!(rt; Form::of_word(b"zipkin-json"), Some(Form::ZipkinJson));
     for word in ["", "otlp", "otlp-prot", "otlp-proto ", "OTLP-PROTO"] {
         assert_eq!(rt; Form::of_word(word.as_bytes()), None, "{word}");
     }
