@@ -1,17 +1,12 @@
 -- Attributes of a message, pair by pair.
-use Rattle.std.proofs.Common.{◌≡◌, ℕ, List, [], ◌∷◌, ◌++◌, map, ◌⊎◌, inl, inr, ⊎_elim, refl, sym, ap, subst, ◌∙◌}
+use Rattle.std.proofs.Common.{◌≡◌, ℕ, List, [], ◌∷◌, ◌++◌, map, ◌⊎◌, inl, inr, ⊎_elim, sym, ap, subst, ◌∙◌}
 use Rattle.std.specs.Prelude.{◌↔◌, Contains}
-use Rattle.std.specs.Cmp.{IsEquivalence}
-use Rattle.std.specs.Str.{bytes_eq}
-use Rattle.std.proofs.lemmas.Cmp.{eq_by_cmp_equiv, nat_list_cmp_total}
-use Rattle.std.proofs.lemmas.Map.Text.{is_eq-slice_cmp}
-use Rattle.std.proofs.lemmas.Slice.Eq.{bytes_eq-Decides}
 use Rattle.std.proofs.lemmas.List.Elements.{Contains-append_left, Contains-append_right, Contains-append_cases}
 use Rattle.trace_model.specs.Attributes.{AreRepeated, Rise, StandsTwice}
 use Rattle.trace_model.specs.declared.value.Value.{Value}
 use Rattle.std.proofs.lemmas.List.{map-append}
 use Rattle.otlp_proto.specs.declared.attributes.AttributeRows.{AttributeRows}
-use Rattle.otlp_proto.specs.Values.{KeyValue, entry, keys_inside}
+use Rattle.trace_model.specs.OtlpParts.{KeyValue, entry, keys_inside}
 use Rattle.otlp_proto.specs.Attributes.{attribute_at, NotedIn}
 use Rattle.otlp_proto.specs.AttributesSoFar.{GatheredAttributes}
 use Rattle.span_io.specs.RowLaws.{all_zip_push}
@@ -50,13 +45,3 @@ noted_in texts rows repeated noted keys gathered twice e rising same = record {
         (λ (h : StandsTwice key (map entry gathered.members)). Contains-append_right rows.noted repeated key ((of_members.twice key).1 h))
         (λ (h : Contains (keys_inside gathered.members) key). Contains-append_left rows.noted repeated key (subst (λ (l : List (List ℕ)). Contains l key) (sym gathered.noted) h))
         is)
-
--- texts are told apart by their bytes
-pub bytes_eq_equiv : IsEquivalence bytes_eq
-bytes_eq_equiv =
-    let equal = eq_by_cmp_equiv nat_list_cmp_total in
-    record {
-      refl = λ x. (bytes_eq-Decides x x).1 refl;
-      symm = λ x y. sym (is_eq-slice_cmp x y) ∙ equal.symm x y ∙ is_eq-slice_cmp y x;
-      congr = λ x y z e. sym (is_eq-slice_cmp x z) ∙ equal.congr x y z (is_eq-slice_cmp x y ∙ e) ∙ is_eq-slice_cmp y z;
-    }

@@ -9,7 +9,8 @@ use Rattle.span_io.specs.Offences.{Offence, Least}
 use Rattle.proto_wire.specs.Messages.{messages}
 use Rattle.trace_model.specs.declared.remark.Remark.{Remark}
 use Rattle.trace_model.specs.declared.trace.Group.{Group}
-use Rattle.otlp_proto.specs.Group.{NotedGroup, IsGroup, IsGroupText, group_rules, GroupPadded}
+use Rattle.otlp_proto.specs.Group.{IsGroup, IsGroupText, group_rules, GroupPadded}
+use Rattle.trace_model.specs.OtlpParts.{NotedGroup}
 use Rattle.otlp_proto.specs.Laws.{ReadingLaws, MessageRules, SomeGroup, FreeAnywhere}
 use Rattle.otlp_proto.specs.Rows.{MeansMessage}
 use Rattle.otlp_proto.proofs.EventMessage.{event_proof}

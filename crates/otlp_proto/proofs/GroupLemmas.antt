@@ -1,9 +1,9 @@
 -- Scopes that were read, one after the other, and what was read of a group.
-use Rattle.std.proofs.Common.{◌≡◌, ℕ, suc, ◌+◌, List, [], ◌∷◌, ◌++◌, length, map, refl, sym, ap, ◌∙◌, append_assoc, arith}
+use Rattle.std.proofs.Common.{◌≡◌, ℕ, ◌+◌, List, [], ◌∷◌, ◌++◌, length, map, refl, sym, ap, ◌∙◌, arith}
 use Rattle.std.specs.List.{sum_by}
 use Rattle.std.specs.Option.{unwrap_or}
-use Rattle.std.proofs.lemmas.List.{append-nil, map-append, length-map}
-use Rattle.std.proofs.lemmas.List.Sums.{sum_by-cons, sum_by_push}
+use Rattle.std.proofs.lemmas.List.{map-append, length-map}
+use Rattle.std.proofs.lemmas.List.Sums.{sum_by_push}
 use Rattle.span_io.specs.Tables.{givens, MeansText}
 use Rattle.proto_wire.specs.Records.{Record}
 use Rattle.trace_model.specs.declared.place.Place.TheVariants as places
@@ -15,36 +15,19 @@ use Rattle.otlp_proto.specs.declared.group.GroupRows.{GroupRows}
 use Rattle.otlp_proto.specs.declared.group.ScopeList.{ScopeList}
 use Rattle.otlp_proto.specs.declared.noted.ReadResource.{ReadResource}
 use Rattle.otlp_proto.specs.declared.noted.ReadScope.{ReadScope}
-use Rattle.otlp_proto.specs.Group.{IsGroup, IsResource, no_resource, group_table}
+use Rattle.otlp_proto.specs.Group.{IsGroup, IsResource, group_table}
 use Rattle.otlp_proto.specs.GroupSoFar.{GatheredScopes, GatheredGroup}
-use Rattle.otlp_proto.specs.Notes.{Noted, SpanNotes, ScopeNotes}
 use Rattle.otlp_proto.specs.ReadParts.{IsReadScope, resource_read}
 use Rattle.trace_model.specs.Remarks.{equal_keys}
-use Rattle.otlp_proto.specs.Remarks.{scope_remarks, scopes_remarks}
+use Rattle.trace_model.specs.GroupRemarks.{scope_remarks, scopes_remarks}
+use Rattle.trace_model.specs.Notes.{Noted, SpanNotes, ScopeNotes}
+use Rattle.trace_model.specs.OtlpParts.{no_resource}
+use Rattle.trace_model.specs.RemarkLaws.{spans_noted, scopes_push}
 use Rattle.otlp_proto.specs.Rows.{bytes_of, MeansMessage}
 use Rattle.otlp_proto.specs.Scope.{IsScope}
 use Rattle.span_io.specs.RowLaws.{all_zip_push, singular_or, singular_read}
 
 -- ---- scopes
-
-abbrev span_count : ScopeNotes → ℕ
-span_count notes = length notes.spans
-
-scopes_push : (scope span : ℕ) (xs : List ScopeNotes) (x : ScopeNotes)
-    → scopes_remarks scope span (xs ++ x ∷ []) ≡ scopes_remarks scope span xs ++ scope_remarks (scope + length xs) (span + sum_by (λ n. length n.spans) xs) x
-unfolding scopes_remarks
-scopes_push scope span [] x =
-    let first : scope ≡ scope + 0 = omega arith in
-    let first_span : span ≡ span + sum_by span_count [] = omega arith in
-    append-nil (scope_remarks scope span x) ∙ ap (λ (k : ℕ). scope_remarks k span x) first ∙ ap (λ (k : ℕ). scope_remarks (scope + 0) k x) first_span
-scopes_push scope span (y ∷ xs) x =
-    let next : suc scope + length xs ≡ scope + suc (length xs) = omega arith in
-    let next_span : (span + length y.spans) + sum_by span_count xs ≡ span + sum_by span_count (y ∷ xs) = omega (arith, sum_by-cons span_count y xs) in
-    let more = scopes_remarks (suc scope) (span + length y.spans) xs in
-    ap (λ l. scope_remarks scope span y ++ l) (scopes_push (suc scope) (span + length y.spans) xs x
-    ∙ ap (λ (k : ℕ). more ++ scope_remarks k ((span + length y.spans) + sum_by span_count xs) x) next
-    ∙ ap (λ (k : ℕ). more ++ scope_remarks (scope + suc (length xs)) k x) next_span)
-    ∙ sym (append_assoc (scope_remarks scope span y) more (scope_remarks (scope + suc (length xs)) (span + sum_by span_count (y ∷ xs)) x))
 
 -- what is noted of each span
 same_spans : (s : Noted Scope ScopeNotes) (text : List ℕ) → MeansMessage IsScope text s → length s.means.spans ≡ length s.notes.spans
@@ -67,7 +50,7 @@ scope_push earlier held old new number read scopes remarks next its_number is so
       ∙ ap (λ l. scopes_remarks 1 1 notes ++ l) (is.remarks ∙ ap (λ (k : ℕ). scope_remarks k old.next_span is.notes) number_of ∙ ap (λ (k : ℕ). scope_remarks (1 + length notes) k is.notes) so_far.next_span)
       ∙ sym (scopes_push 1 1 notes is.notes) ∙ ap (λ l. scopes_remarks 1 1 l) (sym more);
   next_span =
-      let counted : sum_by span_count (map (λ s. s.notes) (so_far.read ++ this ∷ [])) ≡ sum_by span_count notes + length is.notes.spans = ap (λ l. sum_by span_count l) more ∙ sum_by_push span_count notes is.notes in
+      let counted : sum_by spans_noted (map (λ s. s.notes) (so_far.read ++ this ∷ [])) ≡ sum_by spans_noted notes + length is.notes.spans = ap (λ l. sum_by spans_noted l) more ∙ sum_by_push spans_noted notes is.notes in
       omega (arith, next, so_far.next_span, same_spans this held is.is_scope, counted);
 }
   where

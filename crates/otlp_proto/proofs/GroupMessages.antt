@@ -11,10 +11,11 @@ use Rattle.trace_model.specs.declared.trace.Scope.{Scope}
 use Rattle.trace_model.specs.declared.value.Value.{Value}
 use Rattle.otlp_proto.specs.Laws.{ReadingLaws}
 use Rattle.otlp_proto.specs.Attributes.{AttributesOf}
-use Rattle.otlp_proto.specs.Group.{Resource, IsResource, no_resource, resource_table, resource_padded, NotedGroup, IsGroup, IsGroupText, group_table, group_padded}
+use Rattle.otlp_proto.specs.Group.{IsResource, resource_table, resource_padded, IsGroup, IsGroupText, group_table, group_padded}
 use Rattle.trace_model.specs.Remarks.{Keys}
-use Rattle.otlp_proto.specs.Notes.{Noted, ScopeNotes}
-use Rattle.otlp_proto.specs.Remarks.{group_remarks, scopes_remarks}
+use Rattle.trace_model.specs.GroupRemarks.{group_remarks, scopes_remarks}
+use Rattle.trace_model.specs.Notes.{Noted, ScopeNotes}
+use Rattle.trace_model.specs.OtlpParts.{Resource, no_resource, NotedGroup}
 use Rattle.otlp_proto.specs.Rows.{bytes_of, varints_of, MeansMessage}
 use Rattle.otlp_proto.specs.Scope.{IsScope}
 use Rattle.otlp_proto.specs.Texts.{attributes_text, key_value_text, scope_text, resource_text, group_text}
@@ -23,8 +24,9 @@ use Rattle.otlp_proto.proofs.CanonicalLaws.{Laws}
 use Rattle.otlp_proto.proofs.FieldLemmas.{Fits}
 use Rattle.otlp_proto.proofs.Fronts.{front_none, rest_none, no_count, no_list}
 use Rattle.otlp_proto.proofs.MessageProofs.{MessageProof, message_proof, messages_proof, never_ends, proved}
-use Rattle.otlp_proto.proofs.ProperLemmas.{singular_in_range, each_in_range, text_proper, count_proper}
-use Rattle.otlp_proto.proofs.QuietRemarks.{quiet, quiet_scope, quiet_scopes, mapped, all_back}
+use Rattle.otlp_proto.proofs.ProperLemmas.{singular_in_range, text_proper, count_proper}
+use Rattle.trace_model.specs.PartLaws.{each_in_range}
+use Rattle.trace_model.specs.RemarkLaws.{quiet, quiet_scope, quiet_scopes, mapped, all_back}
 use Rattle.otlp_proto.proofs.Ranges.{AreBytes, AllInRange, wire_in_range, all_bytes}
 use Rattle.otlp_proto.proofs.RowProofs.{TableProof, text_proof, count_proof, attributes_proof}
 use Rattle.otlp_proto.proofs.ScopeMessages.{scope_proof, scope_again, scope_proper}

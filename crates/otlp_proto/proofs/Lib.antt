@@ -1,7 +1,6 @@
 pub mod AttributeLemmas
 pub mod Bridges
 pub mod CanonicalLaws
-pub mod Enums
 pub mod EventMessage
 pub mod FieldLemmas
 pub mod FreeValues
@@ -17,7 +16,6 @@ pub mod MessageProofs
 pub mod NextRecord
 pub mod PaddedValues
 pub mod ProperLemmas
-pub mod QuietRemarks
 pub mod Ranges
 pub mod ReadGroup
 pub mod Reading

@@ -8,10 +8,11 @@ use Rattle.trace_model.specs.declared.value.Value.{Value}
 use Rattle.otlp_proto.specs.declared.link.LinkRows.{LinkRows}
 use Rattle.otlp_proto.specs.Attributes.{AttributesOf, NotedIn}
 use Rattle.otlp_proto.specs.Identifiers.{MeansTraceId, MeansSpanId}
-use Rattle.otlp_proto.specs.Link.{LinkParts, IsLink, link_of, link_table}
+use Rattle.otlp_proto.specs.Link.{IsLink, link_table}
 use Rattle.otlp_proto.specs.LinkSoFar.{GatheredLink}
 use Rattle.trace_model.specs.Remarks.{Keys}
-use Rattle.otlp_proto.specs.Notes.{Noted}
+use Rattle.trace_model.specs.Notes.{Noted}
+use Rattle.trace_model.specs.OtlpParts.{LinkParts, link_of}
 use Rattle.otlp_proto.specs.Rows.{bytes_of, varints_of, fixed32s_of, MeansNumber, MeansCount}
 use Rattle.span_io.specs.RowLaws.{gave_or}
 

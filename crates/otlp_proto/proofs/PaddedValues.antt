@@ -10,11 +10,12 @@ use Rattle.proto_wire.specs.Messages.{messages}
 use Rattle.trace_model.specs.Laws.{AttributesOnce, AttributesExist}
 use Rattle.trace_model.specs.declared.value.Value.TheVariants as values
 use Rattle.otlp_proto.specs.Laws.{WireFacts}
-use Rattle.otlp_proto.specs.Attributes.{attribute_at, attribute_rules, attributes, levels_below}
+use Rattle.otlp_proto.specs.Attributes.{attribute_at, attribute_rules, attributes}
 use Rattle.otlp_proto.specs.PaddedValues.{MemberPadded, table_of_list, table_of_map, value_padded, key_value_padded, ListPadded, MapPadded, ValuePadded, KeyValuePadded, value_paddings, key_value_paddings, AttributePadded}
 use Rattle.otlp_proto.specs.Rows.{text}
 use Rattle.otlp_proto.proofs.Shapes.{list_laws, map_laws, value_laws, key_value_laws}
-use Rattle.otlp_proto.specs.Values.{Member, string_value, bool_value, int_value, double_value, array_value, kvlist_value, bytes_value, NotedValue, KeyValue, leaf, IsListText, IsMapText, MeansMember, value_in, key_value_in, value_at, key_value_at, BadMember, InMember, many_table, value_offends, key_value_offends, table_of_value, value_rules, table_of_key_value, key_value_rules, list_rules, map_rules}
+use Rattle.otlp_proto.specs.Values.{Member, string_value, bool_value, int_value, double_value, array_value, kvlist_value, bytes_value, IsListText, IsMapText, MeansMember, value_in, key_value_in, value_at, key_value_at, BadMember, InMember, many_table, value_offends, key_value_offends, table_of_value, value_rules, table_of_key_value, key_value_rules, list_rules, map_rules}
+use Rattle.trace_model.specs.OtlpParts.{levels_below, NotedValue, KeyValue, leaf}
 use Rattle.otlp_proto.proofs.RowDecisions.{text_decides}
 use Rattle.otlp_proto.proofs.RowPaddings.{Keeps, message_padding, moved, endless_same}
 use Rattle.span_io.specs.RowLaws.{same_twice, singular_moves, all_zip_moves}

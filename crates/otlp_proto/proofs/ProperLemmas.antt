@@ -2,22 +2,23 @@
 use Rattle.std.proofs.Common.{◌≡◌, ℕ, zero, suc, ◌<◌, ◌^◌, ◌%◌, ◌∷◌, List, [], map, All, Option, Some, None, refl, sym, subst, arith}
 use Rattle.std.specs.Prelude.{◌↔◌, ◌==◌, ⊤, IsUtf8, FitsSigned, pos}
 use Rattle.std.specs.Int.{w64, cast_signed, to_be_bytes, int_wrap}
-use Rattle.std.specs.List.{AllZip, AllByRecursion}
+use Rattle.std.specs.List.{AllByRecursion}
 use Rattle.std.proofs.lemmas.Int.{SFits-int_wrap}
-use Rattle.std.proofs.lemmas.List.Elements.{All-nil, All-cons, All-from_recursion}
+use Rattle.std.proofs.lemmas.List.Elements.{All-from_recursion}
 use Rattle.std.proofs.lemmas.Str.{IsUtf8-nil}
 use Rattle.span_io.specs.Tables.{Singular, MeansText}
 use Rattle.proto_wire.specs.Records.{Held, varint, fixed64, bytes, fixed32, Record}
 use Rattle.trace_model.specs.Proper.{IsProperValue, IsProperPair, AreProper}
 use Rattle.trace_model.specs.declared.value.Value.{Value}
 use Rattle.trace_model.specs.declared.value.Value.TheVariants as values
-use Rattle.otlp_proto.specs.Attributes.{levels_below, attribute_at, AttributesOf}
+use Rattle.otlp_proto.specs.Attributes.{attribute_at, AttributesOf}
 use Rattle.otlp_proto.specs.Rows.{bytes_of, MeansCount, MeansNumber}
 use Rattle.otlp_proto.specs.Identifiers.{MeansTraceId, MeansSpanId}
-use Rattle.span_ids.specs.Proper.{IsProperTraceId, IsProperParent}
-use Rattle.otlp_proto.specs.Values.{Member, string_value, bool_value, int_value, double_value, array_value, kvlist_value, bytes_value, member_in, members_of, NotedValue, KeyValue, leaf, entry, IsListText, IsMapText, MeansMember, IsValueText, IsKeyValueText, value_in, key_value_in}
+use Rattle.span_ids.specs.Proper.{IsProperParent}
+use Rattle.otlp_proto.specs.Values.{Member, string_value, bool_value, int_value, double_value, array_value, kvlist_value, bytes_value, member_in, members_of, IsListText, IsMapText, MeansMember, IsValueText, IsKeyValueText, value_in, key_value_in}
+use Rattle.trace_model.specs.OtlpParts.{levels_below, NotedValue, KeyValue, leaf, entry}
 use Rattle.otlp_proto.proofs.Ranges.{AreBytes, InRange, AllInRange, wire_in_range, all_bytes, in_each, chosen, span_below, trace_below, span_above, trace_above}
-use Rattle.otlp_proto.proofs.SoundLemmas.{kept_all}
+use Rattle.trace_model.specs.PartLaws.{kept_all, each_in_range, ProperTrace}
 
 -- ---- rows
 
@@ -27,13 +28,6 @@ pub singular_in_range : {A B : Type 0} (Means : A → B → Type 0) (absent : B)
 singular_in_range Means absent Q P none some [] b all h = subst P (sym h) none
 singular_in_range Means absent Q P none some (x ∷ []) b all h = some x b all.0 h
 singular_in_range Means absent Q P none some (x ∷ other ∷ more) b all h = absurd h
-
-pub each_in_range : {A B C : Type 0} (Is : A → B → Type 0) (f : B → C) (Q : A → Type 0) (P : C → Type 0) → ((x : B) (a : A) → Q a → Is a x → P (f x))
-    → (held : List A) (xs : List B) → AllByRecursion Q held → AllZip Is held xs → All P (map f xs)
-each_in_range Is f Q P so [] [] all each = All-nil P
-each_in_range Is f Q P so [] (x ∷ xs) all each = absurd each
-each_in_range Is f Q P so (a ∷ held) [] all each = absurd each
-each_in_range Is f Q P so (a ∷ held) (x ∷ xs) all each = All-cons P (f x) (map f xs) (so x a all.0 each.0) (each_in_range Is f Q P so held xs all.1 each.1)
 
 pub text_proper : (texts : List (List ℕ)) (text : List ℕ) → AllByRecursion AreBytes texts → Singular MeansText (λ t. t ≡ []) texts text → IsUtf8 text
 text_proper texts text all h = singular_in_range MeansText [] AreBytes IsUtf8 IsUtf8-nil (λ x t b m. subst IsUtf8 (sym m.1) m.0) texts text all h
@@ -133,10 +127,6 @@ count_proper (n ∷ other ∷ more) count h = absurd h
 
 pub number_proper : (limit : ℕ) → 0 < limit → (numbers : List ℕ) (number : ℕ) → AllByRecursion (λ n. n < limit) numbers → Singular MeansNumber (λ n. n ≡ 0) numbers number → number < limit
 number_proper limit some numbers number all h = singular_in_range MeansNumber 0 (λ n. n < limit) (λ n. n < limit) some (λ n m below e. subst (λ x. x < limit) (sym e) below) numbers number all h
-
-abbrev pub ProperTrace : Option ℕ → Type 0
-ProperTrace None = ⊤
-ProperTrace (Some id) = IsProperTraceId id
 
 trace_means : (held : List ℕ) (id : Option ℕ) → AreBytes held → MeansTraceId held id → ProperTrace id
 trace_means held None all h = tt

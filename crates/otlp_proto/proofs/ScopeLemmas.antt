@@ -1,6 +1,6 @@
 -- Spans that were read, one after the other, and what was read of a scope.
-use Rattle.std.proofs.Common.{◌≡◌, ℕ, suc, ◌+◌, List, [], ◌∷◌, ◌++◌, length, map, refl, sym, ap, ◌∙◌, append_assoc, arith}
-use Rattle.std.proofs.lemmas.List.{append-nil, map-append, length-map}
+use Rattle.std.proofs.Common.{◌≡◌, ℕ, ◌+◌, List, [], ◌∷◌, ◌++◌, length, map, refl, sym, ap, ◌∙◌, arith}
+use Rattle.std.proofs.lemmas.List.{map-append, length-map}
 use Rattle.std.specs.Option.{unwrap_or}
 use Rattle.span_io.specs.Tables.{givens, MeansText}
 use Rattle.proto_wire.specs.Records.{Record}
@@ -13,25 +13,19 @@ use Rattle.otlp_proto.specs.declared.noted.ReadInstrumentationScope.{ReadInstrum
 use Rattle.otlp_proto.specs.declared.noted.ReadSpan.{ReadSpan}
 use Rattle.otlp_proto.specs.declared.scope.ScopeRows.{ScopeRows}
 use Rattle.otlp_proto.specs.declared.scope.SpanList.{SpanList}
-use Rattle.otlp_proto.specs.Notes.{Noted, SpanNotes}
 use Rattle.otlp_proto.specs.ReadParts.{IsReadSpan, IsReadScope, instrumentation_scope_read}
 use Rattle.trace_model.specs.Remarks.{equal_keys, numbered}
-use Rattle.otlp_proto.specs.Remarks.{span_remarks}
 use Rattle.otlp_proto.specs.Rows.{bytes_of, MeansMessage}
-use Rattle.otlp_proto.specs.Scope.{IsInstrumentationScope, no_instrumentation_scope, scope_table}
+use Rattle.otlp_proto.specs.Scope.{IsInstrumentationScope, scope_table}
+use Rattle.trace_model.specs.GroupRemarks.{span_remarks}
+use Rattle.trace_model.specs.Notes.{Noted, SpanNotes}
+use Rattle.trace_model.specs.OtlpParts.{no_instrumentation_scope}
+use Rattle.trace_model.specs.RemarkLaws.{numbered_push}
 use Rattle.otlp_proto.specs.ScopeSoFar.{GatheredSpans, GatheredScope}
 use Rattle.otlp_proto.specs.Span.{IsSpan}
 use Rattle.span_io.specs.RowLaws.{all_zip_push, singular_or, singular_read}
 
 -- ---- spans
-
-pub numbered_push : {A : Type 0} (remarks : ℕ → A → List Remark) (n : ℕ) (xs : List A) (x : A) → numbered remarks n (xs ++ x ∷ []) ≡ numbered remarks n xs ++ remarks (n + length xs) x
-unfolding numbered
-numbered_push remarks n [] x = let first : n ≡ n + 0 = omega arith in append-nil (remarks n x) ∙ ap (λ (k : ℕ). remarks k x) first
-numbered_push remarks n (y ∷ xs) x =
-    let next : suc n + length xs ≡ n + suc (length xs) = omega arith in
-    ap (λ l. remarks n y ++ l) (numbered_push remarks (suc n) xs x ∙ ap (λ (k : ℕ). numbered remarks (suc n) xs ++ remarks k x) next)
-    ∙ sym (append_assoc (remarks n y) (numbered remarks (suc n) xs) (remarks (n + suc (length xs)) x))
 
 pub no_spans : (first : ℕ) (list : SpanList) → list.first ≡ first → list.spans ≡ [] → list.remarks ≡ [] → GatheredSpans first [] list
 unfolding numbered

@@ -13,9 +13,10 @@ use Rattle.trace_model.specs.declared.value.Value.{Value}
 use Rattle.otlp_proto.specs.Laws.{ReadingLaws}
 use Rattle.otlp_proto.specs.Attributes.{AttributesOf}
 use Rattle.trace_model.specs.Remarks.{Keys}
-use Rattle.otlp_proto.specs.Notes.{Noted, SpanNotes, ScopeNotes}
 use Rattle.otlp_proto.specs.Rows.{bytes_of, varints_of, MeansMessage}
-use Rattle.otlp_proto.specs.Scope.{InstrumentationScope, IsInstrumentationScope, no_instrumentation_scope, instrumentation_scope_table, instrumentation_scope_padded, IsScope, scope_table, scope_padded}
+use Rattle.otlp_proto.specs.Scope.{IsInstrumentationScope, instrumentation_scope_table, instrumentation_scope_padded, IsScope, scope_table, scope_padded}
+use Rattle.trace_model.specs.Notes.{Noted, SpanNotes, ScopeNotes}
+use Rattle.trace_model.specs.OtlpParts.{InstrumentationScope, no_instrumentation_scope}
 use Rattle.otlp_proto.specs.Span.{IsSpan}
 use Rattle.otlp_proto.specs.Texts.{filled_field, attributes_text, key_value_text, span_text, instrumentation_scope_text, scope_text}
 use Rattle.otlp_proto.proofs.Bridges.{Bridge, read_back}
@@ -23,8 +24,9 @@ use Rattle.otlp_proto.proofs.CanonicalLaws.{Laws}
 use Rattle.otlp_proto.proofs.FieldLemmas.{Fits}
 use Rattle.otlp_proto.proofs.Fronts.{front_none, rest_none, no_filled, no_count, no_list}
 use Rattle.otlp_proto.proofs.MessageProofs.{MessageProof, message_proof, messages_proof, never_ends, proved}
-use Rattle.otlp_proto.proofs.ProperLemmas.{singular_in_range, each_in_range, text_proper, count_proper}
-use Rattle.otlp_proto.proofs.QuietRemarks.{quiet, quiet_span, quiet_scope, mapped, all_back}
+use Rattle.otlp_proto.proofs.ProperLemmas.{singular_in_range, text_proper, count_proper}
+use Rattle.trace_model.specs.PartLaws.{each_in_range}
+use Rattle.trace_model.specs.RemarkLaws.{quiet, quiet_span, quiet_scope, mapped, all_back}
 use Rattle.otlp_proto.proofs.Ranges.{AreBytes, AllInRange, wire_in_range, all_bytes}
 use Rattle.otlp_proto.proofs.RowProofs.{TableProof, text_proof, count_proof, attributes_proof}
 use Rattle.otlp_proto.proofs.SpanMessage.{span_proof, span_again, span_proper}

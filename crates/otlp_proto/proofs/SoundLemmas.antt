@@ -1,36 +1,24 @@
 -- What is read is sound: no deeper than the levels that were left, and the keys of each map in it rise.
-use Rattle.std.proofs.Common.{◌≡◌, ℕ, zero, suc, ◌+◌, ◌≤◌, List, [], ◌∷◌, map, All, get_or, refl, sym, subst, arith}
-use Rattle.std.specs.Prelude.{◌↔◌, Contains}
-use Rattle.std.proofs.lemmas.List.Elements.{All-nil, All-cons, All-contains, Contains-append_right, Contains-get_or}
+use Rattle.std.proofs.Common.{◌≡◌, ℕ, zero, suc, ◌+◌, ◌≤◌, List, [], ◌∷◌, map, All, refl, sym, subst, arith}
+use Rattle.std.specs.Prelude.{◌↔◌}
+use Rattle.std.proofs.lemmas.List.Elements.{All-nil, All-cons}
 use Rattle.std.specs.List.{AllZip}
-use Rattle.trace_model.specs.Attributes.{Rise, keys, IsLast, AreAttributes}
+use Rattle.trace_model.specs.Attributes.{Rise, keys}
 use Rattle.trace_model.specs.Values.{depth, MapsRise, IsSound, AreSound}
 use Rattle.trace_model.specs.declared.value.Value.{Value}
 use Rattle.trace_model.specs.declared.value.Value.TheVariants as values
 use Rattle.otlp_proto.specs.Attributes.{AttributesOf}
 use Rattle.span_io.specs.Tables.{Singular}
 use Rattle.otlp_proto.specs.Rows.{bytes_of}
-use Rattle.otlp_proto.specs.Values.{Member, string_value, bool_value, int_value, double_value, array_value, kvlist_value, bytes_value, members_of, NotedValue, KeyValue, leaf, entry, IsListText, IsMapText, MeansMember, IsValueText, IsKeyValueText, value_in, key_value_in, key_value_at}
-
-pub record Sound (d : ℕ) (v : Value) : Type 0 where
-  pub shallow : depth v ≤ d
-  pub rising : MapsRise v
+use Rattle.otlp_proto.specs.Values.{Member, string_value, bool_value, int_value, double_value, array_value, kvlist_value, bytes_value, members_of, IsListText, IsMapText, MeansMember, IsValueText, IsKeyValueText, value_in, key_value_in, key_value_at}
+use Rattle.trace_model.specs.OtlpParts.{NotedValue, KeyValue, leaf, entry}
+use Rattle.trace_model.specs.PartLaws.{Sound, kept_all}
 
 pub each_all : {A B C : Type 0} (Is : A → B → Type 0) (f : B → C) (P : C → Type 0) → ((x : B) (a : A) → Is a x → P (f x)) → (held : List A) (xs : List B) → AllZip Is held xs → All P (map f xs)
 each_all Is f P so [] [] all = All-nil P
 each_all Is f P so [] (x ∷ xs) all = absurd all
 each_all Is f P so (a ∷ held) [] all = absurd all
 each_all Is f P so (a ∷ held) (x ∷ xs) all = All-cons P (f x) (map f xs) (so x a all.0) (each_all Is f P so held xs all.1)
-
-here : {X : Type 0} (x : X) (xs : List X) → Contains (x ∷ xs) x
-here x xs = (0, omega arith, refl)
-
--- what all pairs have is so of the last ones too
-pub kept_all : (P : List ℕ × Value → Type 0) (attributes pairs : List (List ℕ × Value)) → AreAttributes attributes pairs → All P pairs → All P attributes
-kept_all P attributes pairs are all = λ k d lt. of (get_or attributes k d) ((are.last (get_or attributes k d)).0 (Contains-get_or attributes k d lt))
-  where
-    of : (pair : List ℕ × Value) → IsLast pair pairs → P pair
-    of pair is = All-contains P pairs pair all (subst (λ l. Contains l pair) (sym is.split) (Contains-append_right is.before (pair ∷ is.behind) pair (here pair is.behind)))
 
 module _ (list_depth : (d : ℕ) (members : List Value) → (depth (values.List members) ≤ d + 1) ↔ All (λ value. depth value ≤ d) members)
     (map_depth : (d : ℕ) (pairs : List (List ℕ × Value)) → (depth (values.Map pairs) ≤ d + 1) ↔ All (λ pair. depth pair.1 ≤ d) pairs)

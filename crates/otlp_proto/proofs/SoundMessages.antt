@@ -15,13 +15,14 @@ use Rattle.trace_model.specs.declared.trace.Group.{Group}
 use Rattle.trace_model.specs.declared.value.Value.{Value}
 use Rattle.otlp_proto.specs.Attributes.{AttributesOf}
 use Rattle.otlp_proto.specs.Event.{IsEvent}
-use Rattle.otlp_proto.specs.Group.{Resource, IsResource, no_resource, IsGroupText}
-use Rattle.otlp_proto.specs.Link.{LinkParts, link_of, IsLink}
+use Rattle.otlp_proto.specs.Group.{IsResource, IsGroupText}
+use Rattle.otlp_proto.specs.Link.{IsLink}
 use Rattle.trace_model.specs.Remarks.{Keys}
-use Rattle.otlp_proto.specs.Notes.{Noted, SpanNotes, ScopeNotes}
 use Rattle.otlp_proto.specs.Rows.{bytes_of, MeansMessage}
-use Rattle.otlp_proto.specs.Scope.{InstrumentationScope, IsInstrumentationScope, no_instrumentation_scope, IsScope}
-use Rattle.otlp_proto.specs.Span.{kept_links, IsSpan}
+use Rattle.otlp_proto.specs.Scope.{IsInstrumentationScope, IsScope}
+use Rattle.otlp_proto.specs.Span.{IsSpan}
+use Rattle.trace_model.specs.Notes.{Noted, SpanNotes, ScopeNotes}
+use Rattle.trace_model.specs.OtlpParts.{Resource, no_resource, LinkParts, link_of, InstrumentationScope, no_instrumentation_scope, kept_links}
 use Rattle.otlp_proto.proofs.SoundLemmas.{each_all}
 
 -- the value of a singular row has what its default and each that is meant have

@@ -1,8 +1,8 @@
 -- The events and links of a span, one more record each, and its end.
-use Rattle.std.proofs.Common.{◌≡◌, ℕ, suc, ◌+◌, List, [], ◌∷◌, ◌++◌, map, length, true, false, Option, Some, None, refl, sym, ap, ◌∙◌, arith}
+use Rattle.std.proofs.Common.{◌≡◌, ℕ, ◌+◌, List, [], ◌∷◌, ◌++◌, map, length, true, false, Option, Some, None, refl, sym, ap, ◌∙◌, arith}
 use Rattle.std.specs.List.{list_any}
 use Rattle.std.specs.Prelude.{is_none}
-use Rattle.std.proofs.lemmas.List.{append-nil, append_assoc, length-map, map-append}
+use Rattle.std.proofs.lemmas.List.{append-nil, length-map, map-append}
 use Rattle.proto_wire.specs.Records.{Record}
 use Rattle.proto_wire.specs.Wire.{Wire}
 use Rattle.trace_model.specs.declared.place.Place.TheVariants as places
@@ -15,22 +15,15 @@ use Rattle.otlp_proto.specs.declared.span.links.LinkList.{LinkList}
 use Rattle.otlp_proto.specs.Event.{IsEvent}
 use Rattle.otlp_proto.specs.Link.{IsLink}
 use Rattle.trace_model.specs.Remarks.{Keys, equal_keys, link_dropped, numbered}
-use Rattle.otlp_proto.specs.Notes.{Noted, SpanNotes}
 use Rattle.otlp_proto.specs.ReadParts.{IsReadSpan}
-use Rattle.otlp_proto.specs.Remarks.{event_remarks, link_remarks, span_remarks}
-use Rattle.otlp_proto.specs.Span.{kept_link, kept_links}
+use Rattle.trace_model.specs.GroupRemarks.{event_remarks, link_remarks, span_remarks}
+use Rattle.trace_model.specs.Notes.{Noted, SpanNotes}
+use Rattle.trace_model.specs.OtlpParts.{kept_link, kept_links}
+use Rattle.trace_model.specs.RemarkLaws.{numbered_push}
 use Rattle.otlp_proto.specs.SpanSoFar.{GatheredEvents, GatheredLinks, ReadsSpan}
 use Rattle.otlp_proto.specs.Rows.{MeansMessage}
 use Rattle.span_io.specs.RowLaws.{all_zip_push}
 use Rattle.span_io.specs.TableLaws.{flat_more}
-
--- ---- remarks of numbered members, one more
-
-numbered_push : (remarks : ℕ → Keys → List Remark) (n : ℕ) (xs : List Keys) (x : Keys) → numbered remarks n (xs ++ x ∷ []) ≡ numbered remarks n xs ++ remarks (n + length xs) x
-unfolding numbered
-numbered_push remarks n [] x = append-nil (remarks n x) ∙ ap (λ k. remarks k x) (omega arith)
-numbered_push remarks n (y ∷ ys) x =
-    ap (λ l. remarks n y ++ l) (numbered_push remarks (suc n) ys x ∙ ap (λ k. numbered remarks (suc n) ys ++ remarks k x) (omega arith)) ∙ sym (append_assoc (remarks n y) (numbered remarks (suc n) ys) (remarks (n + length (y ∷ ys)) x))
 
 -- the member that comes next has that number
 numbered_next : {A : Type 0} (remarks : ℕ → Keys → List Remark) (members : List (Noted A Keys)) (list : List A) (x : Noted A Keys) (number : ℕ) (old new : List Remark)

@@ -20,20 +20,22 @@ use Rattle.otlp_proto.specs.Event.{IsEvent}
 use Rattle.otlp_proto.specs.Identifiers.{MeansTraceId, MeansSpanId}
 use Rattle.otlp_proto.specs.Link.{IsLink}
 use Rattle.trace_model.specs.Remarks.{Keys}
-use Rattle.otlp_proto.specs.Notes.{Noted, SpanNotes}
 use Rattle.otlp_proto.specs.Rows.{bytes_of, varints_of, fixed64s_of, fixed32s_of, MeansMessage}
-use Rattle.otlp_proto.specs.Span.{kept_links, IsSpan, span_table, span_padded, span_ends}
-use Rattle.otlp_proto.specs.Status.{IsStatus, no_status}
-use Rattle.otlp_proto.specs.Texts.{kind_number, status_text, otlp_event_text, link_text, span_text}
+use Rattle.otlp_proto.specs.Span.{IsSpan, span_table, span_padded, span_ends}
+use Rattle.otlp_proto.specs.Status.{IsStatus}
+use Rattle.otlp_proto.specs.Texts.{status_text, otlp_event_text, link_text, span_text}
+use Rattle.trace_model.specs.Notes.{Noted, SpanNotes}
+use Rattle.trace_model.specs.OtlpParts.{kept_links, no_status, kind_number}
 use Rattle.otlp_proto.proofs.Bridges.{Bridge, read_back}
 use Rattle.otlp_proto.proofs.CanonicalLaws.{Laws}
-use Rattle.otlp_proto.proofs.Enums.{kind_laws, kind_named}
+use Rattle.trace_model.specs.OtlpEnums.{kind_laws, kind_numbered}
 use Rattle.otlp_proto.proofs.EventMessage.{event_proof, event_again, event_proper}
 use Rattle.otlp_proto.proofs.FieldLemmas.{Fits}
 use Rattle.otlp_proto.proofs.LinkMessage.{link_proof, link_again, links_proper}
 use Rattle.otlp_proto.proofs.MessageProofs.{MessageProof, message_proof, messages_proof, proved}
-use Rattle.otlp_proto.proofs.ProperLemmas.{singular_in_range, each_in_range, text_proper, number_proper, count_proper, trace_proper, span_id_proper}
-use Rattle.otlp_proto.proofs.QuietRemarks.{quiet, quiet_link, quiet_span, mapped, all_back, links_back, links_noted, none_dropped}
+use Rattle.otlp_proto.proofs.ProperLemmas.{singular_in_range, text_proper, number_proper, count_proper, trace_proper, span_id_proper}
+use Rattle.trace_model.specs.PartLaws.{each_in_range}
+use Rattle.trace_model.specs.RemarkLaws.{quiet, quiet_link, quiet_span, mapped, all_back, links_back, links_noted, none_dropped}
 use Rattle.otlp_proto.proofs.Ranges.{AreBytes, AllInRange, wire_in_range, all_bytes, all_times, all_flags}
 use Rattle.otlp_proto.proofs.RowProofs.{TableProof, text_proof, time_proof, flags_proof, count_proof, enum_proof, trace_id_proof, span_id_proof, attributes_proof}
 use Rattle.otlp_proto.proofs.SpanEnds.{span_end, known, known_trace, known_span, ends_moved, span_ends_well}
@@ -176,7 +178,7 @@ span_rows K =
     text_proof K 3 3 and
     span_id_proof K 3 4 and
     text_proof K 3 5 and
-    enum_proof K 3 6 5 Kind kind_number kinds.Unspecified kind_laws kind_named and
+    enum_proof K 3 6 5 Kind kind_number kinds.Unspecified kind_laws kind_numbered and
     time_proof K 3 7 and
     time_proof K 3 8 and
     attributes_proof K 9 and

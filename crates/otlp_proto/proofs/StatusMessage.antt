@@ -8,11 +8,12 @@ use Rattle.trace_model.specs.declared.span.Code.{Code}
 use Rattle.trace_model.specs.declared.span.Status.{Status}
 use Rattle.otlp_proto.specs.Laws.{ReadingLaws}
 use Rattle.otlp_proto.specs.Rows.{bytes_of, MeansMessage}
-use Rattle.otlp_proto.specs.Status.{IsStatus, status_table, status_padded, no_status}
-use Rattle.otlp_proto.specs.Texts.{filled_field, count_field, code_number, status_text}
+use Rattle.otlp_proto.specs.Status.{IsStatus, status_table, status_padded}
+use Rattle.otlp_proto.specs.Texts.{filled_field, count_field, status_text}
+use Rattle.trace_model.specs.OtlpParts.{no_status, code_number}
 use Rattle.otlp_proto.proofs.Bridges.{Bridge, read_back}
 use Rattle.otlp_proto.proofs.CanonicalLaws.{Laws}
-use Rattle.otlp_proto.proofs.Enums.{code_laws, code_named}
+use Rattle.trace_model.specs.OtlpEnums.{code_laws, code_numbered}
 use Rattle.otlp_proto.proofs.FieldLemmas.{Fits, record_of}
 use Rattle.otlp_proto.proofs.Fronts.{front_none, rest_none, record_some, no_filled}
 use Rattle.otlp_proto.proofs.MessageProofs.{MessageProof, never_ends, proved}
@@ -36,7 +37,7 @@ status_bridge = record {
 -- ---- what is proved of its rows, and so of it
 
 abbrev status_rows : ReadingLaws → TableProof status_table status_padded 3
-status_rows K = (text_proof K 3 2, (enum_proof K 3 3 2 Code code_number codes.Unset code_laws code_named, tt))
+status_rows K = (text_proof K 3 2, (enum_proof K 3 3 2 Code code_number codes.Unset code_laws code_numbered, tt))
 
 pub status_proof : ReadingLaws → MessageProof IsStatus status_table status_padded no_ends 3
 status_proof K = proved K status_table status_padded no_ends IsStatus 3 3 (omega arith) (omega arith) (status_rows K) refl never_ends status_bridge

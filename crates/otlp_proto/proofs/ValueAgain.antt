@@ -2,12 +2,11 @@
 use Rattle.std.proofs.Common.{◌≡◌, ℕ, zero, suc, ◌+◌, ◌*◌, ◌<◌, ◌≤◌, ◌^◌, ⊎_elim, inl, Bool, true, false, List, [], ◌∷◌, ◌++◌, length, map, All, get_or, refl, sym, ap, subst, ◌∙◌, arith}
 use Rattle.std.specs.Prelude.{◌↔◌, ◌≢◌, IsTrue, Contains, FitsSigned}
 use Rattle.std.specs.Int.{w64, from_be_bytes, to_be_bytes, cast_signed, cast_unsigned}
-use Rattle.std.specs.List.{AllZip, flat_map}
+use Rattle.std.specs.List.{AllZip}
 use Rattle.std.proofs.Math.Facts.{Fits-of_z}
 use Rattle.std.proofs.lemmas.Bool.{cases_lt}
 use Rattle.std.proofs.lemmas.Int.{to_z-of_z}
 use Rattle.std.proofs.lemmas.List.{get_or_past}
-use Rattle.std.proofs.lemmas.List.Concat.{flat_map-cons}
 use Rattle.std.proofs.lemmas.List.Elements.{All-get_or}
 use Rattle.std.proofs.lemmas.Nat.{be_bytes_8}
 use Rattle.span_io.specs.Tables.{Singular}
@@ -16,44 +15,20 @@ use Rattle.proto_wire.specs.Wire.{record_text}
 use Rattle.trace_model.specs.Attributes.{Rise, keys, AreAttributes, AreRepeated}
 use Rattle.trace_model.specs.Proper.{IsProperValue, IsProperPair, AreProper}
 use Rattle.trace_model.specs.Values.{depth, MapsRise, AreSound}
-use Rattle.trace_model.specs.declared.value.Value.{Value, Value-F, roll-Value, out-Value, roll-out-Value}
-use Rattle.trace_model.specs.declared.value.Value.TheOpen as layers
+use Rattle.trace_model.specs.declared.value.Value.{Value}
 use Rattle.trace_model.specs.declared.value.Value.TheVariants as values
-use Rattle.otlp_proto.specs.Attributes.{levels_below, attribute_at, AttributesOf, NotedIn}
+use Rattle.otlp_proto.specs.Attributes.{attribute_at, AttributesOf, NotedIn}
 use Rattle.otlp_proto.specs.Rows.{bytes_in}
 use Rattle.otlp_proto.specs.Texts.{bytes_field, list_text, truth_bit, value_text, key_value_text, attributes_text}
-use Rattle.otlp_proto.specs.Values.{Member, members_of, NotedValue, KeyValue, leaf, entry, MeansMember, value_in, key_value_in, value_at, key_value_at, table_of_key_value}
+use Rattle.otlp_proto.specs.Values.{Member, members_of, MeansMember, value_in, key_value_in, value_at, key_value_at, table_of_key_value}
+use Rattle.trace_model.specs.OtlpParts.{levels_below, NotedValue, leaf, entry}
+use Rattle.trace_model.specs.PartLaws.{by_variant, some_depth, quiet_key_value, values_back, values_quiet, pairs_back, pairs_quiet}
 use Rattle.otlp_proto.proofs.CanonicalLaws.{Laws}
 use Rattle.otlp_proto.proofs.Fronts.{record_some}
 use Rattle.otlp_proto.proofs.FieldLemmas.{Fits, held_fits, list_fits, record_of, no_wire, one_wire, held_wire, list_wire}
 use Rattle.otlp_proto.proofs.ValueTexts.{list_value, map_value}
 use Rattle.otlp_proto.proofs.WrittenFields.{text_written, message_written, each_row}
 use Rattle.otlp_proto.proofs.WrittenRows.{AllWritten, IsReadAs, values_of, read_as, given_all, chosen_own, ◌and◌}
-
--- ---- values by their variants
-
-record Cases (P : Value → Type 0) : Type 0 where
-  of_text : (text : List ℕ) → P (values.Text text)
-  of_truth : (truth : Bool) → P (values.Truth truth)
-  of_number : (n : _) → P (values.Number n)
-  of_eight : (double : List ℕ) → P (values.Eight double)
-  of_bytes : (held : List ℕ) → P (values.Bytes held)
-  of_list : (members : List Value) → P (values.List members)
-  of_map : (pairs : List (List ℕ × Value)) → P (values.Map pairs)
-  of_nothing : P values.Nothing
-
-by_layer : (P : Value → Type 0) → Cases P → (layer : Value-F Value) → P (roll-Value layer)
-by_layer P c (layers.Text text) = subst P (sym (values.rolls-Text text)) (c.of_text text)
-by_layer P c (layers.Truth truth) = subst P (sym (values.rolls-Truth truth)) (c.of_truth truth)
-by_layer P c (layers.Number n) = subst P (sym (values.rolls-Number n)) (c.of_number n)
-by_layer P c (layers.Eight double) = subst P (sym (values.rolls-Eight double)) (c.of_eight double)
-by_layer P c (layers.Bytes held) = subst P (sym (values.rolls-Bytes held)) (c.of_bytes held)
-by_layer P c (layers.List members) = subst P (sym (values.rolls-List members)) (c.of_list members)
-by_layer P c (layers.Map pairs) = subst P (sym (values.rolls-Map pairs)) (c.of_map pairs)
-by_layer P c layers.Nothing = subst P (sym values.rolls-Nothing) c.of_nothing
-
-by_variant : (P : Value → Type 0) → Cases P → (v : Value) → P v
-by_variant P c v = subst P (roll-out-Value v) (by_layer P c (out-Value v))
 
 -- ---- only a value of nothing has no text
 
@@ -67,19 +42,6 @@ only_nothing = by_variant (λ v. value_text v ≡ [] → v ≡ values.Nothing) (
   of_list = λ members e. absurd (record_some (record_of bytes 5 (list_text 1 value_text members)) (sym (list_value members) ∙ e));
   of_map = λ pairs e. absurd (record_some (record_of bytes 6 (attributes_text 1 pairs)) (sym (map_value pairs) ∙ e));
   of_nothing = λ e. refl;
-})
-
--- every value has a depth
-some_depth : (v : Value) → 1 ≤ depth v
-some_depth = by_variant (λ v. 1 ≤ depth v) (record {
-  of_text = λ text. omega arith;
-  of_truth = λ truth. omega arith;
-  of_number = λ n. omega arith;
-  of_eight = λ double. omega arith;
-  of_bytes = λ held. omega arith;
-  of_list = λ members. omega arith;
-  of_map = λ pairs. omega arith;
-  of_nothing = omega arith;
 })
 
 -- ---- numbers of fields
@@ -123,27 +85,6 @@ number_low n fits = let low = Fits-of_z {w = w64} {z = n} fits in omega (arith, 
 
 number_back : (n : _) → FitsSigned w64 n → cast_signed w64 (cast_unsigned w64 n) ≡ n
 number_back n fits = to_z-of_z w64 n fits
-
--- ---- lists of values and pairs
-
-abbrev pub quiet_key_value : List ℕ × Value → KeyValue
-quiet_key_value pair = record { key = pair.0; value = leaf pair.1 }
-
-values_back : (members : List Value) → map (λ (m : NotedValue). m.means) (map leaf members) ≡ members
-values_back [] = refl
-values_back (v ∷ members) = ap (λ l. v ∷ l) (values_back members)
-
-values_quiet : (members : List Value) → flat_map (λ (m : NotedValue). m.notes) (map leaf members) ≡ []
-values_quiet [] = refl
-values_quiet (v ∷ members) = flat_map-cons (λ (m : NotedValue). m.notes) (leaf v) (map leaf members) ∙ values_quiet members
-
-pairs_back : (pairs : List (List ℕ × Value)) → map entry (map quiet_key_value pairs) ≡ pairs
-pairs_back [] = refl
-pairs_back (p ∷ pairs) = ap (λ l. p ∷ l) (pairs_back pairs)
-
-pairs_quiet : (pairs : List (List ℕ × Value)) → flat_map (λ (p : KeyValue). p.value.notes) (map quiet_key_value pairs) ≡ []
-pairs_quiet [] = refl
-pairs_quiet (p ∷ pairs) = flat_map-cons (λ (q : KeyValue). q.value.notes) (quiet_key_value p) (map quiet_key_value pairs) ∙ pairs_quiet pairs
 
 -- ---- a value by those in it
 

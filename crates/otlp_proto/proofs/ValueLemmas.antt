@@ -17,7 +17,8 @@ use Rattle.otlp_proto.specs.declared.value_rows.MapRows.{MapRows}
 use Rattle.otlp_proto.specs.ReadParts.{value_read}
 use Rattle.otlp_proto.specs.Rows.{bytes_in, bytes_of}
 use Rattle.span_io.specs.RowsSoFar.{Gave}
-use Rattle.otlp_proto.specs.Values.{Member, MeansMember, NotedValue, KeyValue, entry, value_in, key_value_in, value_at, key_value_at, value_offends, key_value_offends, value_rules, key_value_rules}
+use Rattle.otlp_proto.specs.Values.{Member, MeansMember, value_in, key_value_in, value_at, key_value_at, value_offends, key_value_offends, value_rules, key_value_rules}
+use Rattle.trace_model.specs.OtlpParts.{NotedValue, KeyValue, entry}
 use Rattle.otlp_proto.specs.ValuesSoFar.{GatheredMembers, GatheredField, GatheredList, GatheredMap}
 use Rattle.span_io.specs.RowLaws.{all_zip_push}
 use Rattle.span_io.specs.TableLaws.{flat_more}

@@ -8,13 +8,10 @@ use Rattle.proto_wire.specs.Records.{Record}
 use Rattle.trace_model.specs.Attributes.{AreAttributes, Rise, StandsTwice}
 use Rattle.trace_model.specs.declared.value.Value.{Value}
 use Rattle.trace_model.specs.Remarks.{Keys}
-use Rattle.otlp_proto.specs.Notes.{Noted}
 use Rattle.otlp_proto.specs.Rows.{bytes_row}
-use Rattle.otlp_proto.specs.Values.{KeyValue, entry, keys_inside, key_value_at, key_value_rules}
-
--- how many levels are left below the value of an attribute
-abbrev pub levels_below : ℕ
-levels_below = 15
+use Rattle.otlp_proto.specs.Values.{key_value_at, key_value_rules}
+use Rattle.trace_model.specs.Notes.{Noted}
+use Rattle.trace_model.specs.OtlpParts.{KeyValue, entry, keys_inside, levels_below}
 
 abbrev pub attribute_at : List ℕ → KeyValue → Type 0
 attribute_at held p = key_value_at levels_below held p

@@ -3,7 +3,7 @@ use Rattle.std.specs.Prelude.{◌≡◌, ℕ, List, map}
 use Rattle.std.specs.List.{AllZip}
 use Rattle.otlp_proto.specs.declared.attributes.AttributeRows.{AttributeRows}
 use Rattle.otlp_proto.specs.Attributes.{attribute_at}
-use Rattle.otlp_proto.specs.Values.{KeyValue, entry, keys_inside}
+use Rattle.trace_model.specs.OtlpParts.{KeyValue, entry, keys_inside}
 
 -- of these bytes of `KeyValue`s
 pub record GatheredAttributes (texts : List (List ℕ)) (rows : AttributeRows) : Type 0 where

@@ -10,30 +10,21 @@ use Rattle.proto_wire.specs.Records.{Record}
 use Rattle.trace_model.specs.declared.remark.Remark.{Remark}
 use Rattle.trace_model.specs.declared.trace.Group.{Group}
 use Rattle.trace_model.specs.declared.trace.Scope.{Scope}
-use Rattle.trace_model.specs.declared.value.Value.{Value}
 use Rattle.otlp_proto.specs.Attributes.{AttributesOf, NotedIn, attributes}
 use Rattle.trace_model.specs.Remarks.{Keys}
-use Rattle.otlp_proto.specs.Notes.{Noted, ScopeNotes}
-use Rattle.otlp_proto.specs.Remarks.{group_remarks}
+use Rattle.trace_model.specs.GroupRemarks.{group_remarks}
+use Rattle.trace_model.specs.Notes.{Noted, ScopeNotes}
 use Rattle.otlp_proto.specs.PaddedValues.{AttributePadded}
 use Rattle.otlp_proto.specs.Rows.{bytes_of, varints_of, MeansCount, text, count, message, messages_of, MeansMessage}
 use Rattle.otlp_proto.specs.Scope.{IsScope, scope_rules, ScopePadded}
+use Rattle.trace_model.specs.OtlpParts.{Resource, no_resource, NotedGroup}
 
 -- ---- `Resource`
-
--- what one gives to its group
-pub record Resource : Type 0 where
-  pub attributes : List (List ℕ × Value)
-  pub dropped : ℕ
 
 pub record IsResource (r : Noted Resource Keys) (records : List Record) : Type 0 where
   pub attributes : AttributesOf (bytes_of 1 records) r.means.attributes
   pub noted : NotedIn (bytes_of 1 records) r.notes
   pub dropped : Singular MeansCount (λ n. n ≡ 0) (varints_of 2 records) r.means.dropped
-
--- what stands for one that is absent
-abbrev pub no_resource : Noted Resource Keys
-no_resource = record { means = record { attributes = []; dropped = 0 }; notes = [] }
 
 abbrev pub resource_table : List (Row Record)
 resource_table = attributes 1 ∷ count 2 ∷ []
@@ -49,10 +40,6 @@ abbrev pub ResourcePadded : List ℕ → List ℕ → Type 0
 ResourcePadded held other = TextPadded messages resource_table resource_padded held other
 
 -- ---- `ResourceSpans`
-
--- a group, with the remarks on it
-abbrev pub NotedGroup : Type 0
-NotedGroup = Noted Group (List Remark)
 
 -- the records, in any order, are those of this group
 pub record IsGroup (g : NotedGroup) (records : List Record) : Type 0 where

@@ -12,9 +12,9 @@ use Rattle.otlp_proto.specs.declared.noted.ReadResource.{ReadResource}
 use Rattle.otlp_proto.specs.declared.resource.ResourceRows.{ResourceRows}
 use Rattle.otlp_proto.specs.AttributesSoFar.{GatheredAttributes}
 use Rattle.otlp_proto.specs.Group.{IsResource, resource_table, IsGroup, group_table}
-use Rattle.otlp_proto.specs.Notes.{Noted, ScopeNotes}
 use Rattle.otlp_proto.specs.ReadParts.{resource_read}
-use Rattle.otlp_proto.specs.Remarks.{scopes_remarks}
+use Rattle.trace_model.specs.GroupRemarks.{scopes_remarks}
+use Rattle.trace_model.specs.Notes.{Noted, ScopeNotes}
 use Rattle.otlp_proto.specs.Rows.{MeansCount, MeansMessage}
 use Rattle.span_io.specs.RowsSoFar.{Gave}
 use Rattle.otlp_proto.specs.Scope.{IsScope}

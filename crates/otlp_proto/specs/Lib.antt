@@ -8,10 +8,8 @@ pub mod Identifiers
 pub mod Laws
 pub mod Link
 pub mod LinkSoFar
-pub mod Notes
 pub mod PaddedValues
 pub mod ReadParts
-pub mod Remarks
 pub mod Rows
 pub mod Scope
 pub mod ScopeSoFar

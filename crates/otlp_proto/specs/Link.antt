@@ -1,36 +1,19 @@
 -- `Span.Link` (OTLP trace.proto): `trace_id` 1 and `span_id` 2, `trace_state` 3, a text, `attributes` 4, `dropped_attributes_count` 5
 -- and `flags` 6, four bytes. A link without one of its identifiers is dropped.
-use Rattle.std.specs.Prelude.{◌≡◌, ℕ, List, [], ◌∷◌, Option, Some, None}
+use Rattle.std.specs.Prelude.{◌≡◌, ℕ, List, [], ◌∷◌, Option, None}
 use Rattle.span_io.specs.FreeItems.{Paddings, Same, TextPadded}
 use Rattle.span_io.specs.Offences.{Rules}
 use Rattle.span_io.specs.Tables.{Row, Singular, rules_by, no_ends, MeansText}
 use Rattle.proto_wire.specs.Messages.{messages}
 use Rattle.proto_wire.specs.Records.{Record}
 use Rattle.trace_model.specs.declared.span.Link.{Link}
-use Rattle.trace_model.specs.declared.value.Value.{Value}
 use Rattle.otlp_proto.specs.Attributes.{AttributesOf, NotedIn, attributes}
 use Rattle.otlp_proto.specs.Identifiers.{MeansTraceId, MeansSpanId}
 use Rattle.trace_model.specs.Remarks.{Keys}
-use Rattle.otlp_proto.specs.Notes.{Noted}
+use Rattle.trace_model.specs.Notes.{Noted}
 use Rattle.otlp_proto.specs.PaddedValues.{AttributePadded}
 use Rattle.otlp_proto.specs.Rows.{bytes_of, varints_of, fixed32s_of, MeansNumber, MeansCount, text, count, flags, trace_id, span_id}
-
--- what stands in a link beside its identifiers
-pub record LinkParts : Type 0 where
-  pub state : List ℕ
-  pub attributes : List (List ℕ × Value)
-  pub keys : Keys
-  pub dropped : ℕ
-  pub flags : ℕ
-
--- the link of these identifiers, if both are there
-abbrev pub link_of : Option ℕ → Option ℕ → LinkParts → Option (Noted Link Keys)
-link_of (Some trace) (Some span) parts = Some (record {
-  means = record { trace = trace; span = span; state = parts.state; attributes = parts.attributes; dropped = parts.dropped; flags = parts.flags };
-  notes = parts.keys;
-})
-link_of (Some trace) None parts = None
-link_of None span parts = None
+use Rattle.trace_model.specs.OtlpParts.{LinkParts, link_of}
 
 -- the records, in any order, are those of this link, or of one that is dropped
 pub record IsLink (l : Option (Noted Link Keys)) (records : List Record) : Type 0 where

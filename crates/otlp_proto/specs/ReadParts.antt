@@ -10,13 +10,12 @@ use Rattle.otlp_proto.specs.declared.noted.ReadSpan.{ReadSpan}
 use Rattle.otlp_proto.specs.declared.noted.ReadInstrumentationScope.{ReadInstrumentationScope}
 use Rattle.otlp_proto.specs.declared.noted.ReadScope.{ReadScope}
 use Rattle.otlp_proto.specs.declared.noted.ReadResource.{ReadResource}
-use Rattle.otlp_proto.specs.Group.{Resource}
 use Rattle.trace_model.specs.Remarks.{Keys}
-use Rattle.otlp_proto.specs.Notes.{Noted, SpanNotes, ScopeNotes}
-use Rattle.otlp_proto.specs.Remarks.{span_remarks, scope_remarks}
-use Rattle.otlp_proto.specs.Scope.{InstrumentationScope, IsScope}
+use Rattle.otlp_proto.specs.Scope.{IsScope}
 use Rattle.otlp_proto.specs.Span.{IsSpan}
-use Rattle.otlp_proto.specs.Values.{NotedValue, KeyValue}
+use Rattle.trace_model.specs.GroupRemarks.{span_remarks, scope_remarks}
+use Rattle.trace_model.specs.Notes.{Noted, SpanNotes, ScopeNotes}
+use Rattle.trace_model.specs.OtlpParts.{Resource, InstrumentationScope, NotedValue, KeyValue}
 use Rattle.otlp_proto.specs.Rows.{MeansMessage}
 
 abbrev pub value_read : ReadValue → NotedValue

@@ -9,22 +9,15 @@ use Rattle.proto_wire.specs.Messages.{messages}
 use Rattle.proto_wire.specs.Records.{Record}
 use Rattle.trace_model.specs.declared.span.Span.{Span}
 use Rattle.trace_model.specs.declared.trace.Scope.{Scope}
-use Rattle.trace_model.specs.declared.value.Value.{Value}
 use Rattle.otlp_proto.specs.Attributes.{AttributesOf, NotedIn, attributes}
 use Rattle.trace_model.specs.Remarks.{Keys}
-use Rattle.otlp_proto.specs.Notes.{Noted, SpanNotes, ScopeNotes}
+use Rattle.trace_model.specs.Notes.{Noted, SpanNotes, ScopeNotes}
 use Rattle.otlp_proto.specs.PaddedValues.{AttributePadded}
 use Rattle.otlp_proto.specs.Rows.{bytes_of, varints_of, MeansCount, text, count, message, messages_of, MeansMessage}
 use Rattle.otlp_proto.specs.Span.{IsSpan, span_rules, SpanPadded}
+use Rattle.trace_model.specs.OtlpParts.{InstrumentationScope, no_instrumentation_scope}
 
 -- ---- `InstrumentationScope`
-
--- what one gives to the spans of its scope
-pub record InstrumentationScope : Type 0 where
-  pub name : List ℕ
-  pub version : List ℕ
-  pub attributes : List (List ℕ × Value)
-  pub dropped : ℕ
 
 pub record IsInstrumentationScope (s : Noted InstrumentationScope Keys) (records : List Record) : Type 0 where
   pub name : Singular MeansText (λ text. text ≡ []) (bytes_of 1 records) s.means.name
@@ -32,10 +25,6 @@ pub record IsInstrumentationScope (s : Noted InstrumentationScope Keys) (records
   pub attributes : AttributesOf (bytes_of 3 records) s.means.attributes
   pub noted : NotedIn (bytes_of 3 records) s.notes
   pub dropped : Singular MeansCount (λ n. n ≡ 0) (varints_of 4 records) s.means.dropped
-
--- what stands for one that is absent
-abbrev pub no_instrumentation_scope : Noted InstrumentationScope Keys
-no_instrumentation_scope = record { means = record { name = []; version = []; attributes = []; dropped = 0 }; notes = [] }
 
 abbrev pub instrumentation_scope_table : List (Row Record)
 instrumentation_scope_table = text 1 ∷ text 2 ∷ attributes 3 ∷ count 4 ∷ []

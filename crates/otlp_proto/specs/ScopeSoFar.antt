@@ -11,10 +11,10 @@ use Rattle.otlp_proto.specs.declared.noted.ReadScope.{ReadScope}
 use Rattle.otlp_proto.specs.declared.scope.ScopeRows.{ScopeRows}
 use Rattle.otlp_proto.specs.declared.scope.SpanList.{SpanList}
 use Rattle.otlp_proto.specs.AttributesSoFar.{GatheredAttributes}
-use Rattle.otlp_proto.specs.Notes.{Noted, SpanNotes}
 use Rattle.otlp_proto.specs.ReadParts.{IsReadScope, instrumentation_scope_read}
 use Rattle.trace_model.specs.Remarks.{numbered}
-use Rattle.otlp_proto.specs.Remarks.{span_remarks}
+use Rattle.trace_model.specs.GroupRemarks.{span_remarks}
+use Rattle.trace_model.specs.Notes.{Noted, SpanNotes}
 use Rattle.otlp_proto.specs.Rows.{MeansCount, MeansMessage}
 use Rattle.span_io.specs.RowsSoFar.{Gave}
 use Rattle.otlp_proto.specs.Scope.{IsInstrumentationScope, instrumentation_scope_table, scope_table}

@@ -2,7 +2,7 @@
 -- `start_time_unix_nano` 7 and `end_time_unix_nano` 8, eight bytes each, `attributes` 9, `dropped_attributes_count` 10, `events` 11,
 -- `dropped_events_count` 12, `links` 13, `dropped_links_count` 14, `status` 15 and `flags` 16, four bytes.
 use Rattle.std.specs.Prelude.{◌≡◌, ℕ, ◌⊎◌, List, [], ◌∷◌, map, Option, Some, None, is_none}
-use Rattle.std.specs.List.{AllZip, flat_map, list_any}
+use Rattle.std.specs.List.{AllZip, list_any}
 use Rattle.span_io.specs.FreeItems.{Paddings, Same, TextPadded}
 use Rattle.span_io.specs.Offences.{Rules, Offence}
 use Rattle.span_io.specs.Tables.{Row, Singular, rules_by, MeansText}
@@ -19,22 +19,14 @@ use Rattle.otlp_proto.specs.Event.{IsEvent, event_rules, EventPadded}
 use Rattle.otlp_proto.specs.Identifiers.{MeansTraceId, MeansSpanId}
 use Rattle.otlp_proto.specs.Link.{IsLink, link_rules, LinkPadded}
 use Rattle.trace_model.specs.Remarks.{Keys}
-use Rattle.otlp_proto.specs.Notes.{Noted, SpanNotes}
 use Rattle.otlp_proto.specs.PaddedValues.{AttributePadded}
 use Rattle.otlp_proto.specs.Rows.{bytes_of, varints_of, fixed64s_of, fixed32s_of, MeansNumber, MeansCount, text, time, count, flags, enum, trace_id, span_id, message, messages_of, MeansMessage}
-use Rattle.otlp_proto.specs.Status.{IsStatus, status_rules, no_status, StatusPadded}
-use Rattle.otlp_proto.specs.Texts.{kind_number}
+use Rattle.otlp_proto.specs.Status.{IsStatus, status_rules, StatusPadded}
+use Rattle.trace_model.specs.Notes.{Noted, SpanNotes}
+use Rattle.trace_model.specs.OtlpParts.{no_status, kind_number, kept_links}
 
 abbrev pub MeansKind : ℕ → Kind → Type 0
 MeansKind n kind = n ≡ kind_number kind
-
--- the links that aren't dropped
-abbrev pub kept_link : Option (Noted Link Keys) → List (Noted Link Keys)
-kept_link None = []
-kept_link (Some link) = link ∷ []
-
-abbrev pub kept_links : List (Option (Noted Link Keys)) → List (Noted Link Keys)
-kept_links links = flat_map kept_link links
 
 -- the records, in any order, are those of this span
 pub record IsSpan (s : Noted Span SpanNotes) (records : List Record) : Type 0 where

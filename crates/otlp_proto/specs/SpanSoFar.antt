@@ -17,11 +17,12 @@ use Rattle.otlp_proto.specs.Event.{IsEvent}
 use Rattle.otlp_proto.specs.Identifiers.{MeansTraceId, MeansSpanId}
 use Rattle.otlp_proto.specs.Link.{IsLink}
 use Rattle.trace_model.specs.Remarks.{Keys}
-use Rattle.otlp_proto.specs.Notes.{Noted, SpanNotes}
-use Rattle.otlp_proto.specs.Remarks.{event_remarks, link_remarks, span_remarks}
 use Rattle.otlp_proto.specs.Rows.{MeansNumber, MeansCount, MeansMessage}
 use Rattle.span_io.specs.RowsSoFar.{Gave}
-use Rattle.otlp_proto.specs.Span.{IsSpan, MeansKind, kept_links, span_table}
+use Rattle.otlp_proto.specs.Span.{IsSpan, MeansKind, span_table}
+use Rattle.trace_model.specs.GroupRemarks.{event_remarks, link_remarks, span_remarks}
+use Rattle.trace_model.specs.Notes.{Noted, SpanNotes}
+use Rattle.trace_model.specs.OtlpParts.{kept_links}
 use Rattle.otlp_proto.specs.Status.{IsStatus}
 
 -- of these bytes of events of the span

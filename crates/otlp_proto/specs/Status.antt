@@ -9,7 +9,7 @@ use Rattle.trace_model.specs.declared.span.Code.{Code}
 use Rattle.trace_model.specs.declared.span.Code.TheVariants as codes
 use Rattle.trace_model.specs.declared.span.Status.{Status}
 use Rattle.otlp_proto.specs.Rows.{bytes_of, varints_of, text, enum}
-use Rattle.otlp_proto.specs.Texts.{code_number}
+use Rattle.trace_model.specs.OtlpParts.{code_number}
 
 abbrev pub MeansCode : ℕ → Code → Type 0
 MeansCode n code = n ≡ code_number code
@@ -31,7 +31,3 @@ status_padded = (Same, (Same, tt))
 
 abbrev pub StatusPadded : List ℕ → List ℕ → Type 0
 StatusPadded held other = TextPadded messages status_table status_padded held other
-
--- what stands for one that is absent
-abbrev pub no_status : Status
-no_status = record { code = codes.Unset; message = [] }

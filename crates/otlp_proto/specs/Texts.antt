@@ -6,10 +6,6 @@ use Rattle.std.specs.List.{flat_map}
 use Rattle.std.specs.Int.{w64, w128, to_be_bytes, from_be_bytes, cast_unsigned}
 use Rattle.proto_wire.specs.Records.{varint, fixed64, bytes, fixed32}
 use Rattle.proto_wire.specs.Wire.{record_text}
-use Rattle.trace_model.specs.declared.span.Kind.{Kind}
-use Rattle.trace_model.specs.declared.span.Kind.TheVariants as kinds
-use Rattle.trace_model.specs.declared.span.Code.{Code}
-use Rattle.trace_model.specs.declared.span.Code.TheVariants as codes
 use Rattle.trace_model.specs.declared.span.Status.{Status}
 use Rattle.trace_model.specs.declared.span.Event.{Event}
 use Rattle.trace_model.specs.declared.span.Link.{Link}
@@ -17,6 +13,7 @@ use Rattle.trace_model.specs.declared.span.Span.{Span}
 use Rattle.trace_model.specs.declared.trace.Scope.{Scope}
 use Rattle.trace_model.specs.declared.trace.Group.{Group}
 use Rattle.trace_model.specs.declared.value.Value.{Value, Text, Truth, Number, Eight, Bytes, List', Map', Nothing, Row_of-Value, end_of-Value, more_of-Value, Row_of-Value-Map-0-2, end_of-Value-Map-0-2, more_of-Value-Map-0-2}
+use Rattle.trace_model.specs.OtlpParts.{kind_number, code_number}
 
 -- ---- fields
 
@@ -80,19 +77,6 @@ abbrev pub attributes_text : ℕ → List (List ℕ × Value) → List ℕ
 attributes_text number attributes = list_text number key_value_text attributes
 
 -- ---- spans (trace.proto)
-
-abbrev pub kind_number : Kind → ℕ
-kind_number kinds.Unspecified = 0
-kind_number kinds.Internal = 1
-kind_number kinds.Server = 2
-kind_number kinds.Client = 3
-kind_number kinds.Producer = 4
-kind_number kinds.Consumer = 5
-
-abbrev pub code_number : Code → ℕ
-code_number codes.Unset = 0
-code_number codes.Okay = 1
-code_number codes.Fail = 2
 
 -- `Status`: message 2, code 3
 abbrev pub status_text : Status → List ℕ

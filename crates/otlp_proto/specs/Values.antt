@@ -12,9 +12,8 @@ use Rattle.proto_wire.specs.Wire.{Wire}
 use Rattle.trace_model.specs.Attributes.{AreAttributes, AreRepeated}
 use Rattle.trace_model.specs.declared.value.Value.{Value}
 use Rattle.trace_model.specs.declared.value.Value.TheVariants as values
-use Rattle.trace_model.specs.Remarks.{Keys}
-use Rattle.otlp_proto.specs.Notes.{Noted}
 use Rattle.otlp_proto.specs.Rows.{bytes_of, bytes_row, text, message}
+use Rattle.trace_model.specs.OtlpParts.{NotedValue, leaf, KeyValue, entry, keys_inside}
 
 -- a member of a value
 pub data Member : Type 0 where
@@ -42,24 +41,6 @@ abbrev pub members_of : List Record → List Member
 members_of records = flat_map member_in records
 
 -- ---- what bytes mean: a value, and the keys that stand more than once in a map inside it
-
--- a value with the keys that are noted inside it
-abbrev pub NotedValue : Type 0
-NotedValue = Noted Value Keys
-
-abbrev pub leaf : Value → NotedValue
-leaf v = record { means = v; notes = [] }
-
-pub record KeyValue : Type 0 where
-  pub key : List ℕ
-  pub value : NotedValue
-
--- what it gives to attributes
-abbrev pub entry : KeyValue → List ℕ × Value
-entry p = (p.key, p.value.means)
-
-abbrev pub keys_inside : List KeyValue → Keys
-keys_inside pairs = flat_map (λ p. p.value.notes) pairs
 
 pub record IsListText (IsValue : List ℕ → NotedValue → Type 0) (text : List ℕ) (r : NotedValue) : Type 0 where
   pub records : List Record

@@ -17,7 +17,8 @@ use Rattle.otlp_proto.specs.declared.value_rows.KeyValueRows.{KeyValueRows}
 use Rattle.otlp_proto.specs.ReadParts.{value_read}
 use Rattle.otlp_proto.specs.Rows.{bytes_of}
 use Rattle.span_io.specs.RowsSoFar.{Gave, Adds}
-use Rattle.otlp_proto.specs.Values.{Member, members_of, NotedValue, KeyValue, leaf, entry, keys_inside, MeansMember, BadMember, InMember, value_in, key_value_in, value_at, list_rules, map_rules}
+use Rattle.otlp_proto.specs.Values.{Member, members_of, MeansMember, BadMember, InMember, value_in, key_value_in, value_at, list_rules, map_rules}
+use Rattle.trace_model.specs.OtlpParts.{NotedValue, KeyValue, leaf, entry, keys_inside}
 
 -- ---- of these records
 

@@ -5,7 +5,8 @@ ghost use Rattle.span_io.specs.Tables.{givens};
 ghost use Rattle.proto_wire.specs.Messages.{messages};
 ghost use Rattle.otlp_proto.specs.ReadParts.{IsReadScope, instrumentation_scope_read};
 ghost use Rattle.span_io.specs.RowsSoFar.{Sets, Adds, JudgesMessage};
-ghost use Rattle.otlp_proto.specs.Scope.{no_instrumentation_scope, instrumentation_scope_rules, scope_table, scope_rules};
+ghost use Rattle.otlp_proto.specs.Scope.{instrumentation_scope_rules, scope_table, scope_rules};
+ghost use Rattle.trace_model.specs.OtlpParts.{no_instrumentation_scope};
 ghost use Rattle.otlp_proto.specs.ScopeSoFar.{MeansInstrumentationScope, GatheredSpans, GatheredScope, MakesScope};
 ghost use Rattle.otlp_proto.specs.Span.{span_rules};
 

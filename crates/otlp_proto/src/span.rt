@@ -8,7 +8,8 @@ ghost use Rattle.otlp_proto.specs.ReadParts.{IsReadSpan};
 ghost use Rattle.span_io.specs.RowsSoFar.{Sets, JudgesCause, JudgesEnum, JudgesMessage};
 ghost use Rattle.otlp_proto.specs.Span.{MeansKind, span_ends, span_rules, span_table};
 ghost use Rattle.otlp_proto.specs.SpanSoFar.{GatheredSpan, GaveSpan, MakesSpan, MeansStatus, TakesSpanId, TakesTraceId};
-ghost use Rattle.otlp_proto.specs.Status.{no_status, status_rules};
+ghost use Rattle.otlp_proto.specs.Status.{status_rules};
+ghost use Rattle.trace_model.specs.OtlpParts.{no_status};
 
 mod events;
 mod links;

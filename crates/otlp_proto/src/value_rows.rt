@@ -3,7 +3,8 @@ ghost use Rattle.std.specs.Prelude.{◌≡◌, ◌++◌, ◌∷◌, [], ℕ, Lis
 ghost use Rattle.span_io.specs.Tables.{Twice};
 ghost use Rattle.otlp_proto.specs.ReadParts.{value_read, key_value_read};
 ghost use Rattle.span_io.specs.RowsSoFar.{Adds, JudgesCause};
-ghost use Rattle.otlp_proto.specs.Values.{Member, string_value, bytes_value, leaf, entry, IsListText, IsMapText, value_in, key_value_in, value_at, key_value_at};
+ghost use Rattle.otlp_proto.specs.Values.{Member, string_value, bytes_value, IsListText, IsMapText, value_in, key_value_in, value_at, key_value_at};
+ghost use Rattle.trace_model.specs.OtlpParts.{leaf, entry};
 ghost use Rattle.otlp_proto.specs.ValuesSoFar.{GatheredList, GatheredMap, GatheredMembers, GatheredValue, GatheredKeyValue, JudgesMember, SetsLeaf, GivesRead, GivesField};
 
 use crate::noted::{ReadKeyValue, ReadValue};

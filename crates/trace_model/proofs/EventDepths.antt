@@ -3,22 +3,13 @@ use Rattle.std.proofs.Common.{◌≡◌, ℕ, zero, suc, ◌+◌, ◌≤◌, Lis
 use Rattle.std.proofs.lemmas.List.Elements.{All-nil, All-cons, All-head, All-tail}
 use Rattle.serde_json.specs.Data.{Data, null, boolean, number, string, array, object, Items, no_items, item, Members, no_members, member}
 use Rattle.serde_json.specs.Find.{as_i64}
-use Rattle.trace_model.specs.declared.value.Value.{Value, Text, Truth, Number, Eight, Bytes, List as Several, Map as Named, List', Map', Nothing}
+use Rattle.trace_model.specs.declared.value.Value.{Value, Text, Truth, Number, List as Several, Map as Named, Nothing}
 use Rattle.trace_model.specs.EventReading.{value_within, values_within, pairs_within}
 use Rattle.trace_model.specs.EventTexts.{value_of_json, values_of_json, pairs_of_json}
+use Rattle.trace_model.specs.PartLaws.{some_depth}
 use Rattle.trace_model.specs.Values.{depth}
 use Rattle.trace_model.proofs.EventOptions.{map_some, then_some}
 use Rattle.trace_model.proofs.Rows.{list_depth, map_depth}
-
-some_depth : (value : Value) → 1 ≤ depth value
-some_depth (Text text) = omega arith
-some_depth (Truth truth) = omega arith
-some_depth (Number n) = omega arith
-some_depth (Eight double) = omega arith
-some_depth (Bytes held) = omega arith
-some_depth (List' shape members) = omega arith
-some_depth (Map' shape members) = omega arith
-some_depth Nothing = omega arith
 
 abbrev Shallow : ℕ → Value → Type 0
 Shallow n value = depth value ≤ n

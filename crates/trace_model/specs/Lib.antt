@@ -5,9 +5,15 @@ pub mod EventTexts
 pub mod Faults
 pub mod Flat
 pub mod Gathering
+pub mod GroupRemarks
 pub mod Laws
 pub mod LeastOf
+pub mod Notes
+pub mod OtlpEnums
+pub mod OtlpParts
+pub mod PartLaws
 pub mod Proper
+pub mod RemarkLaws
 pub mod Remarks
 pub mod Soundness
 pub mod ValueTexts

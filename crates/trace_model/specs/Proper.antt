@@ -1,5 +1,5 @@
 -- Parts of a trace that are proper: each number lies in the range of its type, each text is UTF-8, and no identifier is zero.
-use Rattle.std.specs.Prelude.{◌≡◌, ℕ, ◌<◌, ◌^◌, List, length, All, Option, Some, None, IsUtf8, FitsSigned, ⊤}
+use Rattle.std.specs.Prelude.{◌≡◌, ℕ, ◌<◌, ◌^◌, List, length, All, IsUtf8, FitsSigned, ⊤}
 use Rattle.std.specs.Int.{w64}
 use Rattle.span_ids.specs.Proper.{IsProperTraceId, IsProperSpanId, IsProperParent}
 use Rattle.trace_model.specs.declared.span.Status.{Status}

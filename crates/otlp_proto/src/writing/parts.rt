@@ -1,6 +1,6 @@
 //! Statuses, events and links.
 ghost use Rattle.std.specs.Prelude.{◌≡◌};
-ghost use Rattle.otlp_proto.specs.Texts.{code_number};
+ghost use Rattle.trace_model.specs.OtlpParts.{code_number};
 
 use crate::writing::elements::Message;
 use crate::writing::fields::{

@@ -1,7 +1,8 @@
 //! Spans.
 ghost use Rattle.std.specs.Prelude.{◌≡◌, ◌++◌, OnOk, OnErr};
 ghost use Rattle.span_io.specs.Outside.{GrowsFront};
-ghost use Rattle.otlp_proto.specs.Texts.{kind_number, filled_field, count_field, time_field, flags_field, trace_field, span_field, parent_field, list_text, attributes_text, status_text, otlp_event_text, link_text};
+ghost use Rattle.otlp_proto.specs.Texts.{filled_field, count_field, time_field, flags_field, trace_field, span_field, parent_field, list_text, attributes_text, status_text, otlp_event_text, link_text};
+ghost use Rattle.trace_model.specs.OtlpParts.{kind_number};
 
 use crate::writing::elements::{Message, write_elements, write_filled};
 use crate::writing::fields::{

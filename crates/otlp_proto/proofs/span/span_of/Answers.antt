@@ -2,12 +2,12 @@ use Rattle.std.proofs.Common.{◌≡◌, [], None, refl, map}
 use Rattle.trace_model.specs.declared.span.Kind.TheVariants as kinds
 use Rattle.otlp_proto.specs.declared.noted.ReadSpan.{ReadSpan}
 use Rattle.otlp_proto.specs.Identifiers.{MeansSpanId}
-use Rattle.otlp_proto.specs.Notes.{SpanNotes}
 use Rattle.otlp_proto.specs.Rows.{bytes_of, varints_of, fixed64s_of, fixed32s_of, MeansNumber, MeansCount}
 use Rattle.span_io.specs.Tables.{MeansText}
-use Rattle.otlp_proto.specs.Span.{MeansKind, kept_links, span_ends}
+use Rattle.otlp_proto.specs.Span.{MeansKind, span_ends}
 use Rattle.otlp_proto.specs.SpanSoFar.{MeansStatus}
-use Rattle.otlp_proto.specs.Status.{no_status}
+use Rattle.trace_model.specs.Notes.{SpanNotes}
+use Rattle.trace_model.specs.OtlpParts.{kept_links, no_status}
 use Rattle.span_io.specs.RowLaws.{singular_or}
 use Rattle.span_io.specs.GatheringLaws.{refused_end}
 use Rattle.otlp_proto.proofs.SpanLemmas.{remarks_are}

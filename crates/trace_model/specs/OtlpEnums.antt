@@ -1,4 +1,5 @@
--- The enums of OTLP by the numbers of their values.
+-- What is known of OTLP's enums by the numbers of their values: each value has a number of its own, none lies above the last, and each up
+-- to the last is that of a value.
 use Rattle.std.proofs.Common.{◌≡◌, ◌<◌, ◌≤◌, ℕ, ◌⊎◌, inl, inr, ◌==◌, if◌then◌else◌, refl, sym, ap, ◌∙◌, arith}
 use Rattle.std.proofs.lemmas.Bool.{cases_eq}
 use Rattle.span_io.specs.RowLaws.{EnumLaws}
@@ -6,7 +7,7 @@ use Rattle.trace_model.specs.declared.span.Code.TheVariants as codes
 use Rattle.trace_model.specs.declared.span.Code.{Code}
 use Rattle.trace_model.specs.declared.span.Kind.TheVariants as kinds
 use Rattle.trace_model.specs.declared.span.Kind.{Kind}
-use Rattle.otlp_proto.specs.Texts.{code_number, kind_number}
+use Rattle.trace_model.specs.OtlpParts.{code_number, kind_number}
 
 code_at : ℕ → Code
 code_at n = if n == 0 then codes.Unset else (if n == 1 then codes.Okay else codes.Fail)
@@ -49,16 +50,16 @@ kind_within kinds.Consumer n h = omega arith
 pub kind_laws : EnumLaws Kind kind_number 5
 kind_laws = record { same = λ a b e. sym (kind_back a) ∙ ap kind_at e ∙ kind_back b; within = kind_within }
 
-pub code_named : (k : ℕ) → k ≤ 2 → (code : Code) × (k ≡ code_number code)
-code_named k low = of (cases_eq k 0) (cases_eq k 1)
+pub code_numbered : (k : ℕ) → k ≤ 2 → (code : Code) × (k ≡ code_number code)
+code_numbered k low = of (cases_eq k 0) (cases_eq k 1)
   where
     of : (k ≡ 0) ⊎ (k ≡ 0 → ⊥) → (k ≡ 1) ⊎ (k ≡ 1 → ⊥) → (code : Code) × (k ≡ code_number code)
     of (inl e) other = (codes.Unset, e)
     of (inr a) (inl e) = (codes.Okay, e)
     of (inr a) (inr b) = (codes.Fail, omega arith)
 
-pub kind_named : (k : ℕ) → k ≤ 5 → (kind : Kind) × (k ≡ kind_number kind)
-kind_named k low = of (cases_eq k 0) (cases_eq k 1) (cases_eq k 2) (cases_eq k 3) (cases_eq k 4)
+pub kind_numbered : (k : ℕ) → k ≤ 5 → (kind : Kind) × (k ≡ kind_number kind)
+kind_numbered k low = of (cases_eq k 0) (cases_eq k 1) (cases_eq k 2) (cases_eq k 3) (cases_eq k 4)
   where
     of : (k ≡ 0) ⊎ (k ≡ 0 → ⊥) → (k ≡ 1) ⊎ (k ≡ 1 → ⊥) → (k ≡ 2) ⊎ (k ≡ 2 → ⊥) → (k ≡ 3) ⊎ (k ≡ 3 → ⊥) → (k ≡ 4) ⊎ (k ≡ 4 → ⊥) → (kind : Kind) × (k ≡ kind_number kind)
     of (inl e) b c d f = (kinds.Unspecified, e)

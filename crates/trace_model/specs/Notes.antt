@@ -1,5 +1,5 @@
 -- What bytes mean, with what is noted beside it: keys that stand more than once, and links that were dropped. The numbers of a remark's
--- place are found in the whole group (Remarks.antt).
+-- place are found in the whole group (GroupRemarks.antt).
 use Rattle.std.specs.Prelude.{Bool, List}
 use Rattle.trace_model.specs.Remarks.{Keys}
 

@@ -5,7 +5,7 @@ use Rattle.std.specs.Prelude.{ℕ, suc, ◌+◌, List, [], ◌∷◌, ◌++◌, 
 use Rattle.trace_model.specs.declared.place.Place.TheVariants as places
 use Rattle.trace_model.specs.declared.remark.Remark.{Remark}
 use Rattle.trace_model.specs.Remarks.{Keys, equal_keys, link_dropped, numbered}
-use Rattle.otlp_proto.specs.Notes.{SpanNotes, ScopeNotes}
+use Rattle.trace_model.specs.Notes.{SpanNotes, ScopeNotes}
 
 -- of the span of this number
 abbrev pub event_remarks : ℕ → List Keys → List Remark

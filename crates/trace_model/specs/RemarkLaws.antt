@@ -1,17 +1,52 @@
--- Where nothing is noted there are no remarks.
-use Rattle.std.proofs.Common.{◌≡◌, ℕ, suc, ◌+◌, false, List, [], ◌∷◌, ◌++◌, length, map, refl, ap, ◌∙◌}
+-- What is known of remarks: how those of a list grow with one more member, and that where nothing is noted there are none.
+--     quiet x, quiet_link, quiet_span, quiet_scope     what is written, with nothing noted of it
+use Rattle.std.proofs.Common.{◌≡◌, ℕ, suc, ◌+◌, false, List, [], ◌∷◌, ◌++◌, length, map, refl, sym, ap, ◌∙◌, append_assoc, arith}
 use Rattle.std.specs.Prelude.{Option, Some, is_none}
-use Rattle.std.specs.List.{list_any}
+use Rattle.std.specs.List.{list_any, sum_by}
+use Rattle.std.proofs.lemmas.List.{append-nil}
 use Rattle.std.proofs.lemmas.List.Concat.{flat_map-cons}
+use Rattle.std.proofs.lemmas.List.Sums.{sum_by-cons}
 use Rattle.trace_model.specs.declared.place.Place.TheVariants as places
 use Rattle.trace_model.specs.declared.remark.Remark.{Remark}
 use Rattle.trace_model.specs.declared.span.Link.{Link}
 use Rattle.trace_model.specs.declared.span.Span.{Span}
 use Rattle.trace_model.specs.declared.trace.Scope.{Scope}
 use Rattle.trace_model.specs.Remarks.{Keys, equal_keys, numbered}
-use Rattle.otlp_proto.specs.Notes.{Noted, SpanNotes, ScopeNotes}
-use Rattle.otlp_proto.specs.Remarks.{link_remarks, span_remarks, scopes_remarks}
-use Rattle.otlp_proto.specs.Span.{kept_link, kept_links}
+use Rattle.trace_model.specs.GroupRemarks.{link_remarks, span_remarks, scope_remarks, scopes_remarks}
+use Rattle.trace_model.specs.Notes.{Noted, SpanNotes, ScopeNotes}
+use Rattle.trace_model.specs.OtlpParts.{kept_link, kept_links}
+
+-- ---- one member more
+
+pub numbered_push : {A : Type 0} (remarks : ℕ → A → List Remark) (n : ℕ) (xs : List A) (x : A) → numbered remarks n (xs ++ x ∷ []) ≡ numbered remarks n xs ++ remarks (n + length xs) x
+unfolding numbered
+numbered_push remarks n [] x = let first : n ≡ n + 0 = omega arith in append-nil (remarks n x) ∙ ap (λ (k : ℕ). remarks k x) first
+numbered_push remarks n (y ∷ xs) x =
+    let next : suc n + length xs ≡ n + suc (length xs) = omega arith in
+    ap (λ l. remarks n y ++ l) (numbered_push remarks (suc n) xs x ∙ ap (λ (k : ℕ). numbered remarks (suc n) xs ++ remarks k x) next)
+    ∙ sym (append_assoc (remarks n y) (numbered remarks (suc n) xs) (remarks (n + suc (length xs)) x))
+
+-- how many spans of a scope were noted
+abbrev pub spans_noted : ScopeNotes → ℕ
+spans_noted notes = length notes.spans
+
+pub scopes_push : (scope span : ℕ) (xs : List ScopeNotes) (x : ScopeNotes)
+    → scopes_remarks scope span (xs ++ x ∷ []) ≡ scopes_remarks scope span xs ++ scope_remarks (scope + length xs) (span + sum_by (λ n. length n.spans) xs) x
+unfolding scopes_remarks
+scopes_push scope span [] x =
+    let first : scope ≡ scope + 0 = omega arith in
+    let first_span : span ≡ span + sum_by spans_noted [] = omega arith in
+    append-nil (scope_remarks scope span x) ∙ ap (λ (k : ℕ). scope_remarks k span x) first ∙ ap (λ (k : ℕ). scope_remarks (scope + 0) k x) first_span
+scopes_push scope span (y ∷ xs) x =
+    let next : suc scope + length xs ≡ scope + suc (length xs) = omega arith in
+    let next_span : (span + length y.spans) + sum_by spans_noted xs ≡ span + sum_by spans_noted (y ∷ xs) = omega (arith, sum_by-cons spans_noted y xs) in
+    let more = scopes_remarks (suc scope) (span + length y.spans) xs in
+    ap (λ l. scope_remarks scope span y ++ l) (scopes_push (suc scope) (span + length y.spans) xs x
+    ∙ ap (λ (k : ℕ). more ++ scope_remarks k ((span + length y.spans) + sum_by spans_noted xs) x) next
+    ∙ ap (λ (k : ℕ). more ++ scope_remarks (scope + suc (length xs)) k x) next_span)
+    ∙ sym (append_assoc (scope_remarks scope span y) more (scope_remarks (scope + suc (length xs)) (span + sum_by spans_noted (y ∷ xs)) x))
+
+-- ---- nothing noted
 
 -- what is written has nothing noted
 abbrev pub quiet : {A : Type 0} → A → Noted A Keys
