@@ -1,92 +1,20 @@
 -- A text spells one identifier, parent or kind, or none.
-use Rattle.std.proofs.Common.{◌≡◌, ℕ, zero, suc, ◌<◌, ◌≤◌, ◌⊎◌, inl, inr, List, [], ◌∷◌, Bool, true, false, Option, Some, None, length, codes, bytes_eq, true≢false, refl, sym, ap, ◌∙◌, arith}
+use Rattle.std.proofs.Common.{◌≡◌, ℕ, ◌≤◌, inl, inr, List, Option, Some, None, length, codes, refl, sym, ap, arith}
 use Rattle.std.specs.List.{All}
 use Rattle.std.specs.Char.{IsAsciiHexdigit}
-use Rattle.std.specs.Int.{IsInRange}
 use Rattle.std.specs.Str.Parse.{digits_value}
-use Rattle.std.proofs.lemmas.List.Elements.{All-cons, All-head, All-tail}
-use Rattle.std.proofs.lemmas.Slice.Eq.{bytes_eq-Decides}
 use Rattle.span_ids.specs.HexTexts.{SpellsInHex}
 use Rattle.span_ids.specs.declared.hex_text.IdRule.TheVariants.{Padded}
+use Rattle.json_members.specs.ChoiceLaws.{Choice, at_most_chosen, both, all_of, hex_digit, zero_digit, same_text_chosen, SpellsOne, apart}
+use Rattle.json_members.specs.ChoiceLaws.{zeros_value}
 use Rattle.zipkin_json.specs.Identifiers.{SpellsTrace, SpellsSpan, AreZeros, SpellsParent}
 use Rattle.zipkin_json.specs.Span.{SpellsKind}
 use Rattle.zipkin_json.specs.declared.span.ZKind.{ZKind}
 use Rattle.zipkin_json.specs.declared.span.ZKind.TheVariants as kinds
 
--- ---- facts that hold or don't
-
-abbrev pub Choice : Type 0 → Type 0
-Choice P = P ⊎ (P → ⊥)
-
-pub either_side : (a b : ℕ) → (a ≤ b) ⊎ (b < a)
-either_side zero b = inl (omega arith)
-either_side (suc a) zero = inr (omega arith)
-either_side (suc a) (suc b) = on (either_side a b)
-  where
-    on : (a ≤ b) ⊎ (b < a) → (suc a ≤ suc b) ⊎ (suc b < suc a)
-    on (inl h) = inl (omega arith)
-    on (inr h) = inr (omega arith)
-
-at_most : (a b : ℕ) → Choice (a ≤ b)
-at_most a b = on (either_side a b)
-  where
-    on : (a ≤ b) ⊎ (b < a) → Choice (a ≤ b)
-    on (inl h) = inl h
-    on (inr h) = inr (λ k. omega arith)
-
-both : {P Q : Type 0} → Choice P → Choice Q → Choice (P × Q)
-both (inl p) (inl q) = inl (p, q)
-both (inl p) (inr q) = inr (λ h. q h.1)
-both (inr p) q = inr (λ h. p h.0)
-
-either : {P Q : Type 0} → Choice P → Choice Q → Choice (P ⊎ Q)
-either (inl p) q = inl (inl p)
-either (inr p) (inl q) = inl (inr q)
-either {P} {Q} (inr p) (inr q) = inr neither
-  where
-    neither : P ⊎ Q → ⊥
-    neither (inl h) = p h
-    neither (inr h) = q h
-
-all_of : (P : ℕ → Type 0) → ((x : ℕ) → Choice (P x)) → (xs : List ℕ) → Choice (All P xs)
-all_of P each [] = inl (λ k d h. absurd (omega arith))
-all_of P each (x ∷ xs) = on (each x) (all_of P each xs)
-  where
-    on : Choice (P x) → Choice (All P xs) → Choice (All P (x ∷ xs))
-    on (inl p) (inl all) = inl (All-cons P x xs p all)
-    on (inl p) (inr fails) = inr (λ h. fails (All-tail P x xs h))
-    on (inr fails) all = inr (λ h. fails (All-head P x xs h))
-
-in_range : (low high c : ℕ) → Choice (IsInRange low high c)
-in_range low high c = both (at_most low c) (at_most c high)
-
-hex_digit : (c : ℕ) → Choice (IsAsciiHexdigit c)
-hex_digit c = either (either (in_range 48 57 c) (in_range 65 70 c)) (in_range 97 102 c)
-
-zero_digit : (c : ℕ) → Choice (c ≡ 48)
-zero_digit c = on (at_most c 48) (at_most 48 c)
-  where
-    on : Choice (c ≤ 48) → Choice (48 ≤ c) → Choice (c ≡ 48)
-    on (inl a) (inl b) = inl (omega arith)
-    on (inl a) (inr b) = inr (λ h. b (omega arith))
-    on (inr a) b = inr (λ h. a (omega arith))
-
-same_text : (xs ys : List ℕ) → Choice (xs ≡ ys)
-same_text xs ys = on (bytes_eq xs ys) refl
-  where
-    on : (b : Bool) → bytes_eq xs ys ≡ b → Choice (xs ≡ ys)
-    on true e = inl ((bytes_eq-Decides xs ys).0 e)
-    on false e = inr (λ h. let k : bytes_eq xs ys ≡ true = (bytes_eq-Decides xs ys).1 h in cc)
-
--- ---- what a text spells
-
--- one thing, or nothing
-abbrev pub SpellsOne : {A : Type 0} → (List ℕ → A → Type 0) → List ℕ → Type 0
-SpellsOne {A} Spells text = ((x : A) × Spells text x × ((y : A) → Spells text y → x ≡ y)) ⊎ ((y : A) → Spells text y → ⊥)
-
 padded : (full : ℕ) (text : List ℕ) → SpellsOne (λ t id. SpellsInHex Padded full t id) text
 padded full text =
-    on (both (both (at_most 1 (length text)) (both (at_most (length text) full) (all_of IsAsciiHexdigit hex_digit text))) (at_most 1 (digits_value 16 text)))
+    on (both (both (at_most_chosen 1 (length text)) (both (at_most_chosen (length text) full) (all_of IsAsciiHexdigit hex_digit text))) (at_most_chosen 1 (digits_value 16 text)))
   where
     on : Choice (((1 ≤ length text) × ((length text ≤ full) × All IsAsciiHexdigit text)) × (1 ≤ digits_value 16 text)) → SpellsOne (λ t id. SpellsInHex Padded full t id) text
     on (inl h) = inl (digits_value 16 text, (((h.0.0, h.0.1.0, h.0.1.1), (let k = h.1 in omega arith)), refl), (λ y k. sym k.1))
@@ -98,15 +26,8 @@ trace_chosen text = padded 32 text
 pub span_chosen : (text : List ℕ) → SpellsOne SpellsSpan text
 span_chosen text = padded 16 text
 
--- zeros are no identifier
-zeros_value : (text : List ℕ) → All (λ digit. digit ≡ 48) text → digits_value 16 text ≡ 0
-zeros_value [] h = refl
-zeros_value (c ∷ text) h =
-    let e : c ≡ 48 = All-head (λ digit. digit ≡ 48) c text h in
-    rw e (zeros_value text (All-tail (λ digit. digit ≡ 48) c text h))
-
 pub parent_chosen : (text : List ℕ) → SpellsOne SpellsParent text
-parent_chosen text = on (both (at_most 1 (length text)) (both (at_most (length text) 16) (all_of (λ digit. digit ≡ 48) zero_digit text))) (span_chosen text)
+parent_chosen text = on (both (at_most_chosen 1 (length text)) (both (at_most_chosen (length text) 16) (all_of (λ digit. digit ≡ 48) zero_digit text))) (span_chosen text)
   where
     zeros_only : AreZeros text → (id : ℕ) → SpellsSpan text id → ⊥
     zeros_only zeros id h = let none = zeros_value text zeros.2 in let positive = h.0.1 in omega arith
@@ -127,10 +48,6 @@ parent_chosen text = on (both (at_most 1 (length text)) (both (at_most (length t
     on (inl h) id = let zeros : AreZeros text = (h.0, h.1.0, h.1.1) in inl (None, zeros, only_none zeros)
     on (inr fails) (inl h) = let apart_zeros = λ (z : AreZeros text). fails (z.0, (z.1, z.2)) in inl (Some h.0, h.1, only_some apart_zeros h.0 h.2)
     on (inr fails) (inr no_id) = inr (never (λ z. fails (z.0, (z.1, z.2))) no_id)
-
--- two words that differ
-apart : (text a b : List ℕ) → bytes_eq a b ≡ false → text ≡ a → text ≡ b → ⊥
-apart text a b differ h k = true≢false (sym ((bytes_eq-Decides a b).1 (sym h ∙ k)) ∙ differ)
 
 kind_once : (text : List ℕ) (k l : ZKind) → SpellsKind text k → SpellsKind text l → k ≡ l
 kind_once text kinds.Absent l h m = absurd h
@@ -156,7 +73,7 @@ kind_once text kinds.Consumer kinds.Producer h m = absurd (apart text (codes "CO
 kind_once text kinds.Consumer kinds.Consumer h m = refl
 
 pub kind_chosen : (text : List ℕ) → SpellsOne SpellsKind text
-kind_chosen text = on (same_text text (codes "CLIENT")) (same_text text (codes "SERVER")) (same_text text (codes "PRODUCER")) (same_text text (codes "CONSUMER"))
+kind_chosen text = on (same_text_chosen text (codes "CLIENT")) (same_text_chosen text (codes "SERVER")) (same_text_chosen text (codes "PRODUCER")) (same_text_chosen text (codes "CONSUMER"))
   where
     never : (text ≡ codes "CLIENT" → ⊥) → (text ≡ codes "SERVER" → ⊥) → (text ≡ codes "PRODUCER" → ⊥) → (text ≡ codes "CONSUMER" → ⊥) → (k : ZKind) → SpellsKind text k → ⊥
     never a b c d kinds.Absent h = h

@@ -1,30 +1,25 @@
 -- A JSON value means one list of spans and nothing in it offends, or it means none and one offence counts.
-use Rattle.std.proofs.Common.{◌≡◌, ℕ, ◌+◌, ◌<◌, ◌≤◌, ◌⊎◌, inl, inr, List, [], ◌∷◌, Bool, true, false, Option, Some, None, option_map, is_some, unwrap_or, codes, refl, sym, ap, arith}
+use Rattle.std.proofs.Common.{◌≡◌, ℕ, ◌+◌, ◌<◌, ◌≤◌, ◌⊎◌, inl, inr, List, [], ◌∷◌, Bool, false, Option, Some, None, option_map, is_some, unwrap_or, codes, refl, sym, ap, arith}
 use Rattle.serde_json.specs.Data.{Data, null, boolean, number, string, array, object, unsigned, negative, float, Members, no_members, member as has}
-use Rattle.serde_json.specs.Find.{as_str, as_bool, as_array, as_object}
+use Rattle.serde_json.specs.Find.{as_array, as_object}
 use Rattle.span_ids.specs.Times.{last_micros, nanos}
-use Rattle.span_io.specs.declared.cause.Cause.{Cause}
 use Rattle.span_io.specs.declared.cause.Cause.TheVariants as causes
-use Rattle.span_io.specs.Causes.{cause_number}
 use Rattle.span_io.specs.Paths.{Faults, here, ◌▹◌, optional, each, valued, Given, Never, OfKind, Quiet}
 use Rattle.span_io.specs.PathLaws.{clean_nothing, clean_here, counts_here, counts_only, least_here, first_of_parts, quiet_nothing, quiet_parts, quiet_each}
-use Rattle.span_io.specs.PathDecisions.{IsSettled, one, none, decided_as, also, no_more, decided_required, decided_optional, decided_each, decided_valued, decided_plain, pair}
-use Rattle.zipkin_json.specs.Members.{member, elements, member_values, IsText, text_faults, IsTruth, truth_faults, IsCount, IsPort, port_faults, count_faults, count_or_zero}
+use Rattle.span_io.specs.PathDecisions.{IsSettled, one, none, decided_as, also, no_more, decided_required, decided_optional, decided_each, decided_valued, pair}
+use Rattle.json_members.specs.DecisionLaws.{text_decided, truth_decided, spelled_decided, objects_decided, object_of}
+use Rattle.json_members.specs.Members.{member, elements, member_values, IsText, text_faults, IsTruth, truth_faults, IsCount, Spelled}
+use Rattle.zipkin_json.specs.Members.{IsPort, port_faults, count_faults, count_or_zero}
 use Rattle.zipkin_json.specs.Identifiers.{SpellsTrace, SpellsSpan, SpellsParent}
 use Rattle.zipkin_json.specs.declared.span.ZKind.{ZKind}
 use Rattle.zipkin_json.specs.declared.span.ZKind.TheVariants as kinds
-use Rattle.zipkin_json.specs.Span.{Spelled, SpellsKind, unspelled, trace_faults, id_faults, parent_faults, kind_faults, IsEndpoint, endpoint_members, endpoint_faults, no_endpoint, IsAnnotation, annotation_members, annotation_faults, AreAnnotations, annotations_faults, texts_in, AreTags, tag_faults, tags_faults, IsZSpan, span_members, span_faults, AreSpans, spans_faults}
-use Rattle.zipkin_json.proofs.Choices.{either_side, SpellsOne, trace_chosen, span_chosen, parent_chosen, kind_chosen}
+use Rattle.zipkin_json.specs.Span.{SpellsKind, trace_faults, id_faults, parent_faults, kind_faults, IsEndpoint, endpoint_members, endpoint_faults, no_endpoint, IsAnnotation, annotation_members, annotation_faults, AreAnnotations, annotations_faults, texts_in, AreTags, tag_faults, tags_faults, IsZSpan, span_members, span_faults, AreSpans, spans_faults}
+use Rattle.json_members.specs.ChoiceLaws.{either_side}
+use Rattle.zipkin_json.proofs.Choices.{trace_chosen, span_chosen, parent_chosen, kind_chosen}
 use Rattle.zipkin_json.specs.declared.span.Endpoint.{Endpoint}
 use Rattle.zipkin_json.specs.declared.span.ZSpan.{ZSpan}
 
--- ---- texts, truth values and numbers
-
-pub text_decided : (d : Data) → IsSettled (λ text. IsText text d) (text_faults d)
-text_decided d = decided_plain (as_str d)
-
-pub truth_decided : (d : Data) → IsSettled (λ truth. IsTruth truth d) (truth_faults d)
-truth_decided d = decided_plain (as_bool d)
+-- ---- numbers
 
 -- a count that fits behind `start`
 abbrev pub Fits : ℕ → ℕ → Data → Type 0
@@ -67,30 +62,7 @@ small_decided (Some p) = on (either_side p 65535)
 pub port_decided : (d : Data) → IsSettled (λ port. IsPort port d) (port_faults d)
 port_decided d = small_decided _
 
--- ---- identifiers and the kind
-
-text_chosen : {A : Type 0} (Spells : List ℕ → A → Type 0) (cause : Cause) (text : List ℕ) → SpellsOne Spells text
-    → IsSettled (λ x. Spells text x) (here (λ n. (n ≡ cause_number cause) × ((x : A) → ¬ Spells text x)))
-text_chosen Spells cause text (inl h) = one h.0 h.1 h.2 (clean_here _ (λ n k. k.1 h.0 h.1))
-text_chosen Spells cause text (inr never) = none cause (counts_here _ (cause_number cause) (refl, never) (λ n k. let e = k.0 in omega arith)) never
-
-spelled_decided : {A : Type 0} (Spells : List ℕ → A → Type 0) (cause : Cause) → ((text : List ℕ) → SpellsOne Spells text) → (d : Data)
-    → IsSettled (λ x. Spelled Spells x d) (unspelled Spells (cause_number cause) d)
-spelled_decided {A} Spells cause choose d =
-    decided_valued (λ x text. Spells text x) (λ text. here (λ n. (n ≡ cause_number cause) × ((x : A) → ¬ Spells text x))) (λ text. text_chosen Spells cause text (choose text)) (as_str d)
-
 -- ---- endpoints
-
--- the members of an object
-objects_decided : {A : Type 0} {M : A → Type 0} {Offends : Faults} (d : Data) → IsSettled M Offends → IsSettled (λ x. OfKind (λ y members. M y) x (as_object d)) (valued (λ members. Offends) (as_object d))
-objects_decided {A} {M} {Offends} d decided = decided_valued (λ y members. M y) (λ members. Offends) (λ members. decided) (as_object d)
-
-is_object : {A : Type 0} {M : A → Type 0} (x : A) (d : Data) → OfKind (λ y members. M y) x (as_object d) → is_some (as_object d) ≡ true
-is_object x d h = ap is_some h.shape
-
-object_of : {A : Type 0} {M : A → Type 0} (x : A) (o : Option Members) → is_some o ≡ true → M x → OfKind (λ y members. M y) x o
-object_of x (Some members) shape means = record { held = members; shape = refl; means = means }
-object_of x None shape means = cc
 
 abbrev pub EndpointParts : Type 0
 EndpointParts = List ℕ × (List ℕ × (List ℕ × (ℕ × Unit {0})))

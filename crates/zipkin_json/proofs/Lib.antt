@@ -1,13 +1,9 @@
 pub mod Choices
 pub mod Decisions
-pub mod ElementLemmas
-pub mod MemberLemmas
+pub mod ParentLemmas
 pub mod TagLemmas
 pub mod WritingLemmas
 pub mod MeaningLemmas
-pub mod ReadBack
 pub mod TextLemmas
-pub mod Utf8Texts
-pub mod SoundValues
 pub mod ProperLemmas
 pub mod ReadingLemmas

@@ -1,80 +1,33 @@
 -- What is written of a span means this span.
-use Rattle.std.proofs.Common.{◌≡◌, ℕ, zero, suc, ◌+◌, ◌-◌, ◌<◌, ◌≤◌, List, [], ◌∷◌, map, Bool, true, false, Option, Some, None, option_map, codes, refl, sym, ap, subst, ◌∙◌, arith, Ordering, Less, Equal, Greater}
-use Rattle.std.specs.Cmp.Lexicographic.{slice_cmp}
+use Rattle.std.proofs.Common.{◌≡◌, ℕ, zero, suc, ◌+◌, ◌-◌, ◌<◌, ◌≤◌, List, [], ◌∷◌, map, false, Option, Some, None, option_map, codes, refl, sym, ap, subst, arith}
 use Rattle.std.specs.List.{All, AllZip}
-use Rattle.std.specs.Ordering.{nat_cmp, match_ordering}
 use Rattle.std.proofs.lemmas.List.Elements.{All-head, All-tail}
-use Rattle.serde_json.specs.Data.{Data, string, object}
-use Rattle.serde_json.specs.Find.{get_member}
+use Rattle.serde_json.specs.Data.{string, object}
 use Rattle.serde_json.specs.View.{items_of}
 use Rattle.span_ids.specs.Laws.{IdentifiersReadBack}
 use Rattle.span_ids.specs.Times.{micros, nanos, last_micros, IsWhole}
 use Rattle.span_ids.specs.declared.hex_text.IdRule.TheVariants.{Padded}
 use Rattle.span_io.specs.Paths.{Given, Never}
-use Rattle.zipkin_json.specs.Canonical.{MemberRow, text_data, count_data, truth_data, members_given, endpoint_rows, endpoint_data, annotation_json, annotations_data, tag_members, tags_data, kind_data, trace_id_text, span_id_text, zspan_rows, span_json, spans_json}
+use Rattle.json_members.specs.Canonical.{text_data, count_data, truth_data, members_given, trace_id_text, span_id_text}
+use Rattle.zipkin_json.specs.Canonical.{endpoint_rows, endpoint_data, annotation_json, annotations_data, tag_members, tags_data, kind_data, zspan_rows, span_json, spans_json}
 use Rattle.zipkin_json.specs.Identifiers.{SpellsTrace, SpellsSpan, SpellsParent}
-use Rattle.zipkin_json.specs.Members.{unless_null, member, elements, IsText, IsTruth, IsCount, IsPort}
+use Rattle.json_members.specs.MeaningLaws.{given_row, text_again, count_again, truth_again}
+use Rattle.json_members.specs.Members.{unless_null, member, elements, IsText, IsTruth, IsCount, Spelled}
+use Rattle.zipkin_json.specs.Members.{IsPort}
 use Rattle.span_ids.specs.Proper.{IsProperTraceId, IsProperSpanId, IsProperParent}
 use Rattle.zipkin_json.specs.Proper.{IsProperEndpoint, IsProperAnnotation, IsTimelyAnnotation, IsWritableZSpan}
-use Rattle.zipkin_json.specs.Span.{Spelled, SpellsKind, IsEndpoint, no_endpoint, IsAnnotation, AreAnnotations, texts_in, AreTags, IsZSpan, AreSpans}
+use Rattle.zipkin_json.specs.Span.{SpellsKind, IsEndpoint, no_endpoint, IsAnnotation, AreAnnotations, texts_in, AreTags, IsZSpan, AreSpans}
 use Rattle.zipkin_json.specs.declared.span.Endpoint.{Endpoint}
 use Rattle.zipkin_json.specs.declared.span.ZKind.{ZKind}
 use Rattle.zipkin_json.specs.declared.span.ZKind.TheVariants as kinds
 use Rattle.zipkin_json.specs.declared.span.ZSpan.{ZSpan}
 use Rattle.zipkin_json.proofs.WritingLemmas.{endpoint_there}
 
--- ---- a member among those that are written
-
-abbrev either_one : Option Data → Option Data → Option Data
-either_one None rest = rest
-either_one (Some d) rest = Some d
-
--- the member of this name in the rows
-abbrev in_rows : List ℕ → List MemberRow → Option Data
-in_rows name [] = None
-in_rows name (row ∷ rows) = match_ordering (slice_cmp nat_cmp name row.0) (in_rows name rows) (either_one row.1 (in_rows name rows)) (in_rows name rows)
-
-all_same : (o : Ordering) (d : Option Data) → match_ordering o d d d ≡ d
-all_same Less d = refl
-all_same Equal d = refl
-all_same Greater d = refl
-
-row_found : (name : List ℕ) (rows : List MemberRow) → get_member name (members_given rows) ≡ in_rows name rows
-row_found name [] = refl
-row_found name ((key, None) ∷ rows) = row_found name rows ∙ sym (all_same (slice_cmp nat_cmp name key) (in_rows name rows))
-row_found name ((key, Some d) ∷ rows) = ap (λ o. match_ordering (slice_cmp nat_cmp name key) o (Some d) o) (row_found name rows)
-
-alone : (o : Option Data) → either_one o None ≡ o
-alone None = refl
-alone (Some d) = refl
-
--- what stands in the one row of this name
-found : (name : List ℕ) (rows : List MemberRow) (o : Option Data) → in_rows name rows ≡ either_one o None → member name (object (members_given rows)) ≡ unless_null o
-unfolding member
-found name rows o is = ap unless_null (row_found name rows ∙ is ∙ alone o)
-
-module _ {A : Type 0} (Means : A → Data → Type 0) (IsDefault : A → Type 0) (x : A) where
-  given_row : (name : List ℕ) (rows : List MemberRow) (o : Option Data) → in_rows name rows ≡ either_one o None → Given Means IsDefault x (unless_null o)
-      → Given Means IsDefault x (member name (object (members_given rows)))
-  given_row name rows o is h = subst (λ p. Given Means IsDefault x p) (sym (found name rows o is)) h
-
 -- ---- values of one member
-
-text_again : (text : List ℕ) → Given IsText (λ t. t ≡ []) text (unless_null (text_data text))
-text_again [] = refl
-text_again (x ∷ text) = refl
-
-count_again : (count : ℕ) → Given IsCount (λ c. c ≡ 0) count (unless_null (count_data count))
-count_again zero = refl
-count_again (suc n) = refl
 
 port_again : (port : ℕ) → port < 65536 → Given IsPort (λ p. p ≡ 0) port (unless_null (count_data port))
 port_again zero fits = refl
 port_again (suc n) fits = (refl, omega arith)
-
-truth_again : (truth : Bool) → Given IsTruth (λ t. t ≡ false) truth (unless_null (truth_data truth))
-truth_again false = refl
-truth_again true = refl
 
 kind_again : (kind : ZKind) → Given (Spelled SpellsKind) (λ k. k ≡ kinds.Absent) kind (unless_null (kind_data kind))
 kind_again kinds.Absent = refl

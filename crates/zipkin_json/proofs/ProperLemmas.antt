@@ -1,108 +1,29 @@
 -- What is read of a text can be written.
-use Rattle.std.proofs.Common.{◌≡◌, ℕ, ◌+◌, ◌<◌, ◌≤◌, ◌^◌, List, [], ◌∷◌, length, map, Option, Some, None, option_map, codes, IsUtf8, refl, sym, subst, arith, Ordering, Less, Equal, Greater}
-use Rattle.std.proofs.Math.Nat as nat
-use Rattle.std.proofs.lemmas.Int.Digits.{digits_value-lt}
-use Rattle.std.proofs.lemmas.List.Elements.{All-cons, All-head, All-nil, All-tail}
+use Rattle.std.proofs.Common.{◌≡◌, ℕ, ◌+◌, ◌<◌, ◌≤◌, List, [], ◌∷◌, map, Option, Some, None, option_map, codes, IsUtf8, refl, sym, subst, arith, Less}
+use Rattle.std.proofs.lemmas.List.Elements.{All-cons, All-nil}
 use Rattle.std.proofs.lemmas.Str.{IsUtf8-nil}
-use Rattle.std.specs.Char.{IsAsciiHexdigit, digit_value}
 use Rattle.std.specs.Cmp.Lexicographic.{slice_cmp}
 use Rattle.std.specs.List.{All, AllZip, AllByRecursion}
 use Rattle.std.specs.List.Sorted.{IsStrictlySortedBy}
-use Rattle.std.specs.Ordering.{nat_cmp, match_ordering}
-use Rattle.std.specs.Str.Parse.{AllDigits, digits_value}
+use Rattle.std.specs.Ordering.{nat_cmp}
 use Rattle.serde_json.specs.Data.{Data, null, boolean, number, string, array, object, Items, no_items, item, Members, no_members, member as has}
-use Rattle.serde_json.specs.Find.{get_member, as_str, as_array, as_object}
 use Rattle.span_ids.specs.Times.{last_micros, nanos, IsWhole}
 use Rattle.span_io.specs.Paths.{Given, Never}
+use Rattle.json_members.specs.SoundLaws.{Sound, ItemsSound, MembersSound, before_behind, read_sound, member_sound, given_text, needed_text, array_sound, object_sound}
+use Rattle.json_members.specs.TextLaws.{number_below}
 use Rattle.zipkin_json.specs.Identifiers.{SpellsTrace, SpellsSpan, SpellsParent}
 use Rattle.zipkin_json.specs.Laws.{ReadsWritable}
-use Rattle.zipkin_json.specs.Members.{unless_null, member, elements, IsText, IsPort}
+use Rattle.json_members.specs.Members.{member, elements, Spelled}
+use Rattle.zipkin_json.specs.Members.{IsPort}
 use Rattle.span_ids.specs.Proper.{IsProperTraceId, IsProperSpanId, IsProperParent}
 use Rattle.zipkin_json.specs.Proper.{IsProperEndpoint, IsProperAnnotation, IsProperZTag, IsTimelyAnnotation, IsWritableZSpan}
-use Rattle.zipkin_json.specs.Span.{Spelled, IsEndpoint, no_endpoint, IsAnnotation, AreAnnotations, texts_in, AreTags, IsZSpan, TagsRise}
+use Rattle.zipkin_json.specs.Span.{IsEndpoint, no_endpoint, IsAnnotation, AreAnnotations, texts_in, AreTags, IsZSpan, TagsRise}
 use Rattle.zipkin_json.specs.declared.span.Endpoint.{Endpoint}
 use Rattle.zipkin_json.specs.declared.span.ZSpan.{ZSpan}
-use Rattle.zipkin_json.proofs.ReadBack.{Follow}
-use Rattle.zipkin_json.proofs.SoundValues.{Sound, ItemsSound, MembersSound, before_behind, read_sound}
-use Rattle.zipkin_json.proofs.Utf8Texts.{HoldsOf}
-
--- ---- the members of a sound value are sound
-
-found_sound : (name : List ℕ) (ms : Members) → MembersSound ms → HoldsOf Sound (get_member name ms)
-found_sound name no_members h = tt
-found_sound name (has k d ms) h = on (slice_cmp nat_cmp name k) (get_member name ms) (found_sound name ms h.1.1.1)
-  where
-    on : (o : Ordering) (later : Option Data) → HoldsOf Sound later → HoldsOf Sound (match_ordering o later (Some d) later)
-    on Less later l = l
-    on Equal later l = h.1.0
-    on Greater later l = l
-
-there_sound : (o : Option Data) → HoldsOf Sound o → HoldsOf Sound (unless_null o)
-there_sound None h = tt
-there_sound (Some null) h = tt
-there_sound (Some (boolean b)) h = tt
-there_sound (Some (number n)) h = tt
-there_sound (Some (string s)) h = h
-there_sound (Some (array ds)) h = h
-there_sound (Some (object ms)) h = h
-
-member_sound : (name : List ℕ) (d : Data) → Sound d → HoldsOf Sound (member name d)
-unfolding member
-member_sound name null h = tt
-member_sound name (boolean b) h = tt
-member_sound name (number n) h = tt
-member_sound name (string s) h = tt
-member_sound name (array ds) h = tt
-member_sound name (object ms) h = there_sound (get_member name ms) (found_sound name ms h)
-
--- ---- texts
-
-text_sound : (d : Data) (text : List ℕ) → Sound d → as_str d ≡ Some text → IsUtf8 text
-text_sound null text h is = cc
-text_sound (boolean b) text h is = cc
-text_sound (number n) text h is = cc
-text_sound (string s) text h is = let e : s ≡ text = cc in subst IsUtf8 e h
-text_sound (array ds) text h is = cc
-text_sound (object ms) text h is = cc
-
-given_text : (text : List ℕ) (o : Option Data) → HoldsOf Sound o → Given IsText (λ t. t ≡ []) text o → IsUtf8 text
-given_text text None h is = subst IsUtf8 (sym is) IsUtf8-nil
-given_text text (Some d) h is = text_sound d text h is
-
-needed_text : (text : List ℕ) (o : Option Data) → HoldsOf Sound o → Given IsText Never text o → IsUtf8 text
-needed_text text None h is = absurd is
-needed_text text (Some d) h is = text_sound d text h is
-
-array_sound : (d : Data) (ds : Items) → Sound d → as_array d ≡ Some ds → ItemsSound ds
-array_sound null ds h is = cc
-array_sound (boolean b) ds h is = cc
-array_sound (number n) ds h is = cc
-array_sound (string s) ds h is = cc
-array_sound (array held) ds h is = let e : held ≡ ds = cc in subst ItemsSound e h
-array_sound (object ms) ds h is = cc
-
-object_sound : (d : Data) (ms : Members) → Sound d → as_object d ≡ Some ms → MembersSound ms
-object_sound null ms h is = cc
-object_sound (boolean b) ms h is = cc
-object_sound (number n) ms h is = cc
-object_sound (string s) ms h is = cc
-object_sound (array ds) ms h is = cc
-object_sound (object held) ms h is = let e : held ≡ ms = cc in subst MembersSound e h
+use Rattle.json_members.specs.ReadBackLaws.{Follow}
+use Rattle.json_members.specs.Utf8Laws.{HoldsOf}
 
 -- ---- identifiers
-
-digit_below : (c : ℕ) → IsAsciiHexdigit c → digit_value c < 16
-digit_below c h = grind (arith)
-
-all_digits : (text : List ℕ) → All IsAsciiHexdigit text → AllDigits 16 text
-all_digits [] h = tt
-all_digits (c ∷ text) h = (digit_below c (All-head IsAsciiHexdigit c text h), all_digits text (All-tail IsAsciiHexdigit c text h))
-
-number_below : (text : List ℕ) (k : ℕ) → All IsAsciiHexdigit text → length text ≤ k → digits_value 16 text < 16 ^ k
-number_below text k h fits =
-    let below = digits_value-lt 16 text (all_digits text h) in
-    let wider = nat.pow-le-pow_right {n = 16} (omega arith) {i = length text} {j = k} fits in
-    omega arith
 
 trace_proper : (text : List ℕ) (id : ℕ) → SpellsTrace text id → IsProperTraceId id
 trace_proper text id h =

@@ -10,7 +10,7 @@ use Rattle.serde_json.specs.View.{view, members_view}
 use Rattle.serde_json.proofs.Views.{Entry}
 use Rattle.span_io.specs.Paths.{each, NothingOffends, Counts}
 use Rattle.span_io.specs.PathLaws.{clean_nothing, counts_only, clean_one_more, least_at}
-use Rattle.zipkin_json.specs.Members.{member_values}
+use Rattle.json_members.specs.Members.{member_values}
 use Rattle.zipkin_json.specs.Span.{texts_in, tag_faults, TagsRise}
 
 -- ---- one tag

@@ -1,22 +1,18 @@
 -- The text of writable spans is a text of these spans, and of no others.
-use Rattle.std.proofs.Common.{◌≡◌, ℕ, zero, suc, ◌-◌, ◌<◌, ◌^◌, List, [], ◌∷◌, ◌++◌, map, Bool, true, false, Option, Some, None, option_map, codes, IsUtf8, refl, sym, ap, subst, ◌∙◌, arith, append_assoc, Less}
-use Rattle.std.proofs.lemmas.List.Elements.{All-head, All-tail, All-cons, All-nil}
-use Rattle.std.proofs.lemmas.Str.{IsUtf8-from_ascii}
-use Rattle.std.proofs.lemmas.Str.Ascii.{IsAscii-from_all}
-use Rattle.std.specs.Char.{IsAsciiHexdigit}
+use Rattle.std.proofs.Common.{◌≡◌, ℕ, suc, ◌-◌, ◌<◌, ◌^◌, List, [], ◌∷◌, map, codes, refl, ap, subst, arith, Less}
+use Rattle.std.proofs.lemmas.List.Elements.{All-head, All-tail}
 use Rattle.std.specs.Cmp.Lexicographic.{slice_cmp}
-use Rattle.std.specs.List.{All, AllByRecursion, join_with_byte}
+use Rattle.std.specs.List.{All, AllByRecursion}
 use Rattle.std.specs.List.Sorted.{IsStrictlySortedBy}
 use Rattle.std.specs.Ordering.{nat_cmp}
 use Rattle.serde_json.specs.Data.{Data, string}
 use Rattle.serde_json.specs.View.{items_of}
-use Rattle.serde_json.specs.Written.{compact_text, items_text}
+use Rattle.serde_json.specs.Written.{compact_text}
 use Rattle.span_ids.specs.Laws.{IdentifiersReadBack}
 use Rattle.span_ids.specs.Times.{micros}
-use Rattle.span_ids.specs.declared.hex_text.IdRule.TheVariants.{Padded}
-use Rattle.zipkin_json.specs.Canonical.{text_data, count_data, truth_data, endpoint_rows, endpoint_data, annotation_json, annotations_data, tag_members, kind_data, trace_id_text, span_id_text, zspan_rows, span_json, zspan_text, spans_json, spans_text}
+use Rattle.json_members.specs.TextLaws.{text_back, number_back, true_back, trace_back, id_back, parent_back, items_joined}
+use Rattle.zipkin_json.specs.Canonical.{endpoint_rows, endpoint_data, annotation_json, annotations_data, tag_members, kind_data, zspan_rows, span_json, zspan_text, spans_json, spans_text}
 use Rattle.zipkin_json.specs.Laws.{OneList, SpansWrittenAgain, EqualSpansTexts}
-use Rattle.span_ids.specs.Proper.{IsProperTraceId, IsProperSpanId, IsProperParent}
 use Rattle.zipkin_json.specs.Proper.{IsProperEndpoint, IsProperAnnotation, IsProperZTag, IsWritableZSpan}
 use Rattle.zipkin_json.specs.Span.{TagsRise, AreSpans}
 use Rattle.zipkin_json.specs.Texts.{AreSpansText}
@@ -26,21 +22,9 @@ use Rattle.zipkin_json.specs.declared.span.ZKind.TheVariants as kinds
 use Rattle.zipkin_json.specs.declared.span.ZSpan.{ZSpan}
 use Rattle.json.proofs.Printed.Utf8.{IsUtf8-are_ascii}
 use Rattle.zipkin_json.proofs.MeaningLemmas.{span_again, spans_again}
-use Rattle.zipkin_json.proofs.ReadBack.{GivesBack, ItemsGiveBack, MembersGiveBack, GivenGivesBack, Follow, deeper, reads_back, string_back, count_back, truth_back, no_items_back, item_back, array_back, no_members_back, member_back, object_back, rows_back, unless_empty_back, behind_before}
+use Rattle.json_members.specs.ReadBackLaws.{GivesBack, ItemsGiveBack, MembersGiveBack, GivenGivesBack, Follow, gives_deeper, reads_back, string_back, count_back, no_items_back, item_back, array_back, no_members_back, member_back, object_back, rows_back, unless_empty_back, behind_before}
 
 -- ---- members
-
-text_back : (n : ℕ) (text : List ℕ) → IsUtf8 text → GivenGivesBack n (text_data text)
-text_back n [] h = tt
-text_back n (x ∷ text) h = string_back n (x ∷ text) h
-
-number_back : (n count : ℕ) → count < 2 ^ 64 → GivenGivesBack n (count_data count)
-number_back n zero h = tt
-number_back n (suc count) h = count_back n (suc count) h
-
-true_back : (n : ℕ) (truth : Bool) → GivenGivesBack n (truth_data truth)
-true_back n false = tt
-true_back n true = truth_back n true
 
 kind_back : (n : ℕ) (kind : ZKind) → GivenGivesBack n (kind_data kind)
 kind_back n kinds.Absent = tt
@@ -48,27 +32,6 @@ kind_back n kinds.Client = string_back n (codes "CLIENT") (IsUtf8-are_ascii _ re
 kind_back n kinds.Server = string_back n (codes "SERVER") (IsUtf8-are_ascii _ refl)
 kind_back n kinds.Producer = string_back n (codes "PRODUCER") (IsUtf8-are_ascii _ refl)
 kind_back n kinds.Consumer = string_back n (codes "CONSUMER") (IsUtf8-are_ascii _ refl)
-
-hex_below : (text : List ℕ) → All IsAsciiHexdigit text → All (λ b. b < 128) text
-hex_below [] h = All-nil (λ b. b < 128)
-hex_below (c ∷ text) h =
-    let first = All-head IsAsciiHexdigit c text h in
-    let low : c < 128 = grind (arith) in
-    All-cons (λ b. b < 128) c text low (hex_below text (All-tail IsAsciiHexdigit c text h))
-
-hex_is_utf8 : (text : List ℕ) → All IsAsciiHexdigit text → IsUtf8 text
-hex_is_utf8 text h = IsUtf8-from_ascii text (IsAscii-from_all text (hex_below text h))
-
-module _ (ids : IdentifiersReadBack) where
-  trace_back : (n id : ℕ) → IsProperTraceId id → GivesBack n (string (trace_id_text id))
-  trace_back n id h = let spelled = ids.trace_in_hex Padded id h.0 h.1 in string_back n (trace_id_text id) (hex_is_utf8 (trace_id_text id) spelled.0.0.2)
-
-  id_back : (n id : ℕ) → IsProperSpanId id → GivesBack n (string (span_id_text id))
-  id_back n id h = let spelled = ids.span_in_hex Padded id h.0 h.1 in string_back n (span_id_text id) (hex_is_utf8 (span_id_text id) spelled.0.0.2)
-
-  parent_back : (n : ℕ) (parent : Option ℕ) → IsProperParent parent → GivenGivesBack n (option_map (λ id. string (span_id_text id)) parent)
-  parent_back n None h = tt
-  parent_back n (Some id) h = id_back n id h
 
 -- ---- objects and arrays
 
@@ -148,19 +111,14 @@ module _ (ids : IdentifiersReadBack) where
   each_span_back (s ∷ spans) h = item_back 3 (span_json s) _ (span_back s (All-head IsWritableZSpan s spans h)) (each_span_back spans (All-tail IsWritableZSpan s spans h))
 
   spans_back : (spans : List ZSpan) → All IsWritableZSpan spans → GivesBack 127 (spans_json spans)
-  spans_back spans h = deeper 4 127 (spans_json spans) (omega arith) (array_back 3 _ (each_span_back spans h))
+  spans_back spans h = gives_deeper 4 127 (spans_json spans) (omega arith) (array_back 3 _ (each_span_back spans h))
 
 -- ---- the whole text
 
-joined : (s : ZSpan) (more : List ZSpan) → compact_text (span_json s) ++ items_text true (items_of (map span_json more)) ≡ join_with_byte 44 (map zspan_text (s ∷ more)) ++ codes "]"
-unfolding zspan_text
-joined s [] = refl
-joined s (t ∷ more) = ap (λ l. compact_text (span_json s) ++ 44 ∷ l) (joined t more) ∙ sym (append_assoc (compact_text (span_json s)) (44 ∷ join_with_byte 44 (map zspan_text (t ∷ more))) (codes "]"))
-
 whole_text : (spans : List ZSpan) → compact_text (spans_json spans) ≡ spans_text spans
-unfolding spans_text
+unfolding spans_text zspan_text
 whole_text [] = refl
-whole_text (s ∷ more) = ap (λ l. 91 ∷ l) (joined s more)
+whole_text (s ∷ more) = ap (λ l. 91 ∷ l) (items_joined span_json s more)
 
 module _ (ids : IdentifiersReadBack) where
   pub text_again : (spans : List ZSpan) → All IsWritableZSpan spans → AreSpansText spans (spans_text spans)

@@ -1,46 +1,17 @@
 -- The one canonical text of a span of Zipkin v2: compact JSON (RFC 8259), the members of each object in the order of their names' bytes. A
 -- member that holds its default is left out, and so is an object of which all is default; `traceId`, `id`, both members of an annotation
 -- and every tag are always written. Identifiers have all their digits, in lower case.
-use Rattle.std.specs.Prelude.{ℕ, zero, suc, ◌-◌, List, [], ◌∷◌, ◌++◌, map, Bool, true, false, Option, Some, None, option_map, codes}
-use Rattle.std.specs.Int.{w64, w128, to_be_bytes}
+use Rattle.std.specs.Prelude.{ℕ, ◌-◌, List, [], ◌∷◌, ◌++◌, map, Option, Some, None, option_map, codes}
 use Rattle.std.specs.List.{join_with_byte}
-use Rattle.hex.specs.Hex.{encode_lower}
-use Rattle.serde_json.specs.Data.{Data, boolean, number, string, array, object, unsigned, Members, no_members, member}
+use Rattle.serde_json.specs.Data.{Data, number, string, array, object, unsigned, Members, no_members, member}
 use Rattle.serde_json.specs.View.{items_of}
 use Rattle.serde_json.specs.Written.{compact_text}
 use Rattle.span_ids.specs.Times.{micros}
+use Rattle.json_members.specs.Canonical.{MemberRow, members_given, unless_empty, text_data, count_data, truth_data, trace_id_text, span_id_text}
 use Rattle.zipkin_json.specs.declared.span.Endpoint.{Endpoint}
 use Rattle.zipkin_json.specs.declared.span.ZKind.{ZKind}
 use Rattle.zipkin_json.specs.declared.span.ZKind.TheVariants as kinds
 use Rattle.zipkin_json.specs.declared.span.ZSpan.{ZSpan}
-
--- ---- members that are left out where they hold their default
-
-abbrev pub text_data : List ℕ → Option Data
-text_data [] = None
-text_data (x ∷ more) = Some (string (x ∷ more))
-
-abbrev pub count_data : ℕ → Option Data
-count_data zero = None
-count_data (suc n) = Some (number (unsigned (suc n)))
-
-abbrev pub truth_data : Bool → Option Data
-truth_data false = None
-truth_data true = Some (boolean true)
-
-abbrev pub MemberRow : Type 0
-MemberRow = List ℕ × Option Data
-
--- the members of these names that aren't left out
-abbrev pub members_given : List MemberRow → Members
-members_given [] = no_members
-members_given ((name, None) ∷ rows) = members_given rows
-members_given ((name, Some d) ∷ rows) = member name d (members_given rows)
-
--- an object, unless all of it is left out
-abbrev pub unless_empty : Members → Option Data
-unless_empty no_members = None
-unless_empty (member name d more) = Some (object (member name d more))
 
 -- ---- `Endpoint`, `Annotation` and `tags`
 
@@ -73,12 +44,6 @@ kind_data kinds.Client = Some (string (codes "CLIENT"))
 kind_data kinds.Server = Some (string (codes "SERVER"))
 kind_data kinds.Producer = Some (string (codes "PRODUCER"))
 kind_data kinds.Consumer = Some (string (codes "CONSUMER"))
-
-abbrev pub trace_id_text : ℕ → List ℕ
-trace_id_text id = encode_lower (to_be_bytes w128 id)
-
-abbrev pub span_id_text : ℕ → List ℕ
-span_id_text id = encode_lower (to_be_bytes w64 id)
 
 abbrev pub zspan_rows : ZSpan → List MemberRow
 zspan_rows s = (codes "annotations", annotations_data s.annotations) ∷ (codes "debug", truth_data s.debug)

@@ -1,6 +1,6 @@
 -- Spans that can be written. They are proper: each number lies in the range of its type, each text is UTF-8, and no identifier is zero.
 -- They are timely: Zipkin v2 counts whole microseconds, no span ends before its start, and the keys of its tags rise.
-use Rattle.std.specs.Prelude.{◌≡◌, ◌≤◌, ◌<◌, ◌^◌, ℕ, List, All, Option, Some, None, IsUtf8}
+use Rattle.std.specs.Prelude.{◌≤◌, ◌<◌, ◌^◌, ℕ, List, All, IsUtf8}
 use Rattle.span_ids.specs.Proper.{IsProperTraceId, IsProperSpanId, IsProperParent}
 use Rattle.span_ids.specs.Times.{IsWhole}
 use Rattle.zipkin_json.specs.Span.{HasRisingTags}

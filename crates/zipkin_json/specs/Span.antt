@@ -5,26 +5,19 @@ use Rattle.std.specs.Cmp.Lexicographic.{slice_cmp}
 use Rattle.std.specs.List.Sorted.{IsStrictlySortedBy}
 use Rattle.std.specs.Ordering.{nat_cmp}
 use Rattle.serde_json.specs.Data.{Data, null, string, Members, no_members, member as has}
-use Rattle.serde_json.specs.Find.{as_str, as_array, as_object}
+use Rattle.serde_json.specs.Find.{as_array, as_object}
 use Rattle.span_ids.specs.Times.{last_micros, nanos}
-use Rattle.span_io.specs.Paths.{Faults, nothing, here, ◌▹◌, required, optional, each, valued, Given, Never, OfKind}
+use Rattle.span_io.specs.Paths.{Faults, nothing, ◌▹◌, required, optional, each, valued, Given, Never, OfKind}
 use Rattle.std.specs.List.{AllZip}
 use Rattle.zipkin_json.specs.declared.span.Endpoint.{Endpoint}
 use Rattle.zipkin_json.specs.declared.span.ZKind.{ZKind}
 use Rattle.zipkin_json.specs.declared.span.ZKind.TheVariants as kinds
 use Rattle.zipkin_json.specs.declared.span.ZSpan.{ZSpan}
 use Rattle.zipkin_json.specs.Identifiers.{SpellsTrace, SpellsSpan, SpellsParent}
-use Rattle.zipkin_json.specs.Members.{unless_null, member, elements, member_values, IsText, text_faults, IsTruth, truth_faults, IsCount, IsPort, port_faults, count_faults, count_or_zero}
+use Rattle.json_members.specs.Members.{unless_null, member, elements, member_values, IsText, text_faults, IsTruth, truth_faults, IsCount, Spelled, unspelled}
+use Rattle.zipkin_json.specs.Members.{IsPort, port_faults, count_faults, count_or_zero}
 
 -- ---- identifiers and the kind, which are texts
-
--- the text spells this
-abbrev pub Spelled : {A : Type 0} → (List ℕ → A → Type 0) → A → Data → Type 0
-Spelled Spells x d = OfKind (λ y text. Spells text y) x (as_str d)
-
--- with this number, the text spells nothing
-abbrev pub unspelled : {A : Type 0} → (List ℕ → A → Type 0) → ℕ → Data → Faults
-unspelled Spells number d = valued (λ text. here (λ n. (n ≡ number) × ((x : _) → ¬ Spells text x))) (as_str d)
 
 abbrev pub SpellsKind : List ℕ → ZKind → Type 0
 SpellsKind text kinds.Absent = ⊥

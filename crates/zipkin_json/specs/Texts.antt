@@ -1,42 +1,11 @@
 -- The bytes of a text of Zipkin v2: they are a JSON value (RFC 8259), and the value an array of spans.
-use Rattle.std.specs.Prelude.{◌≡◌, ◌⊎◌, ℕ, List, [], Some, IsUtf8}
+use Rattle.std.specs.Prelude.{ℕ, List}
 use Rattle.serde_json.specs.Data.{Data}
-use Rattle.serde_json.specs.Errors.{IsMemory}
-use Rattle.serde_json.specs.Read.{read}
-use Rattle.serde_json.specs.declared.error.Error.{Error}
-use Rattle.span_io.specs.declared.cause.Cause.TheVariants as causes
-use Rattle.span_io.specs.declared.halt.Halt.{Halt}
-use Rattle.span_io.specs.declared.halt.Halt.TheVariants as halts
-use Rattle.span_io.specs.declared.refusal.Refusal.{Refusal}
-use Rattle.span_io.specs.Paths.{Faults}
-use Rattle.zipkin_json.specs.Span.{AreSpans, spans_faults}
+use Rattle.json_members.specs.Texts.{IsJsonText}
+use Rattle.zipkin_json.specs.Span.{AreSpans}
 use Rattle.zipkin_json.specs.declared.span.ZSpan.{ZSpan}
-
--- the bytes are a text of this value
-pub record IsJsonText (d : Data) (bytes : List ℕ) : Type 0 where
-  pub utf8 : IsUtf8 bytes
-  pub reading : read bytes ≡ Some d
 
 pub record AreSpansText (spans : List ZSpan) (bytes : List ℕ) : Type 0 where
   pub value : Data
   pub is_text : IsJsonText value bytes
   pub are_spans : AreSpans spans value
-
--- BadJson: the bytes are no text of a value; else what offends in the value
-pub record BadJson (bytes path : List ℕ) (number : ℕ) : Type 0 where
-  pub whole : path ≡ []
-  pub bad : number ≡ 10
-  pub none : (d : Data) → ¬ IsJsonText d bytes
-
-pub record InValue (bytes path : List ℕ) (number : ℕ) : Type 0 where
-  pub value : Data
-  pub is_text : IsJsonText value bytes
-  pub offends : spans_faults value path number
-
-abbrev pub document_faults : List ℕ → Faults
-document_faults bytes path number = BadJson bytes path number ⊎ InValue bytes path number
-
--- what is answered of bytes that gave no value
-abbrev pub IsUnread : Error → Halt Refusal → Type 0
-IsUnread error (halts.Why refusal) = (¬ IsMemory error) × (refusal ≡ record { unit = 0; cause = causes.BadJson })
-IsUnread error halts.OutOfMemory = Unit {0}

@@ -1,42 +1,8 @@
--- What the writers of parts append, as tokens of JSON.
-use Rattle.std.specs.Prelude.{◌≡◌, ℕ, List, [], ◌∷◌, ◌++◌, Option, Some, None, Result, OnOk, OnErr}
-use Rattle.json.specs.Token.{Token, end_object, key, string}
-use Rattle.json.specs.Tree.{json_tokens}
-use Rattle.json.specs.Written.{Written, WritesFront}
-use Rattle.serde_json.specs.Data.{Data}
-use Rattle.serde_json.specs.Written.{outline}
-use Rattle.zipkin_json.specs.Canonical.{MemberRow, annotation_json}
-
--- these tokens are appended, and after want of memory a front of them
-pub record Appends {E : Type 0} (result : Result (Unit {0}) E) (old new : Written) (tokens : List Token) : Type 0 where
-  pub before : new.before ≡ old.before
-  pub ok : OnOk result (new.tokens ≡ old.tokens ++ tokens)
-  pub err : OnErr result (WritesFront old.tokens new.tokens tokens)
-
--- a front of this text was appended
-pub record GrewFront (old new text : List ℕ) : Type 0 where
-  pub front : List ℕ
-  pub rest : List ℕ
-  pub whole : text ≡ front ++ rest
-  pub grew : new ≡ old ++ front
-
-abbrev pub data_tokens : Data → List Token
-data_tokens d = json_tokens (outline d)
-
--- a member's name and value, if it isn't left out
-abbrev pub given_tokens : List ℕ → Option Data → List Token
-given_tokens name None = []
-given_tokens name (Some d) = key name ∷ data_tokens d
-
--- the rest of an object
-abbrev pub rows_tokens : List MemberRow → List Token
-rows_tokens [] = end_object ∷ []
-rows_tokens (row ∷ rows) = given_tokens row.0 row.1 ++ rows_tokens rows
-
--- the pieces of a list's elements, one behind the other
-abbrev pub pieces : {A : Type 0} → (A → List Token) → List A → List Token
-pieces piece [] = []
-pieces piece (x ∷ more) = piece x ++ pieces piece more
+-- The pieces that the writers of lists append, as tokens of JSON.
+use Rattle.std.specs.Prelude.{ℕ, List, [], ◌∷◌}
+use Rattle.json.specs.Token.{Token, key, string}
+use Rattle.json_members.specs.Writing.{data_tokens}
+use Rattle.zipkin_json.specs.Canonical.{annotation_json}
 
 abbrev pub tag_piece : List ℕ × List ℕ → List Token
 tag_piece tag = key tag.0 ∷ string tag.1 ∷ []

@@ -3,10 +3,11 @@ ghost use Rattle.std.specs.Prelude.{◌≡◌, [], map, IfOk};
 ghost use Rattle.serde_json.specs.View.{view};
 ghost use Rattle.span_io.specs.Paths.{optional, each, JudgesValue, Given};
 ghost use Rattle.std.specs.List.{AllZip};
-ghost use Rattle.zipkin_json.specs.Members.{member};
+ghost use Rattle.json_members.specs.Members.{member};
 ghost use Rattle.zipkin_json.specs.Span.{IsAnnotation, annotation_members, annotation_faults, AreAnnotations, annotations_faults};
 
-use crate::members::{member_of, required_micros, required_text};
+use crate::members::{required_micros, required_text};
+use json_members::member_of;
 use serde_json::Value;
 use span_ids::Nanos;
 use span_io::{Cause, Halt, Items, Text};

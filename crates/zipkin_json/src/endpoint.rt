@@ -2,11 +2,12 @@
 ghost use Rattle.std.specs.Prelude.{◌≡◌, IfOk};
 ghost use Rattle.serde_json.specs.View.{view};
 ghost use Rattle.span_io.specs.Paths.{optional, JudgesValue, Given};
-ghost use Rattle.zipkin_json.specs.Members.{member};
+ghost use Rattle.json_members.specs.Members.{member};
 ghost use Rattle.zipkin_json.specs.Span.{IsEndpoint, endpoint_members, endpoint_faults, no_endpoint};
 
-use crate::members::{member_of, port, text};
+use crate::members::port;
 use crate::span::Endpoint;
+use json_members::{member_of, text};
 use serde_json::Value;
 use span_io::{Cause, Halt, Text};
 use std::alloc::Global;

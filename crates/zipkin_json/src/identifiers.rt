@@ -3,13 +3,13 @@ ghost use Rattle.std.specs.Prelude.{◌≡◌, ◌↔◌, ℕ, Option, IfSome, I
 ghost use Rattle.serde_json.specs.View.{view};
 ghost use Rattle.span_io.specs.Paths.{required, optional, JudgesValue, Given, Never};
 ghost use Rattle.zipkin_json.specs.Identifiers.{AreZeros, SpellsTrace, SpellsSpan, SpellsParent};
-ghost use Rattle.zipkin_json.specs.Members.{member};
-ghost use Rattle.zipkin_json.specs.Span.{Spelled, SpellsKind, trace_faults, id_faults, parent_faults, kind_faults};
+ghost use Rattle.json_members.specs.Members.{member, Spelled};
+ghost use Rattle.zipkin_json.specs.Span.{SpellsKind, trace_faults, id_faults, parent_faults, kind_faults};
 ghost use Rattle.zipkin_json.specs.declared.span.ZKind.TheVariants as kinds;
 ghost use Rattle.zipkin_json.specs.declared.span.ZKind.{ZKind};
 
-use crate::members::member_of;
 use crate::span::ZKind;
+use json_members::member_of;
 use serde_json::Value;
 use span_ids::{BadId, IdRule, SpanId, TraceId};
 use span_io::{Cause, Halt};
@@ -35,7 +35,7 @@ fn are_zeros(text: &str) -> bool
     1 <= digits.len() && digits.len() <= 16 && digits.iter().all(|digit| *digit == b'0')
 }
 
-#[tactic(auto, using(crate::proofs::MemberLemmas::no_parent))]
+#[tactic(auto, using(crate::proofs::ParentLemmas::no_parent))]
 fn parent_of(text: &str) -> Result<Option<SpanId>, BadId>
     ensures ok { IfOk result (λ parent. SpellsParent text.now parent) }
     ensures err { OnErr result ((parent : Option ℕ) → ¬ SpellsParent text.now parent) }

@@ -1,53 +1,18 @@
 //! Members of an object, by their kinds.
-ghost use Rattle.std.specs.Prelude.{◌≡◌, ◌+◌, ◌≤◌, [], false, IfOk, IfSome, option_map, option_and_then};
-ghost use Rattle.serde_json.specs.Find.{as_number, as_u64};
+ghost use Rattle.std.specs.Prelude.{◌≡◌, ◌+◌, ◌≤◌, [], false, IfOk};
 ghost use Rattle.serde_json.specs.View.{view};
 ghost use Rattle.span_io.specs.Paths.{required, optional, JudgesValue, Given, Never};
 ghost use Rattle.span_ids.specs.Times.{last_micros};
-ghost use Rattle.zipkin_json.specs.Members.{member, IsText, text_faults, IsTruth, truth_faults, IsCount, IsPort, port_faults, count_faults};
+ghost use Rattle.json_members.specs.Members.{member, IsText, text_faults, IsTruth, truth_faults, IsCount};
+ghost use Rattle.zipkin_json.specs.Members.{IsPort, port_faults, count_faults};
 
+use json_members::{member_of, text_of, truth_of};
 use serde_json::Value;
-use span_io::{Cause, Halt, OutOfMemory, Text};
+use span_io::{Cause, Halt, Text};
 use std::alloc::Global;
 
 /// The last count of microseconds whose nanoseconds fit 64 bits.
 pub const LAST_MICROS: u64 = u64::MAX / 1000;
-
-// A member of an object, where it is there and not null.
-#[tactic(auto, using(crate::proofs::MemberLemmas::finds))]
-pub fn member_of<'v>(v: &'v Value, name: &str) -> Option<&'v Value>
-    ensures { option_map (λ m. view m.now) result ≡ member name.now (view v.now) }
-{
-    let Some(found) = v.get(name) else {
-        return None;
-    };
-    if found.is_null() {
-        return None;
-    }
-    Some(found)
-}
-
-fn text_of(alloc: Global, v: &Value) -> Result<Text, Halt<Cause>>
-    ensures value { IfOk result (λ text. IsText text (view v.now)) }
-    ensures judged { JudgesValue result (text_faults (view v.now)) }
-{
-    let Some(given) = v.as_str() else {
-        return Err(Halt::Why(Cause::BadShape));
-    };
-    Ok(Text::of(alloc, given)?)
-}
-
-// A text that may be absent, which is empty then.
-pub fn text(alloc: Global, v: &Value, name: &str) -> Result<Text, Halt<Cause>>
-    ensures value { IfOk result (λ text. Given IsText (λ t. t ≡ []) text
-        (member name.now (view v.now))) }
-    ensures judged { JudgesValue result (optional text_faults (member name.now (view v.now))) }
-{
-    match member_of(v, name) {
-        None => Ok(Text::new(alloc)),
-        Some(found) => text_of(alloc, found),
-    }
-}
 
 pub fn required_text(alloc: Global, v: &Value, name: &str) -> Result<Text, Halt<Cause>>
     ensures value { IfOk result (λ text. Given IsText Never text (member name.now (view v.now))) }
@@ -67,10 +32,7 @@ pub fn truth(v: &Value, name: &str) -> Result<bool, Halt<Cause>>
 {
     match member_of(v, name) {
         None => Ok(false),
-        Some(found) => match found.as_bool() {
-            Some(truth) => Ok(truth),
-            None => Err(Halt::Why(Cause::BadShape)),
-        },
+        Some(found) => truth_of(found),
     }
 }
 

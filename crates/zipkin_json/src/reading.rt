@@ -5,9 +5,11 @@ ghost use Rattle.span_io.specs.Paths.{each, optional, JudgesValue, JudgesInput, 
 ghost use Rattle.span_io.specs.Offences.{OnlyReads};
 ghost use Rattle.std.specs.List.{AllZip};
 ghost use Rattle.span_ids.specs.Times.{last_micros};
-ghost use Rattle.zipkin_json.specs.Members.{member, IsCount, count_or_zero, count_faults};
+ghost use Rattle.json_members.specs.Members.{member, IsCount};
+ghost use Rattle.json_members.specs.Texts.{document_faults};
+ghost use Rattle.zipkin_json.specs.Members.{count_or_zero, count_faults};
 ghost use Rattle.zipkin_json.specs.Proper.{IsWritableZSpan};
-ghost use Rattle.zipkin_json.specs.Texts.{AreSpansText, IsUnread, document_faults};
+ghost use Rattle.zipkin_json.specs.Texts.{AreSpansText};
 ghost use Rattle.zipkin_json.specs.declared.span.ZSpan.{ZSpan};
 ghost use Rattle.zipkin_json.specs.Span.{IsZSpan, HasRisingTags, span_members, span_faults, AreSpans, spans_faults};
 
@@ -15,10 +17,11 @@ use crate::annotation::annotations;
 use crate::endpoint::endpoint_of;
 use crate::identifiers::{kind, parent, required_span, required_trace};
 use crate::laws::{one_list, reads_proper};
-use crate::members::{micros, text, truth};
+use crate::members::{micros, truth};
 use crate::span::ZSpan;
 use crate::tags::tags_of;
-use serde_json::{Error, Value};
+use json_members::{text, unread};
+use serde_json::Value;
 use span_ids::Nanos;
 use span_io::{Cause, Halt, Items, Refusal};
 use std::alloc::Global;
@@ -126,7 +129,7 @@ pub fn read_text(alloc: Global, bytes: &[u8]) -> Result<Items<ZSpan>, Halt<Refus
     ensures rising { IfOk result (All HasRisingTags) }
     // They can be written.
     ensures writable { IfOk result (All IsWritableZSpan) }
-    ensures judged { JudgesInput result (document_faults bytes.now) }
+    ensures judged { JudgesInput result (document_faults spans_faults bytes.now) }
     // Whatever spans the bytes are a text of are the answer.
     ensures only { (spans : List ZSpan) → AreSpansText spans bytes.now → OnlyReads result spans }
 {
@@ -135,17 +138,4 @@ pub fn read_text(alloc: Global, bytes: &[u8]) -> Result<Items<ZSpan>, Halt<Refus
         Ok(v) => read_spans(alloc, &v),
         Err(error) => Err(unread(&error)),
     }
-}
-
-// What is answered of bytes that gave no value.
-fn unread(error: &Error) -> Halt<Refusal>
-    ensures { IsUnread error.now result }
-{
-    if error.is_memory() {
-        return Halt::OutOfMemory;
-    }
-    Halt::Why(Refusal {
-        unit: 0,
-        cause: Cause::BadJson,
-    })
 }

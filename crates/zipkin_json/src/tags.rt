@@ -2,10 +2,10 @@
 ghost use Rattle.std.specs.Prelude.{◌≡◌, [], Some, IfOk};
 ghost use Rattle.serde_json.specs.View.{view, members_view};
 ghost use Rattle.span_io.specs.Paths.{optional, each, JudgesValue, Given};
-ghost use Rattle.zipkin_json.specs.Members.{member, member_values};
+ghost use Rattle.json_members.specs.Members.{member, member_values};
 ghost use Rattle.zipkin_json.specs.Span.{texts_in, AreTags, TagsRise, tag_faults, tags_faults};
 
-use crate::members::member_of;
+use json_members::member_of;
 use serde_json::{Map, Value};
 use span_io::{Cause, Halt, Items, Text};
 use std::alloc::Global;

@@ -1,102 +1,22 @@
 //! Writing a span as its canonical text.
-ghost use Rattle.std.specs.Prelude.{◌≡◌, ◌-◌, ◌++◌, ◌∷◌, [], Some, None, true, option_map, IsTrue, ◌↔◌, OnOk, OnErr};
+ghost use Rattle.std.specs.Prelude.{◌≡◌, ◌-◌, ◌++◌, ◌∷◌, [], Some, IsTrue, ◌↔◌, OnOk, OnErr};
 ghost use Rattle.json.specs.Token.{begin_object, end_object, begin_array, end_array, key};
-ghost use Rattle.serde_json.specs.Data.{number, string, unsigned, boolean};
+ghost use Rattle.serde_json.specs.Data.{number, string, unsigned};
 ghost use Rattle.span_ids.specs.Times.{micros};
-ghost use Rattle.zipkin_json.specs.Canonical.{text_data, count_data, truth_data, kind_data, trace_id_text, span_id_text, endpoint_rows, endpoint_data, annotations_data, tags_data, zspan_rows, zspan_text};
-ghost use Rattle.zipkin_json.specs.Writing.{Appends, GrewFront, given_tokens, rows_tokens, pieces, tag_piece, annotation_piece};
+ghost use Rattle.json_members.specs.Canonical.{count_data};
+ghost use Rattle.json_members.specs.Writing.{Appends, GrewFront, given_tokens, rows_tokens, pieces};
+ghost use Rattle.zipkin_json.specs.Canonical.{kind_data, endpoint_rows, endpoint_data, annotations_data, tags_data, zspan_rows, zspan_text};
+ghost use Rattle.zipkin_json.specs.Writing.{tag_piece, annotation_piece};
 
 use crate::span::{Endpoint, ZKind, ZSpan};
 use json::Writer;
-use span_ids::{Nanos, SpanId, TraceId};
+use json_members::{
+    close_array, close_object, count_member, given_text_member, id_member, name_of, open_array,
+    open_object, own_text_member, parent_member, trace_member, truth_member, whole_count_member,
+    whole_text_member,
+};
+use span_ids::Nanos;
 use span_io::{Blob, OutOfMemory, Text};
-
-fn open_object(out: &mut Writer) -> Result<(), OutOfMemory>
-    ensures { Appends result out.old out.new (begin_object ∷ []) }
-{
-    out.begin_object()?;
-    Ok(())
-}
-
-fn close_object(out: &mut Writer) -> Result<(), OutOfMemory>
-    ensures { Appends result out.old out.new (end_object ∷ []) }
-{
-    out.end_object()?;
-    Ok(())
-}
-
-fn open_array(out: &mut Writer) -> Result<(), OutOfMemory>
-    ensures { Appends result out.old out.new (begin_array ∷ []) }
-{
-    out.begin_array()?;
-    Ok(())
-}
-
-fn close_array(out: &mut Writer) -> Result<(), OutOfMemory>
-    ensures { Appends result out.old out.new (end_array ∷ []) }
-{
-    out.end_array()?;
-    Ok(())
-}
-
-// A text, whatever it is.
-fn whole_text_member(out: &mut Writer, name: &str, text: &str) -> Result<(), OutOfMemory>
-    ensures { Appends result out.old out.new (given_tokens name.now (Some (string text.now))) }
-{
-    out.key(name)?;
-    out.string(text)?;
-    Ok(())
-}
-
-// A text, unless it is empty.
-#[tactic(auto, using(crate::proofs::WritingLemmas::written))]
-fn text_member(out: &mut Writer, name: &str, text: &str) -> Result<(), OutOfMemory>
-    ensures { Appends result out.old out.new (given_tokens name.now (text_data text.now)) }
-{
-    if text.is_empty() {
-        return Ok(());
-    }
-    whole_text_member(out, name, text)
-}
-
-// A number, whatever it is.
-fn whole_count_member(out: &mut Writer, name: &str, count: u64) -> Result<(), OutOfMemory>
-    ensures { Appends result out.old out.new (given_tokens name.now (Some (number (unsigned count)))) }
-{
-    out.key(name)?;
-    out.u64(count)?;
-    Ok(())
-}
-
-// A number, unless it is 0.
-#[tactic(auto, using(crate::proofs::WritingLemmas::written))]
-fn count_member(out: &mut Writer, name: &str, count: u64) -> Result<(), OutOfMemory>
-    ensures { Appends result out.old out.new (given_tokens name.now (count_data count)) }
-{
-    if count == 0 {
-        return Ok(());
-    }
-    whole_count_member(out, name, count)
-}
-
-fn true_member(out: &mut Writer, name: &str) -> Result<(), OutOfMemory>
-    ensures { Appends result out.old out.new (given_tokens name.now (Some (boolean true))) }
-{
-    out.key(name)?;
-    out.boolean(true)?;
-    Ok(())
-}
-
-// A truth value, unless it is false.
-fn truth_member(out: &mut Writer, name: &str, truth: bool) -> Result<(), OutOfMemory>
-    ensures { Appends result out.old out.new (given_tokens name.now (truth_data truth)) }
-{
-    if truth {
-        true_member(out, name)
-    } else {
-        Ok(())
-    }
-}
 
 // A kind, unless it is absent.
 fn kind_member(out: &mut Writer, name: &str, kind: ZKind) -> Result<(), OutOfMemory>
@@ -116,19 +36,6 @@ fn micros_member(out: &mut Writer, name: &str, time: Nanos) -> Result<(), OutOfM
         (Some (number (unsigned (micros time))))) }
 {
     whole_count_member(out, name, time.micros())
-}
-
-fn own_text_member(out: &mut Writer, name: &str, text: &Text) -> Result<(), OutOfMemory>
-    ensures { Appends result out.old out.new (given_tokens name.now (Some (string text.now))) }
-{
-    whole_text_member(out, name, text.as_str())
-}
-
-// A text, unless it is empty.
-fn given_text_member(out: &mut Writer, name: &str, text: &Text) -> Result<(), OutOfMemory>
-    ensures { Appends result out.old out.new (given_tokens name.now (text_data text.now)) }
-{
-    text_member(out, name, text.as_str())
 }
 
 // A port, unless it is 0.
@@ -151,36 +58,6 @@ fn length_member(out: &mut Writer, name: &str, start: Nanos, end: Nanos) -> Resu
         (count_data (micros end - micros start))) }
 {
     count_member(out, name, end.micros().saturating_sub(start.micros()))
-}
-
-fn id_member(out: &mut Writer, name: &str, id: SpanId) -> Result<(), OutOfMemory>
-    ensures { Appends result out.old out.new (given_tokens name.now (Some (string (span_id_text id)))) }
-{
-    let mut digits = [0; 16];
-    id.write_hex(&mut digits);
-    let text = str::from_utf8(&digits).unwrap();
-    whole_text_member(out, name, text)
-}
-
-fn trace_member(out: &mut Writer, name: &str, trace: TraceId) -> Result<(), OutOfMemory>
-    ensures { Appends result out.old out.new (given_tokens name.now
-        (Some (string (trace_id_text trace)))) }
-{
-    let mut hex = [0; 32];
-    trace.write_hex(&mut hex);
-    let text = str::from_utf8(&hex).unwrap();
-    whole_text_member(out, name, text)
-}
-
-// A parent, unless there is none.
-fn parent_member(out: &mut Writer, name: &str, id: Option<SpanId>) -> Result<(), OutOfMemory>
-    ensures { Appends result out.old out.new (given_tokens name.now
-        (option_map (λ i. string (span_id_text i)) id)) }
-{
-    match id {
-        None => Ok(()),
-        Some(id) => id_member(out, name, id),
-    }
 }
 
 fn write_annotation(out: &mut Writer, time: Nanos, value: &Text) -> Result<(), OutOfMemory>
@@ -232,13 +109,6 @@ fn write_endpoint(out: &mut Writer, endpoint: &Endpoint) -> Result<(), OutOfMemo
     port_member(out, "port", endpoint.port)?;
     given_text_member(out, "serviceName", &endpoint.service)?;
     close_object(out)?;
-    Ok(())
-}
-
-fn name_of(out: &mut Writer, name: &str) -> Result<(), OutOfMemory>
-    ensures { Appends result out.old out.new (key name.now ∷ []) }
-{
-    out.key(name)?;
     Ok(())
 }
 

@@ -1,6 +1,6 @@
 use Rattle.std.proofs.Common.{rules}
 use Rattle.span_io.specs.PathLaws.{exits}
-use Rattle.zipkin_json.proofs.ElementLemmas.{reads_on, clean_on, halts_here}
+use Rattle.json_members.specs.ElementLaws.{reads_on, clean_on, halts_here}
 use Rattle.zipkin_json.specs.Span.{IsAnnotation, annotation_faults}
 use Rattle.zipkin_json.proofs.annotation.read_annotations.Goals as goal
 

@@ -1,6 +1,6 @@
 use Rattle.std.proofs.lemmas.List.Elements.{All-push}
 use Rattle.std.proofs.Common.{◌+◌, arith, rules}
-use Rattle.zipkin_json.proofs.ElementLemmas.{reads_on, clean_on, refuses_here}
+use Rattle.json_members.specs.ElementLaws.{reads_on, clean_on, refuses_here}
 use Rattle.zipkin_json.specs.Span.{IsZSpan, HasRisingTags, span_faults}
 use Rattle.zipkin_json.proofs.reading.read_each.Goals as goal
 

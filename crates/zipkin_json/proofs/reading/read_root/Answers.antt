@@ -1,7 +1,7 @@
 use Rattle.std.proofs.Common.{sym, rules}
 use Rattle.serde_json.specs.View.{items_view}
 use Rattle.span_io.specs.PathLaws.{exits_input}
-use Rattle.zipkin_json.proofs.ElementLemmas.{elements-items_view, clean_array, refuses_array}
+use Rattle.json_members.specs.ElementLaws.{items_viewed, clean_array, refuses_array}
 use Rattle.zipkin_json.specs.Span.{span_faults}
 use Rattle.zipkin_json.proofs.reading.read_root.Goals as goal
 
@@ -13,7 +13,7 @@ pub returns-clause-value : goal.returns-clause-value
 returns-clause-value c = record {
   held = items_view c.in-Some.elements.now.items;
   shape = sym c.in-Some.ensures;
-  means = rw elements-items_view c.in_ok-spans.ensures.value;
+  means = rw items_viewed c.in_ok-spans.ensures.value;
 }
 
 pub returns-clause-judged : goal.returns-clause-judged

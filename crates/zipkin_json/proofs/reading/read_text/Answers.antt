@@ -1,12 +1,14 @@
 use Rattle.serde_json.specs.View.{view}
-use Rattle.zipkin_json.proofs.ReadingLemmas.{judged_text, value_text, writable_text, only_text, unread_halts, unread_only}
-use Rattle.zipkin_json.specs.Texts.{IsJsonText}
+use Rattle.json_members.specs.ReadingLaws.{judged_text, unread_halts}
+use Rattle.zipkin_json.proofs.ReadingLemmas.{value_text, writable_text, only_text, unread_only}
+use Rattle.json_members.specs.Texts.{IsJsonText}
+use Rattle.zipkin_json.specs.Span.{spans_faults}
 use Rattle.zipkin_json.proofs.reading.read_text.Goals as goal
 
 pub returns-in-Ok-clause-judged : goal.returns-in-Ok-clause-judged
 returns-in-Ok-clause-judged c =
     let is : IsJsonText (view c.in-Ok.v) c.args.bytes.now = record { utf8 = c.in-Ok.ensures.ok.0; reading = c.in-Ok.ensures.ok.1 } in
-    judged_text c.args.bytes.now (view c.in-Ok.v) is c.read_spans.result c.read_spans.ensures.judged
+    judged_text spans_faults c.args.bytes.now (view c.in-Ok.v) is c.read_spans.result c.read_spans.ensures.judged
 
 pub returns-in-Ok-clause-value : goal.returns-in-Ok-clause-value
 returns-in-Ok-clause-value c =
@@ -24,7 +26,7 @@ returns-in-Ok-clause-only c =
     only_text c.args.bytes.now (view c.in-Ok.v) is c.read_spans.result c.read_spans.ensures.only
 
 pub returns-in-Err-clause-judged : goal.returns-in-Err-clause-judged
-returns-in-Err-clause-judged c = unread_halts c.args.bytes.now c.in-Err.error c.in-Err.ensures.err c.unread.result c.unread.ensures
+returns-in-Err-clause-judged c = unread_halts spans_faults c.args.bytes.now c.in-Err.error c.in-Err.ensures.err c.unread.result c.unread.ensures
 
 pub returns-in-Err-clause-only : goal.returns-in-Err-clause-only
 returns-in-Err-clause-only c = unread_only c.args.bytes.now c.in-Err.error c.in-Err.ensures.err c.unread.result c.unread.ensures

@@ -2,7 +2,7 @@ use Rattle.std.proofs.Common.{◌≡◌, List, ◌++◌, Some}
 use Rattle.serde_json.specs.View.{members_view}
 use Rattle.serde_json.proofs.Views.{Entry}
 use Rattle.span_io.specs.Paths.{each, NothingOffends}
-use Rattle.zipkin_json.specs.Members.{member_values}
+use Rattle.json_members.specs.Members.{member_values}
 use Rattle.zipkin_json.specs.Span.{texts_in, tag_faults}
 use Rattle.zipkin_json.proofs.tags.read_tags.Given as goal
 

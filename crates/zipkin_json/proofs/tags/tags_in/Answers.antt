@@ -3,7 +3,7 @@ use Rattle.serde_json.specs.Data.{Members}
 use Rattle.span_io.specs.Paths.{each, valued, NothingOffends, Halts}
 use Rattle.span_io.specs.PathLaws.{exits}
 use Rattle.serde_json.specs.View.{members_view}
-use Rattle.zipkin_json.specs.Members.{member_values}
+use Rattle.json_members.specs.Members.{member_values}
 use Rattle.zipkin_json.specs.Span.{tag_faults}
 use Rattle.zipkin_json.proofs.tags.tags_in.Goals as goal
 

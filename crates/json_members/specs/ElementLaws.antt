@@ -10,11 +10,11 @@ use Rattle.span_io.specs.declared.refusal.Refusal.{Refusal}
 use Rattle.span_io.specs.Paths.{Faults, each, valued, NothingOffends, Halts, HaltsInput, in_unit}
 use Rattle.span_io.specs.PathLaws.{clean_one_more, halts_at, halts_input_at}
 use Rattle.std.specs.List.{AllZip}
-use Rattle.zipkin_json.specs.Members.{elements}
+use Rattle.json_members.specs.Members.{elements}
 
-pub elements-items_view : (vs : List Value) → elements (items_view vs) ≡ map view vs
-elements-items_view [] = refl
-elements-items_view (v ∷ vs) = ap (λ ds. view v ∷ ds) (elements-items_view vs)
+pub items_viewed : (vs : List Value) → elements (items_view vs) ≡ map view vs
+items_viewed [] = refl
+items_viewed (v ∷ vs) = ap (λ ds. view v ∷ ds) (items_viewed vs)
 
 map_all : (vs : List Value) (v : Value) (more : List Value) → map view (vs ++ v ∷ more) ≡ map view vs ++ view v ∷ map view more
 map_all [] v more = refl
@@ -59,10 +59,10 @@ module _ (vs : List Value) (i : ℕ) (v : Value) (within : i < length vs) (here 
 
 module _ (Offends : Data → Faults) where
   clean_elements : (vs : List Value) → NothingOffends (each Offends (map view vs)) → NothingOffends (each Offends (elements (items_view vs)))
-  clean_elements vs h = subst (λ ds. NothingOffends (each Offends ds)) (sym (elements-items_view vs)) h
+  clean_elements vs h = subst (λ ds. NothingOffends (each Offends ds)) (sym (items_viewed vs)) h
 
   halts_elements : (halt : Halt Cause) (vs : List Value) → Halts halt (each Offends (map view vs)) → Halts halt (each Offends (elements (items_view vs)))
-  halts_elements halt vs h = subst (λ ds. Halts halt (each Offends ds)) (sym (elements-items_view vs)) h
+  halts_elements halt vs h = subst (λ ds. Halts halt (each Offends ds)) (sym (items_viewed vs)) h
 
   pub clean_array : (vs : List Value) (held : Option Items) → Some (items_view vs) ≡ held → NothingOffends (each Offends (map view vs)) → NothingOffends (valued (λ ds. each Offends (elements ds)) held)
   clean_array vs held is h = subst (λ o. NothingOffends (valued (λ ds. each Offends (elements ds)) o)) is (clean_elements vs h)
@@ -71,4 +71,4 @@ module _ (Offends : Data → Faults) where
   halts_array halt vs held is h = subst (λ o. Halts halt (valued (λ ds. each Offends (elements ds)) o)) is (halts_elements halt vs h)
 
   pub refuses_array : (halt : Halt Refusal) (vs : List Value) (held : Option Items) → Some (items_view vs) ≡ held → HaltsInput halt (each Offends (map view vs)) → HaltsInput halt (valued (λ ds. each Offends (elements ds)) held)
-  refuses_array halt vs held is h = subst (λ o. HaltsInput halt (valued (λ ds. each Offends (elements ds)) o)) is (subst (λ ds. HaltsInput halt (each Offends ds)) (sym (elements-items_view vs)) h)
+  refuses_array halt vs held is h = subst (λ o. HaltsInput halt (valued (λ ds. each Offends (elements ds)) o)) is (subst (λ ds. HaltsInput halt (each Offends ds)) (sym (items_viewed vs)) h)

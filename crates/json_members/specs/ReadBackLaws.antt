@@ -18,7 +18,8 @@ use Rattle.serde_json.specs.Read.{read, of_json, of_items, of_members, max_depth
 use Rattle.serde_json.specs.Written.{outline, items_outline, members_outline, comma_if, compact_text, items_text, members_text}
 use Rattle.serde_json.proofs.Numbers.{number_of-decimal}
 use Rattle.serde_json.proofs.Texts.{print-outline}
-use Rattle.zipkin_json.specs.Canonical.{MemberRow, members_given, unless_empty}
+use Rattle.json_members.specs.Canonical.{MemberRow, members_given, unless_empty}
+use Rattle.json_members.specs.Utf8Laws.{ascii_then}
 
 -- ---- what its text gives back, nested at most n deep
 
@@ -34,8 +35,8 @@ pub record ItemsGiveBack (n : ℕ) (ds : Items) : Type 0 where
   pub same : of_items (items_outline ds) ≡ Some ds
   pub utf8 : (later : Bool) → IsUtf8 (items_text later ds)
 
-pub deeper : (n m : ℕ) (d : Data) → n ≤ m → GivesBack n d → GivesBack m d
-deeper n m d more h = record { numbers = h.numbers; depth = omega (arith, h.depth); same = h.same; utf8 = h.utf8 }
+pub gives_deeper : (n m : ℕ) (d : Data) → n ≤ m → GivesBack n d → GivesBack m d
+gives_deeper n m d more h = record { numbers = h.numbers; depth = omega (arith, h.depth); same = h.same; utf8 = h.utf8 }
 
 pub reads_back : (d : Data) → GivesBack max_depth d → read (compact_text d) ≡ Some d
 reads_back d h =
@@ -62,9 +63,6 @@ comma_is_utf8 : (later : Bool) → IsUtf8 (comma_if later)
 comma_is_utf8 true = IsUtf8-are_ascii _ refl
 comma_is_utf8 false = IsUtf8-nil
 
-ascii_then : (x : ℕ) (rest : List ℕ) → are_ascii (x ∷ []) ≡ true → IsUtf8 rest → IsUtf8 (x ∷ rest)
-ascii_then x rest low h = IsUtf8-append (x ∷ []) rest (IsUtf8-are_ascii (x ∷ []) low) h
-
 pub no_items_back : (n : ℕ) → ItemsGiveBack n no_items
 no_items_back n = record { numbers = tt; depth = omega arith; same = refl; utf8 = λ later. IsUtf8-are_ascii _ refl }
 
@@ -81,7 +79,7 @@ array_back n ds h = record {
   numbers = h.numbers;
   depth = omega (arith, h.depth);
   same = ap (option_map array) h.same;
-  utf8 = ascii_then 91 _ refl (h.utf8 false);
+  utf8 = ascii_then 91 _ (omega arith) (h.utf8 false);
 }
 
 -- ---- objects, whose keys rise
@@ -148,7 +146,7 @@ member_back n key d ms text first h k = record {
   depth = omega (arith, h.depth, k.depth);
   same = λ before behind. ap (option_and_then (λ e. of_members (members_outline ms) (put key e before))) h.same ∙ ap (of_members (members_outline ms)) (put_last key d before behind.0)
       ∙ k.same (push before key d) (all_behind_push key d before ms behind.1 first) ∙ ap Some (push_joined before key d ms);
-  utf8 = λ later. IsUtf8-append _ _ (comma_is_utf8 later) (IsUtf8-append _ _ (IsUtf8-quoted key text) (ascii_then 58 _ refl (IsUtf8-append _ _ h.utf8 (k.utf8 true))));
+  utf8 = λ later. IsUtf8-append _ _ (comma_is_utf8 later) (IsUtf8-append _ _ (IsUtf8-quoted key text) (ascii_then 58 _ (omega arith) (IsUtf8-append _ _ h.utf8 (k.utf8 true))));
 }
 
 pub object_back : (n : ℕ) (ms : Members) → MembersGiveBack n ms → GivesBack (suc n) (object ms)
@@ -156,7 +154,7 @@ object_back n ms h = record {
   numbers = h.numbers;
   depth = omega (arith, h.depth);
   same = ap (option_map object) (h.same no_members (behind_none ms));
-  utf8 = ascii_then 123 _ refl (h.utf8 false);
+  utf8 = ascii_then 123 _ (omega arith) (h.utf8 false);
 }
 
 -- ---- members that may be left out, in the order of their names

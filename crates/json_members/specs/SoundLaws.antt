@@ -1,6 +1,7 @@
 -- A JSON value that is read of UTF-8 has UTF-8 texts, and the keys of its objects rise.
-use Rattle.std.proofs.Common.{◌≡◌, ℕ, List, [], ◌∷◌, ◌++◌, Option, Some, None, option_map, option_and_then, IsUtf8, refl, ap, subst, ◌∙◌, append_assoc, Ordering, Less, Equal, Greater}
+use Rattle.std.proofs.Common.{◌≡◌, ℕ, List, [], ◌∷◌, ◌++◌, Option, Some, None, option_map, option_and_then, IsUtf8, refl, sym, ap, subst, ◌∙◌, append_assoc, Ordering, Less, Equal, Greater}
 use Rattle.std.proofs.lemmas.Cmp.{nat_list_cmp_total}
+use Rattle.std.proofs.lemmas.Str.{IsUtf8-nil}
 use Rattle.std.specs.Cmp.Lexicographic.{slice_cmp}
 use Rattle.std.specs.List.{AllByRecursion}
 use Rattle.std.specs.Ordering.{nat_cmp, match_ordering, ordering_reverse}
@@ -10,9 +11,12 @@ use Rattle.json.specs.Token.{Token}
 use Rattle.json.specs.Tree.{json_tokens, items_tokens, members_tokens}
 use Rattle.json.proofs.Unique.Spelling.{value-json_tokens_back}
 use Rattle.serde_json.specs.Data.{Num, Data, null, boolean, number, string, array, object, Items, no_items, item, Members, no_members, member as has, put}
+use Rattle.serde_json.specs.Find.{get_member, as_str, as_array, as_object}
 use Rattle.serde_json.specs.Read.{read, number_of, of_json, of_items, of_members, max_depth}
-use Rattle.zipkin_json.proofs.ReadBack.{Follow, behind_before}
-use Rattle.zipkin_json.proofs.Utf8Texts.{HoldsOf, HasUtf8, tokens_utf8}
+use Rattle.span_io.specs.Paths.{Given, Never}
+use Rattle.json_members.specs.Members.{unless_null, member, IsText}
+use Rattle.json_members.specs.ReadBackLaws.{Follow, behind_before}
+use Rattle.json_members.specs.Utf8Laws.{HoldsOf, HasUtf8, tokens_utf8}
 
 -- ---- trees of tokens
 
@@ -143,3 +147,66 @@ read_sound text d utf8 is =
     (json_utf8 j rest (subst (AllByRecursion HasUtf8) (value-json_tokens_back max_depth (tokens text) rest j e) (tokens_utf8 text utf8))).0 in
     subst (HoldsOf Sound) is
     (holds_then JsonHasUtf8 Sound of_json json_sound (option_and_then (λ p. json.if_last p.0 p.1) (json.value max_depth (tokens text))) (last_utf8 (json.value max_depth (tokens text)) spelled))
+
+-- ---- the members of a sound value are sound
+
+pub found_sound : (name : List ℕ) (ms : Members) → MembersSound ms → HoldsOf Sound (get_member name ms)
+found_sound name no_members h = tt
+found_sound name (has k d ms) h = on (slice_cmp nat_cmp name k) (get_member name ms) (found_sound name ms h.1.1.1)
+  where
+    on : (o : Ordering) (later : Option Data) → HoldsOf Sound later → HoldsOf Sound (match_ordering o later (Some d) later)
+    on Less later l = l
+    on Equal later l = h.1.0
+    on Greater later l = l
+
+pub there_sound : (o : Option Data) → HoldsOf Sound o → HoldsOf Sound (unless_null o)
+there_sound None h = tt
+there_sound (Some null) h = tt
+there_sound (Some (boolean b)) h = tt
+there_sound (Some (number n)) h = tt
+there_sound (Some (string s)) h = h
+there_sound (Some (array ds)) h = h
+there_sound (Some (object ms)) h = h
+
+pub member_sound : (name : List ℕ) (d : Data) → Sound d → HoldsOf Sound (member name d)
+unfolding member
+member_sound name null h = tt
+member_sound name (boolean b) h = tt
+member_sound name (number n) h = tt
+member_sound name (string s) h = tt
+member_sound name (array ds) h = tt
+member_sound name (object ms) h = there_sound (get_member name ms) (found_sound name ms h)
+
+-- ---- what stands in a sound value
+
+pub text_sound : (d : Data) (text : List ℕ) → Sound d → as_str d ≡ Some text → IsUtf8 text
+text_sound null text h is = cc
+text_sound (boolean b) text h is = cc
+text_sound (number n) text h is = cc
+text_sound (string s) text h is = let e : s ≡ text = cc in subst IsUtf8 e h
+text_sound (array ds) text h is = cc
+text_sound (object ms) text h is = cc
+
+pub given_text : (text : List ℕ) (o : Option Data) → HoldsOf Sound o → Given IsText (λ t. t ≡ []) text o → IsUtf8 text
+given_text text None h is = subst IsUtf8 (sym is) IsUtf8-nil
+given_text text (Some d) h is = text_sound d text h is
+
+pub needed_text : (text : List ℕ) (o : Option Data) → HoldsOf Sound o → Given IsText Never text o → IsUtf8 text
+needed_text text None h is = absurd is
+needed_text text (Some d) h is = text_sound d text h is
+
+pub array_sound : (d : Data) (ds : Items) → Sound d → as_array d ≡ Some ds → ItemsSound ds
+array_sound null ds h is = cc
+array_sound (boolean b) ds h is = cc
+array_sound (number n) ds h is = cc
+array_sound (string s) ds h is = cc
+array_sound (array held) ds h is = let e : held ≡ ds = cc in subst ItemsSound e h
+array_sound (object ms) ds h is = cc
+
+pub object_sound : (d : Data) (ms : Members) → Sound d → as_object d ≡ Some ms → MembersSound ms
+object_sound null ms h is = cc
+object_sound (boolean b) ms h is = cc
+object_sound (number n) ms h is = cc
+object_sound (string s) ms h is = cc
+object_sound (array ds) ms h is = cc
+object_sound (object held) ms h is = let e : held ≡ ms = cc in subst MembersSound e h

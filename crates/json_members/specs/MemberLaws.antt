@@ -1,9 +1,8 @@
 -- Members of an object, as the code finds them.
-use Rattle.std.proofs.Common.{◌≡◌, ℕ, List, true, false, Option, Some, None, is_some, refl, ◌∙◌, ap}
+use Rattle.std.proofs.Common.{◌≡◌, ℕ, List, true, false, Some, None, is_some, refl, ◌∙◌, ap}
 use Rattle.serde_json.specs.Data.{Data, null, boolean, number, string, array, object}
 use Rattle.serde_json.specs.Find.{get, as_null}
-use Rattle.zipkin_json.specs.Identifiers.{AreZeros, SpellsSpan, SpellsParent}
-use Rattle.zipkin_json.specs.Members.{unless_null, member}
+use Rattle.json_members.specs.Members.{unless_null, member}
 
 null_is_absent : (d : Data) → is_some (as_null d) ≡ true → None ≡ unless_null (Some d)
 null_is_absent null h = refl
@@ -34,8 +33,3 @@ unfolding member
 member_some name d found h other = other_is_there found other ∙ ap unless_null h
 
 pub ruleset finds = (member_none, member_null, member_some)
-
--- a text that is neither zeros nor an identifier spells no parent
-pub no_parent : (text : List ℕ) → ¬ AreZeros text → ((id : ℕ) → ¬ SpellsSpan text id) → (parent : Option ℕ) → ¬ SpellsParent text parent
-no_parent text zeros none None h = zeros h
-no_parent text zeros none (Some id) h = none id h

@@ -1,4 +1,4 @@
--- The texts in a JSON value that is read of UTF-8 are UTF-8.
+-- The texts in the tokens of UTF-8 are UTF-8.
 use Rattle.std.proofs.Common.{◌≡◌, ℕ, ◌+◌, ◌-◌, ◌*◌, ◌<◌, List, [], ◌∷◌, ◌++◌, length, take, drop, get_or, Bool, true, false, cond, ◌&&◌, ◌==◌, nat_lt, Option, Some, None, option_and_then, IsUtf8, refl, sym, subst, arith, append_assoc, append-nil, length-append, ltb-true}
 use Rattle.std.proofs.Math.Seq.{take-append_seam, get_or-append_seam, drop-append-add}
 use Rattle.std.proofs.lemmas.Bool.{and_parts, eqb-true}
@@ -30,7 +30,7 @@ module _ (front : List ℕ) (x : ℕ) (rest : List ℕ) (low : x < 128) (h : IsU
 pub behind_ascii : (x : ℕ) (rest : List ℕ) → x < 128 → IsUtf8 (x ∷ rest) → IsUtf8 rest
 behind_ascii x rest low h = after_ascii [] x rest low h
 
-ascii_then : (x : ℕ) (rest : List ℕ) → x < 128 → IsUtf8 rest → IsUtf8 (x ∷ rest)
+pub ascii_then : (x : ℕ) (rest : List ℕ) → x < 128 → IsUtf8 rest → IsUtf8 (x ∷ rest)
 ascii_then x rest low h = IsUtf8-append (x ∷ []) rest (subst IsUtf8 (encode_ascii x low) (IsUtf8-encode x (low_code x low))) h
   where
     low_code : (c : ℕ) → c < 128 → IsScalar c

@@ -1,0 +1,15 @@
+pub mod Canonical
+pub mod ChoiceLaws
+pub mod DecisionLaws
+pub mod ElementLaws
+pub mod MeaningLaws
+pub mod MemberLaws
+pub mod Members
+pub mod ReadBackLaws
+pub mod ReadingLaws
+pub mod SoundLaws
+pub mod TextLaws
+pub mod Texts
+pub mod Utf8Laws
+pub mod Writing
+pub mod WritingLaws

@@ -1,0 +1,52 @@
+-- Looking into a JSON value (RFC 8259). Of equal members the last counts, and one that is null counts as absent. Each kind of value is
+-- told as what it means, and as how it offends.
+use Rattle.std.specs.Prelude.{◌≡◌, ℕ, List, [], ◌∷◌, Bool, Option, Some, None, option_and_then}
+use Rattle.serde_json.specs.Data.{Data, null, Items, no_items, item, Members, no_members, member as has}
+use Rattle.serde_json.specs.Find.{get, as_bool, as_number, as_str, as_u64}
+use Rattle.span_io.specs.Paths.{Faults, nothing, here, valued, OfKind}
+
+abbrev pub unless_null : Option Data → Option Data
+unless_null None = None
+unless_null (Some null) = None
+unless_null (Some d) = Some d
+
+unfoldable pub member : List ℕ → Data → Option Data
+member name d = unless_null (get name d)
+
+-- the elements of an array, and the values of an object's members
+abbrev pub elements : Items → List Data
+elements no_items = []
+elements (item d more) = d ∷ elements more
+
+abbrev pub member_values : Members → List Data
+member_values no_members = []
+member_values (has key d more) = d ∷ member_values more
+
+-- ---- texts and truth values
+
+abbrev pub IsText : List ℕ → Data → Type 0
+IsText text d = as_str d ≡ Some text
+
+abbrev pub text_faults : Data → Faults
+text_faults d = valued (λ text. nothing) (as_str d)
+
+abbrev pub IsTruth : Bool → Data → Type 0
+IsTruth truth d = as_bool d ≡ Some truth
+
+abbrev pub truth_faults : Data → Faults
+truth_faults d = valued (λ truth. nothing) (as_bool d)
+
+-- ---- numbers: a whole one has neither point nor exponent, and isn't `-0`
+
+abbrev pub IsCount : ℕ → Data → Type 0
+IsCount count d = option_and_then as_u64 (as_number d) ≡ Some count
+
+-- ---- texts that spell something, as identifiers do
+
+-- the text spells this
+abbrev pub Spelled : {A : Type 0} → (List ℕ → A → Type 0) → A → Data → Type 0
+Spelled Spells x d = OfKind (λ y text. Spells text y) x (as_str d)
+
+-- with this number, the text spells nothing
+abbrev pub unspelled : {A : Type 0} → (List ℕ → A → Type 0) → ℕ → Data → Faults
+unspelled Spells number d = valued (λ text. here (λ n. (n ≡ number) × ((x : _) → ¬ Spells text x))) (as_str d)
