@@ -12,7 +12,6 @@ pub mod SpanParts
 pub mod SpanNormal
 pub mod SpanRead
 pub mod LeftOut
-pub mod Moved
 pub mod Noted
 pub mod ReadLists
 pub mod ReadParts

@@ -2,19 +2,13 @@
 use Rattle.std.specs.Prelude.{◌≡◌, ◌≤◌, ℕ, List, ◌∷◌, ◌++◌, map, length, take, drop, Option, Some, None}
 use Rattle.jaeger_model.specs.declared.tag.Tag.{Tag}
 use Rattle.trace_model.specs.Attributes.{attrs, placed}
-use Rattle.trace_model.specs.declared.span.Span.{Span}
 use Rattle.trace_model.specs.declared.value.Value.{Value}
-use Rattle.span_tags.specs.Runs.{Scoped}
 use Rattle.span_tags.specs.TagWords.{row, text_given, without, code_given}
 use Rattle.map_jaeger.specs.Columns.{Columns, rows, count_given}
 use Rattle.map_jaeger.specs.Keys.{event_key, flags_key}
 use Rattle.map_jaeger.specs.TagValues.{tag_of}
 use Rattle.map_jaeger.specs.Writing.{error_given, description_given, kind_given}
 use Rattle.map_jaeger.specs.declared.writing_columns.Held.{Held}
-
--- a span under the name and version of a scope
-abbrev pub under : List ℕ → List ℕ → Span → Scoped Span
-under name version span = record { name = name; version = version; span = span }
 
 -- the columns, by what a span holds of them
 abbrev pub columns_held : List ℕ → List ℕ → Held → Columns

@@ -3,7 +3,7 @@ ghost use Rattle.std.specs.Prelude.{◌≡◌, ◌++◌, map, option_map, false,
 ghost use Rattle.std.specs.List.{list_any};
 ghost use Rattle.trace_model.specs.Attributes.{Rise, keys as keys_of};
 ghost use Rattle.trace_model.specs.Soundness.{IsSoundEvent, IsSoundGroup, IsSoundScope, IsSoundSpan};
-ghost use Rattle.span_tags.specs.Runs.{scoped, spans_of};
+ghost use Rattle.span_tags.specs.Runs.{scoped, spans_of, under};
 ghost use Rattle.span_tags.specs.TagKeys.{service_key};
 ghost use Rattle.span_tags.specs.TagWords.{without};
 ghost use Rattle.map_jaeger.specs.Doubles.{event_has_double, group_has_double, scope_has_double};
@@ -12,7 +12,7 @@ ghost use Rattle.map_jaeger.specs.LeastFault.{JudgesFault};
 ghost use Rattle.map_jaeger.specs.LeastFault as least;
 ghost use Rattle.map_jaeger.specs.TagValues as values;
 ghost use Rattle.map_jaeger.specs.Writing as told;
-ghost use Rattle.map_jaeger.specs.WritingSoFar.{fields_held, tags_held, under};
+ghost use Rattle.map_jaeger.specs.WritingSoFar.{fields_held, tags_held};
 
 use crate::faults::fault_of_group;
 use crate::rows::put_row;

@@ -9,7 +9,7 @@ use Rattle.std.proofs.lemmas.Str.{IsUtf8-nil}
 use Rattle.span_tags.specs.AttributeLaws.{attrs_rise}
 use Rattle.span_tags.specs.PlacedFaults.{in_span, in_resource}
 use Rattle.span_tags.specs.RunLaws.{IsPlain, scoped_each}
-use Rattle.span_tags.specs.Runs.{Scoped, spans_of, scoped}
+use Rattle.span_tags.specs.Runs.{Scoped, spans_of, scoped, under}
 use Rattle.span_tags.specs.TagWords.{Pairs}
 use Rattle.trace_model.specs.Proper.{IsProperPair, AreProper, IsProperSpan, IsProperScope, IsProperGroup}
 use Rattle.trace_model.specs.Soundness.{IsSoundSpan, IsSoundScope, IsSoundGroup}
@@ -24,7 +24,6 @@ use Rattle.zipkin_json.specs.declared.span.ZSpan.{ZSpan}
 use Rattle.map_zipkin.specs.Faults.{IsZipkinSpanFault, IsZipkinResourceFault, HasNoZipkinFault}
 use Rattle.map_zipkin.specs.Laws.{ReadIsHeld}
 use Rattle.map_zipkin.specs.Reading.{run_span_of, groups_of}
-use Rattle.map_zipkin.specs.WritingSoFar.{scoped_in}
 use Rattle.map_zipkin.proofs.EventFacts.{EventsRead, EventsProper}
 use Rattle.map_zipkin.proofs.ReadFaults.{read_no_fault, resource_no_fault}
 use Rattle.map_zipkin.proofs.ReadHeld.{resource_sound, span_sound, resource_proper, name_utf8, version_utf8, span_proper}
@@ -61,8 +60,8 @@ all_mapped P f (x ∷ xs) all = All-cons (λ x. P (f x)) x xs (All-head P (f x) 
 pub none_sound : AreSound []
 none_sound = record { rising = attrs_rise {V = Value} []; values = All-nil (λ pair. IsSound pair.1) }
 
-pub run_spans : (P : Scoped Span → Type 0) (scope : Scope) → All P (spans_of scope) → All (λ span. P (scoped_in scope span)) scope.spans
-run_spans P scope all = all_mapped P (scoped_in scope) scope.spans all
+pub run_spans : (P : Scoped Span → Type 0) (scope : Scope) → All P (spans_of scope) → All (λ span. P (under scope.name scope.version span)) scope.spans
+run_spans P scope all = all_mapped P (under scope.name scope.version) scope.spans all
 
 run_sound : (scope : Scope) → IsPlain scope → All IsSoundRun (spans_of scope) → IsSoundScope scope
 run_sound scope plain held = record {

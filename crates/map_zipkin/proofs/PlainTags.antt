@@ -1,20 +1,22 @@
 -- No double stands in the tags of a span, which are texts.
-use Rattle.std.proofs.Common.{◌≡◌, ℕ, Bool, true, false, cond, ◌||◌, List, [], ◌∷◌, ◌++◌, map, not, Some, refl, sym, ap, ◌∙◌, true≢false, append_assoc, ◌+◌, ◌<◌, suc, length, get_or, drop, add-one, drop-cons}
+use Rattle.std.proofs.Common.{◌≡◌, ℕ, Bool, true, false, cond, ◌||◌, List, [], ◌∷◌, ◌++◌, map, filter, not, All, Some, refl, sym, ap, subst, ◌∙◌, true≢false, append_assoc, ◌+◌, ◌<◌, suc, length, get_or, drop, add-one, drop-cons}
+use Rattle.std.proofs.lemmas.List.Elements.{All-nil, All-cons, All-head, All-tail, All-append}
 use Rattle.std.specs.Str.{bytes_eq}
 use Rattle.trace_model.specs.Attributes.{attrs, at}
 use Rattle.trace_model.specs.EventTexts.{holds_double}
 use Rattle.trace_model.specs.ValueTexts.{has_double}
 use Rattle.trace_model.specs.declared.value.Value.{Value}
-use Rattle.span_tags.specs.AttributeLaws.{on_values, map_attrs}
+use Rattle.span_tags.specs.AttributeLaws.{on_values, all_attrs}
 use Rattle.span_tags.specs.Doubles.{double_at}
+use Rattle.span_tags.specs.Moved.{several_more}
 use Rattle.span_tags.specs.Runs.{Scoped}
 use Rattle.span_tags.specs.TagKeys.{service_key}
 use Rattle.span_tags.specs.TagWords.{Pairs, without}
 use Rattle.trace_model.specs.declared.span.Span.{Span}
 use Rattle.map_zipkin.specs.TagColumns.{column_rows}
-use Rattle.map_zipkin.specs.Writing.{zipkin_columns_of, as_texts, prefixed, resource_pairs, told_pairs}
+use Rattle.map_zipkin.specs.Writing.{zipkin_columns_of, as_text, as_texts, prefixed, resource_pairs, is_told, told_pairs}
 use Rattle.map_zipkin.proofs.ColumnLemmas.{textual}
-use Rattle.map_zipkin.proofs.TagsBack.{pairs_texts}
+use Rattle.map_zipkin.proofs.TagsBack.{texts_in_columns}
 
 -- ---- what stands at a key
 
@@ -35,23 +37,51 @@ texts_plain : (pairs : Pairs) → holds_double (on_values textual pairs) ≡ fal
 texts_plain [] = refl
 texts_plain (pair ∷ pairs) = texts_plain pairs
 
-textual_plain : (pairs : Pairs) → on_values textual pairs ≡ pairs → holds_double (attrs pairs) ≡ false
-textual_plain pairs same = ap holds_double (sym (map_attrs textual pairs ∙ ap attrs same)) ∙ texts_plain (attrs pairs)
+-- those of the columns
+pub columns_plain : (one : Scoped Span) → holds_double (column_rows (zipkin_columns_of one)) ≡ false
+columns_plain one = ap holds_double (sym (texts_in_columns one)) ∙ texts_plain (column_rows (zipkin_columns_of one))
 
-pub tags_plain : (resource : Pairs) (one : Scoped Span)
-    → holds_double (attrs (column_rows (zipkin_columns_of one) ++ (resource_pairs resource ++ told_pairs one.span.attributes))) ≡ false
-tags_plain resource one = textual_plain _ (pairs_texts resource one)
+abbrev Plain : List ℕ × Value → Type 0
+Plain pair = has_double pair.1 ≡ false
 
--- the same of pairs as they are pushed
-pub pushed_plain : (resource : Pairs) (one : Scoped Span) (p0 p1 p2 held : Pairs) → p0 ≡ column_rows (zipkin_columns_of one) → p1 ≡ p0 ++ resource_pairs resource
-    → p2 ≡ p1 ++ told_pairs one.span.attributes → held ≡ attrs p2 → holds_double held ≡ false
-pushed_plain resource one p0 p1 p2 held e0 e1 e2 e3 =
-    let whole : p2 ≡ column_rows (zipkin_columns_of one) ++ (resource_pairs resource ++ told_pairs one.span.attributes) =
-    e2 ∙ (ap (λ l. l ++ told_pairs one.span.attributes) (e1 ∙ ap (λ l. l ++ resource_pairs resource) e0)
-    ∙ append_assoc (column_rows (zipkin_columns_of one)) (resource_pairs resource) (told_pairs one.span.attributes)) in
-    ap holds_double (e3 ∙ ap attrs whole) ∙ tags_plain resource one
+each_plain : (pairs : Pairs) → holds_double pairs ≡ false → All Plain pairs
+each_plain [] none = All-nil Plain
+each_plain (pair ∷ pairs) none = by (has_double pair.1) refl (each_plain pairs) none
+  where
+    by : (d : Bool) → has_double pair.1 ≡ d → (holds_double pairs ≡ false → All Plain pairs) → (d || holds_double pairs) ≡ false → All Plain (pair ∷ pairs)
+    by true is later none = absurd (true≢false none)
+    by false is later none = All-cons Plain pair pairs is (later none)
+
+none_double : (pairs : Pairs) → All Plain pairs → holds_double pairs ≡ false
+none_double [] all = refl
+none_double (pair ∷ pairs) all = ap (λ d. d || holds_double pairs) (All-head Plain pair pairs all) ∙ none_double pairs (All-tail Plain pair pairs all)
+
+prefixed_plain : (pairs : Pairs) → All Plain (map prefixed (as_texts pairs))
+prefixed_plain [] = All-nil Plain
+prefixed_plain (pair ∷ pairs) = All-cons Plain (prefixed (as_text pair)) (map prefixed (as_texts pairs)) refl (prefixed_plain pairs)
+
+told_plain : (pairs : Pairs) → All Plain (as_texts pairs)
+told_plain [] = All-nil Plain
+told_plain (pair ∷ pairs) = All-cons Plain (as_text pair) (as_texts pairs) refl (told_plain pairs)
+
+-- the same of all of them as they are pushed
+pub pushed_plain : (columns resource attributes p1 p2 held : Pairs) → holds_double columns ≡ false → p1 ≡ columns ++ resource_pairs resource
+    → p2 ≡ p1 ++ told_pairs attributes → held ≡ attrs p2 → holds_double held ≡ false
+pushed_plain columns resource attributes p1 p2 held plain e1 e2 e3 =
+    let first : All Plain p1 = subst (All Plain) (sym e1) (All-append Plain columns (resource_pairs resource) (each_plain columns plain) (prefixed_plain (without service_key resource))) in
+    let all : All Plain p2 = subst (All Plain) (sym e2) (All-append Plain p1 (told_pairs attributes) first (told_plain (filter (λ attribute. is_told attribute.0) attributes))) in
+    ap holds_double e3 ∙ none_double (attrs p2) (all_attrs Plain p2 all)
 
 -- ---- parts of what is fit
+
+pub first_of_three : (a b c : Bool) → (a || (b || c)) ≡ false → a ≡ false
+first_of_three true b c none = absurd (true≢false none)
+first_of_three false b c none = refl
+
+pub second_of_three : (a b c : Bool) → (a || (b || c)) ≡ false → b ≡ false
+second_of_three true b c none = absurd (true≢false none)
+second_of_three false true c none = absurd (true≢false none)
+second_of_three false false c none = refl
 
 pub last_of_three : (a b c : Bool) → (a || (b || c)) ≡ false → c ≡ false
 last_of_three true b c none = absurd (true≢false none)
@@ -77,3 +107,18 @@ resource_step resource i pair first old new within here one so_far =
     ap (λ l. l ++ resource_pairs (drop (i + 1) resource)) one
     ∙ (append_assoc old (resource_pairs (pair ∷ [])) (resource_pairs (drop (i + 1) resource))
     ∙ (ap (λ l. old ++ l) (sym (ap resource_pairs left ∙ resource_more pair (drop (i + 1) resource))) ∙ so_far))
+
+-- ---- one pair more, moved out
+
+told_more : (pair : List ℕ × Value) (more : Pairs) → told_pairs (pair ∷ more) ≡ told_pairs (pair ∷ []) ++ told_pairs more
+told_more pair more = by (is_told pair.0)
+  where
+    by : (b : Bool) → as_texts (cond b (pair ∷ filter (λ attribute. is_told attribute.0) more) (filter (λ attribute. is_told attribute.0) more))
+        ≡ as_texts (cond b (pair ∷ []) []) ++ told_pairs more
+    by true = refl
+    by false = refl
+
+pub told_step : (whole old new left rest : Pairs) (pair : List ℕ × Value) → left ≡ pair ∷ rest → new ≡ old ++ told_pairs (pair ∷ [])
+    → old ++ told_pairs left ≡ whole → new ++ told_pairs rest ≡ whole
+told_step whole old new left rest pair split one so_far =
+    several_more whole old new (told_pairs (pair ∷ [])) (told_pairs rest) (told_pairs left) (ap told_pairs split ∙ told_more pair rest) one so_far

@@ -89,11 +89,15 @@ tags_read (p ∷ l) = ap (λ more. (p.0, textual p.1) ∷ more) (tags_read l)
 abbrev pub pairs_by : Pairs → Scoped Span → Pairs
 pairs_by resource one = column_rows (zipkin_columns_of one) ++ (resource_pairs resource ++ told_pairs one.span.attributes)
 
+-- those of the columns are
+pub texts_in_columns : (one : Scoped Span) → on_values textual (column_rows (zipkin_columns_of one)) ≡ column_rows (zipkin_columns_of one)
+texts_in_columns one = texts_in_rows (zipkin_columns_of one) ∙ ap column_rows (columns_texts one)
+
 pub pairs_texts : (resource : Pairs) (one : Scoped Span) → on_values textual (pairs_by resource one) ≡ pairs_by resource one
 pairs_texts resource one =
     let each : List ℕ × Value → List ℕ × Value = λ pair. (pair.0, textual pair.1) in
     map-append each (column_rows (zipkin_columns_of one)) (resource_pairs resource ++ told_pairs one.span.attributes)
-    ∙ (λ i. (texts_in_rows (zipkin_columns_of one) ∙ ap column_rows (columns_texts one)) i
+    ∙ (λ i. texts_in_columns one i
     ++ (map-append each (resource_pairs resource) (told_pairs one.span.attributes)
     ∙ (λ j. prefixed_again (without service_key resource) j ++ texts_again (filter (λ attribute. is_told attribute.0) one.span.attributes) j)) i)
 

@@ -181,7 +181,8 @@ fn behind(
     span: Span,
 ) -> Result<Groups, OutOfMemory>
     ensures { IfOk result (λ more. (groups : List model.Group)
-        → with_groups more groups ≡ done ++ groups_joined last.resource (with_behind last.scopes) (told.before (run, span) groups)) }
+        → with_groups more groups
+        ≡ done ++ groups_joined last.resource (with_behind last.scopes) (told.before (run, span) groups)) }
 {
     let mut done = done;
     if same_resource(&last.resource, &run.resource) {

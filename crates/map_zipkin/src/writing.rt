@@ -4,18 +4,18 @@ ghost use Rattle.std.specs.List.{list_any};
 ghost use Rattle.trace_model.specs.EventTexts.{holds_double};
 ghost use Rattle.trace_model.specs.Soundness.{IsSoundGroup};
 ghost use Rattle.trace_model.specs.EventTexts as texts;
-ghost use Rattle.span_tags.specs.Runs.{scoped, spans_of as scoped_spans};
+ghost use Rattle.span_tags.specs.Runs.{scoped, spans_of as scoped_spans, under};
 ghost use Rattle.zipkin_json.specs.Proper.{IsTimelyZSpan};
 ghost use Rattle.map_zipkin.specs.LeastZipkinFault.{JudgesZipkinFault};
 ghost use Rattle.map_zipkin.specs.Unfit.{event_unfit, group_unfit, scope_unfit, span_unfit};
 ghost use Rattle.map_zipkin.specs.Writing as told;
-ghost use Rattle.map_zipkin.specs.WritingSoFar.{scoped_in};
 
 mod columns;
 mod endpoints;
 mod tags;
 
 use crate::faults::fault_of_group;
+use columns::column_rows;
 use endpoints::endpoints_of;
 use span_ids::Nanos;
 use span_io::{Halt, Items, OutOfMemory, Text};
@@ -72,46 +72,35 @@ fn annotations_of(alloc: Global, events: &Items<Event>) -> Result<Items<(Nanos, 
 
 // ---- spans
 
-// The annotations and the tags of a span.
-fn texts_of(
-    alloc: Global,
-    resource: &Attrs,
-    scope: &Scope,
-    span: &Span,
-) -> Result<(Items<(Nanos, Text)>, Items<(Text, Text)>), OutOfMemory>
-    requires resource { holds_double resource.now ≡ false }
-    requires span { span_unfit span.now ≡ false }
-    ensures annotations { IfOk result (λ parts. parts.0 ≡ map told.annotation_of span.now.events) }
-    ensures tags { IfOk result (λ parts. parts.1 ≡ told.zipkin_tags_of resource.now (scoped_in scope.now span.now)) }
-{
-    let annotations = annotations_of(alloc, &span.events)?;
-    let tags = tags_of(alloc, resource, scope, span)?;
-    Ok((annotations, tags))
-}
-
+// The span under the name and version of its scope.
 fn span_of(
     alloc: Global,
     resource: &Attrs,
-    scope: &Scope,
-    span: &Span,
+    name: &Text,
+    version: &Text,
+    span: Span,
 ) -> Result<ZSpan, OutOfMemory>
     requires resource { holds_double resource.now ≡ false }
-    requires span { span_unfit span.now ≡ false }
-    ensures { IfOk result (λ written. written ≡ told.zipkin_span resource.now (scoped_in scope.now span.now)) }
+    requires span { span_unfit span ≡ false }
+    ensures { IfOk result (λ written. written ≡ told.zipkin_span resource.now (under name.now version.now span)) }
 {
-    let name = span.name.copy()?;
     let (local, remote) = endpoints_of(alloc, resource, &span.attributes)?;
-    let (annotations, tags) = texts_of(alloc, resource, scope, span)?;
+    let annotations = annotations_of(alloc, &span.events)?;
+    let room = resource.len().saturating_add(span.attributes.len());
+    let columns = column_rows(alloc, name, version, &span, room)?;
+    let debug = is_there(&span.attributes, "zipkin.debug");
+    let shared = is_there(&span.attributes, "zipkin.shared");
+    let tags = tags_of(alloc, columns, resource, span.attributes)?;
     Ok(ZSpan {
         trace: span.trace,
         id: span.id,
         parent: span.parent,
-        name,
+        name: span.name,
         kind: zipkin_kind(span.kind),
         start: span.start.floor(),
         end: span.end.floor(),
-        debug: is_there(&span.attributes, "zipkin.debug"),
-        shared: is_there(&span.attributes, "zipkin.shared"),
+        debug,
+        shared,
         local,
         remote,
         annotations,
@@ -119,44 +108,75 @@ fn span_of(
     })
 }
 
-// Adds the spans of a scope.
-fn add_spans(
+// Adds spans of a scope of this name and version.
+fn push_spans(
     alloc: Global,
     spans: &mut Items<ZSpan>,
     resource: &Attrs,
-    scope: &Scope,
+    name: &Text,
+    version: &Text,
+    own: Items<Span>,
 ) -> Result<(), OutOfMemory>
     requires resource { holds_double resource.now ≡ false }
-    requires scope { scope_unfit scope.now ≡ false }
-    ensures { OnOk result (spans.new ≡ spans.old ++ map (told.zipkin_span resource.now) (scoped_spans scope.now)) }
+    requires own { list_any span_unfit own ≡ false }
+    ensures { OnOk result (spans.new ≡ spans.old ++ map (told.zipkin_span resource.now) (map (under name.now version.now) own)) }
 {
-    'spans: for span in scope.spans.as_slice() {
-        spans.push(span_of(alloc, resource, scope, span)?)?;
+    'spans: for span in own.into_vec() {
+        spans.push(span_of(alloc, resource, name, version, span)?)?;
     }
     Ok(())
 }
 
-fn spans_of(alloc: Global, group: &Group) -> Result<Items<ZSpan>, OutOfMemory>
-    requires { group_unfit group.now ≡ false }
-    ensures { IfOk result (λ spans. spans ≡ told.spans_of_group group.now) }
+// Adds the spans of a scope.
+fn push_scope(
+    alloc: Global,
+    spans: &mut Items<ZSpan>,
+    resource: &Attrs,
+    scope: Scope,
+) -> Result<(), OutOfMemory>
+    requires resource { holds_double resource.now ≡ false }
+    requires scope { scope_unfit scope ≡ false }
+    ensures { OnOk result (spans.new ≡ spans.old ++ map (told.zipkin_span resource.now) (scoped_spans scope)) }
+{
+    let (name, version) = (scope.name, scope.version);
+    push_spans(alloc, spans, resource, &name, &version, scope.spans)
+}
+
+fn spans_of(
+    alloc: Global,
+    resource: &Attrs,
+    scopes: Items<Scope>,
+) -> Result<Items<ZSpan>, OutOfMemory>
+    requires resource { holds_double resource.now ≡ false }
+    requires scopes { list_any scope_unfit scopes ≡ false }
+    ensures { IfOk result (λ spans. spans ≡ map (told.zipkin_span resource.now) (scoped scopes)) }
 {
     let mut spans = Items::new(alloc);
-    'scopes: for scope in group.scopes.as_slice() {
-        add_spans(alloc, &mut spans, &group.resource, scope)?;
+    'scopes: for scope in scopes.into_vec() {
+        push_scope(alloc, &mut spans, resource, scope)?;
     }
     Ok(spans)
 }
 
+// The spans of a group in which nothing is a fault.
+fn spans_in(alloc: Global, group: Group) -> Result<Items<ZSpan>, OutOfMemory>
+    requires { group_unfit group ≡ false }
+    ensures { IfOk result (λ spans. spans ≡ told.spans_of_group group) }
+{
+    let (resource, scopes) = (group.resource, group.scopes);
+    spans_of(alloc, &resource, scopes)
+}
+
 /// The spans of a group, or the fault of the group that counts (OpenTelemetry exporter page for
 /// Zipkin). The faults of the whole group are looked for before anything is built.
-pub fn spans_of_group(alloc: Global, group: &Group) -> Result<Items<ZSpan>, Halt<Fault>>
-    requires sound { IsSoundGroup group.now }
-    ensures value { IfOk result (λ spans. spans ≡ told.spans_of_group group.now) }
-    ensures judged { JudgesZipkinFault result group.now }
+pub fn spans_of_group(alloc: Global, group: Group) -> Result<Items<ZSpan>, Halt<Fault>>
+    requires sound { IsSoundGroup group }
+    ensures value { IfOk result (λ spans. spans ≡ told.spans_of_group group) }
+    ensures judged { JudgesZipkinFault result group }
     ensures timely { IfOk result (All IsTimelyZSpan) }
 {
-    match fault_of_group(alloc, group)? {
+    match fault_of_group(alloc, &group)? {
         Some(fault) => Err(Halt::Why(fault)),
-        None => Ok(spans_of(alloc, group)?),
+        None => Ok(spans_in(alloc, group)?),
     }
 }

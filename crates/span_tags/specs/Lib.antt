@@ -10,3 +10,4 @@ pub mod LeastRows
 pub mod FirstFault
 pub mod FirstFaultLaws
 pub mod Doubles
+pub mod Moved

@@ -10,9 +10,13 @@ pub record Scoped (A : Type 0) : Type 0 where
   pub version : List ℕ
   pub span : A
 
+-- a span under the name and version of a scope
+abbrev pub under : List ℕ → List ℕ → Span → Scoped Span
+under name version span = record { name = name; version = version; span = span }
+
 -- the spans of scopes, in order, each under the name and version of its scope
 abbrev pub spans_of : Scope → List (Scoped Span)
-spans_of scope = map (λ span. record { name = scope.name; version = scope.version; span = span }) scope.spans
+spans_of scope = map (under scope.name scope.version) scope.spans
 
 abbrev pub scoped : List Scope → List (Scoped Span)
 scoped scopes = flat_map spans_of scopes

@@ -2,13 +2,14 @@
 ghost use Rattle.std.specs.Prelude.{◌≡◌, ◌++◌, IfOk, OnOk};
 ghost use Rattle.map_zipkin.specs.TagColumns as columns;
 ghost use Rattle.map_zipkin.specs.Writing as told;
-ghost use Rattle.map_zipkin.specs.WritingSoFar.{count_rows, scoped_in};
+ghost use Rattle.map_zipkin.specs.WritingSoFar.{count_rows};
+ghost use Rattle.span_tags.specs.Runs.{under};
 
 use crate::count_texts::count_text;
 use span_io::{Items, OutOfMemory, Text};
 use span_tags::{add_row, code_given, text_given};
 use std::alloc::Global;
-use trace_model::{Attrs, Code, Scope, Span, Value};
+use trace_model::{Attrs, Code, Span, Value};
 
 /// A span has so many columns at most.
 const COLUMNS: usize = 8;
@@ -25,16 +26,17 @@ fn error_message(code: Code, message: &Text) -> Result<Option<Value>, OutOfMemor
 /// The tags of the columns, in the order of their keys, with room for so many others.
 pub(crate) fn column_rows(
     alloc: Global,
-    scope: &Scope,
+    name: &Text,
+    version: &Text,
     span: &Span,
     others: usize,
 ) -> Result<Attrs, OutOfMemory>
-    ensures { IfOk result (λ pairs. pairs ≡ columns.column_rows (told.zipkin_columns_of (scoped_in scope.now span.now))) }
+    ensures { IfOk result (λ pairs. pairs ≡ columns.column_rows (told.zipkin_columns_of (under name.now version.now span.now))) }
 {
     let code = span.status.code;
     let error = error_message(code, &span.status.message)?;
-    let name = text_given(&scope.name)?;
-    let version = text_given(&scope.version)?;
+    let name = text_given(name)?;
+    let version = text_given(version)?;
     let code = code_given(alloc, code)?;
     let state = text_given(&span.state)?;
     let mut pairs = Items::with_room(alloc, others.saturating_add(COLUMNS))?;

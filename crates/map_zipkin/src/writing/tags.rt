@@ -4,30 +4,29 @@ ghost use Rattle.trace_model.specs.EventTexts.{holds_double};
 ghost use Rattle.trace_model.specs.ValueTexts as texts;
 ghost use Rattle.map_zipkin.specs.Keys.{resource_prefix};
 ghost use Rattle.map_zipkin.specs.Writing as told;
-ghost use Rattle.map_zipkin.specs.WritingSoFar.{scoped_in};
+ghost use Rattle.map_zipkin.specs.WritingSoFar.{tags_by};
 
 use crate::keys::is_told;
-use crate::writing::columns::column_rows;
 use span_io::{Items, OutOfMemory, Text};
 use span_tags::text_told;
 use std::alloc::Global;
-use trace_model::{Attrs, Scope, Span, Value, attrs_of};
+use trace_model::{Attrs, Value, attrs_of};
 
-/// The tags of a span of this resource and scope, by rising keys.
+/// The tags of a span that has these columns and attributes, by rising keys.
 pub(crate) fn tags_of(
     alloc: Global,
+    columns: Attrs,
     resource: &Attrs,
-    scope: &Scope,
-    span: &Span,
+    attributes: Attrs,
 ) -> Result<Items<(Text, Text)>, OutOfMemory>
     requires resource { holds_double resource.now ≡ false }
-    requires span { holds_double span.now.attributes ≡ false }
-    ensures { IfOk result (λ tags. tags ≡ told.zipkin_tags_of resource.now (scoped_in scope.now span.now)) }
+    requires attributes { holds_double attributes ≡ false }
+    requires columns { holds_double columns ≡ false }
+    ensures { IfOk result (λ tags. tags ≡ tags_by columns resource.now attributes) }
 {
-    let room = resource.len().saturating_add(span.attributes.len());
-    let mut pairs = column_rows(alloc, scope, span, room)?;
+    let mut pairs = columns;
     add_resource(alloc, &mut pairs, resource)?;
-    add_told(alloc, &mut pairs, &span.attributes)?;
+    add_told(alloc, &mut pairs, attributes)?;
     let (pairs, _) = attrs_of(alloc, pairs)?;
     tags_in_order(alloc, pairs)
 }
@@ -69,21 +68,22 @@ fn add_resource(alloc: Global, pairs: &mut Attrs, resource: &Attrs) -> Result<()
 // ---- those of the span
 
 // Adds the tag of an attribute, unless it has a place of its own.
-fn add_text(alloc: Global, pairs: &mut Attrs, pair: &(Text, Value)) -> Result<(), OutOfMemory>
-    requires { texts.has_double pair.now.1 ≡ false }
-    ensures { OnOk result (pairs.new ≡ pairs.old ++ told.told_pairs (pair.now ∷ [])) }
+fn add_text(alloc: Global, pairs: &mut Attrs, pair: (Text, Value)) -> Result<(), OutOfMemory>
+    requires { texts.has_double pair.1 ≡ false }
+    ensures { OnOk result (pairs.new ≡ pairs.old ++ told.told_pairs (pair ∷ [])) }
 {
     if !is_told(pair.0.as_str()) {
         return Ok(());
     }
-    pairs.push((pair.0.copy()?, Value::Text(text_told(alloc, &pair.1)?)))
+    let (key, value) = pair;
+    pairs.push((key, Value::Text(text_of(alloc, value)?)))
 }
 
-fn add_told(alloc: Global, pairs: &mut Attrs, attributes: &Attrs) -> Result<(), OutOfMemory>
-    requires { holds_double attributes.now ≡ false }
-    ensures { OnOk result (pairs.new ≡ pairs.old ++ told.told_pairs attributes.now) }
+fn add_told(alloc: Global, pairs: &mut Attrs, attributes: Attrs) -> Result<(), OutOfMemory>
+    requires { holds_double attributes ≡ false }
+    ensures { OnOk result (pairs.new ≡ pairs.old ++ told.told_pairs attributes) }
 {
-    'attributes: for pair in attributes.as_slice() {
+    'attributes: for pair in attributes.into_vec() {
         add_text(alloc, pairs, pair)?;
     }
     Ok(())

@@ -3,7 +3,7 @@ use Rattle.std.specs.List.{list_any}
 use Rattle.trace_model.specs.Soundness.{IsSoundSpan}
 use Rattle.map_jaeger.specs.LeastFault.{span_has_double}
 use Rattle.map_jaeger.specs.Writing.{jaeger_span}
-use Rattle.map_jaeger.specs.WritingSoFar.{under}
+use Rattle.span_tags.specs.Runs.{under}
 use Rattle.map_jaeger.proofs.writing.push_spans.Given as goal
 
 abbrev pub invariant-spans : goal.invariant-spans

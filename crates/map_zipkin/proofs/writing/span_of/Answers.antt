@@ -1,20 +1,8 @@
+use Rattle.std.proofs.Common.{ap, ◌∙◌}
+use Rattle.trace_model.specs.EventTexts.{holds_double}
+use Rattle.span_tags.specs.Runs.{under}
+use Rattle.map_zipkin.proofs.PlainTags.{columns_plain}
 use Rattle.map_zipkin.proofs.writing.span_of.Goals as goal
 
-pub returns : goal.returns
-returns c =
-    let span = c.args.span.now in
-    λ i. record {
-      trace = span.trace;
-      id = span.id;
-      parent = span.parent;
-      name = c.in_ok-name.ensures i;
-      kind = c.zipkin_kind.ensures i;
-      start = c.floor.ensures.value i;
-      end = c.floor-2.ensures.value i;
-      debug = c.is_there.ensures i;
-      shared = c.is_there-2.ensures i;
-      local = c.in_ok-local.ensures.local i;
-      remote = c.in_ok-local.ensures.remote i;
-      annotations = c.in_ok-annotations.ensures.annotations i;
-      tags = c.in_ok-annotations.ensures.tags i;
-    }
+pub tags_of-requires-clause-columns : goal.tags_of-requires-clause-columns
+tags_of-requires-clause-columns c = ap holds_double c.in_ok-columns.ensures ∙ columns_plain (under c.args.name.now c.args.version.now c.args.span)

@@ -1,0 +1,15 @@
+use Rattle.map_zipkin.specs.Unfit.{span_unfit}
+use Rattle.map_zipkin.specs.Writing.{zipkin_span}
+use Rattle.span_tags.specs.Moved.{one_more_of, still_none}
+use Rattle.span_tags.specs.Runs.{under}
+use Rattle.map_zipkin.proofs.writing.push_spans.Goals as goal
+
+pub spans-preserved : goal.spans-preserved
+spans-preserved c =
+    let left = c.spans.span-iterator.rest.items in
+    let rest = c.next.new.self.rest.items in
+    let split = c.in-Some.ensures.steps.0 in record {
+      written = one_more_of (under c.args.name.now c.args.version.now) (zipkin_span c.args.resource.now) _ _ _ c.in-Some.span _ left rest split
+          c.in_ok-span_of.ensures c.in_ok-push.ensures.ok c.spans.invariant.written;
+      plain = still_none span_unfit c.in-Some.span left rest split c.spans.invariant.plain;
+    }
