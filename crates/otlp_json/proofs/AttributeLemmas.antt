@@ -1,0 +1,60 @@
+-- Attributes, as they are made of their pairs.
+use Rattle.std.proofs.Common.{◌≡◌, ℕ, ◌⊎◌, inl, inr, List, [], ◌++◌, Option, Some, None, refl, sym, subst}
+use Rattle.std.specs.Prelude.{◌↔◌, Contains}
+use Rattle.std.proofs.lemmas.List.Elements.{Contains-append_cases, Contains-append_left, Contains-append_right}
+use Rattle.serde_json.specs.Data.{Data}
+use Rattle.span_io.specs.declared.cause.Cause.{Cause}
+use Rattle.span_io.specs.declared.halt.Halt.{Halt}
+use Rattle.span_io.specs.Paths.{optional, Given, NothingOffends, Halts}
+use Rattle.trace_model.specs.Attributes.{AreAttributes, AreRepeated, Rise, StandsTwice}
+use Rattle.trace_model.specs.Remarks.{Keys}
+use Rattle.trace_model.specs.declared.value.Value.{Value}
+use Rattle.trace_model.specs.OtlpParts.{KeyValue, keys_inside}
+use Rattle.otlp_json.specs.Attributes.{AreJsonPairs, AreJsonAttributes, pairs_faults}
+use Rattle.otlp_json.specs.Found.{ArePairsGiven}
+use Rattle.otlp_json.specs.Values.{AreHeld, held_faults, json_key_value_in, json_key_value_offends}
+
+same_faults : (d : Data) → held_faults 16 (json_key_value_offends 16) d ≡ pairs_faults d
+unfolding json_key_value_offends
+same_faults d = refl
+
+same_optional : (o : Option Data) → optional (held_faults 16 (json_key_value_offends 16)) o ≡ optional pairs_faults o
+same_optional None = refl
+same_optional (Some d) = same_faults d
+
+pub attributes_clean : (o : Option Data) → NothingOffends (optional (held_faults 16 (json_key_value_offends 16)) o) → NothingOffends (optional pairs_faults o)
+attributes_clean o h = subst NothingOffends (same_optional o) h
+
+pub attributes_halt : (halt : Halt Cause) (o : Option Data) → Halts halt (optional (held_faults 16 (json_key_value_offends 16)) o) → Halts halt (optional pairs_faults o)
+attributes_halt halt o h = subst (Halts halt) (same_optional o) h
+
+given_pairs : (pairs : List KeyValue) (o : Option Data) → Given (AreHeld (json_key_value_in 16)) (λ ps. ps ≡ []) pairs o → Given AreJsonPairs (λ ps. ps ≡ []) pairs o
+unfolding json_key_value_in
+given_pairs pairs None h = h
+given_pairs pairs (Some d) h = record { held = h.held; shape = h.shape; means = h.means }
+
+pub made_attributes : (o : Option Data) (pairs attributes : List (List ℕ × Value)) (noted keys : Keys) → ArePairsGiven 16 o pairs noted → AreAttributes attributes pairs → Rise keys
+    → ((key : List ℕ) → Contains keys key ↔ (StandsTwice key pairs ⊎ Contains noted key)) → AreJsonAttributes attributes keys o
+made_attributes o pairs attributes noted keys h kept rising named = record {
+  pairs = h.pairs;
+  each = given_pairs h.pairs o h.each;
+  kept = subst (λ (l : List (List ℕ × Value)). AreAttributes attributes l) h.entries kept;
+  rising = rising;
+  noted = λ key. subst (λ (l : List (List ℕ × Value)). Contains keys key ↔ (StandsTwice key l ⊎ Contains (keys_inside h.pairs) key)) h.entries
+      (subst (λ (l : Keys). Contains keys key ↔ (StandsTwice key pairs ⊎ Contains l key)) h.noted (named key));
+}
+
+module _ (pairs : List (List ℕ × Value)) (repeated inside noted keys : Keys) (twice : AreRepeated repeated pairs) (e : noted ≡ inside ++ repeated) (same : (key : List ℕ) → Contains keys key ↔ Contains noted key) where
+  there_to : (key : List ℕ) → Contains keys key → StandsTwice key pairs ⊎ Contains inside key
+  there_to key h = on (Contains-append_cases inside repeated key (subst (λ (l : Keys). Contains l key) e ((same key).0 h)))
+    where
+      on : Contains inside key ⊎ Contains repeated key → StandsTwice key pairs ⊎ Contains inside key
+      on (inl k) = inr k
+      on (inr k) = inl ((twice.twice key).0 k)
+
+  back_from : (key : List ℕ) → StandsTwice key pairs ⊎ Contains inside key → Contains keys key
+  back_from key (inl k) = (same key).1 (subst (λ (l : Keys). Contains l key) (sym e) (Contains-append_right inside repeated key ((twice.twice key).1 k)))
+  back_from key (inr k) = (same key).1 (subst (λ (l : Keys). Contains l key) (sym e) (Contains-append_left inside repeated key k))
+
+  pub keys_named : (key : List ℕ) → Contains keys key ↔ (StandsTwice key pairs ⊎ Contains inside key)
+  keys_named key = (there_to key, back_from key)

@@ -1,0 +1,7 @@
+use Rattle.std.proofs.Common.{refl}
+use Rattle.trace_model.specs.Remarks.{numbered}
+use Rattle.otlp_json.proofs.links.FoundLinks.none.Goals as goal
+
+pub returns : goal.returns
+unfolding numbered
+returns c = λ span. record { links = c.new.ensures; dropped = refl; remarks = c.new-2.ensures }

@@ -1,0 +1,24 @@
+use Rattle.std.proofs.Common.{[], rules}
+use Rattle.span_io.specs.PathLaws.{exits, clean_nothing}
+use Rattle.json_members.specs.ElementLaws.{clean_on, halts_here}
+use Rattle.otlp_json.specs.Found.{SpansTold}
+use Rattle.otlp_json.specs.Span.{IsJsonSpan, otlp_span_faults}
+use Rattle.otlp_json.proofs.ListLemmas.{found_on}
+use Rattle.otlp_json.proofs.spans.read_spans.Goals as goal
+
+pub elements-init : goal.elements-init
+elements-init c = record { read = record { found = []; each = tt; told = c.none-rows.ensures c.args.first }; clean = clean_nothing }
+
+pub returns-in_err-add-clause-judged : goal.returns-in_err-add-clause-judged
+returns-in_err-add-clause-judged c =
+    exits c.in_err-add.field-0.0 _ _ (search rules)
+    (halts_here c.args.elements.now.items c.elements.element-index c.element-item.result (search rules) (search rules)
+    otlp_span_faults c.in_err-add.field-0.0 (search rules) c.in_err-add.ensures.judged)
+
+pub elements-preserved : goal.elements-preserved
+elements-preserved c = record {
+  read = found_on IsJsonSpan (SpansTold c.args.first) c.deref-element-items.result.now c.elements.element-index c.element-item.result c.elements-test.true c.element-item.is
+      c.elements.rows _ c.elements.invariant.read c.in_ok-add.ensures.ok;
+  clean = clean_on c.deref-element-items.result.now c.elements.element-index c.element-item.result c.elements-test.true c.element-item.is
+      otlp_span_faults c.elements.invariant.clean c.in_ok-add.ensures.judged;
+}

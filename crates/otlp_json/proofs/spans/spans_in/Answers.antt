@@ -1,0 +1,17 @@
+use Rattle.std.proofs.Common.{rules}
+use Rattle.span_io.specs.PathLaws.{exits}
+use Rattle.json_members.specs.ElementLaws.{clean_array, halts_array}
+use Rattle.otlp_json.specs.Found.{SpansTold}
+use Rattle.otlp_json.specs.Span.{IsJsonSpan, otlp_span_faults}
+use Rattle.otlp_json.proofs.ListLemmas.{found_given}
+use Rattle.otlp_json.proofs.spans.spans_in.Goals as goal
+
+pub returns-in_err-rows-clause-judged : goal.returns-in_err-rows-clause-judged
+returns-in_err-rows-clause-judged c =
+    exits c.in_err-rows.field-0.0 _ _ (search rules) (halts_array otlp_span_faults _ _ _ c.in-Some.ensures c.in_err-rows.ensures.judged)
+
+pub returns-clause-value : goal.returns-clause-value
+returns-clause-value c = found_given IsJsonSpan (SpansTold c.args.first) _ _ _ c.in-Some.ensures c.in_ok-rows.ensures.value
+
+pub returns-clause-judged : goal.returns-clause-judged
+returns-clause-judged c = clean_array otlp_span_faults _ _ c.in-Some.ensures c.in_ok-rows.ensures.judged

@@ -1,0 +1,135 @@
+use Rattle.std.proofs.Common.{◌≡◌, suc, true, is_some, arith, rules}
+use Rattle.serde_json.specs.Find.{as_object}
+use Rattle.serde_json.specs.View.{view}
+use Rattle.span_io.specs.PathLaws.{clean_valued, clean_parts, clean_nothing, halts_valued, halts_first, halts_later, quiet_parts, quiet_nothing, exits}
+use Rattle.otlp_json.specs.Found.{value_found, pair_found}
+use Rattle.otlp_json.specs.Values.{many_members, key_value_members, json_value_offends, json_key_value_offends}
+use Rattle.otlp_json.proofs.ValueLemmas.{judged_behind, halts_behind, clean_next, halts_next, clean_held, halts_held, value_deeper, pair_deeper, value_clean_deeper, value_halts_deeper, pair_clean_deeper, pair_halts_deeper, values_next, pairs_next, values_given, pairs_given}
+use Rattle.otlp_json.proofs.values.+values.Goals as goal
+
+-- ---- the parts of a value
+
+pub read_part-returns-in-Text-clause-judged : goal.read_part-returns-in-Text-clause-judged
+read_part-returns-in-Text-clause-judged t c = rw c.in-Text.is (judged_behind 0 _ _ c.text_value.ensures.judged)
+
+pub read_part-returns-in-Truth-clause-judged : goal.read_part-returns-in-Truth-clause-judged
+read_part-returns-in-Truth-clause-judged t c = rw c.in-Truth.is (judged_behind 1 _ _ c.truth_value.ensures.judged)
+
+pub read_part-returns-in-Number-clause-judged : goal.read_part-returns-in-Number-clause-judged
+read_part-returns-in-Number-clause-judged t c = rw c.in-Number.is (judged_behind 2 _ _ c.number_value.ensures.judged)
+
+pub read_part-returns-in-Double-clause-judged : goal.read_part-returns-in-Double-clause-judged
+read_part-returns-in-Double-clause-judged t c = rw c.in-Double.is (halts_behind 3 c.double_value.result _ c.double_value.ensures)
+
+pub read_part-returns-in-List-clause-judged : goal.read_part-returns-in-List-clause-judged
+read_part-returns-in-List-clause-judged t c = rw c.in-List.is (judged_behind 4 _ _ c.read_list.ensures.judged)
+
+pub read_part-returns-in-Map-clause-judged : goal.read_part-returns-in-Map-clause-judged
+read_part-returns-in-Map-clause-judged t c = rw c.in-Map.is (judged_behind 5 _ _ c.read_map.ensures.judged)
+
+pub read_part-returns-in-Bytes-clause-judged : goal.read_part-returns-in-Bytes-clause-judged
+read_part-returns-in-Bytes-clause-judged t c = rw c.in-Bytes.is (judged_behind 6 _ _ c.bytes_value.ensures.judged)
+
+-- ---- lists
+
+pub read_list-returns-in_err-values-clause-judged : goal.read_list-returns-in_err-values-clause-judged
+unfolding many_members
+read_list-returns-in_err-values-clause-judged t c =
+    let shape : is_some (as_object (view c.args.v.now)) ≡ true = cc in
+    exits c.in_err-values.field-0.0 _ _ (search rules) (halts_valued _ _ (as_object (view c.args.v.now)) shape (halts_first _ _ _ quiet_nothing c.in_err-values.ensures.judged))
+
+pub read_list-returns-clause-judged : goal.read_list-returns-clause-judged
+unfolding many_members
+read_list-returns-clause-judged t c =
+    let shape : is_some (as_object (view c.args.v.now)) ≡ true = cc in
+    clean_valued _ (as_object (view c.args.v.now)) shape (clean_parts _ _ c.in_ok-values.ensures.judged clean_nothing)
+
+pub values_in-returns-in_err-read-clause-judged : goal.values_in-returns-in_err-read-clause-judged
+values_in-returns-in_err-read-clause-judged t c =
+    exits c.in_err-read.field-0.0 _ _ (search rules) (halts_held c.args.left (json_value_offends c.args.left) _ _ c.in-Some.ensures _ c.in_err-read.ensures.judged)
+
+pub values_in-returns-clause-value : goal.values_in-returns-clause-value
+values_in-returns-clause-value t c = values_given c.args.left _ _ c.in-Some.ensures _ _ c.in_ok-read.ensures.value
+
+pub values_in-returns-clause-judged : goal.values_in-returns-clause-judged
+values_in-returns-clause-judged t c = clean_held c.args.left (json_value_offends c.args.left) _ _ c.in-Some.ensures c.in_ok-read.ensures.judged
+
+pub read_elements-returns-in_err-read-clause-judged : goal.read_elements-returns-in_err-read-clause-judged
+read_elements-returns-in_err-read-clause-judged t c =
+    let some : c.args.left ≡ suc c.in-Some.below = omega (arith, c.in-Some.ensures) in
+    exits c.in_err-read.field-0.0 _ _ (search rules)
+    (halts_next (json_value_offends c.args.left) c.args.elements.now.items c.elements.element-index c.element-item.result (search rules) (search rules)
+    c.args.left c.in-Some.below some c.in_err-read.field-0.0 (search rules) (value_halts_deeper c.args.left c.in-Some.below some _ _ c.in_err-read.ensures.judged))
+
+pub read_elements-elements-preserved : goal.read_elements-elements-preserved
+read_elements-elements-preserved t c =
+    let some : c.args.left ≡ suc c.in-Some.below = omega (arith, c.in-Some.ensures) in
+    record {
+      read = rw (c.in_ok-push.ensures.ok, c.in_ok-note_keys.ensures) (values_next c.args.left c.deref-element-items.result.now c.elements.element-index c.element-item.result c.elements-test.true c.element-item.is
+          c.elements.values c.elements.noted (value_found c.in_ok-read.read) c.elements.invariant.read (value_deeper c.args.left c.in-Some.below some _ _ c.in_ok-read.ensures.value));
+      clean = clean_next (json_value_offends c.args.left) c.deref-element-items.result.now c.elements.element-index c.element-item.result c.elements-test.true c.element-item.is
+          c.args.left c.in-Some.below some c.elements.invariant.clean (value_clean_deeper c.args.left c.in-Some.below some _ c.in_ok-read.ensures.judged);
+    }
+
+-- ---- maps
+
+pub read_map-returns-in_err-rows-clause-judged : goal.read_map-returns-in_err-rows-clause-judged
+unfolding many_members
+read_map-returns-in_err-rows-clause-judged t c =
+    let shape : is_some (as_object (view c.args.v.now)) ≡ true = cc in
+    exits c.in_err-rows.field-0.0 _ _ (search rules) (halts_valued _ _ (as_object (view c.args.v.now)) shape (halts_first _ _ _ quiet_nothing c.in_err-rows.ensures.judged))
+
+pub read_map-returns-clause-judged : goal.read_map-returns-clause-judged
+unfolding many_members
+read_map-returns-clause-judged t c =
+    let shape : is_some (as_object (view c.args.v.now)) ≡ true = cc in
+    clean_valued _ (as_object (view c.args.v.now)) shape (clean_parts _ _ c.in_ok-rows.ensures.judged clean_nothing)
+
+pub pairs_in-returns-in_err-read-clause-judged : goal.pairs_in-returns-in_err-read-clause-judged
+pairs_in-returns-in_err-read-clause-judged t c =
+    exits c.in_err-read.field-0.0 _ _ (search rules) (halts_held c.args.left (json_key_value_offends c.args.left) _ _ c.in-Some.ensures _ c.in_err-read.ensures.judged)
+
+pub pairs_in-returns-clause-value : goal.pairs_in-returns-clause-value
+pairs_in-returns-clause-value t c = pairs_given c.args.left _ _ c.in-Some.ensures _ _ c.in_ok-read.ensures.value
+
+pub pairs_in-returns-clause-judged : goal.pairs_in-returns-clause-judged
+pairs_in-returns-clause-judged t c = clean_held c.args.left (json_key_value_offends c.args.left) _ _ c.in-Some.ensures c.in_ok-read.ensures.judged
+
+pub read_pairs-returns-in_err-read-clause-judged : goal.read_pairs-returns-in_err-read-clause-judged
+read_pairs-returns-in_err-read-clause-judged t c =
+    let some : c.args.left ≡ suc c.in-Some.below = omega (arith, c.in-Some.ensures) in
+    exits c.in_err-read.field-0.0 _ _ (search rules)
+    (halts_next (json_key_value_offends c.args.left) c.args.elements.now.items c.elements.element-index c.element-item.result (search rules) (search rules)
+    c.args.left c.in-Some.below some c.in_err-read.field-0.0 (search rules) (pair_halts_deeper c.args.left c.in-Some.below some _ _ c.in_err-read.ensures.judged))
+
+pub read_pairs-elements-preserved : goal.read_pairs-elements-preserved
+read_pairs-elements-preserved t c =
+    let some : c.args.left ≡ suc c.in-Some.below = omega (arith, c.in-Some.ensures) in
+    record {
+      read = rw (c.in_ok-push.ensures.pairs, c.in_ok-push.ensures.noted) (pairs_next c.args.left c.deref-element-items.result.now c.elements.element-index c.element-item.result c.elements-test.true c.element-item.is
+          c.elements.rows.pairs c.elements.rows.noted (pair_found c.in_ok-read.read) c.elements.invariant.read (pair_deeper c.args.left c.in-Some.below some _ _ c.in_ok-read.ensures.value));
+      clean = clean_next (json_key_value_offends c.args.left) c.deref-element-items.result.now c.elements.element-index c.element-item.result c.elements-test.true c.element-item.is
+          c.args.left c.in-Some.below some c.elements.invariant.clean (pair_clean_deeper c.args.left c.in-Some.below some _ c.in_ok-read.ensures.judged);
+    }
+
+-- ---- `KeyValue`
+
+pub read_key_value-returns-in_err-key-clause-judged : goal.read_key_value-returns-in_err-key-clause-judged
+unfolding key_value_members
+read_key_value-returns-in_err-key-clause-judged t c =
+    let shape : is_some (as_object (view c.args.v.now)) ≡ true = cc in
+    exits c.in_err-key.field-0.0 _ _ (search rules) (halts_valued _ _ (as_object (view c.args.v.now)) shape
+    (halts_first _ _ _ (search (quiet_parts, quiet_nothing) depth 24) c.in_err-key.ensures.judged))
+
+pub read_key_value-returns-in_err-found-clause-judged : goal.read_key_value-returns-in_err-found-clause-judged
+unfolding key_value_members
+read_key_value-returns-in_err-found-clause-judged t c =
+    let shape : is_some (as_object (view c.args.v.now)) ≡ true = cc in
+    exits c.in_err-found.field-0.0 _ _ (search rules) (halts_valued _ _ (as_object (view c.args.v.now)) shape
+    (halts_later _ _ _ c.in_ok-key.ensures.judged (halts_first _ _ _ quiet_nothing c.in_err-found.ensures.judged)))
+
+pub read_key_value-returns-clause-judged : goal.read_key_value-returns-clause-judged
+unfolding key_value_members
+read_key_value-returns-clause-judged t c =
+    let shape : is_some (as_object (view c.args.v.now)) ≡ true = cc in
+    clean_valued _ (as_object (view c.args.v.now)) shape (clean_parts _ _ c.in_ok-key.ensures.judged (clean_parts _ _ c.in_ok-found.ensures.judged clean_nothing))

@@ -1,0 +1,9 @@
+use Rattle.std.proofs.Common.{rules}
+use Rattle.json_members.specs.WritingLaws.{seq, stop, exits_written}
+use Rattle.otlp_json.proofs.writing.values.nothing_value.Goals as goal
+
+pub returns-in_err-open_object : goal.returns-in_err-open_object
+returns-in_err-open_object c = exits_written _ c.in_err-open_object.field-0.0 _ _ _ _ (search rules) (stop _ _ _ _ _ c.in_err-open_object.ensures)
+
+pub returns : goal.returns
+returns c = seq _ _ _ _ _ _ c.in_ok-open_object.ensures (c.close_object.ensures)

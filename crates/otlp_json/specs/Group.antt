@@ -1,0 +1,130 @@
+-- `ScopeSpans` with its `InstrumentationScope`, `ResourceSpans` with its `Resource`, and the whole text, an object whose `resourceSpans`
+-- are the groups, in OTLP/JSON. The path to a group begins with its number: the one member of the whole has none.
+use Rattle.std.specs.Prelude.{◌≡◌, ℕ, List, [], map, true, codes, is_some}
+use Rattle.std.specs.List.{AllZip}
+use Rattle.serde_json.specs.Data.{Data}
+use Rattle.serde_json.specs.Find.{as_array, as_object}
+use Rattle.span_io.specs.Paths.{Faults, nothing, ◌▹◌, optional, each, valued, Given, OfKind}
+use Rattle.trace_model.specs.Remarks.{Keys}
+use Rattle.trace_model.specs.declared.remark.Remark.{Remark}
+use Rattle.trace_model.specs.declared.span.Span.{Span}
+use Rattle.trace_model.specs.declared.trace.Group.{Group}
+use Rattle.trace_model.specs.declared.trace.Scope.{Scope}
+use Rattle.trace_model.specs.GroupRemarks.{group_remarks}
+use Rattle.trace_model.specs.Notes.{Noted, SpanNotes, ScopeNotes}
+use Rattle.trace_model.specs.OtlpParts.{Resource, no_resource, NotedGroup, InstrumentationScope, no_instrumentation_scope}
+use Rattle.json_members.specs.Members.{member, elements, IsText, text_faults}
+use Rattle.otlp_json.specs.Attributes.{AreJsonAttributes, pairs_faults}
+use Rattle.otlp_json.specs.Numbers.{IsJsonCount, json_count_faults}
+use Rattle.otlp_json.specs.Span.{IsJsonSpan, otlp_span_faults}
+
+-- ---- `InstrumentationScope`
+
+pub record IsJsonInstrumentationScope (s : Noted InstrumentationScope Keys) (d : Data) : Type 0 where
+  pub shape : is_some (as_object d) ≡ true
+  pub name : Given IsText (λ text. text ≡ []) s.means.name (member (codes "name") d)
+  pub version : Given IsText (λ text. text ≡ []) s.means.version (member (codes "version") d)
+  pub attributes : AreJsonAttributes s.means.attributes s.notes (member (codes "attributes") d)
+  pub dropped : Given IsJsonCount (λ n. n ≡ 0) s.means.dropped (member (codes "droppedAttributesCount") d)
+
+unfoldable pub instrumentation_scope_members : Data → Faults
+instrumentation_scope_members d = optional text_faults (member (codes "name") d) ▹ optional text_faults (member (codes "version") d)
+    ▹ optional pairs_faults (member (codes "attributes") d) ▹ optional json_count_faults (member (codes "droppedAttributesCount") d) ▹ nothing
+
+abbrev pub instrumentation_scope_faults : Data → Faults
+instrumentation_scope_faults d = valued (λ members. instrumentation_scope_members d) (as_object d)
+
+-- ---- `ScopeSpans`
+
+abbrev pub AreJsonSpans : List (Noted Span SpanNotes) → Data → Type 0
+AreJsonSpans spans d = OfKind (λ xs ds. AllZip (λ inner x. IsJsonSpan x inner) (elements ds) xs) spans (as_array d)
+
+abbrev pub otlp_spans_faults : Data → Faults
+otlp_spans_faults d = valued (λ ds. each otlp_span_faults (elements ds)) (as_array d)
+
+pub record IsJsonScope (s : Noted Scope ScopeNotes) (d : Data) : Type 0 where
+  pub shape : is_some (as_object d) ≡ true
+  pub instrumentation : Noted InstrumentationScope Keys
+  pub its_instrumentation : Given IsJsonInstrumentationScope (λ i. i ≡ no_instrumentation_scope) instrumentation (member (codes "scope") d)
+  pub spans : List (Noted Span SpanNotes)
+  pub each_span : Given AreJsonSpans (λ xs. xs ≡ []) spans (member (codes "spans") d)
+  pub url : List ℕ
+  pub its_url : Given IsText (λ text. text ≡ []) url (member (codes "schemaUrl") d)
+  pub scope : s.means ≡ record {
+    name = instrumentation.means.name;
+    version = instrumentation.means.version;
+    attributes = instrumentation.means.attributes;
+    dropped = instrumentation.means.dropped;
+    schema_url = url;
+    spans = map (λ x. x.means) spans;
+  }
+  pub noted : s.notes ≡ record { keys = instrumentation.notes; spans = map (λ x. x.notes) spans }
+
+unfoldable pub scope_members : Data → Faults
+scope_members d = optional instrumentation_scope_faults (member (codes "scope") d) ▹ optional otlp_spans_faults (member (codes "spans") d)
+    ▹ optional text_faults (member (codes "schemaUrl") d) ▹ nothing
+
+abbrev pub scope_faults : Data → Faults
+scope_faults d = valued (λ members. scope_members d) (as_object d)
+
+-- ---- `Resource`
+
+pub record IsJsonResource (r : Noted Resource Keys) (d : Data) : Type 0 where
+  pub shape : is_some (as_object d) ≡ true
+  pub attributes : AreJsonAttributes r.means.attributes r.notes (member (codes "attributes") d)
+  pub dropped : Given IsJsonCount (λ n. n ≡ 0) r.means.dropped (member (codes "droppedAttributesCount") d)
+
+unfoldable pub resource_members : Data → Faults
+resource_members d = optional pairs_faults (member (codes "attributes") d) ▹ optional json_count_faults (member (codes "droppedAttributesCount") d) ▹ nothing
+
+abbrev pub resource_faults : Data → Faults
+resource_faults d = valued (λ members. resource_members d) (as_object d)
+
+-- ---- `ResourceSpans`
+
+abbrev pub AreJsonScopes : List (Noted Scope ScopeNotes) → Data → Type 0
+AreJsonScopes scopes d = OfKind (λ xs ds. AllZip (λ inner x. IsJsonScope x inner) (elements ds) xs) scopes (as_array d)
+
+abbrev pub scopes_faults : Data → Faults
+scopes_faults d = valued (λ ds. each scope_faults (elements ds)) (as_array d)
+
+-- the members of this group, with the remarks on it
+pub record IsJsonGroup (g : NotedGroup) (d : Data) : Type 0 where
+  pub shape : is_some (as_object d) ≡ true
+  pub resource : Noted Resource Keys
+  pub its_resource : Given IsJsonResource (λ r. r ≡ no_resource) resource (member (codes "resource") d)
+  pub scopes : List (Noted Scope ScopeNotes)
+  pub each_scope : Given AreJsonScopes (λ xs. xs ≡ []) scopes (member (codes "scopeSpans") d)
+  pub url : List ℕ
+  pub its_url : Given IsText (λ text. text ≡ []) url (member (codes "schemaUrl") d)
+  pub its_group : g.means ≡ record { resource = resource.means.attributes; dropped = resource.means.dropped; schema_url = url; scopes = map (λ x. x.means) scopes }
+  pub its_remarks : g.notes ≡ group_remarks resource.notes (map (λ x. x.notes) scopes)
+
+unfoldable pub group_members : Data → Faults
+group_members d = optional resource_faults (member (codes "resource") d) ▹ optional scopes_faults (member (codes "scopeSpans") d)
+    ▹ optional text_faults (member (codes "schemaUrl") d) ▹ nothing
+
+abbrev pub group_faults : Data → Faults
+group_faults d = valued (λ members. group_members d) (as_object d)
+
+-- ---- the whole text
+
+-- a group beside the remarks on it
+abbrev pub RemarkedGroup : Type 0
+RemarkedGroup = Group × List Remark
+
+abbrev pub IsRemarkedGroup : RemarkedGroup → Data → Type 0
+IsRemarkedGroup g d = IsJsonGroup (record { means = g.0; notes = g.1 }) d
+
+abbrev pub AreRemarkedGroups : List RemarkedGroup → Data → Type 0
+AreRemarkedGroups groups d = OfKind (λ xs ds. AllZip (λ inner x. IsRemarkedGroup x inner) (elements ds) xs) groups (as_array d)
+
+abbrev pub groups_faults : Data → Faults
+groups_faults d = valued (λ ds. each group_faults (elements ds)) (as_array d)
+
+pub record AreJsonGroups (groups : List RemarkedGroup) (d : Data) : Type 0 where
+  pub shape : is_some (as_object d) ≡ true
+  pub each : Given AreRemarkedGroups (λ xs. xs ≡ []) groups (member (codes "resourceSpans") d)
+
+abbrev pub json_groups_faults : Data → Faults
+json_groups_faults d = valued (λ members. optional groups_faults (member (codes "resourceSpans") d)) (as_object d)

@@ -1,0 +1,43 @@
+-- Identifiers in OTLP/JSON (`traceId`, `spanId` and `parentSpanId`): all hex digits, of either case. The empty text, and as many zeros,
+-- are no identifier.
+use Rattle.std.specs.Prelude.{◌≡◌, ◌⊎◌, ℕ, List, [], length, All, Option, Some, None}
+use Rattle.serde_json.specs.Data.{Data}
+use Rattle.span_ids.specs.HexTexts.{SpellsInHex}
+use Rattle.span_ids.specs.declared.hex_text.IdRule.TheVariants.{Exact}
+use Rattle.span_io.specs.Paths.{Faults, here}
+use Rattle.json_members.specs.Members.{unspelled}
+
+abbrev pub SpellsJsonTrace : List ℕ → ℕ → Type 0
+SpellsJsonTrace text id = SpellsInHex Exact 32 text id
+
+abbrev pub SpellsJsonSpan : List ℕ → ℕ → Type 0
+SpellsJsonSpan text id = SpellsInHex Exact 16 text id
+
+abbrev pub SpellsNoId : ℕ → List ℕ → Type 0
+SpellsNoId full text = (text ≡ []) ⊎ ((length text ≡ full) × All (λ digit. digit ≡ 48) text)
+
+abbrev pub SpellsTraceOrNone : List ℕ → Option ℕ → Type 0
+SpellsTraceOrNone text None = SpellsNoId 32 text
+SpellsTraceOrNone text (Some id) = SpellsJsonTrace text id
+
+abbrev pub SpellsSpanOrNone : List ℕ → Option ℕ → Type 0
+SpellsSpanOrNone text None = SpellsNoId 16 text
+SpellsSpanOrNone text (Some id) = SpellsJsonSpan text id
+
+-- BadId: a text that spells none of these
+abbrev pub json_trace_faults : Data → Faults
+json_trace_faults d = unspelled SpellsJsonTrace 12 d
+
+abbrev pub json_span_faults : Data → Faults
+json_span_faults d = unspelled SpellsJsonSpan 12 d
+
+abbrev pub trace_or_none_faults : Data → Faults
+trace_or_none_faults d = unspelled SpellsTraceOrNone 12 d
+
+abbrev pub span_or_none_faults : Data → Faults
+span_or_none_faults d = unspelled SpellsSpanOrNone 12 d
+
+-- BadId: an identifier that must be there
+abbrev pub identified : (Data → Faults) → Option Data → Faults
+identified Offends None = here (λ number. number ≡ 12)
+identified Offends (Some d) = Offends d

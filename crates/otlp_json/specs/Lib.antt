@@ -1,0 +1,13 @@
+pub mod Numbers
+pub mod Identifiers
+pub mod Values
+pub mod Attributes
+pub mod Span
+pub mod Found
+pub mod Group
+pub mod Canonical
+pub mod Writing
+pub mod Doubles
+pub mod Held
+pub mod Texts
+pub mod Laws

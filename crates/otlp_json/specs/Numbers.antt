@@ -1,0 +1,101 @@
+-- Numbers, enums and bytes in OTLP/JSON (the ProtoJSON format, with the differences that OTLP names). A whole number is a JSON number
+-- without point and exponent, or a text: an optional minus and one or more decimal digits. An enum is a number alone, and bytes are a
+-- text in standard base64 with padding (RFC 4648, section 4).
+use Rattle.std.specs.Prelude.{◌≡◌, ℕ, ◌^◌, ◌<◌, ℤ, pos, negsuc, neg_ℤ, List, [], ◌∷◌, drop, All, Option, Some, None, option_map, option_and_then, nat_lt, if◌then◌else◌}
+use Rattle.std.specs.Str.{all_ascii_digits}
+use Rattle.std.specs.Str.Parse.{digits_value, starts_with_minus}
+use Rattle.base64.specs.Engines.{standard}
+use Rattle.base64.specs.GeneralPurpose.{encode_of}
+use Rattle.serde_json.specs.Data.{Num, unsigned, negative, float, Data, null, boolean, number, string, array, object}
+use Rattle.serde_json.specs.Find.{as_number, as_integer}
+use Rattle.span_io.specs.Paths.{Faults, nothing, here, valued}
+use Rattle.trace_model.specs.declared.span.Kind.{Kind}
+use Rattle.trace_model.specs.declared.span.Code.{Code}
+use Rattle.trace_model.specs.OtlpParts.{kind_number, code_number}
+use Rattle.json_members.specs.Members.{IsCount, unspelled}
+
+-- ---- whole numbers
+
+-- one or more digits
+abbrev pub numeral : List ℕ → Option ℕ
+numeral [] = None
+numeral (c ∷ cs) = if all_ascii_digits (c ∷ cs) then Some (digits_value 10 (c ∷ cs)) else None
+
+abbrev pub integer_in_text : List ℕ → Option ℤ
+integer_in_text text = if starts_with_minus text then option_map (λ n. neg_ℤ (pos n)) (numeral (drop 1 text)) else option_map pos (numeral text)
+
+abbrev pub integer_in : Data → Option ℤ
+integer_in null = None
+integer_in (boolean truth) = None
+integer_in (number n) = as_integer n
+integer_in (string text) = integer_in_text text
+integer_in (array ds) = None
+integer_in (object ms) = None
+
+-- the number, if it is below the limit and not negative
+abbrev pub unsigned_below : ℕ → ℤ → Option ℕ
+unsigned_below limit (pos n) = if nat_lt n limit then Some n else None
+unsigned_below limit (negsuc n) = None
+
+-- the number, if it has 64 bits with its sign
+abbrev pub signed_fitting : ℤ → Option ℤ
+signed_fitting (pos n) = if nat_lt n (2 ^ 63) then Some (pos n) else None
+signed_fitting (negsuc n) = if nat_lt n (2 ^ 63) then Some (negsuc n) else None
+
+unfoldable pub unsigned_in : ℕ → Data → Option ℕ
+unsigned_in limit d = option_and_then (unsigned_below limit) (integer_in d)
+
+unfoldable pub signed_in : Data → Option ℤ
+signed_in d = option_and_then signed_fitting (integer_in d)
+
+-- BadShape: no whole number, or one out of range
+abbrev pub IsJsonUnsigned : ℕ → ℕ → Data → Type 0
+IsJsonUnsigned limit n d = unsigned_in limit d ≡ Some n
+
+abbrev pub unsigned_faults : ℕ → Data → Faults
+unsigned_faults limit d = valued (λ n. nothing) (unsigned_in limit d)
+
+abbrev pub IsJsonSigned : ℤ → Data → Type 0
+IsJsonSigned z d = signed_in d ≡ Some z
+
+abbrev pub signed_faults : Data → Faults
+signed_faults d = valued (λ z. nothing) (signed_in d)
+
+-- counts and flags have 32 bits, times 64
+abbrev pub IsJsonCount : ℕ → Data → Type 0
+IsJsonCount n d = IsJsonUnsigned (2 ^ 32) n d
+
+abbrev pub json_count_faults : Data → Faults
+json_count_faults d = unsigned_faults (2 ^ 32) d
+
+abbrev pub IsJsonTime : ℕ → Data → Type 0
+IsJsonTime n d = IsJsonUnsigned (2 ^ 64) n d
+
+abbrev pub json_time_faults : Data → Faults
+json_time_faults d = unsigned_faults (2 ^ 64) d
+
+-- ---- enums
+
+-- BadEnum: a whole number that stands in no table from 0 to the last, as a negative one; BadShape: another
+abbrev pub enum_number_faults : ℕ → Num → Faults
+enum_number_faults last (unsigned n) = here (λ number. (number ≡ 13) × (last < n))
+enum_number_faults last (negative z) = here (λ number. number ≡ 13)
+enum_number_faults last (float x) = here (λ number. number ≡ 11)
+
+abbrev pub enum_faults : ℕ → Data → Faults
+enum_faults last d = valued (enum_number_faults last) (as_number d)
+
+abbrev pub IsJsonKind : Kind → Data → Type 0
+IsJsonKind kind d = IsCount (kind_number kind) d
+
+abbrev pub IsJsonCode : Code → Data → Type 0
+IsJsonCode code d = IsCount (code_number code) d
+
+-- ---- bytes
+
+abbrev pub SpellsBytes : List ℕ → List ℕ → Type 0
+SpellsBytes text held = All (λ b. b < 256) held × (text ≡ encode_of standard held)
+
+-- BadShape: no text, or one that isn't the base64 of any bytes
+abbrev pub base64_faults : Data → Faults
+base64_faults d = unspelled SpellsBytes 11 d

@@ -1,0 +1,125 @@
+-- `Span`, `Span.Event`, `Span.Link` and `Status` in OTLP/JSON: what each object means, member by member, and how it offends, its members
+-- in the order in which their offences count, which is that of their field numbers. Members that the tables don't have are passed over.
+use Rattle.std.specs.Prelude.{◌≡◌, ℕ, List, [], map, true, Option, None, is_none, is_some, codes}
+use Rattle.std.specs.List.{AllZip, list_any}
+use Rattle.serde_json.specs.Data.{Data}
+use Rattle.serde_json.specs.Find.{as_array, as_object}
+use Rattle.span_io.specs.Paths.{Faults, nothing, ◌▹◌, optional, each, valued, Given, Never, OfKind}
+use Rattle.trace_model.specs.Remarks.{Keys}
+use Rattle.trace_model.specs.declared.span.Code.TheVariants as statuses
+use Rattle.trace_model.specs.declared.span.Event.{Event}
+use Rattle.trace_model.specs.declared.span.Kind.TheVariants as kinds
+use Rattle.trace_model.specs.declared.span.Link.{Link}
+use Rattle.trace_model.specs.declared.span.Span.{Span}
+use Rattle.trace_model.specs.declared.span.Status.{Status}
+use Rattle.trace_model.specs.Notes.{Noted, SpanNotes}
+use Rattle.trace_model.specs.OtlpParts.{LinkParts, link_of, kept_links, no_status}
+use Rattle.json_members.specs.Members.{member, elements, IsText, text_faults, Spelled}
+use Rattle.otlp_json.specs.Attributes.{AreJsonAttributes, pairs_faults}
+use Rattle.otlp_json.specs.Identifiers.{SpellsJsonTrace, SpellsJsonSpan, SpellsTraceOrNone, SpellsSpanOrNone, json_trace_faults, json_span_faults, trace_or_none_faults, span_or_none_faults, identified}
+use Rattle.otlp_json.specs.Numbers.{IsJsonCount, json_count_faults, IsJsonTime, json_time_faults, enum_faults, IsJsonKind, IsJsonCode}
+
+-- ---- `Status`
+
+pub record IsJsonStatus (s : Status) (d : Data) : Type 0 where
+  pub shape : is_some (as_object d) ≡ true
+  pub message : Given IsText (λ text. text ≡ []) s.message (member (codes "message") d)
+  pub code : Given IsJsonCode (λ code. code ≡ statuses.Unset) s.code (member (codes "code") d)
+
+unfoldable pub status_members : Data → Faults
+status_members d = optional text_faults (member (codes "message") d) ▹ optional (enum_faults 2) (member (codes "code") d) ▹ nothing
+
+abbrev pub status_faults : Data → Faults
+status_faults d = valued (λ members. status_members d) (as_object d)
+
+-- ---- `Event`
+
+pub record IsJsonEvent (e : Noted Event Keys) (d : Data) : Type 0 where
+  pub shape : is_some (as_object d) ≡ true
+  pub time : Given IsJsonTime (λ n. n ≡ 0) e.means.time (member (codes "timeUnixNano") d)
+  pub name : Given IsText (λ text. text ≡ []) e.means.name (member (codes "name") d)
+  pub attributes : AreJsonAttributes e.means.attributes e.notes (member (codes "attributes") d)
+  pub dropped : Given IsJsonCount (λ n. n ≡ 0) e.means.dropped (member (codes "droppedAttributesCount") d)
+
+unfoldable pub event_members : Data → Faults
+event_members d = optional json_time_faults (member (codes "timeUnixNano") d) ▹ optional text_faults (member (codes "name") d)
+    ▹ optional pairs_faults (member (codes "attributes") d) ▹ optional json_count_faults (member (codes "droppedAttributesCount") d) ▹ nothing
+
+abbrev pub event_faults : Data → Faults
+event_faults d = valued (λ members. event_members d) (as_object d)
+
+-- ---- `Link`: one without one of its identifiers is dropped
+
+pub record IsJsonLink (l : Option (Noted Link Keys)) (d : Data) : Type 0 where
+  pub shape : is_some (as_object d) ≡ true
+  pub trace : Option ℕ
+  pub trace_id : Given (Spelled SpellsTraceOrNone) (λ id. id ≡ None) trace (member (codes "traceId") d)
+  pub span : Option ℕ
+  pub span_id : Given (Spelled SpellsSpanOrNone) (λ id. id ≡ None) span (member (codes "spanId") d)
+  pub parts : LinkParts
+  pub state : Given IsText (λ text. text ≡ []) parts.state (member (codes "traceState") d)
+  pub attributes : AreJsonAttributes parts.attributes parts.keys (member (codes "attributes") d)
+  pub dropped : Given IsJsonCount (λ n. n ≡ 0) parts.dropped (member (codes "droppedAttributesCount") d)
+  pub flags : Given IsJsonCount (λ n. n ≡ 0) parts.flags (member (codes "flags") d)
+  pub link : l ≡ link_of trace span parts
+
+unfoldable pub link_members : Data → Faults
+link_members d = optional trace_or_none_faults (member (codes "traceId") d) ▹ optional span_or_none_faults (member (codes "spanId") d)
+    ▹ optional text_faults (member (codes "traceState") d) ▹ optional pairs_faults (member (codes "attributes") d)
+    ▹ optional json_count_faults (member (codes "droppedAttributesCount") d) ▹ optional json_count_faults (member (codes "flags") d) ▹ nothing
+
+abbrev pub link_faults : Data → Faults
+link_faults d = valued (λ members. link_members d) (as_object d)
+
+-- ---- `Span`
+
+abbrev pub AreJsonEvents : List (Noted Event Keys) → Data → Type 0
+AreJsonEvents events d = OfKind (λ xs ds. AllZip (λ inner x. IsJsonEvent x inner) (elements ds) xs) events (as_array d)
+
+abbrev pub events_faults : Data → Faults
+events_faults d = valued (λ ds. each event_faults (elements ds)) (as_array d)
+
+abbrev pub AreJsonLinks : List (Option (Noted Link Keys)) → Data → Type 0
+AreJsonLinks links d = OfKind (λ xs ds. AllZip (λ inner x. IsJsonLink x inner) (elements ds) xs) links (as_array d)
+
+abbrev pub links_faults : Data → Faults
+links_faults d = valued (λ ds. each link_faults (elements ds)) (as_array d)
+
+pub record IsJsonSpan (s : Noted Span SpanNotes) (d : Data) : Type 0 where
+  pub shape : is_some (as_object d) ≡ true
+  pub trace : Given (Spelled SpellsJsonTrace) Never s.means.trace (member (codes "traceId") d)
+  pub id : Given (Spelled SpellsJsonSpan) Never s.means.id (member (codes "spanId") d)
+  pub state : Given IsText (λ text. text ≡ []) s.means.state (member (codes "traceState") d)
+  pub parent : Given (Spelled SpellsSpanOrNone) (λ id. id ≡ None) s.means.parent (member (codes "parentSpanId") d)
+  pub name : Given IsText (λ text. text ≡ []) s.means.name (member (codes "name") d)
+  pub kind : Given IsJsonKind (λ kind. kind ≡ kinds.Unspecified) s.means.kind (member (codes "kind") d)
+  pub start : Given IsJsonTime (λ n. n ≡ 0) s.means.start (member (codes "startTimeUnixNano") d)
+  pub end : Given IsJsonTime (λ n. n ≡ 0) s.means.end (member (codes "endTimeUnixNano") d)
+  pub attributes : AreJsonAttributes s.means.attributes s.notes.keys (member (codes "attributes") d)
+  pub dropped_attributes : Given IsJsonCount (λ n. n ≡ 0) s.means.dropped_attributes (member (codes "droppedAttributesCount") d)
+  pub events : List (Noted Event Keys)
+  pub each_event : Given AreJsonEvents (λ xs. xs ≡ []) events (member (codes "events") d)
+  pub its_events : s.means.events ≡ map (λ e. e.means) events
+  pub events_noted : s.notes.events ≡ map (λ e. e.notes) events
+  pub dropped_events : Given IsJsonCount (λ n. n ≡ 0) s.means.dropped_events (member (codes "droppedEventsCount") d)
+  pub links : List (Option (Noted Link Keys))
+  pub each_link : Given AreJsonLinks (λ xs. xs ≡ []) links (member (codes "links") d)
+  pub its_links : s.means.links ≡ map (λ l. l.means) (kept_links links)
+  pub links_noted : s.notes.links ≡ map (λ l. l.notes) (kept_links links)
+  pub any_dropped : s.notes.dropped ≡ list_any (λ l. is_none l) links
+  pub dropped_links : Given IsJsonCount (λ n. n ≡ 0) s.means.dropped_links (member (codes "droppedLinksCount") d)
+  pub status : Given IsJsonStatus (λ status. status ≡ no_status) s.means.status (member (codes "status") d)
+  pub flags : Given IsJsonCount (λ n. n ≡ 0) s.means.flags (member (codes "flags") d)
+
+unfoldable pub json_span_members : Data → Faults
+json_span_members d = identified json_trace_faults (member (codes "traceId") d) ▹ identified json_span_faults (member (codes "spanId") d)
+    ▹ optional text_faults (member (codes "traceState") d) ▹ optional span_or_none_faults (member (codes "parentSpanId") d)
+    ▹ optional text_faults (member (codes "name") d) ▹ optional (enum_faults 5) (member (codes "kind") d)
+    ▹ optional json_time_faults (member (codes "startTimeUnixNano") d) ▹ optional json_time_faults (member (codes "endTimeUnixNano") d)
+    ▹ optional pairs_faults (member (codes "attributes") d) ▹ optional json_count_faults (member (codes "droppedAttributesCount") d)
+    ▹ optional events_faults (member (codes "events") d) ▹ optional json_count_faults (member (codes "droppedEventsCount") d)
+    ▹ optional links_faults (member (codes "links") d) ▹ optional json_count_faults (member (codes "droppedLinksCount") d)
+    ▹ optional status_faults (member (codes "status") d) ▹ optional json_count_faults (member (codes "flags") d) ▹ nothing
+
+abbrev pub otlp_span_faults : Data → Faults
+otlp_span_faults d = valued (λ members. json_span_members d) (as_object d)

@@ -1,0 +1,181 @@
+-- `AnyValue`, `ArrayValue`, `KeyValueList` and `KeyValue` in OTLP/JSON. Of the members of a value one at most stands. The `values` of a
+-- list are values, those of a map are `KeyValue`s, and a `KeyValue` has a `key`, a text, and a `value`. How deep lists and maps may
+-- stand goes by the levels that are left below one: an attribute's value stands at level 1 of 16, with 15 left.
+use Rattle.std.specs.Prelude.{◌≡◌, ℕ, zero, suc, ℤ, List, [], ◌∷◌, ◌++◌, map, Bool, true, Option, Some, None, codes, is_some}
+use Rattle.std.specs.List.{AllZip, flat_map}
+use Rattle.serde_json.specs.Data.{Data}
+use Rattle.serde_json.specs.Find.{as_array, as_object}
+use Rattle.span_io.specs.Paths.{Faults, nothing, here, ◌▹◌, optional, each, valued, Given, OfKind}
+use Rattle.trace_model.specs.Attributes.{AreAttributes, AreRepeated}
+use Rattle.trace_model.specs.Remarks.{Keys}
+use Rattle.trace_model.specs.declared.value.Value.{Value}
+use Rattle.trace_model.specs.declared.value.Value.TheVariants as values
+use Rattle.trace_model.specs.OtlpParts.{NotedValue, leaf, KeyValue, entry, keys_inside}
+use Rattle.json_members.specs.Members.{member, elements, IsText, text_faults, IsTruth, truth_faults, Spelled}
+use Rattle.otlp_json.specs.Numbers.{IsJsonSigned, signed_faults, SpellsBytes, base64_faults}
+
+-- ---- the members of a value
+
+-- a member that stands
+pub data JsonMember : Type 0 where
+  string_member : Data → JsonMember
+  bool_member : Data → JsonMember
+  int_member : Data → JsonMember
+  double_member : Data → JsonMember
+  array_member : Data → JsonMember
+  kvlist_member : Data → JsonMember
+  bytes_member : Data → JsonMember
+
+abbrev pub standing : (Data → JsonMember) → Option Data → List JsonMember
+standing named None = []
+standing named (Some d) = named d ∷ []
+
+unfoldable pub standing_members : Data → List JsonMember
+standing_members d = (((((standing string_member (member (codes "stringValue") d) ++ standing bool_member (member (codes "boolValue") d))
+    ++ standing int_member (member (codes "intValue") d)) ++ standing double_member (member (codes "doubleValue") d))
+    ++ standing array_member (member (codes "arrayValue") d)) ++ standing kvlist_member (member (codes "kvlistValue") d))
+    ++ standing bytes_member (member (codes "bytesValue") d)
+
+-- ---- what they mean: a value, and the keys that stand more than once in a map inside it
+
+-- what the elements of an array mean
+abbrev pub AreHeld : {A : Type 0} → (A → Data → Type 0) → List A → Data → Type 0
+AreHeld Means xs d = OfKind (λ ys ds. AllZip (λ x y. Means y x) (elements ds) ys) xs (as_array d)
+
+-- `ArrayValue`, by what its `values` mean
+pub record IsJsonList (IsValue : NotedValue → Data → Type 0) (r : NotedValue) (d : Data) : Type 0 where
+  pub shape : is_some (as_object d) ≡ true
+  pub members : List NotedValue
+  pub each : Given (AreHeld IsValue) (λ ms. ms ≡ []) members (member (codes "values") d)
+  pub value : r.means ≡ values.List (map (λ m. m.means) members)
+  pub noted : r.notes ≡ flat_map (λ m. m.notes) members
+
+-- `KeyValueList`, of which the last value of each key is kept
+pub record IsJsonMap (IsPair : KeyValue → Data → Type 0) (r : NotedValue) (d : Data) : Type 0 where
+  pub shape : is_some (as_object d) ≡ true
+  pub pairs : List KeyValue
+  pub each : Given (AreHeld IsPair) (λ ps. ps ≡ []) pairs (member (codes "values") d)
+  pub attributes : List (List ℕ × Value)
+  pub kept : AreAttributes attributes (map entry pairs)
+  pub repeated : Keys
+  pub twice : AreRepeated repeated (map entry pairs)
+  pub value : r.means ≡ values.Map attributes
+  pub noted : r.notes ≡ keys_inside pairs ++ repeated
+
+module _ (IsValue : NotedValue → Data → Type 0) (IsPair : KeyValue → Data → Type 0) where
+  -- a double has no meaning
+  abbrev pub MeansJsonMember : JsonMember → NotedValue → Type 0
+  MeansJsonMember (string_member d) r = (text : List ℕ) × IsText text d × (r ≡ leaf (values.Text text))
+  MeansJsonMember (bool_member d) r = (truth : Bool) × IsTruth truth d × (r ≡ leaf (values.Truth truth))
+  MeansJsonMember (int_member d) r = (z : ℤ) × IsJsonSigned z d × (r ≡ leaf (values.Number z))
+  MeansJsonMember (double_member d) r = ⊥
+  MeansJsonMember (array_member d) r = IsJsonList IsValue r d
+  MeansJsonMember (kvlist_member d) r = IsJsonMap IsPair r d
+  MeansJsonMember (bytes_member d) r = (held : List ℕ) × Spelled SpellsBytes held d × (r ≡ leaf (values.Bytes held))
+
+  -- a value without members is nothing, and one with two has no meaning
+  abbrev pub MeansStanding : List JsonMember → NotedValue → Type 0
+  MeansStanding [] r = r ≡ leaf values.Nothing
+  MeansStanding (m ∷ []) r = MeansJsonMember m r
+  MeansStanding (m ∷ n ∷ ms) r = ⊥
+
+  pub record IsJsonValue (r : NotedValue) (d : Data) : Type 0 where
+    pub shape : is_some (as_object d) ≡ true
+    pub value : MeansStanding (standing_members d) r
+
+pub record IsJsonKeyValue (IsValue : NotedValue → Data → Type 0) (p : KeyValue) (d : Data) : Type 0 where
+  pub shape : is_some (as_object d) ≡ true
+  pub key : Given IsText (λ text. text ≡ []) p.key (member (codes "key") d)
+  pub value : Given IsValue (λ r. r ≡ leaf values.Nothing) p.value (member (codes "value") d)
+
+unfoldable mutual
+  -- a value in a list or map below which so many levels are left
+  pub json_value_in : ℕ → NotedValue → Data → Type 0
+  json_value_in zero r d = ⊥
+  json_value_in (suc left) r d = IsJsonValue (json_value_in left) (json_key_value_in left) r d
+
+  -- a `KeyValue` in such a map
+  pub json_key_value_in : ℕ → KeyValue → Data → Type 0
+  json_key_value_in zero p d = ⊥
+  json_key_value_in (suc left) p d = IsJsonKeyValue (λ r inner. IsJsonValue (json_value_in left) (json_key_value_in left) r inner) p d
+
+-- a value, and a `KeyValue` with such a value, below which so many levels are left
+abbrev pub json_value_at : ℕ → NotedValue → Data → Type 0
+json_value_at left r d = IsJsonValue (json_value_in left) (json_key_value_in left) r d
+
+abbrev pub json_key_value_at : ℕ → KeyValue → Data → Type 0
+json_key_value_at left p d = IsJsonKeyValue (json_value_at left) p d
+
+-- ---- how they offend
+
+-- the only member of its object that offends, behind so many others
+abbrev pub behind : ℕ → Faults → Faults
+behind zero Offends = Offends ▹ nothing
+behind (suc before) Offends = nothing ▹ behind before Offends
+
+-- TooDeep: there are `values` with no level left below their list or map
+abbrev pub values_faults : ℕ → (Data → Faults) → List Data → Faults
+values_faults zero Offends [] = nothing
+values_faults zero Offends (d ∷ ds) = here (λ number. number ≡ 5)
+values_faults (suc left) Offends ds = each Offends ds
+
+abbrev pub held_faults : ℕ → (Data → Faults) → Data → Faults
+held_faults left Offends d = valued (λ ds. values_faults left Offends (elements ds)) (as_array d)
+
+-- a list or map below which so many levels are left
+unfoldable pub many_members : ℕ → (Data → Faults) → Data → Faults
+many_members left Offends d = optional (held_faults left Offends) (member (codes "values") d) ▹ nothing
+
+abbrev pub many_faults : ℕ → (Data → Faults) → Data → Faults
+many_faults left Offends d = valued (λ members. many_members left Offends d) (as_object d)
+
+module _ (list_faults map_faults : Data → Faults) where
+  -- DoubleInJson: any `doubleValue`
+  abbrev pub json_member_faults : JsonMember → Faults
+  json_member_faults (string_member d) = behind 0 (text_faults d)
+  json_member_faults (bool_member d) = behind 1 (truth_faults d)
+  json_member_faults (int_member d) = behind 2 (signed_faults d)
+  json_member_faults (double_member d) = behind 3 (here (λ number. number ≡ 15))
+  json_member_faults (array_member d) = behind 4 (list_faults d)
+  json_member_faults (kvlist_member d) = behind 5 (map_faults d)
+  json_member_faults (bytes_member d) = behind 6 (base64_faults d)
+
+  -- BadShape: two members, whatever they hold
+  abbrev pub standing_faults : List JsonMember → Faults
+  standing_faults [] = nothing
+  standing_faults (m ∷ []) = json_member_faults m
+  standing_faults (m ∷ n ∷ ms) = here (λ number. number ≡ 11)
+
+  abbrev pub any_value_faults : Data → Faults
+  any_value_faults d = valued (λ members. standing_faults (standing_members d)) (as_object d)
+
+unfoldable pub key_value_members : (Data → Faults) → Data → Faults
+key_value_members Offends d = optional text_faults (member (codes "key") d) ▹ optional Offends (member (codes "value") d) ▹ nothing
+
+abbrev pub key_value_faults : (Data → Faults) → Data → Faults
+key_value_faults Offends d = valued (λ members. key_value_members Offends d) (as_object d)
+
+unfoldable mutual
+  -- how a value offends in a list or map below which so many levels are left
+  pub json_value_offends : ℕ → Data → Faults
+  json_value_offends zero d = nothing
+  json_value_offends (suc left) d = any_value_faults (many_faults left (json_value_offends left)) (many_faults left (json_key_value_offends left)) d
+
+  -- how a `KeyValue` does in such a map
+  pub json_key_value_offends : ℕ → Data → Faults
+  json_key_value_offends zero d = nothing
+  json_key_value_offends (suc left) d =
+      key_value_faults (λ inner. any_value_faults (many_faults left (json_value_offends left)) (many_faults left (json_key_value_offends left)) inner) d
+
+-- of a list and of a map, of a value and of a `KeyValue` with such a value, below which so many levels are left
+abbrev pub json_list_faults : ℕ → Data → Faults
+json_list_faults left d = many_faults left (json_value_offends left) d
+
+abbrev pub json_map_faults : ℕ → Data → Faults
+json_map_faults left d = many_faults left (json_key_value_offends left) d
+
+abbrev pub json_value_faults : ℕ → Data → Faults
+json_value_faults left d = any_value_faults (json_list_faults left) (json_map_faults left) d
+
+abbrev pub json_key_value_faults : ℕ → Data → Faults
+json_key_value_faults left d = key_value_faults (json_value_faults left) d

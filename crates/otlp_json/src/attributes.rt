@@ -1,0 +1,66 @@
+//! Attributes.
+ghost use Rattle.std.specs.Prelude.{◌≡◌, ◌↔◌, ◌⊎◌, ℕ, List, Contains, IfOk};
+ghost use Rattle.serde_json.specs.View.{view};
+ghost use Rattle.span_io.specs.Paths.{optional, JudgesValue};
+ghost use Rattle.trace_model.specs.Attributes.{Rise, AreAttributes, StandsTwice};
+ghost use Rattle.json_members.specs.Members.{member};
+ghost use Rattle.otlp_json.specs.Attributes.{AreJsonAttributes, pairs_faults};
+
+use crate::values::{PairRows, note_keys, pairs_of};
+use serde_json::Value as Json;
+use span_io::{Cause, Halt, Items, OutOfMemory, Text};
+use std::alloc::Global;
+use trace_model::{Attrs, attrs_of};
+
+/// How many levels attributes have, with that of their own values.
+const LEVELS: u8 = 16;
+
+// Attributes that may be absent, which are none then, and the keys of which there is a remark.
+pub fn attributes_of(
+    alloc: Global,
+    v: &Json,
+    name: &str,
+) -> Result<(Attrs, Items<Text>), Halt<Cause>>
+    ensures value { IfOk result (λ r. AreJsonAttributes r.0 r.1 (member name.now (view v.now))) }
+    ensures judged { JudgesValue result (optional pairs_faults (member name.now (view v.now))) }
+{
+    let rows = pairs_of(alloc, LEVELS, v, name)?;
+    let read = finish(alloc, rows)?;
+    Ok(read)
+}
+
+// The attributes of pairs, and the keys of which there is a remark, each once.
+fn finish(alloc: Global, rows: PairRows) -> Result<(Attrs, Items<Text>), OutOfMemory>
+    ensures kept { IfOk result (λ r. AreAttributes r.0 rows.pairs) }
+    ensures rising { IfOk result (λ r. Rise r.1) }
+    ensures noted { IfOk result (λ r. (key : List ℕ) → Contains r.1 key
+        ↔ (StandsTwice key rows.pairs ⊎ Contains rows.noted key)) }
+{
+    let (attributes, repeated) = attrs_of(alloc, rows.pairs)?;
+    let mut noted = rows.noted;
+    note_keys(&mut noted, repeated)?;
+    let keys = listed(alloc, rising(noted)?)?;
+    Ok((attributes, keys))
+}
+
+// The texts in the order of their bytes, each once.
+fn rising(texts: Items<Text>) -> Result<Vec<Text>, OutOfMemory>
+    ensures rising { IfOk result (λ list. Rise list.items) }
+    ensures same { IfOk result (λ list. (text : List ℕ) → Contains list.items text ↔ Contains texts text) }
+{
+    let mut sorted = texts.into_vec();
+    sorted.sort_by(|a, b| a.as_str().cmp(b.as_str()))?;
+    sorted.dedup_by(|a, b| a.as_str() == b.as_str());
+    Ok(sorted)
+}
+
+// The same as a list of its own.
+fn listed(alloc: Global, texts: Vec<Text>) -> Result<Items<Text>, OutOfMemory>
+    ensures { IfOk result (λ list. list ≡ texts.items) }
+{
+    let mut list = Items::new(alloc);
+    'texts: for text in texts {
+        list.push(text)?;
+    }
+    Ok(list)
+}

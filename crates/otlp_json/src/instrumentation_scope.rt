@@ -1,0 +1,67 @@
+//! `InstrumentationScope` (OTLP common.proto).
+ghost use Rattle.std.specs.Prelude.{◌≡◌, IfOk};
+ghost use Rattle.serde_json.specs.View.{view};
+ghost use Rattle.span_io.specs.Paths.{optional, Given, JudgesValue};
+ghost use Rattle.json_members.specs.Members.{member};
+ghost use Rattle.otlp_json.specs.Found.{instrumentation_found};
+ghost use Rattle.otlp_json.specs.Group.{IsJsonInstrumentationScope, instrumentation_scope_faults};
+ghost use Rattle.trace_model.specs.OtlpParts.{no_instrumentation_scope};
+
+use crate::attributes::attributes_of;
+use crate::noted::FoundInstrumentation;
+use crate::numbers::count;
+use json_members::{member_of, text};
+use serde_json::Value;
+use span_io::{Cause, Halt, Items, Text};
+use std::alloc::Global;
+use trace_model::Attrs;
+
+fn read_instrumentation_scope(alloc: Global, v: &Value) -> Result<FoundInstrumentation, Halt<Cause>>
+    ensures value { IfOk result (λ s. IsJsonInstrumentationScope (instrumentation_found s) (view v.now)) }
+    ensures judged { JudgesValue result (instrumentation_scope_faults (view v.now)) }
+{
+    if !v.is_object() {
+        return Err(Halt::Why(Cause::BadShape));
+    }
+    let name = text(alloc, v, "name")?;
+    let version = text(alloc, v, "version")?;
+    let (attributes, keys) = attributes_of(alloc, v, "attributes")?;
+    let dropped = count(v, "droppedAttributesCount")?;
+    Ok(FoundInstrumentation {
+        name,
+        version,
+        attributes,
+        dropped,
+        keys,
+    })
+}
+
+// What stands for one that is absent.
+fn empty_instrumentation(alloc: Global) -> FoundInstrumentation
+    ensures { instrumentation_found result ≡ no_instrumentation_scope }
+{
+    FoundInstrumentation {
+        name: Text::new(alloc),
+        version: Text::new(alloc),
+        attributes: Attrs::new(alloc),
+        dropped: 0,
+        keys: Items::new(alloc),
+    }
+}
+
+// One that may be absent.
+pub fn instrumentation_of(
+    alloc: Global,
+    v: &Value,
+    name: &str,
+) -> Result<FoundInstrumentation, Halt<Cause>>
+    ensures value { IfOk result (λ s. Given IsJsonInstrumentationScope (λ x. x ≡ no_instrumentation_scope)
+        (instrumentation_found s) (member name.now (view v.now))) }
+    ensures judged { JudgesValue result
+        (optional instrumentation_scope_faults (member name.now (view v.now))) }
+{
+    match member_of(v, name) {
+        None => Ok(empty_instrumentation(alloc)),
+        Some(found) => read_instrumentation_scope(alloc, found),
+    }
+}

@@ -1,0 +1,31 @@
+//! Groups of spans in OTLP/JSON: reading them, with the remarks on them and the cause of the first
+//! offence, and writing them.
+#![tactic(auto)]
+
+mod attributes;
+mod event;
+mod events;
+mod group;
+mod identifiers;
+mod instrumentation_scope;
+pub mod laws;
+mod link;
+mod links;
+mod noted;
+mod numbers;
+mod reading;
+mod resource;
+mod scope;
+mod scopes;
+mod span;
+mod spans;
+mod standing;
+mod status;
+mod values;
+mod writing;
+
+pub use reading::{read_groups, read_text};
+pub use writing::write_group;
+
+#[cfg(test)]
+mod tests;

@@ -1,0 +1,197 @@
+//! Numbers and enums.
+ghost use Rattle.std.specs.Prelude.{◌≡◌, ◌≤◌, ◌^◌, ℤ, Some, IfOk, IfSome, IfNone, FitsSigned};
+ghost use Rattle.std.specs.Int.{w128};
+ghost use Rattle.serde_json.specs.View.{view};
+ghost use Rattle.span_io.specs.Paths.{optional, JudgesValue, Given};
+ghost use Rattle.trace_model.specs.declared.span.Code.TheVariants as statuses;
+ghost use Rattle.trace_model.specs.declared.span.Kind.TheVariants as kinds;
+ghost use Rattle.json_members.specs.Members.{member, IsCount};
+ghost use Rattle.otlp_json.specs.Numbers.{integer_in_text, integer_in, unsigned_in, signed_in, IsJsonCount, json_count_faults, IsJsonTime, json_time_faults, IsJsonSigned, signed_faults, enum_faults, IsJsonKind, IsJsonCode};
+
+use json_members::member_of;
+use serde_json::Value;
+use span_ids::Nanos;
+use span_io::{Cause, Halt};
+use trace_model::{Code, Kind};
+
+// An optional minus and one or more digits, where they have 128 bits at most.
+fn integer_of_text(text: &str) -> Option<i128>
+    ensures some { IfSome result (λ z. integer_in_text text.now ≡ Some z) }
+    ensures none { IfNone result ((z : ℤ) → integer_in_text text.now ≡ Some z → ¬ FitsSigned w128 z) }
+{
+    let bytes = text.as_bytes();
+    if bytes.is_empty() || bytes[0] == b'+' {
+        return None;
+    }
+    text.parse::<i128>().ok()
+}
+
+// A whole number, where it has 128 bits at most.
+fn integer_of(v: &Value) -> Option<i128>
+    ensures some { IfSome result (λ z. integer_in (view v.now) ≡ Some z) }
+    ensures none { IfNone result ((z : ℤ) → integer_in (view v.now) ≡ Some z → ¬ FitsSigned w128 z) }
+{
+    if let Some(text) = v.as_str() {
+        return integer_of_text(text);
+    }
+    if let Some(count) = v.as_u64() {
+        return Some(i128::from(count));
+    }
+    match v.as_i64() {
+        Some(integer) => Some(i128::from(integer)),
+        None => None,
+    }
+}
+
+#[tactic(auto, using(crate::proofs::NumberLemmas::in_range))]
+fn unsigned_32(v: &Value) -> Option<u32>
+    ensures { result ≡ unsigned_in (2 ^ 32) (view v.now) }
+{
+    let Some(integer) = integer_of(v) else {
+        return None;
+    };
+    u32::try_from(integer).ok()
+}
+
+#[tactic(auto, using(crate::proofs::NumberLemmas::in_range))]
+fn unsigned_64(v: &Value) -> Option<u64>
+    ensures { result ≡ unsigned_in (2 ^ 64) (view v.now) }
+{
+    let Some(integer) = integer_of(v) else {
+        return None;
+    };
+    u64::try_from(integer).ok()
+}
+
+#[tactic(auto, using(crate::proofs::NumberLemmas::in_range))]
+fn signed_64(v: &Value) -> Option<i64>
+    ensures { result ≡ signed_in (view v.now) }
+{
+    let Some(integer) = integer_of(v) else {
+        return None;
+    };
+    i64::try_from(integer).ok()
+}
+
+pub fn signed_of(v: &Value) -> Result<i64, Halt<Cause>>
+    ensures value { IfOk result (λ z. IsJsonSigned z (view v.now)) }
+    ensures judged { JudgesValue result (signed_faults (view v.now)) }
+{
+    match signed_64(v) {
+        Some(integer) => Ok(integer),
+        None => Err(Halt::Why(Cause::BadShape)),
+    }
+}
+
+fn count_of(v: &Value) -> Result<u32, Halt<Cause>>
+    ensures value { IfOk result (λ n. IsJsonCount n (view v.now)) }
+    ensures judged { JudgesValue result (json_count_faults (view v.now)) }
+{
+    match unsigned_32(v) {
+        Some(count) => Ok(count),
+        None => Err(Halt::Why(Cause::BadShape)),
+    }
+}
+
+// A count or flags that may be absent, which are 0 then.
+pub fn count(v: &Value, name: &str) -> Result<u32, Halt<Cause>>
+    ensures value { IfOk result (λ n. Given IsJsonCount (λ c. c ≡ 0) n
+        (member name.now (view v.now))) }
+    ensures judged { JudgesValue result (optional json_count_faults (member name.now (view v.now))) }
+{
+    match member_of(v, name) {
+        None => Ok(0),
+        Some(found) => count_of(found),
+    }
+}
+
+fn time_of(v: &Value) -> Result<Nanos, Halt<Cause>>
+    ensures value { IfOk result (λ n. IsJsonTime n (view v.now)) }
+    ensures judged { JudgesValue result (json_time_faults (view v.now)) }
+{
+    match unsigned_64(v) {
+        Some(count) => Ok(Nanos(count)),
+        None => Err(Halt::Why(Cause::BadShape)),
+    }
+}
+
+// A time that may be absent, which is 0 then.
+pub fn time(v: &Value, name: &str) -> Result<Nanos, Halt<Cause>>
+    ensures value { IfOk result (λ n. Given IsJsonTime (λ t. t ≡ 0) n
+        (member name.now (view v.now))) }
+    ensures judged { JudgesValue result (optional json_time_faults (member name.now (view v.now))) }
+{
+    match member_of(v, name) {
+        None => Ok(Nanos(0)),
+        Some(found) => time_of(found),
+    }
+}
+
+// The number of an enum, of which the last has this number.
+#[tactic(auto, using(crate::proofs::NumberLemmas::enums))]
+fn enum_number(v: &Value, last: u64) -> Result<u64, Halt<Cause>>
+    ensures value { IfOk result (λ n. IsCount n (view v.now) × (n ≤ last)) }
+    ensures judged { JudgesValue result (enum_faults last (view v.now)) }
+{
+    let Some(number) = v.as_u64() else {
+        if v.is_i64() {
+            return Err(Halt::Why(Cause::BadEnum));
+        }
+        return Err(Halt::Why(Cause::BadShape));
+    };
+    if number > last {
+        return Err(Halt::Why(Cause::BadEnum));
+    }
+    Ok(number)
+}
+
+fn kind_of(v: &Value) -> Result<Kind, Halt<Cause>>
+    ensures value { IfOk result (λ kind. IsJsonKind kind (view v.now)) }
+    ensures judged { JudgesValue result (enum_faults 5 (view v.now)) }
+{
+    let kind = match enum_number(v, 5)? {
+        0 => Kind::Unspecified,
+        1 => Kind::Internal,
+        2 => Kind::Server,
+        3 => Kind::Client,
+        4 => Kind::Producer,
+        _ => Kind::Consumer,
+    };
+    Ok(kind)
+}
+
+// A kind that may be absent.
+pub fn kind(v: &Value, name: &str) -> Result<Kind, Halt<Cause>>
+    ensures value { IfOk result (λ kind. Given IsJsonKind (λ k. k ≡ kinds.Unspecified) kind
+        (member name.now (view v.now))) }
+    ensures judged { JudgesValue result (optional (enum_faults 5) (member name.now (view v.now))) }
+{
+    match member_of(v, name) {
+        None => Ok(Kind::Unspecified),
+        Some(found) => kind_of(found),
+    }
+}
+
+fn code_of(v: &Value) -> Result<Code, Halt<Cause>>
+    ensures value { IfOk result (λ code. IsJsonCode code (view v.now)) }
+    ensures judged { JudgesValue result (enum_faults 2 (view v.now)) }
+{
+    let code = match enum_number(v, 2)? {
+        0 => Code::Unset,
+        1 => Code::Okay,
+        _ => Code::Fail,
+    };
+    Ok(code)
+}
+
+// A code that may be absent.
+pub fn code(v: &Value, name: &str) -> Result<Code, Halt<Cause>>
+    ensures value { IfOk result (λ code. Given IsJsonCode (λ c. c ≡ statuses.Unset) code
+        (member name.now (view v.now))) }
+    ensures judged { JudgesValue result (optional (enum_faults 2) (member name.now (view v.now))) }
+{
+    match member_of(v, name) {
+        None => Ok(Code::Unset),
+        Some(found) => code_of(found),
+    }
+}

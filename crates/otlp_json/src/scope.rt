@@ -1,0 +1,78 @@
+//! `ScopeSpans` (OTLP trace.proto).
+ghost use Rattle.std.specs.Prelude.{◌≡◌, ℕ, true, is_some, IfOk};
+ghost use Rattle.serde_json.specs.Data.{Data};
+ghost use Rattle.serde_json.specs.Find.{as_object};
+ghost use Rattle.serde_json.specs.View.{view};
+ghost use Rattle.span_io.specs.Paths.{JudgesValue};
+ghost use Rattle.otlp_json.specs.Found.{AreScopeParts, IsScopeFound};
+ghost use Rattle.otlp_json.specs.Group.{scope_members, scope_faults};
+
+use crate::instrumentation_scope::instrumentation_of;
+use crate::noted::{FoundInstrumentation, FoundScope};
+use crate::spans::{FoundSpans, spans_of};
+use json_members::text;
+use serde_json::Value;
+use span_io::{Cause, Halt, Items, OutOfMemory, Text};
+use std::alloc::Global;
+use trace_model::{Place, Scope, remark_all, remark_keys};
+
+/// The parts of a scope, with what is noted of them.
+#[derive(Debug, Drop)]
+struct ScopeParts {
+    instrumentation: FoundInstrumentation,
+    spans: FoundSpans,
+    schema_url: Text,
+}
+
+// The members of a scope, whose first span has this number in its group.
+fn read_members(alloc: Global, first: u32, v: &Value) -> Result<ScopeParts, Halt<Cause>>
+    ensures value { IfOk result (λ p. AreScopeParts first p (view v.now)) }
+    ensures judged { JudgesValue result (scope_members (view v.now)) }
+{
+    let instrumentation = instrumentation_of(alloc, v, "scope")?;
+    let spans = spans_of(alloc, first, v, "spans")?;
+    let schema_url = text(alloc, v, "schemaUrl")?;
+    Ok(ScopeParts {
+        instrumentation,
+        spans,
+        schema_url,
+    })
+}
+
+// The scope of its parts, which has this number in its group.
+fn scope_of(alloc: Global, number: u32, parts: ScopeParts) -> Result<FoundScope, OutOfMemory>
+    ensures { IfOk result (λ r. (first : ℕ) (d : Data) → is_some (as_object d) ≡ true → AreScopeParts first parts d
+        → IsScopeFound number first r d) }
+{
+    let (instrumentation, spans) = (parts.instrumentation, parts.spans);
+    let mut remarks = Items::new(alloc);
+    remark_keys(&mut remarks, Place::Scope(number), instrumentation.keys)?;
+    remark_all(&mut remarks, spans.remarks)?;
+    let scope = Scope {
+        name: instrumentation.name,
+        version: instrumentation.version,
+        attributes: instrumentation.attributes,
+        dropped: instrumentation.dropped,
+        schema_url: parts.schema_url,
+        spans: spans.spans,
+    };
+    Ok(FoundScope { scope, remarks })
+}
+
+/// Reads the scope of this number in its group, in which its first span has the number `first`.
+pub fn read_scope(
+    alloc: Global,
+    number: u32,
+    first: u32,
+    v: &Value,
+) -> Result<FoundScope, Halt<Cause>>
+    ensures value { IfOk result (λ r. IsScopeFound number first r (view v.now)) }
+    ensures judged { JudgesValue result (scope_faults (view v.now)) }
+{
+    if !v.is_object() {
+        return Err(Halt::Why(Cause::BadShape));
+    }
+    let parts = read_members(alloc, first, v)?;
+    let found = scope_of(alloc, number, parts)?;
+    Ok(found)
+}

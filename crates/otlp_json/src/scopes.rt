@@ -1,0 +1,82 @@
+//! The scopes of a group.
+ghost use Rattle.std.specs.Prelude.{[], Some, map, IfOk, OnOk};
+ghost use Rattle.serde_json.specs.View.{view};
+ghost use Rattle.span_io.specs.Paths.{each, optional, JudgesValue};
+ghost use Rattle.json_members.specs.Members.{member};
+ghost use Rattle.otlp_json.specs.Found.{AreFound, AreGiven, FindsMore, ScopesTold};
+ghost use Rattle.otlp_json.specs.Group.{IsJsonScope, scope_faults, scopes_faults};
+
+use crate::scope::read_scope;
+use json_members::member_of;
+use serde_json::Value;
+use span_io::{Cause, Halt, Items};
+use std::alloc::Global;
+use trace_model::{Remark, Scope, number_behind, remark_all};
+
+/// The scopes that were read, and the remarks on them.
+#[derive(Debug, Drop)]
+pub struct FoundScopes {
+    pub scopes: Items<Scope>,
+    pub remarks: Items<Remark>,
+    /// The number of the span that comes next.
+    pub next_span: u32,
+}
+
+impl FoundScopes {
+    // Nothing was read.
+    fn none(alloc: Global) -> FoundScopes
+        ensures { ScopesTold [] result }
+    {
+        FoundScopes {
+            scopes: Items::new(alloc),
+            remarks: Items::new(alloc),
+            next_span: 1,
+        }
+    }
+
+    // Reads one more scope.
+    fn add(&mut self, alloc: Global, v: &Value) -> Result<(), Halt<Cause>>
+        ensures ok { OnOk result (FindsMore IsJsonScope ScopesTold (view v.now) self.old self.new) }
+        ensures judged { JudgesValue result (scope_faults (view v.now)) }
+    {
+        let number = number_behind(1, self.scopes.len())?;
+        let read = read_scope(alloc, number, self.next_span, v)?;
+        self.next_span = number_behind(self.next_span, read.scope.spans.len())?;
+        remark_all(&mut self.remarks, read.remarks)?;
+        self.scopes.push(read.scope)?;
+        Ok(())
+    }
+}
+
+fn read_scopes(alloc: Global, elements: &Vec<Value>) -> Result<FoundScopes, Halt<Cause>>
+    ensures value { IfOk result (λ rows. AreFound IsJsonScope ScopesTold (map view elements.now.items) rows) }
+    ensures judged { JudgesValue result (each scope_faults (map view elements.now.items)) }
+{
+    let mut rows = FoundScopes::none(alloc);
+    'elements: for element in elements {
+        rows.add(alloc, element)?;
+    }
+    Ok(rows)
+}
+
+fn scopes_in(alloc: Global, v: &Value) -> Result<FoundScopes, Halt<Cause>>
+    ensures value { IfOk result (λ rows. AreGiven IsJsonScope ScopesTold (Some (view v.now)) rows) }
+    ensures judged { JudgesValue result (scopes_faults (view v.now)) }
+{
+    let Some(elements) = v.as_array() else {
+        return Err(Halt::Why(Cause::BadShape));
+    };
+    let rows = read_scopes(alloc, elements)?;
+    Ok(rows)
+}
+
+// Scopes that may be absent, which are none then.
+pub fn scopes_of(alloc: Global, v: &Value, name: &str) -> Result<FoundScopes, Halt<Cause>>
+    ensures value { IfOk result (λ rows. AreGiven IsJsonScope ScopesTold (member name.now (view v.now)) rows) }
+    ensures judged { JudgesValue result (optional scopes_faults (member name.now (view v.now))) }
+{
+    match member_of(v, name) {
+        None => Ok(FoundScopes::none(alloc)),
+        Some(found) => scopes_in(alloc, found),
+    }
+}

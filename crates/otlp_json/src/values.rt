@@ -1,0 +1,317 @@
+//! Reading values: `AnyValue`, `ArrayValue`, `KeyValueList` and `KeyValue` (OTLP common.proto).
+ghost use Rattle.std.specs.Prelude.{◌≡◌, ◌++◌, ◌∷◌, [], ℕ, List, map, IfOk, OnOk, Some, Bool, ℤ};
+ghost use Rattle.serde_json.specs.View.{view};
+ghost use Rattle.span_io.specs.Paths.{here, optional, Given, Halts, JudgesValue};
+ghost use Rattle.trace_model.specs.OtlpParts.{leaf, entry};
+ghost use Rattle.json_members.specs.Members.{member, IsText, text_faults, IsTruth, truth_faults, Spelled};
+ghost use Rattle.otlp_json.specs.Found.{value_found, pair_found, part_member, AreValuesFound, ArePairsFound, AreValuesGiven, ArePairsGiven, IsMapFound};
+ghost use Rattle.otlp_json.specs.Numbers.{IsJsonSigned, signed_faults, SpellsBytes, base64_faults};
+ghost use Rattle.otlp_json.specs.Values.{MeansJsonMember, IsJsonList, IsJsonMap, json_value_in, json_key_value_in, json_value_at, json_key_value_at, values_faults, held_faults, json_value_offends, json_key_value_offends, json_member_faults, json_list_faults, json_map_faults, json_value_faults, json_key_value_faults};
+ghost use Rattle.trace_model.specs.declared.value.Value.TheVariants as values;
+
+use crate::identifiers::bytes_in;
+use crate::noted::{FoundPair, FoundValue};
+use crate::numbers::signed_of;
+use crate::standing::{Part, only_member};
+use json_members::{member_of, text, text_of, truth_of};
+use serde_json::Value as Json;
+use span_io::{Cause, Halt, Items, OutOfMemory, Text};
+use std::alloc::Global;
+use trace_model::{Value, attrs_of};
+
+/// Pairs, and the keys that are noted inside their values.
+#[derive(Debug, Drop)]
+pub struct PairRows {
+    pub pairs: Items<(Text, Value)>,
+    pub noted: Items<Text>,
+}
+
+// A value in which no key is noted.
+fn leaf_of(alloc: Global, value: Value) -> FoundValue
+    ensures { value_found result ≡ leaf value }
+{
+    FoundValue {
+        value,
+        keys: Items::new(alloc),
+    }
+}
+
+fn text_value(alloc: Global, v: &Json) -> Result<FoundValue, Halt<Cause>>
+    ensures value { IfOk result (λ r. (text : List ℕ) × IsText text (view v.now)
+        × (value_found r ≡ leaf (values.Text text))) }
+    ensures judged { JudgesValue result (text_faults (view v.now)) }
+{
+    let text = text_of(alloc, v)?;
+    Ok(leaf_of(alloc, Value::Text(text)))
+}
+
+fn truth_value(alloc: Global, v: &Json) -> Result<FoundValue, Halt<Cause>>
+    ensures value { IfOk result (λ r. (truth : Bool) × IsTruth truth (view v.now)
+        × (value_found r ≡ leaf (values.Truth truth))) }
+    ensures judged { JudgesValue result (truth_faults (view v.now)) }
+{
+    let truth = truth_of(v)?;
+    Ok(leaf_of(alloc, Value::Truth(truth)))
+}
+
+fn number_value(alloc: Global, v: &Json) -> Result<FoundValue, Halt<Cause>>
+    ensures value { IfOk result (λ r. (z : ℤ) × IsJsonSigned z (view v.now)
+        × (value_found r ≡ leaf (values.Number z))) }
+    ensures judged { JudgesValue result (signed_faults (view v.now)) }
+{
+    let number = signed_of(v)?;
+    Ok(leaf_of(alloc, Value::Number(number)))
+}
+
+fn bytes_value(alloc: Global, v: &Json) -> Result<FoundValue, Halt<Cause>>
+    ensures value { IfOk result (λ r. (held : List ℕ) × Spelled SpellsBytes held (view v.now)
+        × (value_found r ≡ leaf (values.Bytes held))) }
+    ensures judged { JudgesValue result (base64_faults (view v.now)) }
+{
+    let bytes = bytes_in(alloc, v)?;
+    Ok(leaf_of(alloc, Value::Bytes(bytes)))
+}
+
+// What is answered of a double.
+fn double_value() -> Halt<Cause>
+    ensures { Halts result (here (λ number. number ≡ 15)) }
+{
+    Halt::Why(Cause::DoubleInJson)
+}
+
+/// Adds keys at the end.
+pub fn note_keys(noted: &mut Items<Text>, more: Items<Text>) -> Result<(), OutOfMemory>
+    ensures { OnOk result (noted.new ≡ noted.old ++ more) }
+{
+    'keys: for key in more.into_vec() {
+        noted.push(key)?;
+    }
+    Ok(())
+}
+
+/// Reads a value below which so many levels are left.
+#[cycle(values)]
+pub fn read_value(alloc: Global, left: u8, v: &Json) -> Result<FoundValue, Halt<Cause>>
+    ensures value { IfOk result (λ r. json_value_at left (value_found r) (view v.now)) }
+    ensures judged { JudgesValue result (json_value_faults left (view v.now)) }
+{
+    if !v.is_object() {
+        return Err(Halt::Why(Cause::BadShape));
+    }
+    let Ok(only) = only_member(v) else {
+        return Err(Halt::Why(Cause::BadShape));
+    };
+    let Some((part, held)) = only else {
+        return Ok(leaf_of(alloc, Value::Nothing));
+    };
+    read_part(alloc, left, part, held)
+}
+
+// Reads the member of this part.
+#[cycle(values)]
+#[tactic(auto, using(crate::proofs::ValueLemmas::judged_behind))]
+fn read_part(alloc: Global, left: u8, part: Part, v: &Json) -> Result<FoundValue, Halt<Cause>>
+    ensures value { IfOk result (λ r. MeansJsonMember (json_value_in left) (json_key_value_in left)
+        (part_member part (view v.now)) (value_found r)) }
+    ensures judged { JudgesValue result (json_member_faults (json_list_faults left) (json_map_faults left)
+        (part_member part (view v.now))) }
+{
+    match part {
+        Part::Text => text_value(alloc, v),
+        Part::Truth => truth_value(alloc, v),
+        Part::Number => number_value(alloc, v),
+        Part::Double => Err(double_value()),
+        Part::List => read_list(alloc, left, v),
+        Part::Map => read_map(alloc, left, v),
+        Part::Bytes => bytes_value(alloc, v),
+    }
+}
+
+// Reads a list below which so many levels are left.
+#[cycle(values)]
+fn read_list(alloc: Global, left: u8, v: &Json) -> Result<FoundValue, Halt<Cause>>
+    ensures value { IfOk result (λ r. IsJsonList (json_value_in left) (value_found r) (view v.now)) }
+    ensures judged { JudgesValue result (json_list_faults left (view v.now)) }
+{
+    if !v.is_object() {
+        return Err(Halt::Why(Cause::BadShape));
+    }
+    let (values, keys) = values_of(alloc, left, v, "values")?;
+    Ok(FoundValue {
+        value: Value::List(values),
+        keys,
+    })
+}
+
+// Values that may be absent, which are none then.
+#[cycle(values)]
+fn values_of(
+    alloc: Global,
+    left: u8,
+    v: &Json,
+    name: &str,
+) -> Result<(Items<Value>, Items<Text>), Halt<Cause>>
+    ensures value { IfOk result (λ r. AreValuesGiven left (member name.now (view v.now)) r.0 r.1) }
+    ensures judged { JudgesValue result
+        (optional (held_faults left (json_value_offends left)) (member name.now (view v.now))) }
+{
+    match member_of(v, name) {
+        None => Ok((Items::new(alloc), Items::new(alloc))),
+        Some(found) => values_in(alloc, left, found),
+    }
+}
+
+#[cycle(values)]
+fn values_in(alloc: Global, left: u8, v: &Json) -> Result<(Items<Value>, Items<Text>), Halt<Cause>>
+    ensures value { IfOk result (λ r. AreValuesGiven left (Some (view v.now)) r.0 r.1) }
+    ensures judged { JudgesValue result (held_faults left (json_value_offends left) (view v.now)) }
+{
+    let Some(elements) = v.as_array() else {
+        return Err(Halt::Why(Cause::BadShape));
+    };
+    let read = read_elements(alloc, left, elements)?;
+    Ok(read)
+}
+
+#[cycle(values)]
+fn read_elements(
+    alloc: Global,
+    left: u8,
+    elements: &Vec<Json>,
+) -> Result<(Items<Value>, Items<Text>), Halt<Cause>>
+    ensures value { IfOk result (λ r. AreValuesFound left (map view elements.now.items) r.0 r.1) }
+    ensures judged { JudgesValue result
+        (values_faults left (json_value_offends left) (map view elements.now.items)) }
+{
+    let mut values = Items::new(alloc);
+    let mut noted = Items::new(alloc);
+    'elements: for element in elements {
+        let Some(below) = left.checked_sub(1) else {
+            return Err(Halt::Why(Cause::TooDeep));
+        };
+        let read = read_value(alloc, below, element)?;
+        values.push(read.value)?;
+        note_keys(&mut noted, read.keys)?;
+    }
+    Ok((values, noted))
+}
+
+// Reads a map below which so many levels are left.
+#[cycle(values)]
+fn read_map(alloc: Global, left: u8, v: &Json) -> Result<FoundValue, Halt<Cause>>
+    ensures value { IfOk result (λ r. IsJsonMap (json_key_value_in left) (value_found r) (view v.now)) }
+    ensures judged { JudgesValue result (json_map_faults left (view v.now)) }
+{
+    if !v.is_object() {
+        return Err(Halt::Why(Cause::BadShape));
+    }
+    let rows = pairs_of(alloc, left, v, "values")?;
+    let map = map_of(alloc, rows)?;
+    Ok(map)
+}
+
+/// `KeyValue`s that may be absent, which are none then.
+#[cycle(values)]
+pub fn pairs_of(alloc: Global, left: u8, v: &Json, name: &str) -> Result<PairRows, Halt<Cause>>
+    ensures value { IfOk result (λ r. ArePairsGiven left (member name.now (view v.now)) r.pairs r.noted) }
+    ensures judged { JudgesValue result
+        (optional (held_faults left (json_key_value_offends left)) (member name.now (view v.now))) }
+{
+    match member_of(v, name) {
+        None => Ok(PairRows::none(alloc)),
+        Some(found) => pairs_in(alloc, left, found),
+    }
+}
+
+#[cycle(values)]
+fn pairs_in(alloc: Global, left: u8, v: &Json) -> Result<PairRows, Halt<Cause>>
+    ensures value { IfOk result (λ r. ArePairsGiven left (Some (view v.now)) r.pairs r.noted) }
+    ensures judged { JudgesValue result (held_faults left (json_key_value_offends left) (view v.now)) }
+{
+    let Some(elements) = v.as_array() else {
+        return Err(Halt::Why(Cause::BadShape));
+    };
+    let read = read_pairs(alloc, left, elements)?;
+    Ok(read)
+}
+
+#[cycle(values)]
+fn read_pairs(alloc: Global, left: u8, elements: &Vec<Json>) -> Result<PairRows, Halt<Cause>>
+    ensures value { IfOk result (λ rows. ArePairsFound left (map view elements.now.items) rows.pairs rows.noted) }
+    ensures judged { JudgesValue result
+        (values_faults left (json_key_value_offends left) (map view elements.now.items)) }
+{
+    let mut rows = PairRows::none(alloc);
+    'elements: for element in elements {
+        let Some(below) = left.checked_sub(1) else {
+            return Err(Halt::Why(Cause::TooDeep));
+        };
+        let read = read_key_value(alloc, below, element)?;
+        rows.push(read)?;
+    }
+    Ok(rows)
+}
+
+// Reads a `KeyValue` below whose value so many levels are left.
+#[cycle(values)]
+fn read_key_value(alloc: Global, left: u8, v: &Json) -> Result<FoundPair, Halt<Cause>>
+    ensures value { IfOk result (λ p. json_key_value_at left (pair_found p) (view v.now)) }
+    ensures judged { JudgesValue result (json_key_value_faults left (view v.now)) }
+{
+    if !v.is_object() {
+        return Err(Halt::Why(Cause::BadShape));
+    }
+    let key = text(alloc, v, "key")?;
+    let found = value_of(alloc, left, v, "value")?;
+    Ok(FoundPair { key, found })
+}
+
+// A value that may be absent, which is nothing then.
+#[cycle(values)]
+fn value_of(alloc: Global, left: u8, v: &Json, name: &str) -> Result<FoundValue, Halt<Cause>>
+    ensures value { IfOk result (λ r. Given (json_value_at left) (λ x. x ≡ leaf values.Nothing)
+        (value_found r) (member name.now (view v.now))) }
+    ensures judged { JudgesValue result
+        (optional (json_value_faults left) (member name.now (view v.now))) }
+{
+    match member_of(v, name) {
+        None => Ok(leaf_of(alloc, Value::Nothing)),
+        Some(found) => read_value(alloc, left, found),
+    }
+}
+
+// The map of its pairs.
+fn map_of(alloc: Global, rows: PairRows) -> Result<FoundValue, OutOfMemory>
+    ensures { IfOk result (λ r. IsMapFound rows.pairs rows.noted r) }
+{
+    let (attributes, repeated) = attrs_of(alloc, rows.pairs)?;
+    let mut keys = rows.noted;
+    note_keys(&mut keys, repeated)?;
+    Ok(FoundValue {
+        value: Value::Map(attributes),
+        keys,
+    })
+}
+
+impl PairRows {
+    /// Nothing was read.
+    pub fn none(alloc: Global) -> PairRows
+        ensures pairs { result.pairs ≡ [] }
+        ensures noted { result.noted ≡ [] }
+    {
+        PairRows {
+            pairs: Items::new(alloc),
+            noted: Items::new(alloc),
+        }
+    }
+
+    /// Adds a `KeyValue`.
+    pub fn push(&mut self, read: FoundPair) -> Result<(), OutOfMemory>
+        ensures pairs { OnOk result (self.new.pairs ≡ self.old.pairs ++ entry (pair_found read) ∷ []) }
+        ensures noted { OnOk result (self.new.noted ≡ self.old.noted ++ (pair_found read).value.notes) }
+    {
+        let found = read.found;
+        self.pairs.push((read.key, found.value))?;
+        note_keys(&mut self.noted, found.keys)
+    }
+}

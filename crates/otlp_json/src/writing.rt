@@ -1,0 +1,13 @@
+//! Writing groups as OTLP/JSON: one canonical text for each.
+mod doubles;
+mod elements;
+mod groups;
+mod members;
+mod parts;
+mod spans;
+mod values;
+
+pub use groups::write_group;
+
+#[cfg(test)]
+mod tests;
