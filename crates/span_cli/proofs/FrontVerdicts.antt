@@ -12,9 +12,11 @@ use Rattle.span_io.specs.declared.refusal.Refusal.{Refusal}
 use Rattle.proto_wire.specs.Wire.{records}
 use Rattle.trace_model.specs.declared.trace.Group.{Group}
 use Rattle.span_convert.specs.BatchFiles.{ProtocolWords, binary, compact, batches}
+use Rattle.span_convert.specs.Documents.{DocumentForm, DocumentRefused}
 use Rattle.span_convert.specs.FramedForms.{FramedForm, RestCause, UnitsThen, UnitsRefused}
-use Rattle.span_convert.specs.SpanFiles.{SpansRefused}
-use Rattle.span_convert.specs.Units.{InputForm, request_form, batch_form, framed_input, span_file_input, input_form, input_limit}
+use Rattle.span_convert.specs.GroupFiles.{group_document}
+use Rattle.span_convert.specs.SpanFiles.{span_document}
+use Rattle.span_convert.specs.Units.{InputForm, request_form, batch_form, framed_input, document_input, input_form, input_limit}
 use Rattle.span_convert.specs.Verdicts.{Verdict, good, refused, faulted, IsVerdict, IsVerdictOn, IsJudged}
 use Rattle.span_convert.specs.declared.stop.Stop.{Stop}
 use Rattle.span_convert.specs.declared.stop.Stop.TheVariants as stops
@@ -78,10 +80,10 @@ module _ (limits : Limits) (bytes others : List ℕ) (long : limits.binary < len
     batches_both : (protocol : ProtocolWords) → SaysOfBoth (framed_input (batch_form protocol)) limits bytes others
     batches_both protocol = framed_both (batch_form protocol) (λ units rest held. subst (λ (l : List ℕ). ItemsThen (batches protocol) limits.unit units rest l) same held)
 
--- ---- spans, of which nothing is read beyond the limit
+-- ---- documents, of which nothing is read beyond the limit
 
-module _ (limits : Limits) (bytes others : List ℕ) (long : limits.json < length bytes) (longer : limits.json < length others) where
-  too_long_both : (groups : List Group) (refusal : Refusal) → SpansRefused limits bytes groups refusal → SpansRefused limits others groups refusal
+module _ (from : DocumentForm) (limits : Limits) (bytes others : List ℕ) (long : limits.json < length bytes) (longer : limits.json < length others) where
+  too_long_both : (groups : List Group) (refusal : Refusal) → DocumentRefused from limits bytes groups refusal → DocumentRefused from limits others groups refusal
   too_long_both groups refusal h = record {
     none = h.none;
     why = elim h.why [
@@ -90,20 +92,21 @@ module _ (limits : Limits) (bytes others : List ℕ) (long : limits.json < lengt
     ];
   }
 
-  spans_both : SaysOfBoth span_file_input limits bytes others
-  spans_both = record {
-    begins = λ groups h. absurd (let within = h.file.within in omega (arith, long, within));
+  documents_both : SaysOfBoth (document_input from) limits bytes others
+  documents_both = record {
+    begins = λ groups h. absurd (let within = h.document.within in omega (arith, long, within));
     refuses = too_long_both;
-    never_whole = λ groups h. let within = h.file.within in omega (arith, long, within);
+    never_whole = λ groups h. let within = h.within in omega (arith, long, within);
   }
 
 -- ---- each form
 
 says_of_both : (from : Form) (limits : Limits) (bytes others : List ℕ) → input_limit from limits < length bytes → input_limit from limits < length others → take (input_limit from limits) bytes ≡ take (input_limit from limits) others → SaysOfBoth (input_form from) limits bytes others
 says_of_both forms.OtlpProto limits bytes others long longer same = requests_both limits bytes others long longer same
+says_of_both forms.OtlpJson limits bytes others long longer same = documents_both group_document limits bytes others long longer
 says_of_both forms.JaegerBinary limits bytes others long longer same = batches_both limits bytes others long longer same binary
 says_of_both forms.JaegerCompact limits bytes others long longer same = batches_both limits bytes others long longer same compact
-says_of_both forms.ZipkinJson limits bytes others long longer same = spans_both limits bytes others long longer
+says_of_both forms.ZipkinJson limits bytes others long longer same = documents_both span_document limits bytes others long longer
 
 module _ (from to : Form) (limits : Limits) (fed rest : List ℕ) (long : input_limit from limits < length fed) where
   longer_whole : input_limit from limits < length (fed ++ rest)

@@ -4,7 +4,11 @@ mod jaeger_batches;
 mod jaeger_compact;
 mod jaeger_requests;
 mod jaeger_stops;
+mod json_requests;
+mod json_requests_again;
+mod json_requests_stops;
 mod zipkin;
+mod zipkin_long;
 mod zipkin_stops;
 
 use super::*;
@@ -365,7 +369,7 @@ fn knows_its_words(rt: HostRuntime) -> Result<(), Fail> {
         &["convert"],
         &["convert", "--from", "otlp-proto"],
         &["convert", "--from", "otlp-proto", "--from", "otlp-proto"],
-        &["convert", "--from", "otlp-proto", "--to", "otlp-json"],
+        &["convert", "--from", "otlp-proto", "--to", "otlp"],
         &[
             "convert",
             "--from",

@@ -6,10 +6,17 @@ pub mod BatchTimes
 pub mod CarryLemmas
 pub mod CauseNumbers
 pub mod CompactProper
+pub mod DocumentInputs
+pub mod DocumentTexts
+pub mod DocumentWalks
 pub mod FaultTargets
 pub mod FrameLemmas
 pub mod FramedInputs
+pub mod GroupFileInputs
+pub mod GroupFileTexts
+pub mod GroupFileWalks
 pub mod InputForms
+pub mod JsonTexts
 pub mod RequestLaws
 pub mod RequestUnits
 pub mod SomeVerdict

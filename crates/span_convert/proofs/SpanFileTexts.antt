@@ -1,9 +1,9 @@
 -- The texts of a Zipkin file, and what is read of them.
-use Rattle.std.proofs.Common.{◌≡◌, ℕ, ◌+◌, ◌≤◌, ◌++◌, ◌∷◌, true, List, [], length, map, codes, All, refl, ap, sym, ◌∙◌, subst, append_assoc, append-nil}
+use Rattle.std.proofs.Common.{◌≡◌, ℕ, ◌+◌, ◌≤◌, ◌++◌, ◌∷◌, List, [], length, map, All, refl, ap, sym, ◌∙◌, subst}
 use Rattle.std.proofs.lemmas.Grind.{flat_map-append}
 use Rattle.std.proofs.lemmas.List.{length-append, length-map, map-append}
 use Rattle.std.proofs.lemmas.List.Elements.{All-nil, All-cons, All-head, All-tail, All-append, All-weaker}
-use Rattle.std.specs.List.{flat_map, join_with_byte}
+use Rattle.std.specs.List.{flat_map}
 use Rattle.span_io.specs.Outside.{IsFront}
 use Rattle.span_io.specs.declared.form.Form.TheVariants as forms
 use Rattle.span_io.specs.declared.limits.Limits.{Limits}
@@ -26,30 +26,16 @@ use Rattle.map_zipkin.specs.Regrouped.{RunSpan, run_of, regrouped}
 use Rattle.map_zipkin.specs.Remarks.{zipkin_left_out}
 use Rattle.map_zipkin.specs.Writing.{spans_of_group}
 use Rattle.span_convert.specs.Canonical.{IsHeldBy}
+use Rattle.span_convert.specs.Documents.{IsDocument, partial_document, closing_document}
 use Rattle.span_convert.specs.InputLaws.{SpanFileLaws}
-use Rattle.span_convert.specs.SpanFiles.{AreAllSpans, ReadsSpans, ReadsSpansPlainly, spans_of_groups, span_file_text, open_file_text, partial_file_text, closing_brackets, opening, is_some_span, spans_added}
+use Rattle.span_convert.specs.SpanFiles.{ReadsSpans, ReadsSpansPlainly, span_document, spans_of_groups, span_file, span_file_text}
 use Rattle.span_convert.specs.Units.{IsSizedGroup, normal_form, canonical_text, span_count}
 use Rattle.span_convert.specs.Verdicts.{CanHoldTrace, IsFaultless, IsProperTrace}
-use Rattle.span_convert.proofs.SpanFileInputs.{all_first, one_spans, proper_read, timely_read}
+use Rattle.span_convert.proofs.DocumentInputs.{all_first}
+use Rattle.span_convert.proofs.DocumentTexts.{document_front, document_closed}
+use Rattle.span_convert.proofs.SpanFileInputs.{proper_read, timely_read}
 
--- ---- what a group adds
-
--- the texts of spans, with commas between them
-abbrev joined : List ZSpan → List ℕ
-joined spans = join_with_byte 44 (map zspan_text spans)
-
--- more spans behind one
-joined_behind : (span : ZSpan) (more : List ZSpan) → joined (span ∷ more) ≡ zspan_text span ++ spans_added true more
-joined_behind span [] = sym (append-nil (zspan_text span))
-joined_behind span (next ∷ more) = ap (λ (l : List ℕ). zspan_text span ++ (44 ∷ l)) (joined_behind next more)
-
-joined_added : (spans more : List ZSpan) → joined (spans ++ more) ≡ joined spans ++ spans_added (is_some_span spans) more
-joined_added [] [] = refl
-joined_added [] (span ∷ more) = joined_behind span more
-joined_added (span ∷ []) more = joined_behind span more
-joined_added (span ∷ next ∷ spans) more =
-    ap (λ (l : List ℕ). zspan_text span ++ (44 ∷ l)) (joined_added (next ∷ spans) more)
-    ∙ sym (append_assoc (zspan_text span) (44 ∷ joined (next ∷ spans)) (spans_added true more))
+-- ---- what groups add
 
 held_groups : (groups : List Group) → CanHoldTrace forms.ZipkinJson groups → All IsHeldByZipkin groups
 held_groups groups held = of groups held.sound held.proper held.no_fault
@@ -60,12 +46,13 @@ held_groups groups held = of groups held.sound held.proper held.no_fault
         (record { sound = All-head IsSoundGroup g groups sound; proper = All-head IsProperGroup g groups proper; no_fault = All-head HasNoZipkinFault g groups fine })
         (of groups (All-tail IsSoundGroup g groups sound) (All-tail IsProperGroup g groups proper) (All-tail HasNoZipkinFault g groups fine))
 
--- the open text of a trace that Zipkin can hold is that of the trace's own spans
-open_own : (Z : ZipkinNormalForms) (groups : List Group) → CanHoldTrace forms.ZipkinJson groups
-    → open_file_text (zipkin_normal groups) ≡ codes "[" ++ joined (spans_of_groups groups)
-open_own Z groups held = ap (λ (l : List ZSpan). codes "[" ++ joined l) (Z.same_spans groups (held_groups groups held))
+-- the texts of the spans of groups
+abbrev pub span_texts : List Group → List (List ℕ)
+span_texts groups = map zspan_text (spans_of_groups groups)
 
--- ---- the front of a trace
+-- the pieces of a trace that Zipkin can hold are those of the trace's own spans
+pub own_pieces : (Z : ZipkinNormalForms) (groups : List Group) → CanHoldTrace forms.ZipkinJson groups → span_file.pieces groups ≡ span_texts groups
+own_pieces Z groups held = ap (λ (l : List ZSpan). map zspan_text l) (Z.same_spans groups (held_groups groups held))
 
 front_held : (a b : List Group) → CanHoldTrace forms.ZipkinJson (a ++ b) → CanHoldTrace forms.ZipkinJson a
 front_held a b held = record {
@@ -74,38 +61,19 @@ front_held a b held = record {
   no_fault = all_first HasNoZipkinFault a b held.no_fault;
 }
 
--- the text of more groups behind these
-more_text : (Z : ZipkinNormalForms) (group : Group) (groups more : List Group) → CanHoldTrace forms.ZipkinJson (group ∷ (groups ++ more))
-    → partial_file_text (group ∷ (groups ++ more))
-    ≡ partial_file_text (group ∷ groups) ++ spans_added (is_some_span (spans_of_groups (group ∷ groups))) (spans_of_groups more)
-more_text Z group groups more held =
-    let before : List ZSpan = spans_of_groups (group ∷ groups) in
-    let added : List ℕ = spans_added (is_some_span before) (spans_of_groups more) in
-    open_own Z (group ∷ (groups ++ more)) held
-    ∙ ap (λ (l : List ZSpan). codes "[" ++ joined l) (flat_map-append spans_of_group (group ∷ groups) more)
-    ∙ ap (λ (l : List ℕ). codes "[" ++ l) (joined_added before (spans_of_groups more))
-    ∙ ap (λ (l : List ℕ). l ++ added) (sym (open_own Z (group ∷ groups) (front_held (group ∷ groups) more held)))
+pub more_spans : (Z : ZipkinNormalForms) (a b : List Group) → CanHoldTrace forms.ZipkinJson (a ++ b) → span_file.pieces (a ++ b) ≡ span_file.pieces a ++ span_texts b
+more_spans Z a b held =
+    own_pieces Z (a ++ b) held
+    ∙ ap (λ (l : List ZSpan). map zspan_text l) (flat_map-append spans_of_group a b)
+    ∙ map-append zspan_text (spans_of_groups a) (spans_of_groups b)
+    ∙ ap (λ (l : List (List ℕ)). l ++ span_texts b) (sym (own_pieces Z a (front_held a b held)))
 
--- what a group adds to the text of those before it
-pub added_text : (Z : ZipkinNormalForms) (groups : List Group) (group : Group) → CanHoldTrace forms.ZipkinJson (groups ++ group ∷ [])
-    → partial_file_text (groups ++ group ∷ [])
-    ≡ partial_file_text groups ++ (opening groups ++ spans_added (is_some_span (spans_of_groups groups)) (spans_of_group group))
-added_text Z [] group held =
-    open_own Z (group ∷ []) held
-    ∙ ap (λ (l : List ZSpan). codes "[" ++ joined l) (append-nil (spans_of_group group))
-    ∙ ap (λ (l : List ℕ). codes "[" ++ l) (joined_added [] (spans_of_group group))
-added_text Z (first ∷ groups) group held =
-    more_text Z first groups (group ∷ []) held
-    ∙ ap (λ (l : List ZSpan). partial_file_text (first ∷ groups) ++ spans_added (is_some_span (spans_of_groups (first ∷ groups))) l) (append-nil (spans_of_group group))
+pub span_file_front : (Z : ZipkinNormalForms) (a b : List Group) → CanHoldTrace forms.ZipkinJson (a ++ b) → IsFront (partial_document span_file a) (partial_document span_file (a ++ b))
+span_file_front Z a b held = document_front span_file a b (span_texts b) (more_spans Z a b held)
 
-pub span_file_front : (Z : ZipkinNormalForms) (a b : List Group) → CanHoldTrace forms.ZipkinJson (a ++ b) → IsFront (partial_file_text a) (partial_file_text (a ++ b))
-span_file_front Z [] b held = (partial_file_text b, refl)
-span_file_front Z (group ∷ a) b held = (spans_added (is_some_span (spans_of_groups (group ∷ a))) (spans_of_groups b), more_text Z group a b held)
-
-pub span_file_closed : (groups : List Group) → span_file_text (zipkin_normal groups) ≡ partial_file_text groups ++ closing_brackets groups
+pub span_file_closed : (groups : List Group) → span_file_text (zipkin_normal groups) ≡ partial_document span_file groups ++ closing_document span_file groups
 unfolding spans_text
-span_file_closed [] = refl
-span_file_closed (group ∷ groups) = sym (append_assoc (codes "[") (joined (spans_of_groups (zipkin_normal (group ∷ groups)))) (codes "]"))
+span_file_closed groups = document_closed span_file refl groups
 
 -- ---- how many spans there are
 
@@ -168,10 +136,6 @@ module _ (L : SpanFileLaws) where
   span_file_normal_read bytes groups h =
       subst (λ (l : List Group). zipkin_normal l ≡ l) (sym h.means) (L.itself.itself h.spans (timely_read L.writable bytes h.spans h.text) (proper_read L.writable bytes h.spans h.text))
 
-  -- it is one trace
-  pub span_file_once : (bytes : List ℕ) (a b : List Group) → ReadsSpans bytes a → ReadsSpans bytes b → a ≡ b
-  span_file_once bytes a b h k = h.means ∙ ap groups_of (one_spans L.one bytes h.spans k.spans h.text k.text) ∙ sym k.means
-
   -- ---- the normal form of a trace that Zipkin can hold
 
   module _ (groups : List Group) (held : IsHeldBy forms.ZipkinJson groups) where
@@ -223,9 +187,9 @@ module _ (L : SpanFileLaws) where
     }
 
     -- within the limit it is a whole file
-    pub span_file_whole : (limits : Limits) → length (canonical_text forms.ZipkinJson groups) ≤ limits.json → AreAllSpans limits (canonical_text forms.ZipkinJson groups) (zipkin_normal groups)
+    pub span_file_whole : (limits : Limits) → length (canonical_text forms.ZipkinJson groups) ≤ limits.json
+        → IsDocument span_document limits (canonical_text forms.ZipkinJson groups) (zipkin_normal groups)
     span_file_whole limits within = record {
-      spans = spans_of_groups (zipkin_normal groups);
-      file = record { within = within; text = own_text };
-      means = own_means;
+      within = within;
+      text = span_file_plainly (canonical_text forms.ZipkinJson groups) (zipkin_normal groups) span_file_back;
     }

@@ -26,6 +26,7 @@ use Rattle.span_convert.specs.Units.{request_form, input_form, CanHold, normal_f
 use Rattle.span_convert.specs.Verdicts.{IsProperTrace, IsFaultless, tally_of}
 use Rattle.span_convert.proofs.BatchTexts.{IsNormal, normals, all_itself, normal_held_by, batches_back, batches_whole, batches_spans, batches_faultless, batches_normal, batches_plainly}
 use Rattle.span_convert.proofs.FrameLemmas.{same_items}
+use Rattle.span_convert.proofs.GroupFileTexts.{group_file_faultless, group_file_back, group_file_whole, group_file_plainly}
 use Rattle.span_convert.proofs.RequestLaws.{units_once, one_group}
 use Rattle.span_convert.proofs.SpanFileTexts.{span_file_back, span_file_normal_held, span_file_normal_again, span_file_spans, span_file_faultless, span_file_normal_read, span_file_plainly, span_file_whole}
 
@@ -69,18 +70,21 @@ compact_normals N groups h = normals N groups h.can_hold.sound h.can_hold.proper
 module _ (N : NormalForms) (Z : SpanFileLaws) where
   pub normal_held : (to : Form) (groups : List Group) → IsHeldBy to groups → IsHeldBy to (normal_form to groups)
   normal_held forms.OtlpProto groups h = h
+  normal_held forms.OtlpJson groups h = h
   normal_held forms.JaegerBinary groups h = normal_held_by forms.JaegerBinary (λ g h. h) (λ g h. h) (normal groups) (binary_normals N groups h)
   normal_held forms.JaegerCompact groups h = normal_held_by forms.JaegerCompact (λ g h. h) (λ g h. h) (normal groups) (compact_normals N groups h)
   normal_held forms.ZipkinJson groups h = span_file_normal_held Z groups h
 
   pub normal_again : (to : Form) (groups : List Group) → IsHeldBy to groups → normal_form to (normal_form to groups) ≡ normal_form to groups
   normal_again forms.OtlpProto groups h = refl
+  normal_again forms.OtlpJson groups h = refl
   normal_again forms.JaegerBinary groups h = all_itself (normal groups) (binary_normals N groups h)
   normal_again forms.JaegerCompact groups h = all_itself (normal groups) (compact_normals N groups h)
   normal_again forms.ZipkinJson groups h = span_file_normal_again Z groups h
 
 pub normal_spans : SpanFileLaws → (to : Form) (groups : List Group) → span_count (normal_form to groups) ≡ span_count groups
 normal_spans Z forms.OtlpProto groups = refl
+normal_spans Z forms.OtlpJson groups = refl
 normal_spans Z forms.JaegerBinary groups = batches_spans groups
 normal_spans Z forms.JaegerCompact groups = batches_spans groups
 normal_spans Z forms.ZipkinJson groups = span_file_spans Z groups
@@ -88,12 +92,14 @@ normal_spans Z forms.ZipkinJson groups = span_file_spans Z groups
 module _ (N : ReadIsNormal) (L : InputLaws) where
   pub faultless_read : (from : Form) (text : List ℕ) (groups : List Group) → Reads from text groups → IsFaultless from groups
   faultless_read forms.OtlpProto text groups h = request_fine groups
+  faultless_read forms.OtlpJson text groups h = group_file_faultless L.groups text groups h
   faultless_read forms.JaegerBinary text groups h = batches_faultless binary N L.binary text groups h
   faultless_read forms.JaegerCompact text groups h = batches_faultless compact N L.compact text groups h
   faultless_read forms.ZipkinJson text groups h = span_file_faultless L.spans text groups h
 
   pub normal_read : (from : Form) (text : List ℕ) (groups : List Group) → Reads from text groups → normal_form from groups ≡ groups
   normal_read forms.OtlpProto text groups h = refl
+  normal_read forms.OtlpJson text groups h = refl
   normal_read forms.JaegerBinary text groups h = batches_normal binary N L.binary text groups h
   normal_read forms.JaegerCompact text groups h = batches_normal compact N L.compact text groups h
   normal_read forms.ZipkinJson text groups h = span_file_normal_read L.spans text groups h
@@ -147,6 +153,7 @@ module _ (L : TextLaws) where
 
   pub read_back : (to : Form) (groups : List Group) → IsHeldBy to groups → IsSized to groups → ReadsPlainly to (canonical_text to groups) (normal_form to groups)
   read_back forms.OtlpProto groups h sized = request_read_back groups h.can_hold.sound h.can_hold.proper sized
+  read_back forms.OtlpJson groups h sized = group_file_back L.input.groups groups h
   read_back forms.JaegerBinary groups h sized = batches_back binary L L.input.binary (normal groups) (binary_normals L.normal groups h)
   read_back forms.JaegerCompact groups h sized = batches_back compact L L.input.compact (normal groups) (compact_normals L.normal groups h)
   read_back forms.ZipkinJson groups h sized = span_file_back L.input.spans groups h
@@ -171,6 +178,7 @@ module _ (L : TextLaws) where
 
   whole : (to : Form) (limits : Limits) (groups : List Group) → AreLimits limits → IsHeldBy to groups → IsWithin to limits groups → (input_form to).IsWhole limits (canonical_text to groups) (normal_form to groups)
   whole forms.OtlpProto limits groups valid h within = request_whole limits groups valid h.can_hold.sound h.can_hold.proper within
+  whole forms.OtlpJson limits groups valid h within = group_file_whole L.input.groups groups h limits within
   whole forms.JaegerBinary limits groups valid h within = batches_whole binary L L.input.binary limits (normal groups) (binary_normals L.normal groups h) within
   whole forms.JaegerCompact limits groups valid h within = batches_whole compact L L.input.compact limits (normal groups) (compact_normals L.normal groups h) within
   whole forms.ZipkinJson limits groups valid h within = span_file_whole L.input.spans groups h limits within
@@ -192,6 +200,7 @@ request_reads_plainly text groups h = record { frames = h.frames; framed = h.fra
 
 pub reads_plainly : (to : Form) (text : List ℕ) (groups : List Group) → ReadsPlainly to text groups → Reads to text groups
 reads_plainly forms.OtlpProto text groups h = request_reads_plainly text groups h
+reads_plainly forms.OtlpJson text groups h = group_file_plainly text groups h
 reads_plainly forms.JaegerBinary text groups h = batches_plainly binary text groups h
 reads_plainly forms.JaegerCompact text groups h = batches_plainly compact text groups h
 reads_plainly forms.ZipkinJson text groups h = span_file_plainly text groups h

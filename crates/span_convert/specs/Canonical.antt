@@ -6,6 +6,7 @@ use Rattle.span_io.specs.declared.limits.Limits.{Limits}
 use Rattle.trace_model.specs.declared.trace.Group.{Group}
 use Rattle.map_jaeger.specs.Normal.{normal}
 use Rattle.span_convert.specs.BatchFiles.{binary, compact, ReadsBatches, ReadsBatchesPlainly, AreBatchesWithin}
+use Rattle.span_convert.specs.GroupFiles.{ReadsGroups, ReadsGroupsPlainly}
 use Rattle.span_convert.specs.Requests.{ReadsRequest, ReadsRequestPlainly, IsRequestWithin}
 use Rattle.span_convert.specs.SpanFiles.{ReadsSpans, ReadsSpansPlainly}
 use Rattle.span_convert.specs.Units.{input_form, IsSizedGroup, normal_form, canonical_text, span_count}
@@ -15,6 +16,7 @@ use Rattle.span_convert.specs.declared.tally.Tally.{Tally}
 -- the bytes are a text of this trace
 abbrev pub Reads : Form → List ℕ → List Group → Type 0
 Reads forms.OtlpProto = ReadsRequest
+Reads forms.OtlpJson = ReadsGroups
 Reads forms.JaegerBinary = ReadsBatches binary
 Reads forms.JaegerCompact = ReadsBatches compact
 Reads forms.ZipkinJson = ReadsSpans
@@ -22,6 +24,7 @@ Reads forms.ZipkinJson = ReadsSpans
 -- the same, and no remark arises
 abbrev pub ReadsPlainly : Form → List ℕ → List Group → Type 0
 ReadsPlainly forms.OtlpProto = ReadsRequestPlainly
+ReadsPlainly forms.OtlpJson = ReadsGroupsPlainly
 ReadsPlainly forms.JaegerBinary = ReadsBatchesPlainly binary
 ReadsPlainly forms.JaegerCompact = ReadsBatchesPlainly compact
 ReadsPlainly forms.ZipkinJson = ReadsSpansPlainly
@@ -38,6 +41,7 @@ IsSized to groups = length (canonical_text to groups) < 2 ^ 63
 -- the canonical text of the trace, and its units, are within the limits of an input
 abbrev pub IsWithin : Form → Limits → List Group → Type 0
 IsWithin forms.OtlpProto limits groups = IsRequestWithin limits groups
+IsWithin forms.OtlpJson limits groups = length (canonical_text forms.OtlpJson groups) ≤ limits.json
 IsWithin forms.JaegerBinary limits groups = AreBatchesWithin binary limits (normal groups)
 IsWithin forms.JaegerCompact limits groups = AreBatchesWithin compact limits (normal groups)
 IsWithin forms.ZipkinJson limits groups = length (canonical_text forms.ZipkinJson groups) ≤ limits.json

@@ -6,6 +6,7 @@ use Rattle.proto_wire.specs.Wire.{records, RefusedBy}
 use Rattle.trace_model.specs.Proper.{IsProperGroup}
 use Rattle.trace_model.specs.Soundness.{IsSoundGroup}
 use Rattle.trace_model.specs.declared.trace.Group.{Group}
+use Rattle.otlp_json.specs.Laws.{OneJsonGroups, SomeJsonGroups, GroupsWrittenAgain, ReadsHeldGroups}
 use Rattle.otlp_proto.specs.Group.{IsGroupText}
 use Rattle.otlp_proto.specs.Laws.{OneGroup}
 use Rattle.otlp_proto.specs.Texts.{group_text, group_record}
@@ -45,8 +46,16 @@ pub record SpanFileLaws : Type 0 where
   pub normal : ZipkinNormalForms
   pub regrouped : Regroupings
 
+-- the same of groups in JSON
+pub record GroupFileLaws : Type 0 where
+  pub one : OneJsonGroups
+  pub some : SomeJsonGroups
+  pub held : ReadsHeldGroups
+  pub again : GroupsWrittenAgain
+
 pub record InputLaws : Type 0 where
   pub requests : RequestLaws
+  pub groups : GroupFileLaws
   pub binary : BatchLaws binary
   pub compact : BatchLaws compact
   pub spans : SpanFileLaws

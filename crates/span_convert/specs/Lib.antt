@@ -1,7 +1,9 @@
 pub mod BatchFiles
 pub mod Canonical
 pub mod Converters
+pub mod Documents
 pub mod FramedForms
+pub mod GroupFiles
 pub mod InputLaws
 pub mod Requests
 pub mod Rests

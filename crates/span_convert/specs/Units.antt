@@ -10,6 +10,8 @@ use Rattle.proto_wire.specs.Wire.{records, RefusedBy}
 use Rattle.trace_model.specs.Flat.{flat}
 use Rattle.trace_model.specs.declared.fault.Fault.{Fault}
 use Rattle.trace_model.specs.declared.trace.Group.{Group}
+use Rattle.otlp_json.specs.Canonical.{json_groups_text}
+use Rattle.otlp_json.specs.Held.{IsJsonFaultOf}
 use Rattle.otlp_proto.specs.Group.{group_rules}
 use Rattle.jaeger_model.specs.Laws.{BatchOffends}
 use Rattle.jaeger_model.specs.Writable.{IsWritable}
@@ -19,9 +21,11 @@ use Rattle.map_jaeger.specs.Writing.{batch_of}
 use Rattle.map_zipkin.specs.Faults.{IsZipkinFaultOf}
 use Rattle.map_zipkin.specs.Normal.{zipkin_normal}
 use Rattle.span_convert.specs.BatchFiles.{ProtocolWords, binary, compact, batches, RefusedBatch, IsOwnUnit, HoldsBatches, IsBatchUnit, batches_text}
+use Rattle.span_convert.specs.Documents.{DocumentForm, IsDocument, DocumentBegins, DocumentRefused, partial_document, closing_document}
 use Rattle.span_convert.specs.FramedForms.{FramedForm, UnitsBegin, AreAllUnits, UnitsRefused}
+use Rattle.span_convert.specs.GroupFiles.{group_document, group_file}
 use Rattle.span_convert.specs.Requests.{HoldsUnit, HoldsRequestUnits, IsRequestUnit, request_text}
-use Rattle.span_convert.specs.SpanFiles.{SpansBegin, AreAllSpans, SpansRefused, span_file_text, partial_file_text, closing_brackets}
+use Rattle.span_convert.specs.SpanFiles.{span_document, span_file, span_file_text}
 
 -- ---- sources
 
@@ -60,27 +64,30 @@ pub record InputForm : Type 1 where
 abbrev pub framed_input : FramedForm → InputForm
 framed_input form = record { Begins = UnitsBegin form; IsWhole = AreAllUnits form; Refuses = UnitsRefused form }
 
-abbrev pub span_file_input : InputForm
-span_file_input = record { Begins = SpansBegin; IsWhole = AreAllSpans; Refuses = SpansRefused }
+abbrev pub document_input : DocumentForm → InputForm
+document_input form = record { Begins = DocumentBegins form; IsWhole = IsDocument form; Refuses = DocumentRefused form }
 
 abbrev pub input_form : Form → InputForm
 input_form forms.OtlpProto = framed_input request_form
+input_form forms.OtlpJson = document_input group_document
 input_form forms.JaegerBinary = framed_input (batch_form binary)
 input_form forms.JaegerCompact = framed_input (batch_form compact)
-input_form forms.ZipkinJson = span_file_input
+input_form forms.ZipkinJson = document_input span_document
 
 -- the most bytes that an input may have
 abbrev pub input_limit : Form → Limits → ℕ
 input_limit forms.OtlpProto limits = limits.binary
+input_limit forms.OtlpJson limits = limits.json
 input_limit forms.JaegerBinary limits = limits.binary
 input_limit forms.JaegerCompact limits = limits.binary
 input_limit forms.ZipkinJson limits = limits.json
 
 -- ---- targets
 
--- The fault of the group that counts, where the form is the target. In OTLP nothing is a fault.
+-- The fault of the group that counts, where the form is the target. In OTLP's protobuf nothing is a fault.
 abbrev pub FaultOf : Form → Group → Fault → Type 0
 FaultOf forms.OtlpProto group fault = ⊥
+FaultOf forms.OtlpJson group fault = IsJsonFaultOf group (Some fault)
 FaultOf forms.JaegerBinary group fault = IsFaultOf group (Some fault)
 FaultOf forms.JaegerCompact group fault = IsFaultOf group (Some fault)
 FaultOf forms.ZipkinJson group fault = IsZipkinFaultOf group (Some fault)
@@ -88,6 +95,7 @@ FaultOf forms.ZipkinJson group fault = IsZipkinFaultOf group (Some fault)
 -- the form can hold the group
 abbrev pub CanHold : Form → Group → Type 0
 CanHold forms.OtlpProto group = Unit {0}
+CanHold forms.OtlpJson group = IsJsonFaultOf group None
 CanHold forms.JaegerBinary group = IsFaultOf group None
 CanHold forms.JaegerCompact group = IsFaultOf group None
 CanHold forms.ZipkinJson group = IsZipkinFaultOf group None
@@ -95,6 +103,7 @@ CanHold forms.ZipkinJson group = IsZipkinFaultOf group None
 -- No part of the group is longer than the form can tell. OTLP and JSON can tell each length.
 abbrev pub IsSizedGroup : Form → Group → Type 0
 IsSizedGroup forms.OtlpProto group = Unit {0}
+IsSizedGroup forms.OtlpJson group = Unit {0}
 IsSizedGroup forms.JaegerBinary group = IsWritable (batch_of group)
 IsSizedGroup forms.JaegerCompact group = IsWritable (batch_of group)
 IsSizedGroup forms.ZipkinJson group = Unit {0}
@@ -102,6 +111,7 @@ IsSizedGroup forms.ZipkinJson group = Unit {0}
 -- What the form holds of a trace in which nothing is a fault. OTLP can hold all of it, so that its normal form is the trace.
 abbrev pub normal_form : Form → List Group → List Group
 normal_form forms.OtlpProto groups = groups
+normal_form forms.OtlpJson groups = groups
 normal_form forms.JaegerBinary groups = normal groups
 normal_form forms.JaegerCompact groups = normal groups
 normal_form forms.ZipkinJson groups = zipkin_normal groups
@@ -109,6 +119,7 @@ normal_form forms.ZipkinJson groups = zipkin_normal groups
 -- the text of a trace in normal form
 abbrev pub trace_text : Form → List Group → List ℕ
 trace_text forms.OtlpProto groups = request_text groups
+trace_text forms.OtlpJson groups = json_groups_text groups
 trace_text forms.JaegerBinary groups = batches_text binary groups
 trace_text forms.JaegerCompact groups = batches_text compact groups
 trace_text forms.ZipkinJson groups = span_file_text groups
@@ -117,18 +128,20 @@ trace_text forms.ZipkinJson groups = span_file_text groups
 abbrev pub canonical_text : Form → List Group → List ℕ
 canonical_text to groups = trace_text to (normal_form to groups)
 
--- The same without the bytes that close it, which Zipkin's text has alone. It is empty for no group.
+-- The same without the bytes that close it, which JSON texts have alone. It is empty for no group.
 abbrev pub partial_text : Form → List Group → List ℕ
 partial_text forms.OtlpProto groups = request_text groups
+partial_text forms.OtlpJson groups = partial_document group_file groups
 partial_text forms.JaegerBinary groups = batches_text binary (normal groups)
 partial_text forms.JaegerCompact groups = batches_text compact (normal groups)
-partial_text forms.ZipkinJson groups = partial_file_text groups
+partial_text forms.ZipkinJson groups = partial_document span_file groups
 
 abbrev pub closing_text : Form → List Group → List ℕ
 closing_text forms.OtlpProto groups = []
+closing_text forms.OtlpJson groups = closing_document group_file groups
 closing_text forms.JaegerBinary groups = []
 closing_text forms.JaegerCompact groups = []
-closing_text forms.ZipkinJson groups = closing_brackets groups
+closing_text forms.ZipkinJson groups = closing_document span_file groups
 
 -- how many spans there are
 abbrev pub span_count : List Group → ℕ

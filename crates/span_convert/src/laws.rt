@@ -7,7 +7,7 @@ ghost use Rattle.span_io.specs.declared.limits.Limits.{Limits};
 ghost use Rattle.trace_model.specs.declared.trace.Group.{Group};
 ghost use Rattle.span_convert.specs.Canonical.{ConvertsToItself, Reads, ReadsPlainly, ReadsBack, IsHeldBy, IsSized, IsWithin};
 ghost use Rattle.span_convert.specs.BatchFiles.{words};
-ghost use Rattle.span_convert.specs.InputLaws.{BatchLaws, InputLaws, SpanFileLaws, TextLaws};
+ghost use Rattle.span_convert.specs.InputLaws.{BatchLaws, GroupFileLaws, InputLaws, SpanFileLaws, TextLaws};
 ghost use Rattle.span_convert.specs.Units.{input_form, IsSizedGroup, normal_form, canonical_text, partial_text, closing_text, span_count};
 ghost use Rattle.span_convert.specs.Verdicts.{Verdict, IsFaultless, IsVerdict, IsGood, IsTextSoFar, WritesFront, verdict_text};
 
@@ -45,6 +45,16 @@ fn span_file_laws()
     map_zipkin::laws::regroupings();
 }
 
+// What they say of groups in JSON.
+fn group_file_laws()
+    ensures { GroupFileLaws }
+{
+    otlp_json::laws::one_json_groups();
+    otlp_json::laws::some_json_groups();
+    otlp_json::laws::reads_held_groups();
+    otlp_json::laws::groups_written_again();
+}
+
 // What they say of the frames and units of an input.
 fn input_laws()
     ensures { InputLaws }
@@ -56,6 +66,7 @@ fn input_laws()
     batch_laws::<Binary>();
     batch_laws::<Compact>();
     span_file_laws();
+    group_file_laws();
 }
 
 /// Bytes have one verdict at most. What is written for the bytes begins with each text so far of their

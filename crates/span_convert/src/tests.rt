@@ -6,6 +6,7 @@ use span_io::{Blob, Cause, Form, Items, Limits, MemSink, Refusal};
 use std::alloc::Global;
 use std::test::Fail;
 
+mod documents;
 mod protocols;
 
 // A group with one span: its two identifiers, and its name "a".

@@ -1,16 +1,18 @@
 //! What the walk over an input asks of its form, and of the form of its target.
-ghost use Rattle.std.specs.Prelude.{◌≡◌, ◌<◌, false, [], length, IfOk, IfErr, IfSome, OnOk, MatchOption};
+ghost use Rattle.std.specs.Prelude.{◌≡◌, ◌<◌, ◌++◌, false, if◌then◌else◌, [], length, All, IfOk, IfErr, IfSome, OnOk, MatchOption};
 ghost use Rattle.span_io.specs.Causes.{cause_number};
 ghost use Rattle.span_io.specs.Offences.{Least};
+ghost use Rattle.span_io.specs.Paths.{RefusesInput};
 ghost use Rattle.span_io.specs.declared.form.Form.{Form};
 ghost use Rattle.trace_model.specs.Soundness.{IsSoundGroup};
+ghost use Rattle.span_convert.specs.Documents.{DocumentForm};
 ghost use Rattle.span_convert.specs.FramedForms.{FramedForm};
 ghost use Rattle.span_convert.specs.Units as told;
 ghost use Rattle.span_convert.specs.Units.{FaultOf};
 ghost use Rattle.span_convert.specs.Walks.{lent_bytes, ClosesText, CutsFrame, HeldByFrames, StopsFrames, WritesGroup, IfWhy};
 
 use crate::tally::Tally;
-use span_io::{Blob, Cause, Form, Halt, Limits, OutOfMemory};
+use span_io::{Blob, Cause, Form, Halt, Items, Limits, OutOfMemory, Refusal};
 use std::alloc::Global;
 use trace_model::{Fault, Group};
 
@@ -20,7 +22,7 @@ pub(crate) fn input_limit(from: Form, limits: &Limits) -> u64
 {
     match from {
         Form::OtlpProto | Form::JaegerBinary | Form::JaegerCompact => limits.binary,
-        Form::ZipkinJson => limits.json as u64,
+        Form::OtlpJson | Form::ZipkinJson => limits.json as u64,
     }
 }
 
@@ -58,6 +60,24 @@ pub(crate) trait UnitReader {
         ensures value { IfOk result (λ group. form.IsUnit unit.now group) }
         ensures sound { IfOk result (λ group. IsSoundGroup group) }
         ensures why { IfWhy result (λ cause. Least (form.Offends unit.now) (cause_number cause)) };
+}
+
+/// Reads the groups of an input of one form, which is a document.
+pub(crate) trait DocumentReader {
+    ghost form: { DocumentForm };
+
+    /// The groups that the bytes are a text of, or the least offence in them.
+    fn read(alloc: Global, bytes: &[u8]) -> Result<Items<Group>, Halt<Refusal>>
+        ensures value { IfOk result (λ groups. form.Reads bytes.now groups) }
+        ensures sound { IfOk result (λ groups. All IsSoundGroup groups) }
+        ensures why { IfWhy result (λ refusal. RefusesInput (form.Offends bytes.now) refusal) };
+}
+
+/// Appends these bytes, where they are wanted.
+pub(crate) fn append_if(out: &mut Blob, wanted: bool, bytes: &[u8]) -> Result<(), OutOfMemory>
+    ensures { OnOk result (out.new ≡ out.old ++ (if wanted then bytes.now else [])) }
+{
+    if wanted { out.append(bytes) } else { Ok(()) }
 }
 
 /// Writes the units of an output of one form.

@@ -9,9 +9,11 @@ ghost use Rattle.span_convert.specs.Units.{framed_input, input_form, input_limit
 ghost use Rattle.span_convert.specs.Walks.{lent_bytes, Converted, IsLookedAt, CutsFrame, WalkedUnits, StopsGroup, StopsWalk, EndsWalk};
 
 use crate::batch_file::{BinaryBatches, CompactBatches};
+use crate::document::write_document_to;
+use crate::group_file::GroupFile;
 use crate::progress::{Progress, WalkStop};
 use crate::request::Request;
-use crate::span_file::{SpanFile, write_spans_to};
+use crate::span_file::SpanFile;
 use crate::tally::Tally;
 use crate::units::{Cut, UnitReader, UnitWriter};
 use span_io::laws::gains_then;
@@ -161,6 +163,7 @@ fn write_to<R: UnitReader, K: Sink>(
 {
     match to {
         Form::OtlpProto => walk_units::<R, Request, K>(alloc, bytes, too_long, limits, out),
+        Form::OtlpJson => walk_units::<R, GroupFile, K>(alloc, bytes, too_long, limits, out),
         Form::JaegerBinary => walk_units::<R, BinaryBatches, K>(
             alloc, bytes, too_long, limits, out,
         ),
@@ -191,10 +194,11 @@ pub(crate) fn write_units<K: Sink>(
 {
     match from {
         Form::OtlpProto => write_to::<Request, K>(alloc, to, bytes, too_long, limits, out),
+        Form::OtlpJson => write_document_to::<GroupFile, K>(alloc, to, bytes, too_long, out),
         Form::JaegerBinary => write_to::<BinaryBatches, K>(alloc, to, bytes, too_long, limits, out),
         Form::JaegerCompact => write_to::<CompactBatches, K>(
             alloc, to, bytes, too_long, limits, out,
         ),
-        Form::ZipkinJson => write_spans_to(alloc, to, bytes, too_long, out),
+        Form::ZipkinJson => write_document_to::<SpanFile, K>(alloc, to, bytes, too_long, out),
     }
 }

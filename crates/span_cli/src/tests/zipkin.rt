@@ -1,6 +1,7 @@
 //! Rows of Zipkin's spans: what is converted to them, and what they are converted to.
 use super::jaeger::{BATCHES, REQUESTS, Row};
 use super::jaeger_compact::COMPACT;
+use super::json_requests::GROUPS;
 use super::*;
 
 pub const SPANS: &str = "zipkin-json";
@@ -302,9 +303,9 @@ const OF_SPANS: [Row; 12] = [
     },
 ];
 
-// What a row tells of a form: Zipkin's JSON as it stands, the bytes of the others in hexadecimal.
+// What a row tells of a form: JSON as it stands, the bytes of the others in hexadecimal.
 fn bytes_in(alloc: Global, form: &str, told: &str) -> Result<Blob, Fail> {
-    if form != SPANS {
+    if form != SPANS && form != GROUPS {
         return bytes_of(alloc, told);
     }
     let mut blob = Blob::new(alloc);
@@ -312,7 +313,7 @@ fn bytes_in(alloc: Global, form: &str, told: &str) -> Result<Blob, Fail> {
     Ok(blob)
 }
 
-/// Converts the input of a row that has to do with Zipkin, which the source gives in pieces of at most `cut` bytes.
+/// Converts the input of a row that has to do with JSON, which the source gives in pieces of at most `cut` bytes.
 pub fn converts_spans(rt: &impl Abort, alloc: Global, row: &Row, cut: usize) -> Result<(), Fail> {
     let words = ["convert", "--from", row.from, "--to", row.to];
     let input = bytes_in(alloc, row.from, row.input)?;

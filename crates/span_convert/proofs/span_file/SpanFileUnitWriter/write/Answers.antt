@@ -1,6 +1,6 @@
 use Rattle.std.proofs.Common.{◌∙◌}
 use Rattle.span_convert.proofs.SpanFileWalks.{writes_spans}
-use Rattle.span_convert.proofs.span_writer.SpanFileUnitWriter.write.Goals as goal
+use Rattle.span_convert.proofs.span_file.SpanFileUnitWriter.write.Goals as goal
 
 pub returns-clause-ok : goal.returns-clause-ok
 returns-clause-ok c =

@@ -1,7 +1,7 @@
 use Rattle.std.proofs.Common.{◌≡◌, All}
 use Rattle.trace_model.specs.Soundness.{IsSoundGroup}
-use Rattle.span_convert.proofs.SpanFileWalks.{WalkedGroups}
-use Rattle.span_convert.proofs.span_file.write_groups.Given as goal
+use Rattle.span_convert.proofs.DocumentWalks.{WalkedGroups}
+use Rattle.span_convert.proofs.document.write_groups.Given as goal
 
 abbrev pub invariant-groups : goal.invariant-groups
 invariant-groups g l = record {

@@ -1,0 +1,61 @@
+-- What a text of OTLP/JSON is a text of: one list of groups, or an offence in it counts.
+use Rattle.std.proofs.Common.{◌≡◌, ◌⊎◌, inl, inr, ℕ, ◌∷◌, List, [], map, All, refl, ap, sym, ◌∙◌, subst}
+use Rattle.std.proofs.lemmas.List.Elements.{All-nil, All-cons, All-head, All-tail, All-weaker}
+use Rattle.serde_json.specs.Data.{Data}
+use Rattle.span_io.specs.Causes.{cause_number}
+use Rattle.span_io.specs.Paths.{Counts, NothingOffends}
+use Rattle.span_io.specs.declared.cause.Cause.{Cause}
+use Rattle.trace_model.specs.Proper.{IsProperGroup}
+use Rattle.trace_model.specs.Soundness.{IsSoundGroup, IsSoundTrace}
+use Rattle.trace_model.specs.declared.trace.Group.{Group}
+use Rattle.json_members.specs.ReadingLaws.{same_value}
+use Rattle.json_members.specs.Texts.{IsJsonText}
+use Rattle.otlp_json.specs.Group.{RemarkedGroup, AreJsonGroups, json_groups_faults}
+use Rattle.otlp_json.specs.Held.{IsHeldByJson}
+use Rattle.otlp_json.specs.Texts.{AreGroupsText, groups_document_faults}
+use Rattle.span_convert.specs.GroupFiles.{ReadsGroups, group_document}
+use Rattle.span_convert.specs.InputLaws.{GroupFileLaws}
+use Rattle.span_convert.specs.Verdicts.{IsProperTrace}
+use Rattle.span_convert.proofs.DocumentInputs.{DocumentLaws, IsDecidedText}
+use Rattle.span_convert.proofs.JsonTexts.{fine_text, decided_text}
+
+-- what holds of each group beside its remarks holds of each of the groups
+pub all_groups : (P : Group → Type 0) (remarked : List RemarkedGroup) → All (λ group. P group.0) remarked → All P (map (λ group. group.0) remarked)
+all_groups P [] all = All-nil P
+all_groups P (group ∷ more) all =
+    All-cons P group.0 (map (λ group. group.0) more) (All-head (λ (g : RemarkedGroup). P g.0) group more all) (all_groups P more (All-tail (λ (g : RemarkedGroup). P g.0) group more all))
+
+module _ (L : GroupFileLaws) where
+  one_groups : (bytes : List ℕ) (a b : List RemarkedGroup) → AreGroupsText a bytes → AreGroupsText b bytes → a ≡ b
+  one_groups bytes a b h k =
+      L.one.once h.value a b h.are_groups (subst (λ (v : Data). AreJsonGroups b v) (same_value bytes h.value h.is_text k.value k.is_text) k.are_groups)
+
+  once : (bytes : List ℕ) (a b : List Group) → ReadsGroups bytes a → ReadsGroups bytes b → a ≡ b
+  once bytes a b h k =
+      h.means ∙ ap (λ (l : List RemarkedGroup). map (λ group. group.0) l) (one_groups bytes h.remarked k.remarked h.text k.text) ∙ sym k.means
+
+  fine : (bytes : List ℕ) (groups : List Group) → ReadsGroups bytes groups → NothingOffends (groups_document_faults bytes)
+  fine bytes groups h =
+      fine_text json_groups_faults bytes h.text.value h.text.is_text (L.one.fine h.text.value h.remarked h.text.are_groups)
+
+  decided : (bytes : List ℕ) → IsDecidedText group_document bytes
+  decided bytes = of (decided_text json_groups_faults bytes (λ (d : Data). (groups : List RemarkedGroup) × AreJsonGroups groups d) L.some)
+    where
+      of : ((d : Data) × IsJsonText d bytes × ((groups : List RemarkedGroup) × AreJsonGroups groups d)) ⊎ ((cause : Cause) × Counts (groups_document_faults bytes) (cause_number cause))
+          → IsDecidedText group_document bytes
+      of (inl (d, is, (groups, are))) =
+          inl (map (λ group. group.0) groups, record { remarked = groups; text = record { value = d; is_text = is; are_groups = are }; means = refl })
+      of (inr h) = inr h
+
+  -- OTLP/JSON can hold what is read of it
+  pub groups_held : (bytes : List ℕ) (groups : List Group) → ReadsGroups bytes groups → All IsHeldByJson groups
+  groups_held bytes groups h = subst (All IsHeldByJson) (sym h.means) (all_groups IsHeldByJson h.remarked (L.held h.remarked bytes h.text))
+
+  sound : (bytes : List ℕ) (groups : List Group) → ReadsGroups bytes groups → IsSoundTrace groups
+  sound bytes groups h = All-weaker IsHeldByJson IsSoundGroup (λ g held. held.sound) groups (groups_held bytes groups h)
+
+  proper : (bytes : List ℕ) (groups : List Group) → ReadsGroups bytes groups → IsProperTrace groups
+  proper bytes groups h = All-weaker IsHeldByJson IsProperGroup (λ g held. held.proper) groups (groups_held bytes groups h)
+
+  pub group_file_laws : DocumentLaws group_document
+  group_file_laws = record { once = once; fine = fine; decided = decided; sound = sound; proper = proper }

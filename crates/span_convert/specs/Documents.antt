@@ -1,0 +1,65 @@
+-- A form whose inputs are documents. A document is read whole, and its units are the groups that it is a text of.
+use Rattle.std.specs.Prelude.{◌≡◌, ℕ, ◌<◌, ◌≤◌, ◌⊎◌, Bool, true, if◌then◌else◌, List, [], ◌∷◌, ◌++◌, length}
+use Rattle.std.specs.List.{join_with_byte}
+use Rattle.span_io.specs.Paths.{Faults, RefusesInput}
+use Rattle.span_io.specs.declared.cause.Cause.TheVariants as causes
+use Rattle.span_io.specs.declared.limits.Limits.{Limits}
+use Rattle.span_io.specs.declared.refusal.Refusal.{Refusal}
+use Rattle.trace_model.specs.declared.trace.Group.{Group}
+
+pub record DocumentForm : Type 1 where
+  -- the bytes are a text of these groups
+  pub Reads : List ℕ → List Group → Type 0
+  -- what offends in the bytes, by path
+  pub Offends : List ℕ → Faults
+
+-- ---- what an input is read as
+
+-- These groups are all of it.
+pub record IsDocument (from : DocumentForm) (limits : Limits) (bytes : List ℕ) (groups : List Group) : Type 0 where
+  pub within : length bytes ≤ limits.json
+  pub text : from.Reads bytes groups
+
+-- these are the first of its groups
+pub record DocumentBegins (from : DocumentForm) (limits : Limits) (bytes : List ℕ) (groups : List Group) : Type 0 where
+  pub all : List Group
+  pub document : IsDocument from limits bytes all
+  pub more : List Group
+  pub parts : all ≡ groups ++ more
+
+-- There are more bytes than the limit; else an offence in them counts. No group stands before a refusal.
+abbrev pub IsTooLongDocument : Limits → List ℕ → Refusal → Type 0
+IsTooLongDocument limits bytes refusal = (limits.json < length bytes) × (refusal ≡ record { unit = 0; cause = causes.InputTooLong })
+
+abbrev pub OffendsInDocument : DocumentForm → Limits → List ℕ → Refusal → Type 0
+OffendsInDocument from limits bytes refusal = (length bytes ≤ limits.json) × RefusesInput (from.Offends bytes) refusal
+
+pub record DocumentRefused (from : DocumentForm) (limits : Limits) (bytes : List ℕ) (groups : List Group) (refusal : Refusal) : Type 0 where
+  pub none : groups ≡ []
+  pub why : IsTooLongDocument limits bytes refusal ⊎ OffendsInDocument from limits bytes refusal
+
+-- ---- texts
+
+-- The canonical text of groups is what opens it, these pieces with commas between them, and what closes it.
+pub record DocumentText : Type 0 where
+  pub opens : List ℕ
+  pub pieces : List Group → List (List ℕ)
+  pub closes : List ℕ
+
+-- the text without what closes it
+abbrev pub open_document : DocumentText → List Group → List ℕ
+open_document spelled groups = spelled.opens ++ join_with_byte 44 (spelled.pieces groups)
+
+-- Nothing opens the text of no group.
+abbrev pub partial_document : DocumentText → List Group → List ℕ
+partial_document spelled [] = []
+partial_document spelled (group ∷ groups) = open_document spelled (group ∷ groups)
+
+abbrev pub closing_document : DocumentText → List Group → List ℕ
+closing_document spelled [] = spelled.opens ++ spelled.closes
+closing_document spelled (group ∷ groups) = spelled.closes
+
+-- pieces that are added, each with a comma before it where a piece stands before
+abbrev pub pieces_added : Bool → List (List ℕ) → List ℕ
+pieces_added behind [] = []
+pieces_added behind (piece ∷ more) = (if behind then 44 ∷ [] else []) ++ (piece ++ pieces_added true more)

@@ -1,0 +1,68 @@
+//! A file of OTLP/JSON: groups in the array of an object.
+ghost use Rattle.std.specs.Prelude.{◌≡◌, map, IfOk};
+ghost use Rattle.span_io.specs.declared.form.Form.TheVariants as forms;
+ghost use Rattle.span_convert.specs.GroupFiles.{group_document};
+
+use crate::tally::Tally;
+use crate::units::{DocumentReader, UnitWriter, append_if};
+use otlp_json::{read_text, write_group};
+use span_io::{Blob, Halt, Items, OutOfMemory, Refusal};
+use std::alloc::Global;
+use trace_model::{Fault, Group, Remark, proper_group};
+
+/// OTLP in JSON. It can hold each group in which no double stands.
+#[derive(Clone, Copy, Debug)]
+pub(crate) struct GroupFile;
+
+// The groups alone.
+fn without_remarks(
+    alloc: Global,
+    remarked: Items<(Group, Items<Remark>)>,
+) -> Result<Items<Group>, OutOfMemory>
+    ensures { IfOk result (λ groups. groups ≡ map (λ group. group.0) remarked) }
+{
+    let mut groups = Items::with_room(alloc, remarked.len())?;
+    'pairs: for pair in remarked.into_vec() {
+        let (group, _remarks) = pair;
+        groups.push(group)?;
+    }
+    Ok(groups)
+}
+
+impl DocumentReader for GroupFile {
+    ghost form = { group_document };
+
+    fn read(alloc: Global, bytes: &[u8]) -> Result<Items<Group>, Halt<Refusal>> {
+        let remarked = read_text(alloc, bytes)?;
+        Ok(without_remarks(alloc, remarked)?)
+    }
+}
+
+impl UnitWriter for GroupFile {
+    ghost form = { forms.OtlpJson };
+
+    fn write(
+        _alloc: Global,
+        out: &mut Blob,
+        before: Tally,
+        group: Group,
+    ) -> Result<(), Halt<Fault>> {
+        proper_group(&group);
+        let size = out.len();
+        append_if(out, before.units == 0, b"{\"resourceSpans\":[")?;
+        append_if(out, before.units > 0, b",")?;
+        match write_group(out, &group) {
+            Ok(()) => Ok(()),
+            Err(Halt::Why(fault)) => {
+                out.truncate(size);
+                Err(Halt::Why(fault))
+            }
+            Err(Halt::OutOfMemory) => Err(Halt::OutOfMemory),
+        }
+    }
+
+    fn close(out: &mut Blob, all: Tally) -> Result<(), OutOfMemory> {
+        append_if(out, all.units == 0, b"{\"resourceSpans\":[")?;
+        out.append(b"]}")
+    }
+}
