@@ -1,12 +1,12 @@
 #!/usr/bin/python3
-"""Checks the readers, tables and writers of otlp.py, jaeger.py and zipkin.py, on which other scripts rest, without the
-program.
+"""Checks the readers, tables and writers of otlp.py, otlp_json.py, jaeger.py and zipkin.py, on which other scripts rest,
+without the program.
 
 It needs Debian's python3-protobuf and protobuf-compiler, and is run at the top as bench/check_readers.py. Worked texts
 must have their verdicts, random traces must have the stock protobuf library's text, each front of a spoilt batch must be
-judged as the whole is, JSON must be read as Python's `json` reads it, random Zipkin spans must be read in each spelling,
-and what is written of a random trace must be read back as its normal form. It prints a line for each part, and ends with 1
-where one is wrong.
+judged as the whole is, JSON must be read as Python's `json` reads it, random Zipkin spans and groups of OTLP/JSON must be
+read in each spelling, and what is written of a random trace must be read back as its normal form. It prints a line for each
+part, and ends with 1 where one is wrong.
 """
 import itertools
 import json
@@ -18,15 +18,18 @@ import forms
 import jaeger
 import json_text
 import otlp
+import otlp_json
+import stock_json
 import zipkin
 from drawn import Batches, Traces
+from drawn_groups import GroupDocuments, GroupSpoiler, JsonTraces
 from drawn_spans import Documents, DocumentSpoiler, ZipkinTraces
 from protocols import PROTOCOLS
 from real_input import Maker, newer, normal, request_class, schema
 from refused_batches import BatchSpoiler
 
 SEEDS = 150
-OTLP, JAEGER, COMPACT, ZIPKIN = "otlp-proto", "jaeger-binary", "jaeger-compact", "zipkin-json"
+OTLP, JSON, JAEGER, COMPACT, ZIPKIN = "otlp-proto", "otlp-json", "jaeger-binary", "jaeger-compact", "zipkin-json"
 
 
 def hexed(text):
@@ -115,7 +118,7 @@ def worked():
 
 def check_worked():
     wrong = 0
-    texts = worked() + worked_compact() + worked_zipkin() + worked_documents() + worked_causes()
+    texts = worked() + worked_compact() + worked_zipkin() + worked_documents() + worked_causes() + worked_groups() + worked_refusals()
     for number, (text, source, target, wanted) in enumerate(texts):
         got = forms.verdict(text, source, target)[:3]
         if got != wanted:
@@ -309,6 +312,135 @@ def worked_causes():
     ]
 
 
+# The same in OTLP/JSON: the span of an SDK, and a root with two CHILD_OF references.
+REQUEST_JSON = unwrapped("""
+{"resourceSpans":[{"resource":{"attributes":[{"key":"host.name","value":{"stringValue":"n1"}},
+{"key":"service.name","value":{"stringValue":"shop"}}]},"scopeSpans":[{"scope":{"name":"lib","version":"1.0"},
+"spans":[{"attributes":[{"key":"http.request.method","value":{"stringValue":"GET"}},
+{"key":"http.response.status_code","value":{"intValue":"200"}}],"endTimeUnixNano":"1700000000223456789","flags":257,
+"kind":3,"name":"GET /cart","spanId":"b7ad6b7169203331","startTimeUnixNano":"1700000000123456789",
+"traceId":"0af7651916cd43dd8448eb211c80319c"}]}]}]}
+""")
+REFERENCES_JSON = unwrapped("""
+{"resourceSpans":[{"resource":{"attributes":[{"key":"service.name","value":{"stringValue":"s"}}]},
+"scopeSpans":[{"spans":[{"kind":1,"links":[{"attributes":[{"key":"opentracing.ref_type",
+"value":{"stringValue":"child_of"}}],"spanId":"0000000000000004","traceId":"00000000000000000000000000000001"}],
+"name":"a","parentSpanId":"0000000000000003","spanId":"0000000000000002","traceId":"00000000000000000000000000000001"}]}]}]}
+""")
+NO_GROUPS = b'{"resourceSpans":[]}'
+JSON_IDS = '"traceId":"00000000000000000000000000000001","spanId":"0000000000000002","name":"a"'
+
+
+def groups_of(span):
+    return f'{{"resourceSpans":[{{"scopeSpans":[{{"spans":[{span}]}}]}}]}}'.encode()
+
+
+def small_json(more=""):
+    """The small span in OTLP/JSON as a client may send it, with more members behind its name."""
+    return groups_of(f"{{{JSON_IDS}{more}}}")
+
+
+def written_json(front="", middle="", behind=""):
+    """The same as it is written, with members in front, behind its name, and before its end."""
+    return groups_of(f'{{{front}"name":"a"{middle},"spanId":"0000000000000002"{behind},"traceId":"00000000000000000000000000000001"}}')
+
+
+def valued(held):
+    """The small span with an attribute of this value."""
+    return small_json(f',"attributes":[{{"key":"k","value":{held}}}]')
+
+
+def nested_value(levels, last):
+    """A value of so many lists and maps within each other, of which the last, a map, holds this."""
+    for level in range(levels):
+        nest = "arrayValue" if level % 2 else "kvlistValue"
+        last = f'{{"{nest}":{last}}}' if level == 0 else f'{{"{nest}":{{"values":[{last if level % 2 else f"""{{"value":{last}}}"""}]}}}}'
+    return last
+
+
+def worked_groups():
+    """Each worked text that has to do with OTLP/JSON, and is written or has a fault."""
+    written = lambda text: (0, "", text)
+    faulted = lambda fault: (4, f"unit 1: fault {fault}\n", b"")
+    to_itself = lambda text, *parts: (small_json(text), JSON, JSON, written(written_json(*parts)))
+    of_value = lambda held, out: (valued(held), JSON, JSON, written(written_json(f'"attributes":[{{"key":"k","value":{out}}}],')))
+    ends_before = ',"startTimeUnixNano":"2001","endTimeUnixNano":"2000"'
+    an_event = ',"events":[{"timeUnixNano":"1000","name":"e","attributes":[{"key":"event","value":{"stringValue":"x"}}]}]'
+    event_text = ',"events":[{"timeUnixNano":"1000","name":"\\"a\\":{\\"b\\":\\"c\\"}"}]'
+    child_of = '"attributes":[{"key":"opentracing.ref_type","value":{"stringValue":"child_of"}}]'
+    link = f',"links":[{{"traceId":"{1:032x}","spanId":"{1:016x}",{child_of}}}]'
+    annotation = '"annotations":[{"timestamp":1,"value":"\\"e\\":{\\"event\\":\\"x\\"}"}],'
+    one_key = ',"attributes":[{"key":"%s","value":{"boolValue":true}}]'
+    twice = ',"attributes":[{"key":"k","value":{"intValue":"1"}},{"key":"k","value":{"intValue":2}}],"links":[{"traceId":"","spanId":""}]'
+    to_zipkin = lambda more, *parts: (small_json(more), JSON, ZIPKIN, written(small_zipkin(*parts) + b"]"))
+    stopped = lambda more, target, fault: (small_json(more), JSON, target, faulted(fault))
+    sixteen = nested_value(16, "{}")
+    return [
+        (b"", OTLP, JSON, written(NO_GROUPS)), (b"", JAEGER, JSON, written(NO_GROUPS)), (b"[]", ZIPKIN, JSON, written(NO_GROUPS)),
+        (NO_GROUPS, JSON, OTLP, written(b"")), (b"{}", JSON, ZIPKIN, written(b"[]")), (b'{"resourceSpans":null,"x":1}', JSON, JSON, written(NO_GROUPS)),
+        (b'{"resource_spans":[7]}', JSON, JSON, written(NO_GROUPS)), (b'{"resourceSpans":[{},{}]}', JSON, OTLP, written(b"\x0a\0" * 2)),
+        (REQUEST, OTLP, JSON, written(REQUEST_JSON)), (REQUEST_JSON, JSON, OTLP, written(REQUEST)), (REQUEST_JSON, JSON, JSON, written(REQUEST_JSON)),
+        (REQUEST_JSON, JSON, JAEGER, written(BATCH)), (REQUEST_JSON, JSON, COMPACT, written(BATCH_COMPACT)), (REQUEST_JSON, JSON, ZIPKIN, written(SPAN_ZIPKIN)),
+        (REFERENCES, COMPACT, JSON, written(REFERENCES_JSON)), (REFERENCES_JSON, JSON, COMPACT, written(ONE_REFERENCE)),
+        (SMALL_BATCH + DOUBLE_BATCH, JAEGER, JSON, (4, "unit 2: fault 25 DoubleInText\n", SMALL_SERVICE_JSON[:-2])),
+        to_zipkin(',"startTimeUnixNano":"1999","endTimeUnixNano":"2000"', '"duration":1,', "", ',"timestamp":1'),
+        to_zipkin(',"startTimeUnixNano":"5000","endTimeUnixNano":"5000"', "", "", ',"timestamp":5'),
+        (small_zipkin("", "", ',"timestamp":5') + b"]", ZIPKIN, JSON, written(groups_of(FIVE_JSON))),
+        stopped(ends_before, JAEGER, "20 EndBeforeStart"), stopped(ends_before, ZIPKIN, "20 EndBeforeStart"),
+        to_itself(ends_before, '"endTimeUnixNano":"2000",', "", ',"startTimeUnixNano":"2001"'),
+        stopped(one_key % "error", COMPACT, '21 Reserved "error"'), to_zipkin(one_key % "ok", "", "", ',"tags":{"ok":"true"}'),
+        stopped(an_event, JAEGER, '21 Reserved "event"'), to_zipkin(an_event, annotation), stopped(event_text, ZIPKIN, "23 EventText"),
+        stopped(one_key % "zipkin.debug", ZIPKIN, '22 OwnKey "zipkin.debug"'), stopped(link, JAEGER, "24 ChildOfLink"), to_zipkin(link),
+        to_itself(twice, '"attributes":[{"key":"k","value":{"intValue":"2"}}],'),
+        to_itself(',"parentSpanId":"","kind":0,"status":{"code":0},"flags":"-0","startTimeUnixNano":"000","events":[],"links":[{}],"attributes":null'),
+        to_itself(',"parentSpanId":"0000000000000000","status":{"code":2,"message":""}', "", "", ',"status":{"code":2}'),
+        to_itself(',"flags":"00000000004294967295"', '"flags":4294967295,'), to_itself(',"events":[{}]', '"events":[{}],'),
+        to_itself(',"startTimeUnixNano":18446744073709551615', "", "", ',"startTimeUnixNano":"18446744073709551615"'),
+        of_value('{"arrayValue":{}}', '{"arrayValue":{}}'), of_value('{"kvlistValue":{"values":[]}}', '{"kvlistValue":{}}'),
+        of_value('{"arrayValue":{"values":[{},{"stringValue":""}]}}', '{"arrayValue":{"values":[{},{"stringValue":""}]}}'),
+        of_value('{"intValue":-9223372036854775808,"stringValue":null}', '{"intValue":"-9223372036854775808"}'),
+        of_value('{"bytesValue":"/+8="}', '{"bytesValue":"/+8="}'), of_value('{"boolValue":false}', '{"boolValue":false}'),
+        of_value('{"intValue":"-0"}', '{"intValue":"0"}'), of_value(sixteen, sixteen), of_value(nested_value(16, '{"values":[]}'), sixteen),
+        *((valued(held), JSON, JSON, written(written_json('"attributes":[{"key":"k"}],'))) for held in ["{}", "null", '{"x":1}']),
+        (REQUEST_JSON.replace(b"0af7651916cd43dd8448eb211c80319c", b"0AF7651916cd43DD8448EB211C80319C"), JSON, JSON, written(REQUEST_JSON)),
+    ]
+
+
+# What the small batch means, and the span of a time without a duration.
+SMALL_SERVICE_JSON = unwrapped("""
+{"resourceSpans":[{"resource":{"attributes":[{"key":"service.name","value":{"stringValue":"s"}}]},
+"scopeSpans":[{"spans":[{"kind":1,"name":"a","spanId":"0000000000000002","traceId":"00000000000000000000000000000001"}]}]}]}
+""")
+FIVE_JSON = f'{{"endTimeUnixNano":"5000","kind":1,"name":"a","spanId":"{2:016x}","startTimeUnixNano":"5000","traceId":"{1:032x}"}}'
+
+
+def worked_refusals():
+    """Documents of OTLP/JSON that are refused."""
+    refused = lambda text, cause, unit=1: (text, JSON, ZIPKIN, (3, f"unit {unit}: cause {cause}\n", b""))
+    member = lambda held, cause: refused(small_json("," + held), cause)
+    value = lambda held, cause: refused(valued(held), cause)
+    ids = lambda trace, span: refused(groups_of(f'{{"traceId":"{trace}","spanId":"{span}"}}'), "12 BadId")
+    behind = lambda held: refused(small_json()[:-2] + b"," + held + b"]}", "11 BadShape", 2)
+    return [
+        refused(b"", "10 BadJson", 0), refused(b"[]", "11 BadShape", 0), refused(b'{"resourceSpans":{}}', "11 BadShape", 0), behind(b"null"),
+        refused(b'{"resourceSpans":[1]}', "11 BadShape"), refused(groups_of('{"spanId":"g","name":1}'), "12 BadId"), ids("0" * 32, "1" * 16),
+        ids("1" * 32, "0" * 16), ids("AAAAAAAAAAAAAAAAAAAAAQ==", "AAAAAAAAAAI="), ids("1" * 31, "1" * 16), ids("1" * 32, "1" * 17), ids("1" * 32, ""),
+        member('"kind":6', "13 BadEnum"), member('"kind":-1', "13 BadEnum"), member('"kind":"SPAN_KIND_SERVER"', "11 BadShape"), member('"kind":"1"', "11 BadShape"),
+        member('"kind":1.0', "11 BadShape"), member('"status":{"code":3}', "13 BadEnum"), member('"flags":4294967296', "11 BadShape"),
+        member('"flags":-1', "11 BadShape"), member('"flags":"+1"', "11 BadShape"), member('"startTimeUnixNano":"18446744073709551616"', "11 BadShape"),
+        member('"startTimeUnixNano":18446744073709551616', "11 BadShape"), member('"startTimeUnixNano":1.0', "11 BadShape"),
+        member('"endTimeUnixNano":-0', "11 BadShape"), member('"endTimeUnixNano":""', "11 BadShape"), member('"endTimeUnixNano":"1.0"', "11 BadShape"),
+        member('"parentSpanId":"1"', "12 BadId"), member('"links":[{"traceId":"0","spanId":""}]', "12 BadId"), member('"links":[{"flags":true}]', "11 BadShape"),
+        member('"attributes":[{"key":"d","value":{"doubleValue":1.5}}]', "15 DoubleInJson"), member('"attributes":{}', "11 BadShape"),
+        value('{"doubleValue":"NaN"}', "15 DoubleInJson"), value('{"doubleValue":1,"intValue":1}', "11 BadShape"), value('{"doubleValue":0}', "15 DoubleInJson"),
+        value('{"intValue":9223372036854775808}', "11 BadShape"), value('{"intValue":"-9223372036854775809"}', "11 BadShape"), value('"x"', "11 BadShape"),
+        value('{"bytesValue":"/+9="}', "11 BadShape"), value('{"bytesValue":"_-8="}', "11 BadShape"), value('{"bytesValue":"/+8"}', "11 BadShape"),
+        value('{"boolValue":"true"}', "11 BadShape"), value('{"arrayValue":[]}', "11 BadShape"), value('{"arrayValue":{"values":{}}}', "11 BadShape"),
+        value(nested_value(17, "{}"), "5 TooDeep"), value(nested_value(16, '{"values":[7]}'), "5 TooDeep"), value(nested_value(16, '{"values":7}'), "11 BadShape"),
+        value(nested_value(34, "{}"), "5 TooDeep"), refused(valued(nested_value(35, "{}")), "10 BadJson", 0),
+    ]
+
+
 # ---- against the stock protobuf library
 
 
@@ -431,11 +563,56 @@ def check_normal():
 
 def check_limit():
     """An input of more bytes than its limit is refused, whatever it is."""
-    try:
-        zipkin.read_spans(b"[ ]", 2)
-    except zipkin.Refusal as why:
-        return int(why.args != (0, 17))
-    return 1
+    wrong = 0
+    for read, text in [(zipkin.read_spans, b"[ ]"), (otlp_json.read_groups, b"{ }")]:
+        try:
+            wrong += read(text, 3) != []
+            read(text, 2)
+            wrong += 1
+        except json_text.Refusal as why:
+            wrong += why.args != (0, 17)
+    return wrong
+
+
+# ---- OTLP/JSON
+
+
+def check_groups():
+    """Groups are read of each of their spellings. What is written is read back, converts to itself, and is the stock library's
+    JSON, with members by name and hex for identifiers, of the request that is written of them."""
+    wrong, request = 0, request_class(schema())
+    for seed in range(SEEDS * 4):
+        documents = GroupDocuments(seed)
+        state = documents.random.getstate()
+        groups = documents.groups()
+        documents.random.setstate(state)
+        is_read = otlp_json.read_groups(documents.document()) == groups
+        groups = JsonTraces(seed, 0).groups()
+        text, binary = forms.write(groups, JSON), forms.write(groups, OTLP)
+        is_back = otlp_json.read_groups(text) == groups and not any(map(otlp_json.faults, groups))
+        stock = stock_json.text(request.FromString(binary))
+        if not is_read or not is_back or stock != text or stock_json.parsed(request, text).SerializeToString(deterministic=True) != binary:
+            print(f"WRONG: groups {seed}")
+            wrong += 1
+    return wrong
+
+
+def check_refused():
+    """What is said of a group of a spoilt document is the same where it stands alone, in front of a good group and behind one."""
+    wrong, good = 0, small_json()[len(NO_GROUPS) - 2 : -2]
+    for seed in range(SEEDS * 4):
+        try:
+            held = json_text.read(GroupSpoiler(seed).spoil())
+        except json_text.NoReading:
+            continue
+        groups = held.get("resourceSpans") if isinstance(held, dict) else []
+        for element in groups if isinstance(groups, list) else []:
+            text = json.dumps(element).encode()
+            alone, behind, before = (forms.verdict(b'{"resourceSpans":[%b]}' % b",".join(all), JSON, OTLP)[:2] for all in [[text], [good, text], [text, good]])
+            if alone != before or behind != (alone[0], alone[1].replace("unit 1", "unit 2")):
+                print(f"WRONG: a group of spoilt document {seed}")
+                wrong += 1
+    return wrong
 
 
 # ---- there and back
@@ -459,7 +636,7 @@ def check_back():
 
 def main():
     wrong = 0
-    for check in [check_worked, check_requests, check_fronts, check_back, check_json, check_spellings, check_normal, check_limit]:
+    for check in [check_worked, check_requests, check_fronts, check_back, check_json, check_spellings, check_normal, check_limit, check_groups, check_refused]:
         found = check()
         print(f"{check.__name__}: {found} wrong")
         wrong += found

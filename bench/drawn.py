@@ -265,5 +265,8 @@ class Traces(Drawn):
     def group(self):
         return otlp.Group(self.resource(), self.choice(0, 5), self.choice("", "u"), [self.scope() for _ in range(self.some(3))])
 
+    def groups(self):
+        return [self.group() for _ in range(self.choice(0, 1, 1, 2, 4))]
+
     def whole(self):
-        return b"".join(otlp.write_group(self.group()) for _ in range(self.choice(0, 1, 1, 2, 4)))
+        return b"".join(map(otlp.write_group, self.groups()))

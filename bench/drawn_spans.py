@@ -3,9 +3,9 @@ zipkin.py."""
 import json
 
 import jaeger
-import json_text
 import zipkin
 from drawn import KEYS, Drawn, Traces
+from spelled_json import Members, Raw, Speller, TreeSpoiler
 from zipkin import FLAGS, LAST_MICROS, MEMBERS, RESERVED, RESOURCE
 
 OWN = [*FLAGS, *MEMBERS]
@@ -25,14 +25,6 @@ BAD_OWN = ["", "0", "080", "65536", "99999", "True", "false", "+1", " 1", "1\n",
 def deep_event(levels):
     """An event text whose one value is so deep."""
     return '"a":{"b":' + "[" * levels + "]" * levels + "}"
-
-
-class Members(list):
-    """The members of an object, pairs of which some may have equal names."""
-
-
-class Raw(str):
-    """A piece of JSON as it stands."""
 
 
 # ---- spans
@@ -106,51 +98,15 @@ class Spans(Drawn):
 # ---- documents
 
 
-class Documents(Spans):
-    """Spells spans in ways in which no writer does, so that they keep their meaning."""
+class Documents(Speller, Spans):
+    """Spells spans as documents, in ways in which no writer does."""
 
-    def __init__(self, seed):
-        super().__init__(seed)
-        self.part = self.choice(0, 0, 0.05, 0.3)
-
-    def is_odd(self):
-        return self.chance(self.part)
-
-    def any_value(self, levels=2):
-        """A value as unknown members have it."""
-        kind = self.choice("leaf", "leaf", "list", "map") if levels else "leaf"
-        if kind == "list":
-            return [self.any_value(levels - 1) for _ in range(self.some(3))]
-        if kind == "map":
-            return Members((self.text(), self.any_value(levels - 1)) for _ in range(self.some(3)))
-        numbers = map(Raw, ["1.5e-3", "-0", "18446744073709551616", "1e308"])
-        return self.choice(None, True, False, 7, "id", self.text(), self.number(), *numbers)
+    UNKNOWN = ["", "traceID", "Tags", "id ", "annotation", "x"]
 
     def digits(self, n, most):
         """The digits of an identifier, not all of those that a writer gives."""
         text = f"{n:0{self.choice(most, most, most // 2, 1)}x}"
         return text.upper() if self.is_odd() else text
-
-    def absent(self, *defaults):
-        """Members for what is absent: none, or null or a default."""
-        return [self.choice(None, *defaults)] if self.is_odd() else []
-
-    def some_member(self, name, held, *defaults):
-        return [(name, value) for value in ([held] if held else self.absent(*defaults))]
-
-    def object(self, members):
-        """An object with more members than it needs, in another order."""
-        out = list(members)
-        while self.is_odd():
-            out.append((self.choice("", "traceID", "Tags", "id ", "annotation", "x", self.text() + "?"), self.any_value()))
-        if self.is_odd():
-            self.random.shuffle(out)
-        elif self.chance(0.5):
-            out.sort(key=lambda member: member[0])
-        while out and self.is_odd():
-            name = self.choice(*out)[0]
-            out.insert(0, (name, self.any_value()))
-        return Members(out)
 
     def spelled_endpoint(self, endpoint):
         members = []
@@ -178,126 +134,25 @@ class Documents(Spans):
     def tree(self):
         return [self.spelled_span(span) for span in self.spans()]
 
-    def character(self, one):
-        """A character as itself or as an escape."""
-        escapes = {held: [f"\\{letter}"] for letter, held in json_text.ESCAPED.items()} | {"/": ["/", "\\/"]}
-        units = one.encode("utf-16-be", "surrogatepass")
-        escape = "".join(f"\\u{int.from_bytes(units[i : i + 2], 'big'):04{self.random.choice('xX')}}" for i in range(0, len(units), 2))
-        return self.choice(*escapes.get(one, [one if one >= " " else escape]), escape)
-
-    def spelled_text(self, text):
-        if self.is_odd():
-            return '"' + "".join(map(self.character, text)) + '"'
-        return json.dumps(text, ensure_ascii=self.chance(0.3))
-
-    def blank(self):
-        return self.choice(" ", "\n", "\r\n\t", "  ") if self.is_odd() else ""
-
-    def spelled(self, tree):
-        """The text of a tree."""
-        if isinstance(tree, Raw):
-            out = tree
-        elif isinstance(tree, Members):
-            members = [f"{self.blank()}{self.spelled_text(name)}{self.blank()}:{self.spelled(held)}" for name, held in tree]
-            out = "{" + ",".join(members) + self.blank() + "}"
-        elif isinstance(tree, list):
-            out = "[" + ",".join(map(self.spelled, tree)) + self.blank() + "]"
-        else:
-            out = self.spelled_text(tree) if isinstance(tree, str) else json.dumps(tree)
-        return self.blank() + out + self.blank()
-
-    def document(self):
-        """The text of random spans."""
-        return self.spelled(self.tree()).encode()
-
 
 # ---- spoilt documents
 
-# For each known member values that it may refuse, and others.
 BAD_IDS = ["", "0", "00", "0" * 40, "g", "+1", " 1", "1\n", "0x1", "1" * 17, "1" * 33, "f" * 32, "f" * 16, "１", "-1", "ab\0", "é"]
 BAD_TIMES = [
     -1, 0, LAST_MICROS, LAST_MICROS + 1, 2**63, 2**64 - 1, -(2**63), "5", *map(Raw, ["18446744073709551616", "-9223372036854775809", "1.0"]),
     *map(Raw, ["1e3", "-0", "-0.0", "1e400", "9" * 400, "000", "1.", "--1"]),
 ]
-BAD = {
-    **{name: BAD_IDS for name in ["traceId", "id", "parentId"]}, **{name: BAD_TIMES for name in ["timestamp", "duration"]},
-    "kind": ["", "client", "INTERNAL", "CLIENT ", "SERVER", "\0"], "port": [-1, 0, 65535, 65536, 2**64, "80", Raw("80.0"), Raw("8e1")],
-    **{name: ["true", 0, 1, True] for name in ["debug", "shared"]},
-}
-ANY = [
-    None, True, False, 1, "x", "", [], Members(), [None], [Members()], [[]], Members([("a", None)]), Members([("a", 1)]),
-    Members([("timestamp", 1)]), Raw("1.5"), Raw('"\\ud800"'), Raw("nul"),
-]
-PIECES = [
-    b'"', b"\\", b"{", b"}", b"[", b"]", b",", b":", b"\xff", b"\xed\xa0\x80", b"\xc0\x80", b"\0", b"\x1f", b"\\ud83d", b"\\udc00", b"\\u12",
-    b"1e999", b"NaN", b"-", b"0", b".5", b"null", b"\xef\xbb\xbf", b"\xe2\x80\xa8", b"/**/", b"[" * 126, b"\x0c",
-]
 
 
-class DocumentSpoiler(Documents):
-    """Spoils members of spans, so that the document stays JSON, or any bytes."""
+class DocumentSpoiler(TreeSpoiler, Documents):
+    """Spoils documents of spans."""
 
-    def __init__(self, seed):
-        super().__init__(seed)
-        self.chance_of_wrong = self.choice(0.002, 0.01, 0.05)
-
-    def is_wrong(self):
-        return self.chance(self.chance_of_wrong)
-
-    def wrong_members(self, members):
-        out = Members()
-        for name, held in members:
-            held = self.spoilt(held)
-            if self.is_wrong():
-                held = self.choice(*BAD[name]) if name in BAD and self.chance(0.7) else self.choice(*ANY)
-                out += self.choice([(name, held)], [(name, held)], [], [(name, held), (name, held)])
-            else:
-                out.append((name, held))
-        while "traceId" in dict(members) and self.chance(3 * self.chance_of_wrong):
-            name = self.choice(*BAD)
-            out.append((name, self.choice(*BAD[name])))
-        return out
-
-    def spoilt(self, tree):
-        """A tree with some of its parts spoilt."""
-        if isinstance(tree, Members):
-            return self.wrong_members(tree)
-        if isinstance(tree, list):
-            return [self.choice(*ANY) if self.is_wrong() else self.spoilt(element) for element in tree]
-        return tree
-
-    def spoilt_bytes(self, text):
-        """Changes, drops, doubles or adds some bytes, or cuts the end."""
-        out = bytearray(text)
-        for _ in range(self.choice(1, 1, 2, 5)):
-            at = self.random.randrange(len(out) + 1)
-            kind = self.random.randrange(5)
-            if kind == 0 and at < len(out):
-                out[at] = self.choice(*b'"\\{}[],:0 \x7f', self.random.randrange(256))
-            elif kind == 1:
-                del out[at : at + self.choice(1, 1, 4, 30)]
-            elif kind == 2:
-                out[at:at] = out[at : at + self.choice(1, 4, 30, 1000)]
-            elif kind == 3:
-                out[at:at] = self.choice(*PIECES)
-            elif self.chance(0.3):
-                del out[at:]
-        return bytes(out)
-
-    def nested(self, levels):
-        """A document that is so deep in an unknown member."""
-        begins = [self.choice("[", '{"a":') for _ in range(levels - 2)]
-        ends = ["]" if mark == "[" else "}" for mark in reversed(begins)]
-        deep = "".join([*begins, self.choice("1", "null"), *ends])
-        return f'[{{"traceId":"1","id":"2","deep":{deep}}}]'.encode()
-
-    def spoil(self):
-        """The text of spans, spoilt."""
-        if self.chance(0.03):
-            return self.nested(self.choice(2, 100, 126, 127, 128, 129, 5000))
-        tree = self.tree()
-        out = self.spelled(self.choice(*ANY) if self.is_wrong() else self.spoilt(tree)).encode()
-        return self.spoilt_bytes(out) if self.chance(0.3) else out
+    BAD = {
+        **{name: BAD_IDS for name in ["traceId", "id", "parentId"]}, **{name: BAD_TIMES for name in ["timestamp", "duration"]},
+        "kind": ["", "client", "INTERNAL", "CLIENT ", "SERVER", "\0"], "port": [-1, 0, 65535, 65536, 2**64, "80", Raw("80.0"), Raw("8e1")],
+        **{name: ["true", 0, 1, True] for name in ["debug", "shared"]},
+    }
+    AROUND = '[{"traceId":"1","id":"2","deep":%s}]'
 
 
 # ---- traces

@@ -5,16 +5,19 @@ import json
 
 import jaeger
 import otlp
+import otlp_json
 import zipkin
+from json_text import Refusal
 from otlp import NAMES
 from protocols import PROTOCOLS
 
-OTLP, ZIPKIN = "otlp-proto", "zipkin-json"
-FORMS = [OTLP, *PROTOCOLS, ZIPKIN]
+OTLP, JSON, ZIPKIN = "otlp-proto", "otlp-json", "zipkin-json"
+FORMS = [OTLP, JSON, *PROTOCOLS, ZIPKIN]
 PAIRS = list(itertools.product(FORMS, FORMS))
 FAULTS = {20: "EndBeforeStart", 21: "Reserved", 22: "OwnKey", 23: "EventText", 24: "ChildOfLink", 25: "DoubleInText"}
 
-# Of each binary form how its next unit is found, the offences of a unit, and the group that it means.
+# Of each form in JSON how its groups are read, and of each binary form how its next unit is found, the offences of a unit, and the group that it means.
+DOCUMENTS = {JSON: otlp_json.read_groups, ZIPKIN: lambda text: zipkin.groups_of_spans(zipkin.read_spans(text))}
 SOURCES = {
     OTLP: (otlp.next_unit, otlp.unit_offences, otlp.read_group),
     **{
@@ -26,6 +29,7 @@ SOURCES = {
 BINARY = b"", b"", b""
 TARGETS = {
     OTLP: (lambda group: [], lambda group: [otlp.write_group(group)], BINARY),
+    JSON: (otlp_json.faults, lambda group: [otlp_json.write_group(group)], (b'{"resourceSpans":[', b",", b"]}")),
     **{
         form: (jaeger.faults, lambda group, form=form: [jaeger.write_batch(jaeger.batch_of_group(group), form)], BINARY)
         for form in PROTOCOLS
@@ -36,8 +40,8 @@ TARGETS = {
 
 def groups(text, source):
     """The groups of a text one after the other, until it is refused."""
-    if source == ZIPKIN:
-        yield from zipkin.groups_of_spans(zipkin.read_spans(text))
+    if source in DOCUMENTS:
+        yield from DOCUMENTS[source](text)
         return
     find, offences_of, read = SOURCES[source]
     at = 0
@@ -45,13 +49,13 @@ def groups(text, source):
         try:
             found = find(text, at)
         except otlp.Refused as why:
-            raise zipkin.Refusal(number, why.args[0]) from None
+            raise Refusal(number, why.args[0]) from None
         if found is None:
             return
         _, unit, at = found
         bad = offences_of(unit)
         if bad:
-            raise zipkin.Refusal(number, min(bad)[1])
+            raise Refusal(number, min(bad)[1])
         yield read(unit)
 
 
@@ -88,7 +92,7 @@ def verdict(text, source, target):
                 status, note, name = faulted(number, min(bad, key=lambda fault: (fault[0], fault[1], fault[2].encode())))
                 return status, note, partial(written, target), name
             written.append(texts_of(group))
-    except zipkin.Refusal as why:
+    except Refusal as why:
         number, cause = why.args
         return 3, f"unit {number}: cause {cause} {NAMES[cause]}\n", partial(written, target), NAMES[cause]
     return 0, "", whole(written, target), "written"

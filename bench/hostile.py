@@ -24,11 +24,11 @@ if SMALL:
 
 import forms
 from jaeger import LAST_MICROS
+from json_text import LIMIT
 from otlp import UNIT
 from program import BUILD, PROGRAM, Measured, command
 from protocols import BINARY, DOUBLE, I8, I32, I64, LIST, MAP, SET, STRUCT
 from wire import bytes_field, varint
-from zipkin import LIMIT
 
 SLOW = 5.0
 SAME_FORM = "otlp-proto", "otlp-proto"
@@ -740,6 +740,167 @@ def to_document_cases():
     return [(name, TO_DOCUMENT, make) for name, make in cases] + [("smallest good spans", BATCH_TO_DOCUMENT, batches)]
 
 
+# ---- documents of OTLP/JSON
+
+SAME_GROUPS, FROM_GROUPS, TO_GROUPS = ("otlp-json", "otlp-json"), ("otlp-json", "otlp-proto"), ("otlp-proto", "otlp-json")
+
+
+def group_span(front=b"", behind=b""):
+    """The span that spans here are, with members before its identifiers and behind them."""
+    return b'{%b"spanId":"0000000000000002","traceId":"00000000000000000000000000000001"%b}' % (front, behind)
+
+
+GROUP_SPAN = group_span()
+
+
+def of_groups(*groups):
+    return b'{"resourceSpans":[%b]}' % b",".join(groups)
+
+
+def of_spans(*spans):
+    return of_groups(b'{"scopeSpans":[{"spans":[%b]}]}' % b",".join(spans))
+
+
+GOOD_GROUPS = of_spans(GROUP_SPAN)
+
+
+def attributed(*pairs):
+    return of_spans(group_span(b'"attributes":[%b],' % b",".join(pairs)))
+
+
+def json_value(held):
+    """A document of one span with one attribute of this value."""
+    return attributed(b'{"key":"a","value":%b}' % held)
+
+
+def json_list(*values):
+    return b'{"arrayValue":{"values":[%b]}}' % b",".join(values)
+
+
+def chain(levels):
+    """A value of so many lists within each other, the last of which is empty."""
+    inner = levels - 1
+    return b'{"arrayValue":{"values":[' * inner + b'{"arrayValue":{}}' + b"]}}" * inner
+
+
+def text_pair(text):
+    return b'{"key":"a","value":{"stringValue":"%b"}}' % text
+
+
+def named_groups(text):
+    return of_spans(group_span(b'"name":"%b",' % text))
+
+
+def filled_groups(more):
+    """A document of 64 MiB and so many bytes."""
+    return named_groups(b"x" * (LIMIT - len(named_groups(b"")) + more))
+
+
+def one_attribute_again():
+    pairs = listed_parts(text_pair(b"x"), LIMIT - len(attributed()), text_pair(b"y"))
+    return writes(attributed(pairs), attributed(text_pair(b"y")))
+
+
+def many_attributes(order):
+    """One span with as many different keys as fit 16 MiB, each without a value."""
+    keys = [bytes(key) for key in itertools.islice(itertools.product(bytes(range(48, 91)), repeat=5), UNIT // len(b'{"key":"00000"},'))]
+    pairs = lambda keys: attributed(*[b'{"key":"%b"}' % key for key in keys])
+    return writes(pairs(order(list(keys))), pairs(keys))
+
+
+def unknown_member(held):
+    """A document with an unknown member in its span, which goes."""
+    return writes(of_spans(group_span(b"", b"," + held)), GOOD_GROUPS)
+
+
+def spelled_name(spelled, said):
+    count = (LIMIT - len(named_groups(b""))) // len(spelled)
+    return writes(named_groups(spelled * count), named_groups(said * count))
+
+
+def arrays(levels):
+    return b"[" * levels + b"]" * levels
+
+
+def chains(last=None):
+    """A list of lists that are 16 deep with it, in 16 MiB, and perhaps a last one."""
+    return json_value(json_list(listed_parts(chain(LEVELS - 1), UNIT, last)))
+
+
+def groups_causes():
+    """The name of each case of a document of groups that is refused, with its text, the number of what is refused, and the cause."""
+    member = lambda held: of_spans(group_span(b"", b"," + held))
+    values = lambda count: b'{"intValue":"1"},' * count
+    good = listed_parts(GROUP_SPAN, UNIT)
+    return [
+        ("empty objects as spans", lambda: of_spans(*[b"{}"] * MANY), 1, "12 BadId"),
+        ("empty arrays as groups, 64 MiB", lambda: of_groups(listed_parts(b"[]", LIMIT - len(of_groups()))), 1, "11 BadShape"),
+        ("empty groups, the last an empty array", lambda: of_groups(*[b"{}"] * MANY, b"[]"), MANY + 1, "11 BadShape"),
+        ("empty texts as events", lambda: member(b'"events":[%b]' % b",".join([b'""'] * MANY)), 1, "11 BadShape"),
+        ("128 deep", lambda: member(b'"x":' + arrays(121)), 0, "10 BadJson"),
+        ("arrays without an end", lambda: b"[" * (LIMIT * 10 // 67), 0, "10 BadJson"),
+        ("a text without an end", lambda: b'{"' + b"x" * (LIMIT - 2), 0, "10 BadJson"),
+        ("a value 39 lists deep", lambda: json_value(chain(39)), 1, "5 TooDeep"), ("a value 40 lists deep", lambda: json_value(chain(40)), 0, "10 BadJson"),
+        ("lists 16 deep, the last 17", lambda: chains(json_list(chain(LEVELS - 1))), 1, "5 TooDeep"),
+        ("numbers, the last a double", lambda: json_value(json_list(values(MANY) + b'{"doubleValue":1}')), 1, "15 DoubleInJson"),
+        ("numbers, the last with two members", lambda: json_value(json_list(values(MANY) + b'{"doubleValue":1,"intValue":1}')), 1, "11 BadShape"),
+        ("a time of a million digits", lambda: member(b'"startTimeUnixNano":' + b"9" * DIGITS), 0, "10 BadJson"),
+        ("a time with a million digits behind the point", lambda: member(b'"startTimeUnixNano":1.' + b"9" * DIGITS), 1, "11 BadShape"),
+        ("a time of a million digits, a text", lambda: member(b'"startTimeUnixNano":"%b"' % (b"9" * DIGITS)), 1, "11 BadShape"),
+        ("an identifier of a million digits", lambda: member(b'"parentSpanId":"%b"' % (b"1" * DIGITS)), 1, "12 BadId"),
+        ("bytes, the last no base64", lambda: json_value(b'{"bytesValue":"%b="}' % (b"A" * (DIGITS // 4 * 4))), 1, "11 BadShape"),
+        ("64 MiB + 1", lambda: filled_groups(1), 0, "17 InputTooLong"),
+        ("smallest good spans, the last empty", lambda: of_spans(good, b"{}"), 1, "12 BadId"),
+        ("smallest good spans, cut", lambda: of_spans(good)[:-1], 0, "10 BadJson"),
+    ]
+
+
+def groups_cases():
+    """The name of each case of documents of groups with its pair of forms, and what makes its input and what must be seen."""
+    time = lambda held: of_spans(group_span(b"", b"," + held))
+    zeros = lambda: writes(time(b'"flags":"%b7"' % (b"0" * DIGITS)), of_spans(group_span(b'"flags":7,')))
+    cases = [
+        ("one attribute again and again, 64 MiB", one_attribute_again), ("different keys, rising", lambda: many_attributes(list)),
+        ("different keys, falling", lambda: many_attributes(lambda keys: keys[::-1])), ("different keys, shuffled", lambda: many_attributes(shuffled)),
+        ("empty pairs", lambda: writes(attributed(*[b"{}"] * MANY), attributed(b"{}"))), ("empty groups", lambda: same(of_groups(*[b"{}"] * MANY))),
+        ("empty events", lambda: same(of_spans(group_span(b'"events":[%b],' % b",".join([b"{}"] * MANY))))),
+        ("empty links", lambda: unknown_member(b'"links":[%b]' % b",".join([b"{}"] * MANY))),
+        ("empty values", lambda: same(json_value(json_list(*[b"{}"] * MANY)))),
+        ("empty objects in an unknown member", lambda: unknown_member(b'"x":[%b]' % b",".join([b"{}"] * MANY))),
+        ("one unknown member again and again", lambda: unknown_member(b",".join([b'"x":[]'] * MANY))),
+        ("127 deep", lambda: unknown_member(b'"x":' + arrays(120))), ("127 deep, again and again", lambda: unknown_member(b'"x":[%b]' % listed_parts(arrays(119), UNIT))),
+        ("lists 16 deep, again and again", lambda: same(chains())), ("a text of escapes", lambda: spelled_name(b"\\u0041", b"A")),
+        ("a text of control characters", lambda: spelled_name(b"\\u0001", b"\\u0001")), ("64 MiB", lambda: same(filled_groups(0))),
+        ("a number with a million zeros in front", zeros), ("a member of a million digits", lambda: unknown_member(b'"x":0.' + b"9" * DIGITS)),
+        ("a byte value", lambda: same(json_value(b'{"bytesValue":"%b"}' % (b"/" * ((LIMIT - len(json_value(b'{"bytesValue":""}'))) // 4 * 4))))),
+        ("smallest good spans", lambda: same(of_spans(listed_parts(GROUP_SPAN, UNIT)))),
+    ]
+    out = [(name, SAME_GROUPS, make) for name, make in cases]
+    count = LIMIT // 2 // (len(GROUP_SPAN) + 1)
+    written = lambda: group(bytes_field(2, GOOD_SPAN * min(count, SCOPE_ROOM // len(GOOD_SPAN))))
+    out.append(("smallest good spans", FROM_GROUPS, lambda: writes(of_spans(*[GROUP_SPAN] * min(count, SCOPE_ROOM // len(GOOD_SPAN))), written())))
+    return out + [(name, FROM_GROUPS, lambda make=make, unit=unit, cause=cause: refused(make(), unit, cause)) for name, make, unit, cause in groups_causes()]
+
+
+def to_groups_cases():
+    """The same of what is written in a document of groups."""
+    count, empties = SCOPE_ROOM // len(GOOD_SPAN), REST_ROOM // 2
+    controls = lambda: (bytes_field(1, b"\1" * LIST_ROOM), b'{"stringValue":"%b"}' % (b"\\u0001" * LIST_ROOM))
+    held_bytes = lambda: (bytes_field(7, bytes(LIST_ROOM)), b'{"bytesValue":"%b"}' % base64.b64encode(bytes(LIST_ROOM)))
+    empty_values = lambda: (list_value(b"\x0a\0" * (LIST_ROOM // 2)), json_list(*[b"{}"] * (LIST_ROOM // 2)))
+    deep_values = lambda: (list_value(filled(DEEP_LIST, LIST_ROOM)), json_list(*[chain(LEVELS - 1)] * (LIST_ROOM // len(DEEP_LIST))))
+    value = lambda make: writes(one_value(make()[0]), json_value(make()[1]))
+    last_double = lambda: one_value(list_value(filled(DEEP_LIST, LIST_ROOM - 11) + LAST_DOUBLE))
+    return [(name, TO_GROUPS, make) for name, make in [
+        ("smallest good spans", lambda: writes(one_scope(GOOD_SPAN * count), of_spans(*[GROUP_SPAN] * count))),
+        ("empty groups", lambda: writes(b"\x0a\0" * UNIT, of_groups(*[b"{}"] * UNIT))),
+        ("empty events", lambda: writes(one_span(b"\x5a\0" * empties), of_spans(group_span(b'"events":[%b],' % b",".join([b"{}"] * empties))))),
+        ("a text of control characters", lambda: value(controls)), ("a byte value", lambda: value(held_bytes)),
+        ("a list of empty values", lambda: value(empty_values)), ("lists 16 deep", lambda: value(deep_values)),
+        ("a double in the last of many lists", lambda: faulted(last_double(), 1, "25 DoubleInText")),
+    ]]
+
+
 # ---- running
 
 
@@ -779,7 +940,7 @@ def run(name, pair, text, status, note, output):
 
 def main():
     words = [word for word in sys.argv[1:] if not word.startswith("--")]
-    every = [(name, SAME_FORM, make) for name, make in cases()] + batch_cases() + compact_cases() + document_cases() + to_document_cases()
+    every = [(name, SAME_FORM, make) for name, make in cases()] + batch_cases() + compact_cases() + document_cases() + to_document_cases() + groups_cases() + to_groups_cases()
     chosen = [(name, pair, make) for name, pair, make in every if not words or any(word in f"{name}, {' to '.join(pair)}" for word in words)]
     if "--list" in sys.argv:
         for name, pair, make in chosen:

@@ -8,6 +8,9 @@ import json
 import math
 import re
 
+from otlp import UNIT
+
+LIMIT = 4 * UNIT
 DEEPEST = 127
 
 PLAIN = r'[^"\\\x00-\x1f]*'
@@ -119,6 +122,39 @@ def read(text):
     reader.take(BLANK)
     reader.must(reader.at == len(reader.text))
     return held
+
+
+# ---- documents of the forms
+
+
+class Refusal(Exception):
+    """The number of the element or unit that is refused, and the number of the cause."""
+
+
+def document(text, limit):
+    """The value of a text of at most so many bytes, or its refusal."""
+    if len(text) > limit:
+        raise Refusal(0, 17)
+    try:
+        return read(text)
+    except NoReading:
+        raise Refusal(0, 10) from None
+
+
+def refuse(offences):
+    """Refuses a document for the least of its offences, each a path and the number of a cause, if there are any."""
+    if offences:
+        path, cause = min(offences)
+        raise Refusal(path[0] + 1 if path else 0, cause)
+
+
+def is_whole(held):
+    return isinstance(held, int) and not isinstance(held, bool)
+
+
+def given(held, member, absent):
+    """What a member holds, or something else where it is absent."""
+    return absent if held.get(member) is None else held[member]
 
 
 def compact(held):

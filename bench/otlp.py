@@ -10,7 +10,8 @@ from wire import bytes_field, fixed32_field, fixed64_field, number_field, record
 UNIT = 16_777_216
 NAMES = {
     1: "Truncated", 2: "BadVarint", 3: "BadWire", 4: "BadSize", 5: "TooDeep", 6: "UnitTooLong", 7: "FieldTwice", 8: "Missing",
-    9: "NotText", 10: "BadJson", 11: "BadShape", 12: "BadId", 13: "BadEnum", 14: "BadElement", 16: "BadTime", 17: "InputTooLong",
+    9: "NotText", 10: "BadJson", 11: "BadShape", 12: "BadId", 13: "BadEnum", 14: "BadElement", 15: "DoubleInJson", 16: "BadTime",
+    17: "InputTooLong",
 }
 
 # Of each message its known fields: the number with the wire type and what the field is.

@@ -1,9 +1,10 @@
 #!/usr/bin/python3
-"""Runs the built program over Zipkin documents that py_zipkin, aiozipkin and a seeded generator wrote, and compares what they
-mean.
+"""Runs the built program over Zipkin documents that py_zipkin, aiozipkin, zipkin-go and a seeded generator wrote, and compares
+what they mean.
 
 It needs Debian's python3-py-zipkin, python3-aiozipkin, thrift-compiler, python3-thrift, python3-protobuf and
-protobuf-compiler, and is run at the top as bench/real_spans.py, after ./spanx has built the program. The files of folders
+protobuf-compiler, and is run at the top as bench/real_spans.py, after ./spanx has built the program. What zipkin_go/main.go
+prints is taken where golang-go and golang-github-openzipkin-zipkin-go-dev are there. The files of folders
 that are given, named zipkin-json, jaeger-binary or jaeger-compact, are taken too. The requests and batches of real_input.py
 and real_batches.py are converted to documents, and these are cases as well. Each document is converted to each form. What
 is written must be what forms.py says, byte by byte, be read back by the stock library of its form with that meaning, and
@@ -13,6 +14,8 @@ with 1 on a difference.
 import itertools
 import json
 import os
+import shutil
+import subprocess
 import sys
 
 import aiozipkin
@@ -28,13 +31,16 @@ import forms
 import jaeger
 import real_batches
 import real_input
+import stock_json
 import zipkin
 from drawn_spans import Documents, Spans, ZipkinTraces
-from forms import FORMS, OTLP, ZIPKIN
+from forms import FORMS, JSON, OTLP, ZIPKIN
 from program import BUILD, PROGRAM, convert
 from protocols import PROTOCOLS
 
 SEEDS = 150
+GO = {"GO111MODULE": "off", "GOPATH": "/usr/share/gocode"}
+ZIPKIN_GO = os.path.join(GO["GOPATH"], "src", "github.com", "openzipkin", "zipkin-go")
 
 
 # ---- documents of the stock libraries
@@ -66,6 +72,16 @@ def joined():
         other = tracer.join_span(call.context).start().name("joined").kind(aiozipkin.SERVER)
         other.finish(exception=RuntimeError("boom"))
     return json.dumps([record.asdict() for record in transport.records]).encode()
+
+
+def printed_by_go():
+    """The name and the text of what zipkin-go prints, if it is there."""
+    if not shutil.which("go") or not os.path.isdir(ZIPKIN_GO):
+        print("left out: what zipkin-go prints, which needs golang-go and golang-github-openzipkin-zipkin-go-dev")
+        return
+    main = os.path.join(os.path.dirname(os.path.abspath(__file__)), "zipkin_go", "main.go")
+    for name, words in [("a trace and spans of zipkin-go's model", []), ("spans of zipkin-go's model", ["model"])]:
+        yield name, subprocess.run(["go", "run", main, *words], env=os.environ | GO, stdout=subprocess.PIPE, check=True).stdout
 
 
 def py_zipkin_span(span):
@@ -120,6 +136,7 @@ def documents(folders):
     yield "what py_zipkin sends", traced(texts)
     yield "what py_zipkin sends of a tag that is a number", traced({"count": 5})
     yield "what aiozipkin has", joined()
+    yield from printed_by_go()
     yield "every control character", json.dumps([{"traceId": "1", "id": "2", "tags": controls}]).encode()
     yield "every escape", f'[{{{ids},"name":"\\"\\\\\\/\\b\\f\\n\\r\\t\\u00e9\\uD83d\\uDe00\\u0000\\uffff"}}]'.encode()
     yield "equal members", f'[{{"id":5,{ids},"tags":7,"tags":{{"a":"1","b":null,"a":"2"}},"name":"x","name":null}}]'.encode()
@@ -161,7 +178,10 @@ def read_back(tools, target, written):
     """What the stock library reads in what was written, and the bytes that it writes of that."""
     if target == ZIPKIN:
         held = json.loads(written)
-        return held, json.dumps(held, ensure_ascii=False, separators=(",", ":"), sort_keys=True).encode()
+        return held, stock_json.compact(held)
+    if target == JSON:
+        held = stock_json.parsed(tools[1], written)
+        return real_batches.meant_groups(held), stock_json.text(held)
     return real_batches.read_back(*tools, target, written)
 
 
@@ -169,7 +189,7 @@ def meant(groups, target):
     """The same of groups, by the tables."""
     if target == ZIPKIN:
         return [zipkin.span_json(span) for group in groups for span in zipkin.spans_of_group(group)]
-    return groups if target == OTLP else [jaeger.batch_of_group(group) for group in groups]
+    return groups if target in [OTLP, JSON] else [jaeger.batch_of_group(group) for group in groups]
 
 
 def difference(tools, text, source, target):
@@ -208,12 +228,17 @@ def try_case(tools, name, text, source, target):
     return written, what is None, outcome
 
 
+def classes():
+    """The stock libraries' classes of batches and requests, and those of later schemas."""
+    file = real_input.schema()
+    types, later = real_batches.batch_classes()
+    return types, real_input.request_class(file), later, real_input.request_class(real_input.newer(file))
+
+
 def main():
     if not os.path.exists(PROGRAM):
         sys.exit(BUILD)
-    file = real_input.schema()
-    request, later_request = real_input.request_class(file), real_input.request_class(real_input.newer(file))
-    types, later = real_batches.batch_classes()
+    types, request, later, later_request = classes()
     tools, wrong, made = (types, request), 0, {}
     for name, text, source in others(request, later_request, types, later, sys.argv[1:]):
         written, is_right, outcome = try_case(tools, name, text, source, ZIPKIN)

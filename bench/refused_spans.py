@@ -11,11 +11,12 @@ import random
 from drawn import Batches
 from drawn_spans import Documents, DocumentSpoiler, ZipkinTraces
 from forms import FORMS, OTLP, ZIPKIN
+from protocols import PROTOCOLS
 from refused_batches import BatchSpoiler, try_cases
 from refused_input import Spoiler
 
 # Documents are spoilt more often than requests and batches, which other scripts spoil.
-PAIRS = [(ZIPKIN, target) for target in FORMS] * 2 + [(source, ZIPKIN) for source in FORMS if source != ZIPKIN]
+PAIRS = [(ZIPKIN, target) for target in FORMS] * 2 + [(source, ZIPKIN) for source in [OTLP, *PROTOCOLS]]
 
 
 def case(seed):

@@ -1,6 +1,6 @@
 #!/usr/bin/env python3
-"""Times the built program on spans as exporters write them, as a trace request, as Jaeger batches and as a Zipkin document,
-beside `cat`.
+"""Times the built program on spans as exporters write them, as a trace request in protobuf and in JSON, as Jaeger batches and as a
+Zipkin document, beside `cat`.
 
 Run it at the top as bench/speed.py, after ./spanx has built the program. It makes requests of about 1 MB and 25 MB and the
 batches and documents of the same spans, which takes a minute, runs each pair of forms five times over them, and prints the
@@ -152,15 +152,19 @@ def converted(text, source, target):
 
 def check(texts):
     """What is written must be canonical: a request of the input's size, since that has no defaults, which is written again
-    as it is, and the very batches and document, also of what these are converted to. In Zipkin values are texts, so that
-    of a document come other batches."""
+    as it is, and the very batches and documents, also of what these are converted to. In Zipkin values are texts, so that
+    of its document come other batches."""
     written = {pair: converted(texts[pair[0]], *pair) for pair in forms.PAIRS}
     first = written[forms.OTLP, forms.OTLP]
     if len(first) != len(texts[forms.OTLP]) or converted(first, forms.OTLP, forms.OTLP) != first:
         sys.exit("the program doesn't write the canonical text of the request")
+    if {written[forms.JSON, forms.OTLP], converted(written[forms.OTLP, forms.JSON], forms.JSON, forms.OTLP)} != {first}:
+        sys.exit("the program doesn't write the request of its JSON")
+    if {written[forms.OTLP, forms.JSON], written[forms.JSON, forms.JSON]} != {texts[forms.JSON]}:
+        sys.exit("the program doesn't write the JSON of the request")
     for form in PROTOCOLS:
-        back = converted(written[form, forms.OTLP], forms.OTLP, form)
-        if {back, *(written[source, form] for source in texts if source != forms.ZIPKIN)} != {texts[form]}:
+        backs = [converted(written[form, request], request, form) for request in [forms.OTLP, forms.JSON]]
+        if {*backs, *(written[source, form] for source in texts if source != forms.ZIPKIN)} != {texts[form]}:
             sys.exit("the program doesn't write the batches of the input")
     backs = {converted(written[forms.ZIPKIN, form], form, forms.ZIPKIN) for form in texts}
     if {*backs, *(written[source, forms.ZIPKIN] for source in texts)} != {texts[forms.ZIPKIN]}:

@@ -12,9 +12,9 @@ import jaeger
 import json_text
 import otlp
 from jaeger import CODES_BY_TEXT, DROPPED_KEYS, LAST_MICROS, has_double, take_count, take_scope, value_json, value_text
-from otlp import UNIT, by_key
+from json_text import LIMIT, given, is_whole
+from otlp import by_key
 
-LIMIT = 4 * UNIT
 DEEPEST = 16
 FAULTS = [20, 21, 22, 23, 25]
 KINDS = {"SERVER": 2, "CLIENT": 3, "PRODUCER": 4, "CONSUMER": 5}
@@ -36,15 +36,7 @@ TABLE = {
 TIMESTAMP, DURATION = 5, 6
 
 
-class Refusal(Exception):
-    """The number of the element or unit that is refused, and the number of the cause."""
-
-
 # ---- offences
-
-
-def is_whole(held):
-    return isinstance(held, int) and not isinstance(held, bool)
 
 
 def id_causes(held, digits, zero):
@@ -145,11 +137,6 @@ class Span:
     tags: dict = dataclasses.field(default_factory=dict)
 
 
-def given(held, member, absent):
-    """What a member holds, or something else where it is absent."""
-    return absent if held.get(member) is None else held[member]
-
-
 def read_endpoint(held):
     return Endpoint(given(held, "serviceName", ""), given(held, "ipv4", ""), given(held, "ipv6", ""), given(held, "port", 0))
 
@@ -168,16 +155,8 @@ def read_span(held):
 
 def read_spans(text, limit=LIMIT):
     """The spans of a document, or its refusal."""
-    if len(text) > limit:
-        raise Refusal(0, 17)
-    try:
-        document = json_text.read(text)
-    except json_text.NoReading:
-        raise Refusal(0, 10) from None
-    bad = offences(document)
-    if bad:
-        path, cause = min(bad)
-        raise Refusal(path[0] + 1 if path else 0, cause)
+    document = json_text.document(text, limit)
+    json_text.refuse(offences(document))
     return [read_span(held) for held in document]
 
 
