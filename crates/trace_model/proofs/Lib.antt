@@ -13,6 +13,7 @@ pub mod EventSome
 pub mod Existence
 pub mod Gathered
 pub mod JsonValues
+pub mod KeysRise
 pub mod LeastOf
 pub mod Order
 pub mod Places

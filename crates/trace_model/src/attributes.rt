@@ -1,15 +1,18 @@
-ghost use Rattle.std.specs.Prelude.{◌≡◌, All, IfOk, OnOk, IsSortedBy};
+ghost use Rattle.std.specs.Prelude.{◌≡◌, All, IfOk, OnOk, IsSortedBy, IsTrue};
 ghost use Rattle.std.specs.List.Sorted.{IsStableBy};
-ghost use Rattle.trace_model.specs.Attributes.{AreAttributes, AreRepeated, attrs, keys};
+ghost use Rattle.trace_model.specs.Attributes.{AreAttributes, AreRepeated, Rise, attrs, keys};
 ghost use Rattle.trace_model.specs.Gathering.{key_above, ends_with, kept_with, repeated_with};
 ghost use Rattle.trace_model.specs.Values.{IsSound, AreSound};
 
+use crate::laws::rising_attributes;
 use crate::value::{Attrs, Value};
 use span_io::{Items, OutOfMemory, Text};
 use std::alloc::Global;
+use std::cmp::Ordering;
 
 /// The attributes of a list of pairs: each key with its last value, in the order of the keys' bytes.
-/// The second part is the keys that stand more than once, in the same order.
+/// The second part is the keys that stand more than once, in the same order. A list whose keys rise
+/// stays as it is.
 pub fn attrs_of(
     alloc: Global,
     list: Items<(Text, Value)>,
@@ -19,8 +22,37 @@ pub fn attrs_of(
     ensures repeated { IfOk result (λ parts. AreRepeated parts.1 list) }
     ensures sound { All (λ pair. IsSound pair.1) list → IfOk result (λ parts. AreSound parts.0) }
 {
+    rising_attributes();
+    if keys_rise(list.as_slice()) {
+        return Ok((list, Items::new(alloc)));
+    }
+    gathered(alloc, list)
+}
+
+/// Whether each key is below the next.
+fn keys_rise(pairs: &[(Text, Value)]) -> bool
+    ensures { IsTrue result → Rise (keys pairs.now) }
+{
+    let Some((first, others)) = pairs.split_first() else {
+        return true;
+    };
+    let mut last = first;
+    'others: for pair in others {
+        match last.0.as_str().cmp(pair.0.as_str()) {
+            Ordering::Less => last = pair,
+            Ordering::Equal | Ordering::Greater => return false,
+        }
+    }
+    true
+}
+
+/// The same of pairs in any order.
+fn gathered(alloc: Global, list: Items<(Text, Value)>) -> Result<(Attrs, Items<Text>), OutOfMemory>
+    ensures attributes { IfOk result (λ parts. AreAttributes parts.0 list) }
+    ensures repeated { IfOk result (λ parts. AreRepeated parts.1 list) }
+{
     let mut pairs = falling(list)?;
-    let mut kept = Items::new(alloc);
+    let mut kept = Items::with_room(alloc, pairs.len())?;
     let mut repeated = Items::new(alloc);
     'pairs: while let Some(pair) = pairs.pop() {
         gather(&mut kept, &mut repeated, pair)?;

@@ -1,27 +1,17 @@
-use Rattle.std.proofs.Common.{◌≡◌, [], ◌++◌, sym, ap, ◌∙◌, subst, arith}
-use Rattle.std.proofs.lemmas.Grind.{common_steps}
-use Rattle.trace_model.specs.Attributes.{AreAttributes, AreRepeated}
+use Rattle.std.proofs.Common.{subst}
+use Rattle.std.proofs.lemmas.Result.{IfOk-weaker}
+use Rattle.trace_model.specs.Attributes.{Rise, keys}
 use Rattle.trace_model.proofs.AttributesOf.{same_attrs}
-use Rattle.trace_model.proofs.Gathered.{kept_of, repeated_of, attributes_from, repeated_from}
 use Rattle.trace_model.proofs.SoundLemmas.{sound_from}
 use Rattle.trace_model.proofs.attributes.attrs_of.Goals as goal
 
-pub returns-clause-attributes : goal.returns-clause-attributes
-returns-clause-attributes c =
-    let none : c.pairs.pairs.items ≡ [] = grind (arith, common_steps, c.in_default.ensures) in
-    let all : c.in_ok-pairs.pairs.items ≡ c.pairs.invariant.behind = c.pairs.invariant.whole ∙ ap (λ l. l ++ c.pairs.invariant.behind) none in
-    subst (λ kept. AreAttributes kept c.args.list) (ap kept_of all ∙ sym c.pairs.invariant.pairs)
-    (attributes_from c.args.list c.in_ok-pairs.pairs.items c.in_ok-pairs.ensures.sorted c.in_ok-pairs.ensures.stable)
+pub returns-then-keys_rise-clause-same : goal.returns-then-keys_rise-clause-same
+returns-then-keys_rise-clause-same c =
+    let up : Rise (keys c.args.list) = subst (λ l. Rise (keys l)) c.as_slice.ensures (c.keys_rise.ensures c.if-keys_rise.true) in
+    same_attrs c.args.list c.args.list (c.rising_attributes.ensures.themselves c.args.list up)
 
 pub returns-clause-same : goal.returns-clause-same
-returns-clause-same c = same_attrs c.pairs.kept c.args.list (returns-clause-attributes c)
-
-pub returns-clause-repeated : goal.returns-clause-repeated
-returns-clause-repeated c =
-    let none : c.pairs.pairs.items ≡ [] = grind (arith, common_steps, c.in_default.ensures) in
-    let all : c.in_ok-pairs.pairs.items ≡ c.pairs.invariant.behind = c.pairs.invariant.whole ∙ ap (λ l. l ++ c.pairs.invariant.behind) none in
-    subst (λ repeated. AreRepeated repeated c.args.list) (ap repeated_of all ∙ sym c.pairs.invariant.twice)
-    (repeated_from c.args.list c.in_ok-pairs.pairs.items c.in_ok-pairs.ensures.sorted c.in_ok-pairs.ensures.stable)
+returns-clause-same c = IfOk-weaker c.gathered.result _ _ (λ parts are. same_attrs parts.0 c.args.list are) c.gathered.ensures.attributes
 
 pub returns-clause-sound : goal.returns-clause-sound
-returns-clause-sound c = sound_from c.pairs.kept c.args.list (returns-clause-attributes c)
+returns-clause-sound c all = IfOk-weaker c.gathered.result _ _ (λ parts are. sound_from parts.0 c.args.list are all) c.gathered.ensures.attributes

@@ -1,7 +1,7 @@
 use Rattle.std.proofs.Common.{◌≡◌, ℕ, List, ◌++◌, vec_len}
 use Rattle.trace_model.specs.declared.value.Value.{Value}
 use Rattle.trace_model.proofs.Gathered.{kept_of, repeated_of}
-use Rattle.trace_model.proofs.attributes.attrs_of.Given as goal
+use Rattle.trace_model.proofs.attributes.gathered.Given as goal
 
 -- the pairs behind are gathered
 pub record SoFar (sorted front kept : List (List ℕ × Value)) (repeated : List (List ℕ)) : Type 0 where
