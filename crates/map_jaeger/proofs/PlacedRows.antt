@@ -1,6 +1,6 @@
 -- Rows are put in their places among attributes, one before the other.
-use Rattle.std.proofs.Common.{◌≡◌, ℕ, List, ◌++◌, take, drop, Option, sym, ◌∙◌, append_assoc}
-use Rattle.trace_model.specs.Attributes.{Rise, keys, placed, attrs}
+use Rattle.std.proofs.Common.{◌≡◌, ℕ, List, ◌++◌, Option, sym, ◌∙◌, append_assoc}
+use Rattle.trace_model.specs.Attributes.{Rise, keys, attrs}
 use Rattle.trace_model.specs.declared.value.Value.{Value}
 use Rattle.span_tags.specs.AttributeLaws.{attrs_itself}
 use Rattle.span_tags.specs.TagKeys.{error_key, dropped_attributes_key, dropped_events_key, dropped_links_key, scope_name_key, scope_version_key, code_key, state_key}
@@ -11,10 +11,6 @@ use Rattle.map_jaeger.proofs.GroupResource.{without_rise}
 use Rattle.map_jaeger.specs.Writing.{error_given, description_given, kind_given}
 use Rattle.map_jaeger.specs.WritingSoFar.{columns_held}
 use Rattle.map_jaeger.specs.declared.writing_columns.Held.{Held}
-
--- in front of i pairs that are below it a pair has no place
-abbrev pub NotBefore : List ℕ → ℕ → Pairs → Type 0
-NotBefore key i pairs = (value : Value) → placed (key, value) pairs ≡ take i pairs ++ placed (key, value) (drop i pairs)
 
 -- all columns, one before the other
 pub columns_joined : (name version : List ℕ) (held : Held) (rest pairs : Pairs) (error attributes events links name_value version_value code description kind state : Option Value)

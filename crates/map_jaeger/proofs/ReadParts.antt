@@ -1,17 +1,11 @@
 -- The tags of Jaeger's own among the tags of a span, and the others.
-use Rattle.std.proofs.Common.{◌≡◌, ℕ, suc, List, [], ◌∷◌, ◌++◌, map, get_or, drop, length, ◌+◌, ◌<◌, ◌≤◌, Bool, true, cond, not, Option, None, refl, sym, ap, subst, ◌∙◌, add-one, drop-cons, arith}
-use Rattle.std.specs.Bool.{IsTrue}
-use Rattle.std.specs.Cmp.Lexicographic.{slice_cmp}
-use Rattle.std.specs.List.Sorted.{IsStrictlySortedBy}
-use Rattle.std.specs.Ordering.{nat_cmp}
-use Rattle.std.specs.declared.cmp.Ordering.TheVariants.{Less}
-use Rattle.std.proofs.Math.ListN.{drop_of_length-le}
+use Rattle.std.proofs.Common.{◌≡◌, ℕ, List, [], ◌++◌, map, true, cond, not, Option, None, refl, sym, ap, subst, ◌∙◌}
 use Rattle.jaeger_model.specs.declared.span.JSpan.{JSpan}
 use Rattle.trace_model.specs.Attributes.{Rise, keys, attrs, at}
 use Rattle.trace_model.specs.declared.span.Event.{Event}
 use Rattle.trace_model.specs.declared.span.Span.{Span}
 use Rattle.trace_model.specs.declared.value.Value.{Value}
-use Rattle.span_tags.specs.AttributeLaws.{attrs_itself, attrs_rise, at_filter, below_all, filter_rise}
+use Rattle.span_tags.specs.AttributeLaws.{attrs_itself, attrs_rise, at_filter, filter_rise}
 use Rattle.span_tags.specs.Runs.{Scoped}
 use Rattle.span_tags.specs.TagKeys.{error_key, dropped_attributes_key, dropped_events_key, dropped_links_key, library_name_key, library_version_key, scope_name_key, scope_version_key, code_key, state_key}
 use Rattle.span_tags.specs.TagWords.{Pairs, row}
@@ -22,41 +16,6 @@ use Rattle.map_jaeger.specs.Reading.{attributes_of, event_of, high_flags_of, is_
 use Rattle.map_jaeger.specs.Remarks.{left_out}
 use Rattle.map_jaeger.specs.TagValues.{attribute_of}
 use Rattle.map_jaeger.specs.declared.reading.attributes.Parted.{Parted}
-
--- ---- rising keys
-
--- one key more, below the first
-rise_more : (x y : List ℕ) (ks : List (List ℕ)) → slice_cmp nat_cmp x y ≡ Less → Rise (y ∷ ks) → Rise (x ∷ y ∷ ks)
-unfolding IsStrictlySortedBy
-rise_more x y ks low up = ((low, below_all x y ks low up.0), up)
-
-rise_one : (x : List ℕ) → Rise (x ∷ [])
-unfolding IsStrictlySortedBy
-rise_one x = (tt, tt)
-
-pub rise_nothing : (pairs : Pairs) → length pairs ≡ 0 → Rise (keys pairs)
-unfolding IsStrictlySortedBy
-rise_nothing [] none = tt
-rise_nothing (pair ∷ pairs) none = absurd (omega (arith, none))
-
-pub rise_step : (pairs others : Pairs) (i : ℕ) (last pair : List ℕ × Value) (a b : List ℕ) → i < length others → pair ≡ get_or others i pair
-    → a ≡ last.0 → b ≡ pair.0 → Less ≡ slice_cmp nat_cmp a b → (Rise (last.0 ∷ keys (drop i others)) → Rise (keys pairs))
-    → Rise (pair.0 ∷ keys (drop (i + 1) others)) → Rise (keys pairs)
-rise_step pairs others i last pair a b within here first second less so_far up =
-    let low : slice_cmp nat_cmp last.0 pair.0 ≡ Less = sym (less ∙ (ap (λ k. slice_cmp nat_cmp k b) first ∙ ap (slice_cmp nat_cmp last.0) second)) in
-    let rest : drop i others ≡ pair ∷ drop (i + 1) others =
-    rw (add-one i) (drop-cons others i pair within ∙ ap (λ y. y ∷ drop (suc i) others) (sym here)) in
-    so_far (subst (λ l. Rise (last.0 ∷ keys l)) (sym rest) (rise_more last.0 pair.0 (keys (drop (i + 1) others)) low up))
-
-pub rise_end : (pairs others : Pairs) (i : ℕ) (last : List ℕ × Value) → length others ≤ i
-    → (Rise (last.0 ∷ keys (drop i others)) → Rise (keys pairs)) → Rise (keys pairs)
-rise_end pairs others i last ended so_far =
-    so_far (subst (λ l. Rise (last.0 ∷ keys l)) (sym (drop_of_length-le others ended)) (rise_one last.0))
-
--- pairs that were found to rise are the attributes that they make
-pub risen : (pairs told shown : Pairs) (r : Bool) → (IsTrue r → Rise (keys shown)) → r ≡ true → shown ≡ pairs → pairs ≡ told → pairs ≡ attrs told
-risen pairs told shown r up is same made =
-    sym (attrs_itself pairs (subst (λ (l : Pairs). Rise (keys l)) same (up is))) ∙ ap attrs made
 
 -- ---- parts
 

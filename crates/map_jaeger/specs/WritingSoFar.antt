@@ -1,7 +1,7 @@
 -- Parts of the batch of a group, as its writer comes by them.
-use Rattle.std.specs.Prelude.{◌≡◌, ◌≤◌, ℕ, List, ◌∷◌, ◌++◌, map, length, take, drop, Option, Some, None}
+use Rattle.std.specs.Prelude.{ℕ, List, ◌++◌, map, None}
 use Rattle.jaeger_model.specs.declared.tag.Tag.{Tag}
-use Rattle.trace_model.specs.Attributes.{attrs, placed}
+use Rattle.trace_model.specs.Attributes.{attrs}
 use Rattle.trace_model.specs.declared.value.Value.{Value}
 use Rattle.span_tags.specs.TagWords.{row, text_given, without, code_given}
 use Rattle.map_jaeger.specs.Columns.{Columns, rows, count_given}
@@ -34,9 +34,3 @@ tags_held name version held attributes = map tag_of (attrs (rows (columns_held n
 -- the fields of the log of an event that has this name and these attributes
 abbrev pub fields_held : List ℕ → List (List ℕ × Value) → List Tag
 fields_held name attributes = map tag_of (attrs (row event_key (text_given name) ++ attributes))
-
--- where a pair of the key is put in among rising ones; nowhere, where one has the key
-abbrev pub IsPlaceOf : List ℕ → List (List ℕ × Value) → Option ℕ → Type 0
-IsPlaceOf key pairs None = (value : Value) → placed (key, value) pairs ≡ pairs
-IsPlaceOf key pairs (Some i) =
-    (i ≤ length pairs) × ((value : Value) → placed (key, value) pairs ≡ take i pairs ++ (key, value) ∷ drop i pairs)

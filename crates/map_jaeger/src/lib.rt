@@ -5,7 +5,6 @@ mod faults;
 mod keys;
 pub mod laws;
 mod reading;
-mod rows;
 mod writing;
 mod writing_columns;
 mod writing_flags;

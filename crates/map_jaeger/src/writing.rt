@@ -15,12 +15,11 @@ ghost use Rattle.map_jaeger.specs.Writing as told;
 ghost use Rattle.map_jaeger.specs.WritingSoFar.{fields_held, tags_held};
 
 use crate::faults::fault_of_group;
-use crate::rows::put_row;
 use crate::writing_columns::{Held, put_columns};
 use crate::writing_flags::flags_of;
 use jaeger_model::{Batch, JSpan, Log, SpanRef, Tag, TagValue};
 use span_io::{Halt, Items, OutOfMemory, Text};
-use span_tags::{add_others, text_kept, text_or_none, text_told};
+use span_tags::{add_others, put_row, text_kept, text_or_none, text_told};
 use std::alloc::Global;
 use trace_model::{Attrs, Event, Fault, Group, Link, Scope, Span, Value, find};
 

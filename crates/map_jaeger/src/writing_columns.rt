@@ -5,9 +5,8 @@ ghost use Rattle.map_jaeger.specs.Columns as columns;
 ghost use Rattle.map_jaeger.specs.Writing as told;
 ghost use Rattle.map_jaeger.specs.WritingSoFar.{columns_held};
 
-use crate::rows::put_row;
 use span_io::{OutOfMemory, Text};
-use span_tags::{code_given, text_given, text_kept, word_given};
+use span_tags::{code_given, put_row, text_given, text_kept, word_given};
 use std::alloc::Global;
 use trace_model::{Code, Kind, Status, Value};
 

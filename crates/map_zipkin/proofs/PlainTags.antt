@@ -64,13 +64,19 @@ told_plain : (pairs : Pairs) → All Plain (as_texts pairs)
 told_plain [] = All-nil Plain
 told_plain (pair ∷ pairs) = All-cons Plain (as_text pair) (as_texts pairs) refl (told_plain pairs)
 
--- the same of all of them as they are pushed
-pub pushed_plain : (columns resource attributes p1 p2 held : Pairs) → holds_double columns ≡ false → p1 ≡ columns ++ resource_pairs resource
-    → p2 ≡ p1 ++ told_pairs attributes → held ≡ attrs p2 → holds_double held ≡ false
-pushed_plain columns resource attributes p1 p2 held plain e1 e2 e3 =
-    let first : All Plain p1 = subst (All Plain) (sym e1) (All-append Plain columns (resource_pairs resource) (each_plain columns plain) (prefixed_plain (without service_key resource))) in
-    let all : All Plain p2 = subst (All Plain) (sym e2) (All-append Plain p1 (told_pairs attributes) first (told_plain (filter (λ attribute. is_told attribute.0) attributes))) in
-    ap holds_double e3 ∙ none_double (attrs p2) (all_attrs Plain p2 all)
+-- all of them, where the rows stand in their places
+pub put_plain : (columns resource attributes rows told held : Pairs) → holds_double columns ≡ false → rows ≡ columns ++ resource_pairs resource
+    → told ≡ told_pairs attributes → held ≡ attrs (rows ++ told) → holds_double held ≡ false
+put_plain columns resource attributes rows told held plain e1 e2 e3 =
+    let first : All Plain rows = subst (All Plain) (sym e1) (All-append Plain columns (resource_pairs resource) (each_plain columns plain) (prefixed_plain (without service_key resource))) in
+    let others : All Plain told = subst (All Plain) (sym e2) (told_plain (filter (λ attribute. is_told attribute.0) attributes)) in
+    ap holds_double e3 ∙ none_double (attrs (rows ++ told)) (all_attrs Plain (rows ++ told) (All-append Plain rows told first others))
+
+pub put_all : (columns resource attributes rows told held : Pairs) → rows ≡ columns ++ resource_pairs resource
+    → told ≡ told_pairs attributes → held ≡ attrs (rows ++ told) → held ≡ attrs (columns ++ (resource_pairs resource ++ told_pairs attributes))
+put_all columns resource attributes rows told held e1 e2 e3 =
+    e3 ∙ (ap (λ l. attrs (rows ++ l)) e2
+    ∙ (ap (λ l. attrs (l ++ told_pairs attributes)) e1 ∙ ap attrs (append_assoc columns (resource_pairs resource) (told_pairs attributes))))
 
 -- ---- parts of what is fit
 

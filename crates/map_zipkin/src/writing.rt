@@ -86,8 +86,7 @@ fn span_of(
 {
     let (local, remote) = endpoints_of(alloc, resource, &span.attributes)?;
     let annotations = annotations_of(alloc, &span.events)?;
-    let room = resource.len().saturating_add(span.attributes.len());
-    let columns = column_rows(alloc, name, version, &span, room)?;
+    let columns = column_rows(alloc, name, version, &span, resource.len())?;
     let debug = is_there(&span.attributes, "zipkin.debug");
     let shared = is_there(&span.attributes, "zipkin.shared");
     let tags = tags_of(alloc, columns, resource, span.attributes)?;

@@ -1,2 +1,3 @@
 pub mod RunsAtBack
 pub mod Decimals
+pub mod PlacedRows

@@ -11,3 +11,4 @@ pub mod FirstFault
 pub mod FirstFaultLaws
 pub mod Doubles
 pub mod Moved
+pub mod Places

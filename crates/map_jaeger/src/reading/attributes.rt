@@ -79,7 +79,7 @@ pub(crate) fn part_tags(alloc: Global, tags: Attrs) -> Result<Parted, OutOfMemor
     ensures { IfOk result (λ parts. ArePartsOf tags parts) }
 {
     let mut own = Items::new(alloc);
-    let mut free = Items::new(alloc);
+    let mut free = Items::with_room(alloc, tags.len())?;
     'tags: for tag in tags.into_vec() {
         if is_free(tag.0.as_str()) {
             free.push(tag)?;

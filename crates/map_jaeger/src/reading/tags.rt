@@ -1,14 +1,12 @@
 //! Tags as attributes.
-ghost use Rattle.std.specs.Prelude.{◌≡◌, map, IfOk, IsTrue};
-ghost use Rattle.trace_model.specs.Attributes.{AreRepeated, Rise, keys};
+ghost use Rattle.std.specs.Prelude.{◌≡◌, map, IfOk};
+ghost use Rattle.trace_model.specs.Attributes.{AreRepeated};
 ghost use Rattle.map_jaeger.specs.TagValues as told;
 ghost use Rattle.map_jaeger.specs.Reading as meant;
 
 use jaeger_model::{Tag, TagValue};
 use span_io::{Items, OutOfMemory, Text};
 use std::alloc::Global;
-use std::cmp::Ordering;
-use trace_model::laws::rising_attributes;
 use trace_model::{Attrs, Value, attrs_of};
 
 /// The attributes of tags, and the keys that stand more than once among them.
@@ -19,36 +17,15 @@ pub(crate) fn attributes_of(
     ensures value { IfOk result (λ parts. parts.0 ≡ meant.attributes_of tags) }
     ensures repeated { IfOk result (λ parts. AreRepeated parts.1 (map told.attribute_of tags)) }
 {
-    rising_attributes();
     let pairs = pairs_of(alloc, tags)?;
-    if keys_rise(pairs.as_slice()) {
-        return Ok((pairs, Items::new(alloc)));
-    }
     attrs_of(alloc, pairs)
-}
-
-// Whether each key is below the next.
-fn keys_rise(pairs: &[(Text, Value)]) -> bool
-    ensures { IsTrue result → Rise (keys pairs.now) }
-{
-    let Some((first, others)) = pairs.split_first() else {
-        return true;
-    };
-    let mut last = first;
-    'others: for pair in others {
-        match last.0.as_str().cmp(pair.0.as_str()) {
-            Ordering::Less => last = pair,
-            Ordering::Equal | Ordering::Greater => return false,
-        }
-    }
-    true
 }
 
 // The pairs of keys and values that tags are.
 fn pairs_of(alloc: Global, tags: Items<Tag>) -> Result<Attrs, OutOfMemory>
     ensures { IfOk result (λ pairs. pairs ≡ map told.attribute_of tags) }
 {
-    let mut pairs = Items::new(alloc);
+    let mut pairs = Items::with_room(alloc, tags.len())?;
     'tags: for tag in tags.into_vec() {
         pairs.push((tag.key, value_of(tag.value)))?;
     }

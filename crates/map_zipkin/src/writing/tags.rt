@@ -8,7 +8,7 @@ ghost use Rattle.map_zipkin.specs.WritingSoFar.{tags_by};
 
 use crate::keys::is_told;
 use span_io::{Items, OutOfMemory, Text};
-use span_tags::text_told;
+use span_tags::{put_rows, text_told};
 use std::alloc::Global;
 use trace_model::{Attrs, Value, attrs_of};
 
@@ -24,10 +24,14 @@ pub(crate) fn tags_of(
     requires columns { holds_double columns ≡ false }
     ensures { IfOk result (λ tags. tags ≡ tags_by columns resource.now attributes) }
 {
-    let mut pairs = columns;
-    add_resource(alloc, &mut pairs, resource)?;
-    add_told(alloc, &mut pairs, attributes)?;
-    let (pairs, _) = attrs_of(alloc, pairs)?;
+    let mut rows = columns;
+    add_resource(alloc, &mut rows, resource)?;
+    let room = rows.len().saturating_add(attributes.len());
+    let mut told = Items::with_room(alloc, room)?;
+    add_told(alloc, &mut told, attributes)?;
+    let (pairs, _) = attrs_of(alloc, told)?;
+    let mut pairs = pairs.into_vec();
+    put_rows(&mut pairs, rows.into_vec())?;
     tags_in_order(alloc, pairs)
 }
 
@@ -102,12 +106,15 @@ fn text_of(alloc: Global, value: Value) -> Result<Text, OutOfMemory>
 }
 
 // The tags of pairs, in their order.
-fn tags_in_order(alloc: Global, pairs: Attrs) -> Result<Items<(Text, Text)>, OutOfMemory>
-    requires { holds_double pairs ≡ false }
-    ensures { IfOk result (λ tags. tags ≡ map told.zipkin_tag_of pairs) }
+fn tags_in_order(
+    alloc: Global,
+    pairs: Vec<(Text, Value)>,
+) -> Result<Items<(Text, Text)>, OutOfMemory>
+    requires { holds_double pairs.items ≡ false }
+    ensures { IfOk result (λ tags. tags ≡ map told.zipkin_tag_of pairs.items) }
 {
     let mut tags = Items::with_room(alloc, pairs.len())?;
-    'pairs: for pair in pairs.into_vec() {
+    'pairs: for pair in pairs {
         let (key, value) = pair;
         let text = text_of(alloc, value)?;
         tags.push((key, text))?;

@@ -5,6 +5,6 @@ use Rattle.map_zipkin.proofs.writing.tags.tags_in_order.Given as goal
 
 abbrev pub invariant-pairs : goal.invariant-pairs
 invariant-pairs l = record {
-  written : l.tags ++ map zipkin_tag_of l.pair-iterator.rest.items ≡ map zipkin_tag_of l.fn.pairs;
+  written : l.tags ++ map zipkin_tag_of l.pair-iterator.rest.items ≡ map zipkin_tag_of l.fn.pairs.items;
   plain : holds_double l.pair-iterator.rest.items ≡ false;
 }
