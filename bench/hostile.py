@@ -662,6 +662,17 @@ def heavy_resource():
     return writes(group(resource + bytes_field(2, GOOD_SPAN * count)), document(*[span] * count))
 
 
+def many_resource_tags(order):
+    """One span of a resource with as many attributes as fit, in an order of their rising keys."""
+    digits = sorted(b"-0123456789ABCDEFGHIJKLMNOPQRSTUVWXYZ_abcdefghijklmnopqrstuvwxyz")
+    attribute = lambda key: bytes_field(1, bytes_field(1, key) + bytes_field(2, bytes_field(1, b"")))
+    count = (GROUP_ROOM - len(GOOD_SPAN) - 16) // len(attribute(b"0000"))
+    keys = [bytes(key) for key in itertools.islice(itertools.product(digits, repeat=4), count)]
+    tags = b",".join(b'"otel.resource.%b":""' % key for key in keys)
+    resource = bytes_field(1, b"".join(attribute(key) for key in order(list(keys))))
+    return writes(group(resource + bytes_field(2, GOOD_SPAN)), document(json_span(middle=b',"tags":{%b}' % tags)))
+
+
 def text_in_tag(value, text):
     return writes(one_value(value), document(json_span(middle=b',"tags":{"a":"%b"}' % text)))
 
@@ -732,6 +743,7 @@ def to_document_cases():
     many_nulls = lambda: text_in_tag(list_value(b"\x0a\0" * nothings), b"[" + b",".join([b"null"] * nothings) + b"]")
     cases = [
         ("smallest good spans", json_spans), ("empty groups", lambda: writes(b"\x0a\0" * UNIT, b"[]")), ("a heavy resource of many spans", heavy_resource),
+        ("many attributes of a resource, rising", lambda: many_resource_tags(list)), ("many attributes of a resource, shuffled", lambda: many_resource_tags(shuffled)),
         ("empty events", lambda: writes(one_span(filled(b"\x5a\0", REST_ROOM)), empty_events())), ("a list of empty values", many_nulls),
         ("a byte value", lambda: text_in_tag(bytes_field(7, bytes(LIST_ROOM)), base64.b64encode(bytes(LIST_ROOM)))),
         ("a double in the last of many lists", lambda: faulted(last_double(), 1, "25 DoubleInText")),

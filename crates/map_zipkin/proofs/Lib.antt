@@ -9,6 +9,7 @@ pub mod GroupsHeld
 pub mod GroupsSound
 pub mod HeldSpans
 pub mod LeftOut
+pub mod MergedRows
 pub mod NormalLaws
 pub mod NormalPairs
 pub mod NormalProper

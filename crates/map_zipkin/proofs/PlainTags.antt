@@ -1,22 +1,22 @@
 -- No double stands in the tags of a span, which are texts.
-use Rattle.std.proofs.Common.{◌≡◌, ℕ, Bool, true, false, cond, ◌||◌, List, [], ◌∷◌, ◌++◌, map, filter, not, All, Some, refl, sym, ap, subst, ◌∙◌, true≢false, append_assoc, ◌+◌, ◌<◌, suc, length, get_or, drop, add-one, drop-cons}
+use Rattle.std.proofs.Common.{◌≡◌, ℕ, Bool, true, false, cond, ◌||◌, List, [], ◌∷◌, ◌++◌, map, filter, not, All, Option, Some, None, option_map, refl, sym, ap, ◌∙◌, true≢false, append_assoc, ◌+◌, ◌<◌, suc, length, get_or, drop, add-one, drop-cons}
 use Rattle.std.proofs.lemmas.List.Elements.{All-nil, All-cons, All-head, All-tail, All-append}
 use Rattle.std.specs.Str.{bytes_eq}
 use Rattle.trace_model.specs.Attributes.{attrs, at}
 use Rattle.trace_model.specs.EventTexts.{holds_double}
 use Rattle.trace_model.specs.ValueTexts.{has_double}
 use Rattle.trace_model.specs.declared.value.Value.{Value}
-use Rattle.span_tags.specs.AttributeLaws.{on_values, all_attrs}
+use Rattle.span_tags.specs.AttributeLaws.{all_attrs}
 use Rattle.span_tags.specs.Doubles.{double_at}
-use Rattle.span_tags.specs.Moved.{several_more}
-use Rattle.span_tags.specs.Runs.{Scoped}
-use Rattle.span_tags.specs.TagKeys.{service_key}
-use Rattle.span_tags.specs.TagWords.{Pairs, without}
+use Rattle.span_tags.specs.TagKeys.{service_key, error_key, dropped_attributes_key, dropped_events_key, dropped_links_key, scope_name_key, scope_version_key, code_key, state_key}
+use Rattle.span_tags.specs.TagWords.{Pairs, row, without, text_given, code_given}
 use Rattle.trace_model.specs.declared.span.Span.{Span}
-use Rattle.map_zipkin.specs.TagColumns.{column_rows}
-use Rattle.map_zipkin.specs.Writing.{zipkin_columns_of, as_text, as_texts, prefixed, resource_pairs, is_told, told_pairs}
+use Rattle.map_zipkin.specs.TagColumns.{count_text}
+use Rattle.map_zipkin.specs.Writing.{error_message, as_text, as_texts, prefixed, resource_pairs, is_told, told_pairs}
+use Rattle.map_zipkin.specs.WritingSoFar.{count_rows, own_rows, shared_pairs, shared_rows}
 use Rattle.map_zipkin.proofs.ColumnLemmas.{textual}
-use Rattle.map_zipkin.proofs.TagsBack.{texts_in_columns}
+use Rattle.map_zipkin.proofs.OwnForms.{text_leaf, count_leaf}
+use Rattle.map_zipkin.proofs.TagsBack.{error_leaf, code_leaf}
 
 -- ---- what stands at a key
 
@@ -31,15 +31,6 @@ at_plain key (pair ∷ pairs) plain = by (bytes_eq key pair.0) (has_double pair.
     by false false is later none = later none
 
 -- ---- texts
-
--- where all values are texts, no double stands
-texts_plain : (pairs : Pairs) → holds_double (on_values textual pairs) ≡ false
-texts_plain [] = refl
-texts_plain (pair ∷ pairs) = texts_plain pairs
-
--- those of the columns
-pub columns_plain : (one : Scoped Span) → holds_double (column_rows (zipkin_columns_of one)) ≡ false
-columns_plain one = ap holds_double (sym (texts_in_columns one)) ∙ texts_plain (column_rows (zipkin_columns_of one))
 
 abbrev Plain : List ℕ × Value → Type 0
 Plain pair = has_double pair.1 ≡ false
@@ -64,19 +55,40 @@ told_plain : (pairs : Pairs) → All Plain (as_texts pairs)
 told_plain [] = All-nil Plain
 told_plain (pair ∷ pairs) = All-cons Plain (as_text pair) (as_texts pairs) refl (told_plain pairs)
 
--- all of them, where the rows stand in their places
-pub put_plain : (columns resource attributes rows told held : Pairs) → holds_double columns ≡ false → rows ≡ columns ++ resource_pairs resource
-    → told ≡ told_pairs attributes → held ≡ attrs (rows ++ told) → holds_double held ≡ false
-put_plain columns resource attributes rows told held plain e1 e2 e3 =
-    let first : All Plain rows = subst (All Plain) (sym e1) (All-append Plain columns (resource_pairs resource) (each_plain columns plain) (prefixed_plain (without service_key resource))) in
-    let others : All Plain told = subst (All Plain) (sym e2) (told_plain (filter (λ attribute. is_told attribute.0) attributes)) in
-    ap holds_double e3 ∙ none_double (attrs (rows ++ told)) (all_attrs Plain (rows ++ told) (All-append Plain rows told first others))
+-- a row whose value is a text
+plain_row : (key : List ℕ) (value : Option Value) → option_map textual value ≡ value → All Plain (row key value)
+plain_row key None e = All-nil Plain
+plain_row key (Some value) e = All-cons Plain (key, value) [] (sym (ap double_at e)) (All-nil Plain)
 
-pub put_all : (columns resource attributes rows told held : Pairs) → rows ≡ columns ++ resource_pairs resource
-    → told ≡ told_pairs attributes → held ≡ attrs (rows ++ told) → held ≡ attrs (columns ++ (resource_pairs resource ++ told_pairs attributes))
-put_all columns resource attributes rows told held e1 e2 e3 =
-    e3 ∙ (ap (λ l. attrs (rows ++ l)) e2
-    ∙ (ap (λ l. attrs (l ++ told_pairs attributes)) e1 ∙ ap attrs (append_assoc columns (resource_pairs resource) (told_pairs attributes))))
+-- those of the columns
+pub own_plain : (span : Span) → holds_double (own_rows span) ≡ false
+own_plain span = none_double (own_rows span)
+    (All-append Plain (row error_key (error_message span.status.code span.status.message)) _ (plain_row error_key _ (error_leaf span.status.code span.status.message))
+    (All-append Plain (count_rows span) _ (counts span)
+    (All-append Plain (row code_key (code_given span.status.code)) _ (plain_row code_key _ (code_leaf span.status.code))
+    (plain_row state_key _ (text_leaf span.state)))))
+  where
+    counts : (span : Span) → All Plain (count_rows span)
+    counts span = All-append Plain (row dropped_attributes_key (count_text span.dropped_attributes)) _ (plain_row dropped_attributes_key _ (count_leaf span.dropped_attributes))
+        (All-append Plain (row dropped_events_key (count_text span.dropped_events)) _ (plain_row dropped_events_key _ (count_leaf span.dropped_events))
+        (plain_row dropped_links_key _ (count_leaf span.dropped_links)))
+
+pub shared_plain : (resource : Pairs) (name version : List ℕ) → holds_double (shared_rows resource name version) ≡ false
+shared_plain resource name version = none_double (shared_rows resource name version) (all_attrs Plain (shared_pairs resource name version)
+    (All-append Plain (row scope_name_key (text_given name)) _ (plain_row scope_name_key _ (text_leaf name))
+    (All-append Plain (row scope_version_key (text_given version)) _ (plain_row scope_version_key _ (text_leaf version))
+    (prefixed_plain (without service_key resource)))))
+
+-- all of them
+pub tags_plain : (own shared attributes held : Pairs) → holds_double own ≡ false → holds_double shared ≡ false
+    → held ≡ attrs (own ++ (shared ++ told_pairs attributes)) → holds_double held ≡ false
+tags_plain own shared attributes held own_is shared_is e =
+    let all = All-append Plain own (shared ++ told_pairs attributes) (each_plain own own_is)
+    (All-append Plain shared (told_pairs attributes) (each_plain shared shared_is) (told_plain (filter (λ attribute. is_told attribute.0) attributes))) in
+    ap holds_double e ∙ none_double (attrs (own ++ (shared ++ told_pairs attributes))) (all_attrs Plain (own ++ (shared ++ told_pairs attributes)) all)
+
+pub attrs_plain : (l held : Pairs) → holds_double l ≡ false → held ≡ attrs l → holds_double held ≡ false
+attrs_plain l held plain e = ap holds_double e ∙ none_double (attrs l) (all_attrs Plain l (each_plain l plain))
 
 -- ---- parts of what is fit
 
@@ -113,18 +125,3 @@ resource_step resource i pair first old new within here one so_far =
     ap (λ l. l ++ resource_pairs (drop (i + 1) resource)) one
     ∙ (append_assoc old (resource_pairs (pair ∷ [])) (resource_pairs (drop (i + 1) resource))
     ∙ (ap (λ l. old ++ l) (sym (ap resource_pairs left ∙ resource_more pair (drop (i + 1) resource))) ∙ so_far))
-
--- ---- one pair more, moved out
-
-told_more : (pair : List ℕ × Value) (more : Pairs) → told_pairs (pair ∷ more) ≡ told_pairs (pair ∷ []) ++ told_pairs more
-told_more pair more = by (is_told pair.0)
-  where
-    by : (b : Bool) → as_texts (cond b (pair ∷ filter (λ attribute. is_told attribute.0) more) (filter (λ attribute. is_told attribute.0) more))
-        ≡ as_texts (cond b (pair ∷ []) []) ++ told_pairs more
-    by true = refl
-    by false = refl
-
-pub told_step : (whole old new left rest : Pairs) (pair : List ℕ × Value) → left ≡ pair ∷ rest → new ≡ old ++ told_pairs (pair ∷ [])
-    → old ++ told_pairs left ≡ whole → new ++ told_pairs rest ≡ whole
-told_step whole old new left rest pair split one so_far =
-    several_more whole old new (told_pairs (pair ∷ [])) (told_pairs rest) (told_pairs left) (ap told_pairs split ∙ told_more pair rest) one so_far

@@ -47,12 +47,12 @@ none_is (Some x) e = absurd (true≢false e)
 
 -- ---- texts
 
-error_leaf : (code : Code) (message : List ℕ) → option_map textual (error_message code message) ≡ error_message code message
+pub error_leaf : (code : Code) (message : List ℕ) → option_map textual (error_message code message) ≡ error_message code message
 error_leaf statuses.Unset message = refl
 error_leaf statuses.Okay message = refl
 error_leaf statuses.Fail message = refl
 
-code_leaf : (code : Code) → option_map textual (code_given code) ≡ code_given code
+pub code_leaf : (code : Code) → option_map textual (code_given code) ≡ code_given code
 code_leaf statuses.Unset = refl
 code_leaf statuses.Okay = refl
 code_leaf statuses.Fail = refl

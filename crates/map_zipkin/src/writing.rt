@@ -1,6 +1,7 @@
 //! The spans of a group in which nothing is a fault.
-ghost use Rattle.std.specs.Prelude.{◌≡◌, ◌++◌, map, false, All, IfOk, OnOk};
+ghost use Rattle.std.specs.Prelude.{◌≡◌, ◌++◌, ℕ, List, map, false, All, IfOk, OnOk};
 ghost use Rattle.std.specs.List.{list_any};
+ghost use Rattle.trace_model.specs.Attributes.{Rise, keys};
 ghost use Rattle.trace_model.specs.EventTexts.{holds_double};
 ghost use Rattle.trace_model.specs.Soundness.{IsSoundGroup};
 ghost use Rattle.trace_model.specs.EventTexts as texts;
@@ -9,14 +10,17 @@ ghost use Rattle.zipkin_json.specs.Proper.{IsTimelyZSpan};
 ghost use Rattle.map_zipkin.specs.LeastZipkinFault.{JudgesZipkinFault};
 ghost use Rattle.map_zipkin.specs.Unfit.{event_unfit, group_unfit, scope_unfit, span_unfit};
 ghost use Rattle.map_zipkin.specs.Writing as told;
+ghost use Rattle.map_zipkin.specs.WritingSoFar.{shared_rows};
 
 mod columns;
 mod endpoints;
+mod shared;
 mod tags;
 
 use crate::faults::fault_of_group;
-use columns::column_rows;
+use columns::rows_of_span;
 use endpoints::endpoints_of;
+use shared::rows_of_scope;
 use span_ids::Nanos;
 use span_io::{Halt, Items, OutOfMemory, Text};
 use span_tags::is_there;
@@ -72,24 +76,26 @@ fn annotations_of(alloc: Global, events: &Items<Event>) -> Result<Items<(Nanos, 
 
 // ---- spans
 
-// The span under the name and version of its scope.
+// The span under the name and version of its scope, with these rows in common with it.
 fn span_of(
     alloc: Global,
     resource: &Attrs,
-    name: &Text,
-    version: &Text,
+    shared: &Attrs,
     span: Span,
 ) -> Result<ZSpan, OutOfMemory>
     requires resource { holds_double resource.now ≡ false }
     requires span { span_unfit span ≡ false }
-    ensures { IfOk result (λ written. written ≡ told.zipkin_span resource.now (under name.now version.now span)) }
+    requires rising { Rise (keys shared.now) }
+    requires shared { holds_double shared.now ≡ false }
+    ensures { (name version : List ℕ) → shared.now ≡ shared_rows resource.now name version
+        → IfOk result (λ written. written ≡ told.zipkin_span resource.now (under name version span)) }
 {
     let (local, remote) = endpoints_of(alloc, resource, &span.attributes)?;
     let annotations = annotations_of(alloc, &span.events)?;
-    let columns = column_rows(alloc, name, version, &span, resource.len())?;
+    let own = rows_of_span(alloc, &span)?;
     let debug = is_there(&span.attributes, "zipkin.debug");
-    let shared = is_there(&span.attributes, "zipkin.shared");
-    let tags = tags_of(alloc, columns, resource, span.attributes)?;
+    let shared_with = is_there(&span.attributes, "zipkin.shared");
+    let tags = tags_of(alloc, own, shared.as_slice(), span.attributes)?;
     Ok(ZSpan {
         trace: span.trace,
         id: span.id,
@@ -99,7 +105,7 @@ fn span_of(
         start: span.start.floor(),
         end: span.end.floor(),
         debug,
-        shared,
+        shared: shared_with,
         local,
         remote,
         annotations,
@@ -107,21 +113,23 @@ fn span_of(
     })
 }
 
-// Adds spans of a scope of this name and version.
+// Adds spans that have these rows in common with their scope, which has this name and version.
 fn push_spans(
     alloc: Global,
     spans: &mut Items<ZSpan>,
     resource: &Attrs,
-    name: &Text,
-    version: &Text,
+    shared: &Attrs,
     own: Items<Span>,
 ) -> Result<(), OutOfMemory>
     requires resource { holds_double resource.now ≡ false }
     requires own { list_any span_unfit own ≡ false }
-    ensures { OnOk result (spans.new ≡ spans.old ++ map (told.zipkin_span resource.now) (map (under name.now version.now) own)) }
+    requires rising { Rise (keys shared.now) }
+    requires shared { holds_double shared.now ≡ false }
+    ensures { (name version : List ℕ) → shared.now ≡ shared_rows resource.now name version
+        → OnOk result (spans.new ≡ spans.old ++ map (told.zipkin_span resource.now) (map (under name version) own)) }
 {
     'spans: for span in own.into_vec() {
-        spans.push(span_of(alloc, resource, name, version, span)?)?;
+        spans.push(span_of(alloc, resource, shared, span)?)?;
     }
     Ok(())
 }
@@ -137,8 +145,8 @@ fn push_scope(
     requires scope { scope_unfit scope ≡ false }
     ensures { OnOk result (spans.new ≡ spans.old ++ map (told.zipkin_span resource.now) (scoped_spans scope)) }
 {
-    let (name, version) = (scope.name, scope.version);
-    push_spans(alloc, spans, resource, &name, &version, scope.spans)
+    let shared = rows_of_scope(alloc, resource, &scope.name, &scope.version)?;
+    push_spans(alloc, spans, resource, &shared, scope.spans)
 }
 
 fn spans_of(

@@ -54,7 +54,8 @@ pub fn put_row(
     put_pair(pairs, Text::of(alloc, key)?, value)
 }
 
-/// Puts pairs in their places among attributes, the last first.
+/// Puts a few pairs in their places among attributes, the last first. Each is looked for from the
+/// front, and moves those behind its place.
 pub fn put_rows(pairs: &mut Vec<(Text, Value)>, rows: Vec<(Text, Value)>) -> Result<(), OutOfMemory>
     ensures { (rest : List (List ℕ × Value)) → pairs.old.items ≡ attrs rest
         → OnOk result (pairs.new.items ≡ attrs (rows.items ++ rest)) }

@@ -34,10 +34,16 @@ fn joined(alloc: Global, name: &Text, attributes: &Attrs) -> Result<Text, OutOfM
     member_text(alloc, name, attributes)
 }
 
+/// The bytes for which room is made at first for each attribute of an event.
+const EACH: usize = 48;
+
 fn member_text(alloc: Global, name: &Text, attributes: &Attrs) -> Result<Text, OutOfMemory>
     ensures { IfOk result (λ text. text ≡ quoted name.now ++ 58 ∷ json_text (values.Map attributes.now)) }
 {
-    let mut out = Writer::new(Vec::new(alloc));
+    let room = name
+        .len()
+        .saturating_add(attributes.len().saturating_mul(EACH));
+    let mut out = Writer::new(Vec::with_capacity(alloc, room)?);
     out.key(name.as_str())?;
     write_map(alloc, &mut out, attributes.as_slice())?;
     match String::from_utf8(out.into_inner()) {

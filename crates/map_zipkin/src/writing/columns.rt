@@ -1,18 +1,13 @@
-//! The columns of a span, as tags hold them under the reserved keys.
+//! The columns of a span that it doesn't share with its scope, as tags hold them under the reserved keys.
 ghost use Rattle.std.specs.Prelude.{◌≡◌, ◌++◌, IfOk, OnOk};
-ghost use Rattle.map_zipkin.specs.TagColumns as columns;
 ghost use Rattle.map_zipkin.specs.Writing as told;
-ghost use Rattle.map_zipkin.specs.WritingSoFar.{count_rows};
-ghost use Rattle.span_tags.specs.Runs.{under};
+ghost use Rattle.map_zipkin.specs.WritingSoFar.{count_rows, own_rows};
 
 use crate::count_texts::count_text;
 use span_io::{Items, OutOfMemory, Text};
 use span_tags::{add_row, code_given, text_given};
 use std::alloc::Global;
 use trace_model::{Attrs, Code, Span, Value};
-
-/// A span has so many columns at most.
-const COLUMNS: usize = 8;
 
 fn error_message(code: Code, message: &Text) -> Result<Option<Value>, OutOfMemory>
     ensures { IfOk result (λ value. value ≡ told.error_message code message.now) }
@@ -23,27 +18,18 @@ fn error_message(code: Code, message: &Text) -> Result<Option<Value>, OutOfMemor
     }
 }
 
-/// The tags of the columns, in the order of their keys, with room for so many others.
-pub(crate) fn column_rows(
-    alloc: Global,
-    name: &Text,
-    version: &Text,
-    span: &Span,
-    others: usize,
-) -> Result<Attrs, OutOfMemory>
-    ensures { IfOk result (λ pairs. pairs ≡ columns.column_rows (told.zipkin_columns_of (under name.now version.now span.now))) }
+/// The tags of the columns that a span doesn't share with its scope, in the order of their keys.
+/// Most spans have none.
+pub(crate) fn rows_of_span(alloc: Global, span: &Span) -> Result<Attrs, OutOfMemory>
+    ensures { IfOk result (λ pairs. pairs ≡ own_rows span.now) }
 {
     let code = span.status.code;
     let error = error_message(code, &span.status.message)?;
-    let name = text_given(name)?;
-    let version = text_given(version)?;
     let code = code_given(alloc, code)?;
     let state = text_given(&span.state)?;
-    let mut pairs = Items::with_room(alloc, others.saturating_add(COLUMNS))?;
+    let mut pairs = Items::new(alloc);
     add_row(alloc, &mut pairs, "error", error)?;
     add_counts(alloc, &mut pairs, span)?;
-    add_row(alloc, &mut pairs, "otel.scope.name", name)?;
-    add_row(alloc, &mut pairs, "otel.scope.version", version)?;
     add_row(alloc, &mut pairs, "otel.status_code", code)?;
     add_row(alloc, &mut pairs, "w3c.tracestate", state)?;
     Ok(pairs)

@@ -9,7 +9,7 @@ spans-preserved c =
     let left = c.spans.span-iterator.rest.items in
     let rest = c.next.new.self.rest.items in
     let split = c.in-Some.ensures.steps.0 in record {
-      written = one_more_of (under c.args.name.now c.args.version.now) (zipkin_span c.args.resource.now) _ _ _ c.in-Some.span _ left rest split
-          c.in_ok-span_of.ensures c.in_ok-push.ensures.ok c.spans.invariant.written;
+      written = λ name version is. one_more_of (under name version) (zipkin_span c.args.resource.now) _ _ _ c.in-Some.span _ left rest split
+          (c.in_ok-span_of.ensures name version is) c.in_ok-push.ensures.ok (c.spans.invariant.written name version is);
       plain = still_none span_unfit c.in-Some.span left rest split c.spans.invariant.plain;
     }

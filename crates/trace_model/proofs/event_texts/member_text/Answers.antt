@@ -11,7 +11,7 @@ unfolding tokens_of
 returns c =
     let name = c.args.name.now in
     let attributes = c.args.attributes.now in
-    let before : c.write_map.new.out.before ≡ [] = c.in_ok-write_map.ensures.before ∙ c.key.ensures.room.0 ∙ c.new-out.ensures.before ∙ c.new.ensures.items in
+    let before : c.write_map.new.out.before ≡ [] = c.in_ok-write_map.ensures.before ∙ c.key.ensures.room.0 ∙ c.new-out.ensures.before ∙ c.in_ok-with_capacity.ensures.items in
     let front : c.key.new.self.tokens ≡ key name ∷ [] =
     c.in_ok-key.ensures.ok ∙ ap (λ (l : List Token). l ++ key c.as_str.result.now ∷ []) c.new-out.ensures.tokens ∙ ap (λ n. key n ∷ []) c.as_str.ensures.value in
     let tokens : c.write_map.new.out.tokens ≡ key name ∷ map_tokens attributes =

@@ -1,6 +1,6 @@
 use Rattle.std.proofs.Common.{◌<◌, length}
 use Rattle.map_zipkin.proofs.PlainTags.{resource_step}
-use Rattle.map_zipkin.proofs.writing.tags.add_resource.Goals as goal
+use Rattle.map_zipkin.proofs.writing.shared.add_resource.Goals as goal
 
 pub attributes-preserved : goal.attributes-preserved
 attributes-preserved c =

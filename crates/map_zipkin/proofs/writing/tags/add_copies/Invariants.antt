@@ -1,0 +1,5 @@
+use Rattle.std.proofs.Common.{◌≡◌, ◌++◌, drop}
+use Rattle.map_zipkin.proofs.writing.tags.add_copies.Given as goal
+
+abbrev pub invariant-rows : goal.invariant-rows
+invariant-rows l = l.pairs ++ drop l.row-index l.rows ≡ l.initial.pairs ++ l.rows
