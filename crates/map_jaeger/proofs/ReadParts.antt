@@ -20,8 +20,8 @@ use Rattle.map_jaeger.specs.declared.reading.attributes.Parted.{Parted}
 -- ---- parts
 
 -- where there is no row, the others are the attributes
-pub no_row : (value : Option Value) (free : Pairs) → None ≡ value → Rise (keys free) → free ≡ attrs (row flags_key value ++ free)
-no_row value free none up = sym (attrs_itself free up) ∙ ap (λ v. attrs (row flags_key v ++ free)) none
+pub no_row : (key : List ℕ) (value : Option Value) (free : Pairs) → value ≡ None → Rise (keys free) → free ≡ attrs (row key value ++ free)
+no_row key value free none up = sym (attrs_itself free up) ∙ ap (λ v. attrs (row key v ++ free)) (sym none)
 
 own_at : (key : List ℕ) (tags : Pairs) → not (is_free key) ≡ true → at key (own_tags tags) ≡ at key tags
 own_at key tags own = at_filter key (λ k. not (is_free k)) tags ∙ ap (λ b. cond b (at key tags) None) own

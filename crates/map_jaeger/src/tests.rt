@@ -9,7 +9,7 @@ use span_ids::{Nanos, SpanId, TraceId};
 use span_io::{Items, OutOfMemory, Text};
 use std::alloc::Global;
 use std::test::Fail;
-use trace_model::{Attrs, Code, Kind, Remark, RemarkKind, Value};
+use trace_model::{Attrs, Code, Group, Kind, Remark, RemarkKind, Span, Value};
 
 fn one<T: Drop>(alloc: Global, item: T) -> Result<Items<T>, OutOfMemory> {
     let mut items = Items::new(alloc);
@@ -28,11 +28,11 @@ fn texts(alloc: Global, list: &[(&str, &str)]) -> Result<Items<Tag>, OutOfMemory
     Ok(tags)
 }
 
-// A batch of the process `shop` with one span of this number, which has these tags.
-fn batch_of(alloc: Global, number: u64, tags: &[(&str, &str)]) -> Result<Batch, Fail> {
+// A batch of the process `shop` with one span, which has these tags.
+fn batch_of(alloc: Global, tags: &[(&str, &str)]) -> Result<Batch, Fail> {
     let span = JSpan {
         trace: TraceId::from_halves(0, 1)?,
-        id: SpanId::from_number(number)?,
+        id: SpanId::from_number(2)?,
         parent: None,
         name: Text::of(alloc, "pay")?,
         references: Items::new(alloc),
@@ -78,7 +78,7 @@ struct Row {
     remarks: &'static [(RemarkKind, &'static str)],
 }
 
-const ROWS: [Row; 5] = [
+const ROWS: [Row; 8] = [
     Row {
         name: "the last of equal tags",
         tags: &[("k", "1"), ("a", "2"), ("k", "3")],
@@ -122,12 +122,50 @@ const ROWS: [Row; 5] = [
         code: Code::Fail,
         remarks: &[],
     },
+    Row {
+        name: "a code alone",
+        tags: &[("otel.status_code", "ERROR")],
+        attributes: &[],
+        kind: Kind::Internal,
+        code: Code::Fail,
+        remarks: &[],
+    },
+    Row {
+        name: "the text false alone",
+        tags: &[("a", "2"), ("error", "false")],
+        attributes: &[("a", "2")],
+        kind: Kind::Internal,
+        code: Code::Unset,
+        remarks: &[],
+    },
+    Row {
+        name: "the text false beside a code that it doesn't agree with",
+        tags: &[("error", "false"), ("otel.status_code", "ERROR")],
+        attributes: &[],
+        kind: Kind::Internal,
+        code: Code::Fail,
+        remarks: &[(RemarkKind::TagDropped, "error")],
+    },
 ];
+
+// What `span.kind` may be, and the kind that it names.
+const KINDS: [(&str, Kind); 5] = [
+    ("internal", Kind::Internal),
+    ("server", Kind::Server),
+    ("client", Kind::Client),
+    ("producer", Kind::Producer),
+    ("consumer", Kind::Consumer),
+];
+
+fn first_span(group: &Group) -> Option<&Span> {
+    let scope = group.scopes.as_slice().first()?;
+    scope.spans.as_slice().first()
+}
 
 #[test]
 fn reads_tags(rt: HostRuntime) -> Result<(), Fail> {
     for row in &ROWS {
-        let batch = batch_of(rt.alloc(), 2, row.tags)?;
+        let batch = batch_of(rt.alloc(), row.tags)?;
         let (group, remarks) = group_of_batch(rt.alloc(), batch)?;
         assert!(rt; are_remarks(&remarks, row.remarks), "{}", row.name);
         assert!(rt;
@@ -135,8 +173,7 @@ fn reads_tags(rt: HostRuntime) -> Result<(), Fail> {
             "{}",
             row.name
         );
-        let scope = group.scopes.as_slice().first().ok_or(OutOfMemory)?;
-        let span = scope.spans.as_slice().first().ok_or(OutOfMemory)?;
+        let span = first_span(&group).ok_or(OutOfMemory)?;
         assert!(rt; are_texts(&span.attributes, row.attributes), "{}", row.name);
         assert_eq!(rt;
             (span.kind, span.status.code),
@@ -149,23 +186,37 @@ fn reads_tags(rt: HostRuntime) -> Result<(), Fail> {
 }
 
 #[test]
-fn batches_of_one_process_stay_apart(rt: HostRuntime) -> Result<(), Fail> {
-    for number in [2, 3] {
-        let batch = batch_of(rt.alloc(), number, &[("a", "1")])?;
-        let (group, _remarks) = group_of_batch(rt.alloc(), batch)?;
-        let again = batch_of_group(rt.alloc(), group)?;
-        assert_eq!(rt; again.service.as_str(), "shop");
-        assert_eq!(rt; (again.tags.len(), again.spans.len()), (0, 1));
-        let span = again.spans.as_slice().first().ok_or(OutOfMemory)?;
+fn reads_kinds(rt: HostRuntime) -> Result<(), Fail> {
+    for (text, kind) in &KINDS {
+        let batch = batch_of(rt.alloc(), &[("span.kind", *text)])?;
+        let (group, remarks) = group_of_batch(rt.alloc(), batch)?;
+        let span = first_span(&group).ok_or(OutOfMemory)?;
         assert_eq!(rt;
-            (span.id.number(), span.name.as_str(), span.flags),
-            (number, "pay", 1)
-        );
-        assert_eq!(rt;
-            (span.start.0, span.end.0, span.tags.len()),
-            (1_000, 3_000, 1)
+            (span.kind, span.attributes.len(), remarks.len()),
+            (*kind, 0, 0),
+            "{}",
+            text
         );
     }
+    Ok(())
+}
+
+#[test]
+fn writes_back_what_is_read(rt: HostRuntime) -> Result<(), Fail> {
+    let batch = batch_of(rt.alloc(), &[("a", "1")])?;
+    let (group, _remarks) = group_of_batch(rt.alloc(), batch)?;
+    let again = batch_of_group(rt.alloc(), group)?;
+    assert_eq!(rt; again.service.as_str(), "shop");
+    assert_eq!(rt; (again.tags.len(), again.spans.len()), (0, 1));
+    let span = again.spans.as_slice().first().ok_or(OutOfMemory)?;
+    assert_eq!(rt;
+        (span.id.number(), span.name.as_str(), span.flags),
+        (2, "pay", 1)
+    );
+    assert_eq!(rt;
+        (span.start.0, span.end.0, span.tags.len()),
+        (1_000, 3_000, 1)
+    );
     Ok(())
 }
 

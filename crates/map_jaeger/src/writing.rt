@@ -58,7 +58,11 @@ fn tags_in_order(alloc: Global, pairs: Vec<(Text, Value)>) -> Result<Items<Tag>,
 
 // The attributes under other keys than this one.
 #[tactic(auto, using(crate::proofs::GroupResource::without_absent))]
-fn attributes_but(alloc: Global, key: &str, attributes: Attrs) -> Result<Attrs, OutOfMemory>
+pub(crate) fn attributes_but(
+    alloc: Global,
+    key: &str,
+    attributes: Attrs,
+) -> Result<Attrs, OutOfMemory>
     requires { Rise (keys_of attributes) }
     ensures { IfOk result (λ others. others ≡ without key.now attributes) }
 {

@@ -1,5 +1,5 @@
 //! The attributes that tags leave, and the flags among them.
-ghost use Rattle.std.specs.Prelude.{◌≡◌, ◌∷◌, ◌++◌, IfOk, OnOk};
+ghost use Rattle.std.specs.Prelude.{◌≡◌, ◌++◌, IfOk};
 ghost use Rattle.trace_model.specs.Attributes.{Rise, attrs, keys};
 ghost use Rattle.span_tags.specs.TagWords as told;
 ghost use Rattle.map_jaeger.specs.Keys.{flags_key};
@@ -7,14 +7,14 @@ ghost use Rattle.map_jaeger.specs.Reading as meant;
 ghost use Rattle.map_jaeger.specs.ReadColumns.{ArePartsOf};
 
 use crate::keys::is_reserved;
+use crate::writing::attributes_but;
 use jaeger_model::JSpan;
 use span_io::{Items, OutOfMemory, Text};
-use span_tags::{add_others, add_row, text_kept};
+use span_tags::{put_row, text_kept};
 use std::alloc::Global;
-use trace_model::{Attrs, Value, attrs_of};
+use trace_model::{Attrs, Value};
 
 /// The attributes of a span, of whose tags these are free.
-#[tactic(auto, using(crate::proofs::ReadParts::no_row))]
 pub(crate) fn span_attributes(
     alloc: Global,
     span: &JSpan,
@@ -24,46 +24,52 @@ pub(crate) fn span_attributes(
     ensures { IfOk result (λ attributes.
         attributes ≡ attrs (told.row flags_key (meant.high_flags_of span.now.flags) ++ free)) }
 {
-    match high_flags_of(alloc, span.flags)? {
-        None => Ok(free),
-        Some(high) => with_flags(alloc, high, free),
-    }
-}
-
-// Attributes and the flags among them.
-fn with_flags(alloc: Global, high: Value, free: Attrs) -> Result<Attrs, OutOfMemory>
-    ensures { IfOk result (λ attributes. attributes ≡ attrs ((flags_key, high) ∷ free)) }
-{
-    let mut pairs = Items::new(alloc);
-    pairs.push((Text::of(alloc, "jaeger.flags")?, high))?;
-    add_all(&mut pairs, free)?;
-    let parts = attrs_of(alloc, pairs)?;
-    Ok(parts.0)
-}
-
-// Adds pairs.
-fn add_all(pairs: &mut Attrs, more: Attrs) -> Result<(), OutOfMemory>
-    ensures { OnOk result (pairs.new ≡ pairs.old ++ more) }
-{
-    'more: for pair in more.into_vec() {
-        pairs.push(pair)?;
-    }
-    Ok(())
+    let high = high_flags_of(alloc, span.flags)?;
+    with_row(alloc, "jaeger.flags", high, free)
 }
 
 /// The attributes of a process of this service that has these tags.
+#[tactic(auto, using(crate::proofs::GroupResource::without_rise))]
 pub(crate) fn process_attributes(
     alloc: Global,
     service: Text,
     tags: Attrs,
 ) -> Result<Attrs, OutOfMemory>
+    requires { Rise (keys tags) }
     ensures { IfOk result (λ attributes. attributes ≡ meant.process_attributes service tags) }
 {
-    let mut pairs = Items::new(alloc);
-    add_row(alloc, &mut pairs, "service.name", text_kept(service))?;
-    add_others(&mut pairs, "service.name", tags)?;
-    let parts = attrs_of(alloc, pairs)?;
-    Ok(parts.0)
+    let others = attributes_but(alloc, "service.name", tags)?;
+    with_row(alloc, "service.name", text_kept(service), others)
+}
+
+// Attributes, and the pair of this key in its place among them, if there is a value.
+#[tactic(auto, using(crate::proofs::ReadParts::no_row))]
+fn with_row(
+    alloc: Global,
+    key: &str,
+    value: Option<Value>,
+    attributes: Attrs,
+) -> Result<Attrs, OutOfMemory>
+    requires { Rise (keys attributes) }
+    ensures { IfOk result (λ more. more ≡ attrs (told.row key.now value ++ attributes)) }
+{
+    if value.is_none() {
+        return Ok(attributes);
+    }
+    let mut pairs = attributes.into_vec();
+    put_row(alloc, &mut pairs, key, value)?;
+    items_of(alloc, pairs)
+}
+
+// The same pairs, as a list of attributes.
+fn items_of(alloc: Global, pairs: Vec<(Text, Value)>) -> Result<Attrs, OutOfMemory>
+    ensures { IfOk result (λ items. items ≡ pairs.items) }
+{
+    let mut items = Items::with_room(alloc, pairs.len())?;
+    'pairs: for pair in pairs {
+        items.push(pair)?;
+    }
+    Ok(items)
 }
 
 /// Tags of a span, by their keys.

@@ -1,15 +1,20 @@
-use Rattle.std.proofs.Common.{◌≡◌, ◌++◌, is_some, All, sym, ap, ◌∙◌, subst}
-use Rattle.trace_model.specs.Attributes.{at}
+use Rattle.std.proofs.Common.{◌≡◌, ◌++◌, map, is_some, All, sym, ap, ◌∙◌, subst}
+use Rattle.trace_model.specs.Attributes.{Rise, keys, at}
 use Rattle.trace_model.specs.Remarks.{tags_dropped}
 use Rattle.trace_model.specs.declared.place.Place.TheVariants as places
 use Rattle.trace_model.specs.Soundness.{IsSoundScope}
 use Rattle.trace_model.specs.Values.{AreSound}
+use Rattle.span_tags.specs.AttributeLaws.{attrs_rise}
 use Rattle.span_tags.specs.TagKeys.{service_key}
-use Rattle.span_tags.specs.TagWords.{if_left}
+use Rattle.span_tags.specs.TagWords.{Pairs, if_left}
 use Rattle.map_jaeger.specs.Reading.{process_attributes, resource_of}
+use Rattle.map_jaeger.specs.TagValues.{attribute_of}
 use Rattle.map_jaeger.proofs.ReadRemarks.{batch_noted}
 use Rattle.map_jaeger.proofs.SoundGroups.{resource_sound, scopes_sound}
 use Rattle.map_jaeger.proofs.reading.group_of_batch.Goals as goal
+
+pub process_attributes-requires : goal.process_attributes-requires
+process_attributes-requires c = subst (λ (l : Pairs). Rise (keys l)) (sym c.in_ok-tags.ensures.value) (attrs_rise (map attribute_of c.args.batch.tags))
 
 pub returns-clause-remarks : goal.returns-clause-remarks
 returns-clause-remarks c =
