@@ -28,8 +28,8 @@ use Rattle.jaeger_model.specs.Logs.{MeansTags, IsLog, log_table}
 use Rattle.jaeger_model.specs.Meanings.{Means, MeansTime, MeansEnum}
 use Rattle.jaeger_model.specs.Processes.{IsProcess, MeansProcess, process_table}
 use Rattle.jaeger_model.specs.References.{reference_number, IsSpanRef, reference_table}
-use Rattle.jaeger_model.specs.Rows.{given_to}
-use Rattle.jaeger_model.specs.Spans.{MeansReferences, MeansLogs, IsJSpan, jspan_table}
+use Rattle.jaeger_model.specs.Rows.{given_to, required, or_else}
+use Rattle.jaeger_model.specs.Spans.{MeansReferences, MeansLogs, IsJSpan, or_empty, jspan_table}
 use Rattle.jaeger_model.specs.Tags.{no_double, IsTag, tag_table}
 
 -- ---- what is given to a row
@@ -62,14 +62,18 @@ module _ (table : List (Row FieldItem)) (items others : List FieldItem) (same : 
 -- ---- what the fields mean, where those of each id hold the same
 
 -- the fields of an id hold the same
-abbrev Holds : {A : Type 0} → (Tree → List A) → ℕ → Fields → Fields → Type 0
+abbrev pub Holds : {A : Type 0} → (Tree → List A) → ℕ → Fields → Fields → Type 0
 Holds take id fields others = values_of take id fields ≡ values_of take id others
 
-moved : {A B : Type 0} (M : A → B → Type 0) (IsAbsent : B → Type 0) (v : B) (xs ys : List A) → xs ≡ ys → Singular M IsAbsent xs v → Singular M IsAbsent ys v
+-- those of an id mean what they mean on the other side
+abbrev pub Moves : {A B : Type 0} → (Tree → List A) → ℕ → (A → B → Type 0) → (B → Type 0) → Fields → Fields → Type 0
+Moves {A} {B} take id M IsAbsent fields others = (v : B) → Singular M IsAbsent (values_of take id fields) v → Singular M IsAbsent (values_of take id others) v
+
+pub moved : {A B : Type 0} (M : A → B → Type 0) (IsAbsent : B → Type 0) (v : B) (xs ys : List A) → xs ≡ ys → Singular M IsAbsent xs v → Singular M IsAbsent ys v
 moved {A} M IsAbsent v xs ys same h = subst (λ (l : List A). Singular M IsAbsent l v) same h
 
 module _ (a b : Fields) where
-  tag_moved : (tag : Tag) → Holds binary_in 1 a b → Holds i32_in 2 a b → Holds binary_in 3 a b → Holds double_in 4 a b → Holds truth_in 5 a b → Holds i64_in 6 a b → Holds binary_in 7 a b → IsTag tag a → IsTag tag b
+  pub tag_moved : (tag : Tag) → Holds binary_in 1 a b → Holds i32_in 2 a b → Holds binary_in 3 a b → Holds double_in 4 a b → Holds truth_in 5 a b → Holds i64_in 6 a b → Holds binary_in 7 a b → IsTag tag a → IsTag tag b
   tag_moved tag e1 e2 e3 e4 e5 e6 e7 is = record {
     key = moved MeansText (λ x. ⊥) tag.key _ _ e1 is.key;
     kind = moved (λ n k. n ≡ pos k) (λ x. ⊥) _ _ _ e2 is.kind;
@@ -82,7 +86,7 @@ module _ (a b : Fields) where
     value = is.value;
   }
 
-  reference_moved : (reference : Option SpanRef) → Holds i32_in 1 a b → Holds i64_in 2 a b → Holds i64_in 3 a b → Holds i64_in 4 a b → IsSpanRef reference a → IsSpanRef reference b
+  pub reference_moved : (reference : Option SpanRef) → Holds i32_in 1 a b → Holds i64_in 2 a b → Holds i64_in 3 a b → Holds i64_in 4 a b → IsSpanRef reference a → IsSpanRef reference b
   reference_moved reference e1 e2 e3 e4 is = record {
     child_of = is.child_of;
     kind = moved (MeansEnum reference_number) (λ x. ⊥) is.child_of _ _ e1 is.kind;
@@ -95,27 +99,27 @@ module _ (a b : Fields) where
     pointed = is.pointed;
   }
 
-  log_moved : (log : Log) → Holds i64_in 1 a b → Holds list_in 2 a b → IsLog log a → IsLog log b
-  log_moved log e1 e2 is = record { time = moved MeansTime (λ x. ⊥) log.time _ _ e1 is.time; tags = moved MeansTags (λ x. ⊥) log.fields _ _ e2 is.tags }
+  pub log_moved : (log : Log) → Holds i64_in 1 a b → Moves list_in 2 MeansTags required a b → IsLog log a → IsLog log b
+  log_moved log e1 e2 is = record { time = moved MeansTime (λ x. ⊥) log.time _ _ e1 is.time; tags = e2 log.fields is.tags }
 
-  process_moved : (process : Process) → Holds binary_in 1 a b → Holds list_in 2 a b → IsProcess process a → IsProcess process b
-  process_moved process e1 e2 is = record { service = moved MeansText (λ x. ⊥) process.service _ _ e1 is.service; tags = moved MeansTags (λ l. l ≡ []) process.tags _ _ e2 is.tags }
+  pub process_moved : (process : Process) → Holds binary_in 1 a b → Moves list_in 2 MeansTags (or_else []) a b → IsProcess process a → IsProcess process b
+  process_moved process e1 e2 is = record { service = moved MeansText (λ x. ⊥) process.service _ _ e1 is.service; tags = e2 process.tags is.tags }
 
   -- the fields of a span's rows
-  record SpanHolds : Type 0 where
-    low : Holds i64_in 1 a b
-    high : Holds i64_in 2 a b
-    id : Holds i64_in 3 a b
-    parent : Holds i64_in 4 a b
-    name : Holds binary_in 5 a b
-    references : Holds list_in 6 a b
-    flags : Holds i32_in 7 a b
-    start : Holds i64_in 8 a b
-    duration : Holds i64_in 9 a b
-    tags : Holds list_in 10 a b
-    logs : Holds list_in 11 a b
+  pub record SpanHolds : Type 0 where
+    pub low : Holds i64_in 1 a b
+    pub high : Holds i64_in 2 a b
+    pub id : Holds i64_in 3 a b
+    pub parent : Holds i64_in 4 a b
+    pub name : Holds binary_in 5 a b
+    pub references : Moves list_in 6 MeansReferences or_empty a b
+    pub flags : Holds i32_in 7 a b
+    pub start : Holds i64_in 8 a b
+    pub duration : Holds i64_in 9 a b
+    pub tags : Moves list_in 10 MeansTags or_empty a b
+    pub logs : Moves list_in 11 MeansLogs or_empty a b
 
-  span_moved : (span : JSpan) → SpanHolds → IsJSpan span a → IsJSpan span b
+  pub span_moved : (span : JSpan) → SpanHolds → IsJSpan span a → IsJSpan span b
   span_moved span e is = record {
     trace = record {
       low = is.trace.low;
@@ -129,7 +133,7 @@ module _ (a b : Fields) where
     name = moved MeansText (λ x. ⊥) span.name _ _ e.name is.name;
     references = record {
       all = is.references.all;
-      given = moved MeansReferences (λ l. l ≡ []) is.references.all _ _ e.references is.references.given;
+      given = e.references is.references.all is.references.given;
       kept = is.references.kept;
       others = is.references.others;
     };
@@ -141,16 +145,17 @@ module _ (a b : Fields) where
       sum = is.times.sum;
       in_range = is.times.in_range;
     };
-    tags = moved MeansTags (λ l. l ≡ []) span.tags _ _ e.tags is.tags;
-    logs = moved MeansLogs (λ l. l ≡ []) span.logs _ _ e.logs is.logs;
+    tags = e.tags span.tags is.tags;
+    logs = e.logs span.logs is.logs;
   }
 
-  batch_moved : (batch : Batch) → Holds struct_in 1 a b → Holds list_in 2 a b → Holds i64_in 3 a b → Holds struct_in 4 a b → IsBatch batch a → IsBatch batch b
+  pub batch_moved : (batch : Batch) → Moves struct_in 1 MeansProcess required a b → Moves list_in 2 MeansSpans required a b → Holds i64_in 3 a b
+      → (AtMostOne (values_of struct_in 4 a) → AtMostOne (values_of struct_in 4 b)) → IsBatch batch a → IsBatch batch b
   batch_moved batch e1 e2 e3 e4 is = record {
-    process = moved MeansProcess (λ x. ⊥) (record { service = batch.service; tags = batch.tags }) _ _ e1 is.process;
-    spans = moved MeansSpans (λ x. ⊥) batch.spans _ _ e2 is.spans;
+    process = e1 (record { service = batch.service; tags = batch.tags }) is.process;
+    spans = e2 batch.spans is.spans;
     sequence = subst AtMostOne e3 is.sequence;
-    stats = subst AtMostOne e4 is.stats;
+    stats = e4 is.stats;
   }
 
 -- ---- so of fields that are the same but for free ones
@@ -180,12 +185,12 @@ reference_passes = both_ways reference_table IsSpanRef (λ items others s refere
 module _ (Spells : Spelling) (left : ℕ) where
   log_passes : PassesFreeFields (log_table Spells left) IsLog
   log_passes = both_ways (log_table Spells left) IsLog (λ items others s log is.
-      log_moved (fields_of items) (fields_of others) log (same_values (log_table Spells left) items others s i64_in 1 (λ item free. free.0)) (same_inner (log_table Spells left) items others s list_in 2 (λ item free. free.1.0)) is)
+      log_moved (fields_of items) (fields_of others) log (same_values (log_table Spells left) items others s i64_in 1 (λ item free. free.0)) (λ v. moved MeansTags required v _ _ (same_inner (log_table Spells left) items others s list_in 2 (λ item free. free.1.0))) is)
 
   process_passes : PassesFreeFields (process_table Spells left) IsProcess
   process_passes = both_ways (process_table Spells left) IsProcess (λ items others s process is.
       process_moved (fields_of items) (fields_of others) process (same_values (process_table Spells left) items others s binary_in 1 (λ item free. free.0))
-      (same_inner (process_table Spells left) items others s list_in 2 (λ item free. free.1.0)) is)
+      (λ v. moved MeansTags (or_else []) v _ _ (same_inner (process_table Spells left) items others s list_in 2 (λ item free. free.1.0))) is)
 
   span_holds : (items others : List FieldItem) → SameButFree (jspan_table Spells left) items others → SpanHolds (fields_of items) (fields_of others)
   span_holds items others s = record {
@@ -194,12 +199,12 @@ module _ (Spells : Spelling) (left : ℕ) where
     id = same_values (jspan_table Spells left) items others s i64_in 3 (λ item free. free.1.1.0);
     parent = same_values (jspan_table Spells left) items others s i64_in 4 (λ item free. free.1.1.1.0);
     name = same_values (jspan_table Spells left) items others s binary_in 5 (λ item free. free.1.1.1.1.0);
-    references = same_inner (jspan_table Spells left) items others s list_in 6 (λ item free. free.1.1.1.1.1.0);
+    references = λ v. moved MeansReferences or_empty v _ _ (same_inner (jspan_table Spells left) items others s list_in 6 (λ item free. free.1.1.1.1.1.0));
     flags = same_values (jspan_table Spells left) items others s i32_in 7 (λ item free. free.1.1.1.1.1.1.0);
     start = same_values (jspan_table Spells left) items others s i64_in 8 (λ item free. free.1.1.1.1.1.1.1.0);
     duration = same_values (jspan_table Spells left) items others s i64_in 9 (λ item free. free.1.1.1.1.1.1.1.1.0);
-    tags = same_inner (jspan_table Spells left) items others s list_in 10 (λ item free. free.1.1.1.1.1.1.1.1.1.0);
-    logs = same_inner (jspan_table Spells left) items others s list_in 11 (λ item free. free.1.1.1.1.1.1.1.1.1.1.0);
+    tags = λ v. moved MeansTags or_empty v _ _ (same_inner (jspan_table Spells left) items others s list_in 10 (λ item free. free.1.1.1.1.1.1.1.1.1.0));
+    logs = λ v. moved MeansLogs or_empty v _ _ (same_inner (jspan_table Spells left) items others s list_in 11 (λ item free. free.1.1.1.1.1.1.1.1.1.1.0));
   }
 
   span_passes : PassesFreeFields (jspan_table Spells left) IsJSpan
@@ -207,9 +212,9 @@ module _ (Spells : Spelling) (left : ℕ) where
 
   batch_passes : PassesFreeFields (batch_table Spells left) IsBatch
   batch_passes = both_ways (batch_table Spells left) IsBatch (λ items others s batch is.
-      batch_moved (fields_of items) (fields_of others) batch (same_inner (batch_table Spells left) items others s struct_in 1 (λ item free. free.0))
-      (same_inner (batch_table Spells left) items others s list_in 2 (λ item free. free.1.0)) (same_values (batch_table Spells left) items others s i64_in 3 (λ item free. free.1.1.0))
-      (same_values (batch_table Spells left) items others s struct_in 4 (λ item free. free.1.1.1.0)) is)
+      batch_moved (fields_of items) (fields_of others) batch (λ v. moved MeansProcess required v _ _ (same_inner (batch_table Spells left) items others s struct_in 1 (λ item free. free.0)))
+      (λ v. moved MeansSpans required v _ _ (same_inner (batch_table Spells left) items others s list_in 2 (λ item free. free.1.0))) (same_values (batch_table Spells left) items others s i64_in 3 (λ item free. free.1.1.0))
+      (subst AtMostOne (same_values (batch_table Spells left) items others s struct_in 4 (λ item free. free.1.1.1.0))) is)
 
 module _ (Spells : Spelling) (reads : ReadingOf) (ThenVarint : Part → List ℕ → Type 0) (Refuses : Part → Cause → List ℕ → Type 0) (R : ReadsExactly Spells reads ThenVarint Refuses) (P : PartLaws Spells ThenVarint Refuses) where
   text_moved : (items others : List FieldItem) (text other : List ℕ) → SameButFree (batch_table Spells outer_levels) items others → StructText Spells outer_levels (fields_of items) text → StructText Spells outer_levels (fields_of others) other

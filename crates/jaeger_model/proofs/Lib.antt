@@ -18,6 +18,7 @@ pub mod SpanProofs
 pub mod BatchOnce
 pub mod BatchProofs
 pub mod FreeFields
+pub mod FreeMeanings
 pub mod Growth
 pub mod WrittenLists
 pub mod HalfLemmas

@@ -1,5 +1,6 @@
 //! Laws of what structs mean, as contracts of functions that do nothing.
 ghost use Rattle.jaeger_model.specs.Laws.{OneBatch, SomeBatch, OneTree, FreeFields, ReadsTimes, ReadsProper};
+ghost use Rattle.jaeger_model.specs.FreeAnywhere.{FreeAnywhere};
 
 use thrift_core::Protocol;
 
@@ -28,6 +29,15 @@ pub fn one_tree<P: Protocol, Q: Protocol>()
 /// Fields whose id and type are of no row of their struct's table change nothing that it means.
 pub fn free_fields<P: Protocol>()
     ensures { FreeFields P.spells }
+{
+    // The clause is the law.
+}
+
+/// Fields whose id and type are of no row of their struct's table, added or removed anywhere, at
+/// any depth, change neither the batch that a text is of nor the cause of the offence that counts
+/// in it.
+pub fn free_anywhere<P: Protocol>()
+    ensures { FreeAnywhere P.spells }
 {
     // The clause is the law.
 }
