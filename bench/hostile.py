@@ -534,7 +534,9 @@ COMPACT_PROCESS = bytes.fromhex("1c180000")
 COMPACT_END = bytes.fromhex("190c00")
 EMPTY_COMPACT = COMPACT_PROCESS + COMPACT_END
 # Behind these codes stands the id 99.
-UNKNOWN_TRUTH, UNKNOWN_I8, UNKNOWN_I64, UNKNOWN_BINARY, UNKNOWN_LIST, UNKNOWN_MAP, UNKNOWN_STRUCT = (bytes([code]) + b"\xc6\1" for code in [1, 3, 6, 8, 9, 11, 12])
+UNKNOWN_TRUTH, UNKNOWN_I8, UNKNOWN_I16, UNKNOWN_I32, UNKNOWN_I64, UNKNOWN_BINARY, UNKNOWN_LIST, UNKNOWN_MAP, UNKNOWN_STRUCT = (
+    bytes([code]) + b"\xc6\1" for code in [1, 3, 4, 5, 6, 8, 9, 11, 12]
+)
 CLAIMED = b"\xff\xff\xff\xff\7"
 
 
@@ -549,14 +551,52 @@ def compact_refused(held, cause):
     return refused(COMPACT_PROCESS + held, 1, cause)
 
 
+def ten_bytes(n):
+    """A varint in ten bytes."""
+    return bytes(n >> 7 * group & 127 | 128 for group in range(9)) + bytes([n >> 63])
+
+
+def long_head(code, id):
+    """The head of a field whose id has ten bytes."""
+    return bytes([code]) + ten_bytes(2 * id)
+
+
+LONG_TRUTH = long_head(1, 99)
+
+
+def long_numbers(code, *pairs):
+    """Fields of numbers of which each id and number has ten bytes."""
+    return b"".join(long_head(code, id) + ten_bytes(2 * n) for id, n in pairs)
+
+
+def long_spans():
+    """As many good spans as fit, of which each id, number, length and size has ten bytes."""
+    tag = long_head(8, 1) + ten_bytes(1) + b"k" + long_numbers(5, (2, 3)) + long_numbers(6, (6, 1)) + STOP
+    tags = long_head(9, 10) + b"\xfc" + ten_bytes(1) + tag
+    span = long_numbers(6, (1, 1), (2, 0), (3, 2), (4, 0)) + long_head(8, 5) + ten_bytes(0) + long_numbers(5, (7, 0)) + long_numbers(6, (8, 0), (9, 0)) + tags + STOP
+    short = bytes.fromhex("16021600160416001800250016001600 191c18016b150646020000")
+    begin = lambda count: long_head(12, 1) + long_head(8, 1) + ten_bytes(0) + STOP + long_head(9, 2) + b"\xfc" + ten_bytes(count)
+    count = (UNIT - len(begin(0)) - 1) // len(span)
+    return writes(begin(count) + span * count + STOP, COMPACT_PROCESS + b"\x19\xfc" + varint(count) + short * count + STOP)
+
+
 def compact_cases():
     """The same of batches in the compact protocol."""
-    zero = b"\x80" * 9 + b"\0"
+    zero, last = ten_bytes(0), [ten_bytes(n) for n in [2**16 - 1, 2**16 - 2, 2**32 - 1, 2**32 - 2]]
+    ends = b"".join(head + n for head, n in zip([UNKNOWN_I16, UNKNOWN_I16, UNKNOWN_I32, UNKNOWN_I32], last))
+    behind_many = lambda held, cause: compact_refused(LONG_TRUTH * (UNIT // 11 - 20) + held, cause)
     return [
         ("structs 32 deep", COMPACT, lambda: compact_filled(UNKNOWN_STRUCT + b"\x1c" * 30 + b"\0" * 31)),
         ("structs without an end", COMPACT, lambda: refused(b"\x1c" * UNIT, 1, "5 TooDeep")),
         ("lists 32 deep", COMPACT, lambda: compact_filled(UNKNOWN_LIST + b"\x19" * 30 + b"\0")),
         ("numbers in ten bytes each", FROM_COMPACT, lambda: compact_filled(UNKNOWN_I64 + zero, EMPTY_BATCH)),
+        ("ids in ten bytes each", COMPACT, lambda: compact_filled(LONG_TRUTH)),
+        ("the ends of 16 and of 32 bits in ten bytes each", FROM_COMPACT, lambda: compact_filled(ends, EMPTY_BATCH)),
+        ("a list of numbers of 32 bits in ten bytes each", COMPACT, lambda: compact_filled(UNKNOWN_LIST + b"\xf5" + varint(UNIT // 10 - 10) + zero * (UNIT // 10 - 10))),
+        ("spans of ids, numbers, lengths and sizes in ten bytes each", COMPACT, long_spans),
+        ("an id above 32767 in ten bytes behind many", COMPACT, lambda: behind_many(b"\1" + ten_bytes(2**16), "3 BadWire")),
+        ("a number above 16 bits in ten bytes behind many", COMPACT, lambda: behind_many(UNKNOWN_I16 + ten_bytes(2**16), "2 BadVarint")),
+        ("a number above 32 bits in ten bytes behind many", COMPACT, lambda: behind_many(UNKNOWN_I32 + ten_bytes(2**32), "2 BadVarint")),
         ("empty binaries, maps and lists, each size in ten bytes", COMPACT, lambda: compact_filled(b"".join([UNKNOWN_BINARY, zero, UNKNOWN_MAP, zero, UNKNOWN_LIST, b"\xfc", zero]))),
         ("truth values held by heads", COMPACT, lambda: compact_filled(UNKNOWN_TRUTH)),
         ("ids that rise by one", COMPACT, lambda: compact_refused(b"\x11" * (UNIT - 4), "3 BadWire")),

@@ -8,6 +8,7 @@ use std::test::Fail;
 
 mod documents;
 mod protocols;
+mod spans;
 
 // A group with one span: its two identifiers, and its name "a".
 const SMALL: [u8; 37] = [

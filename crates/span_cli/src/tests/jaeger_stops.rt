@@ -2,7 +2,7 @@
 use super::jaeger::{BATCHES, REQUESTS, Row, converts_row};
 use std::test::Fail;
 
-const FAULTS: [Row; 24] = [
+const FAULTS: [Row; 25] = [
     Row {
         name: "ends before it starts",
         from: REQUESTS,
@@ -201,6 +201,16 @@ const FAULTS: [Row; 24] = [
         to: BATCHES,
         input: "0a37123512330a1000000000000000000000000000000001120800000000000000022a01614a120a016c120d\
         2a0b0a0921000000000000f03f",
+        status: 4,
+        output: "",
+        note: "unit 1: fault 25 DoubleInText\n",
+    },
+    Row {
+        name: "a double in a map",
+        from: REQUESTS,
+        to: BATCHES,
+        input: "0a3c123a12380a1000000000000000000000000000000001120800000000000000022a01614a170a016d1212\
+        32100a0e0a0164120921000000000000f03f",
         status: 4,
         output: "",
         note: "unit 1: fault 25 DoubleInText\n",

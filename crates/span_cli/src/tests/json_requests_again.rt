@@ -1,9 +1,9 @@
 //! Rows of OTLP/JSON that say how much may be spelled: members, values and numbers, and what is written of them.
-use super::jaeger::{REQUESTS, Row};
+use super::jaeger::{BATCHES, REQUESTS, Row};
 use super::json_requests::{GROUPS, converts_table};
 use super::*;
 
-const AGAIN: [Row; 12] = [
+const AGAIN: [Row; 13] = [
     Row {
         name: "as it is written",
         from: GROUPS,
@@ -54,6 +54,18 @@ const AGAIN: [Row; 12] = [
         input: r#"{"resourceSpans":[{"scopeSpans":[{"spans":[{"traceId":"00000000000000000000000000000001","spanId":"0000000000000002","name":"a","attributes":[{"key":"k","value":{"intValue":"1"}},{"key":"k","value":{"intValue":2}}],"links":[{"traceId":"","spanId":""}]}]}]}]}"#,
         status: 0,
         output: r#"{"resourceSpans":[{"scopeSpans":[{"spans":[{"attributes":[{"key":"k","value":{"intValue":"2"}}],"name":"a","spanId":"0000000000000002","traceId":"00000000000000000000000000000001"}]}]}]}"#,
+        note: "",
+    },
+    Row {
+        name: "a key that stands twice, and a link without identifiers",
+        from: GROUPS,
+        to: BATCHES,
+        input: r#"{"resourceSpans":[{"scopeSpans":[{"spans":[{"traceId":"00000000000000000000000000000001","spanId":"0000000000000002","name":"a","attributes":[{"key":"k","value":{"intValue":"1"}},{"key":"k","value":{"intValue":2}}],"links":[{}]}]}]}]}"#,
+        status: 0,
+        output: "0c00010b000100000000000f00020c000000010a000100000000000000010a000200000000000000000a0003\
+        00000000000000020a000400000000000000000b00050000000161080007000000000a000800000000000000\
+        000a000900000000000000000f000a0c000000010b0001000000016b080002000000030a0006000000000000\
+        0002000000",
         note: "",
     },
     Row {

@@ -352,7 +352,7 @@ fn one_value(alloc: Global, value: &str) -> Result<Blob, Fail> {
 }
 
 // Members of a span that are refused, and their notes.
-const MEMBERS: [(&str, &str); 12] = [
+const MEMBERS: [(&str, &str); 13] = [
     (r#""kind":6"#, "unit 1: cause 13 BadEnum\n"),
     (r#""kind":-1"#, "unit 1: cause 13 BadEnum\n"),
     (
@@ -362,6 +362,7 @@ const MEMBERS: [(&str, &str); 12] = [
     (r#""kind":"1""#, "unit 1: cause 11 BadShape\n"),
     (r#""kind":1.0"#, "unit 1: cause 11 BadShape\n"),
     (r#""status":{"code":3}"#, "unit 1: cause 13 BadEnum\n"),
+    (r#""status":{"code":-1}"#, "unit 1: cause 13 BadEnum\n"),
     (
         r#""status":{"code":"STATUS_CODE_OK"}"#,
         "unit 1: cause 11 BadShape\n",
@@ -439,7 +440,7 @@ const BEYOND: [(&str, &str); 12] = [
 ];
 
 // Numbers that aren't spelled as whole ones.
-const SPELLINGS: [(&str, &str); 12] = [
+const SPELLINGS: [(&str, &str); 13] = [
     (r#""startTimeUnixNano":-0"#, "unit 1: cause 11 BadShape\n"),
     (r#""startTimeUnixNano":1.0"#, "unit 1: cause 11 BadShape\n"),
     (r#""startTimeUnixNano":1e3"#, "unit 1: cause 11 BadShape\n"),
@@ -455,6 +456,7 @@ const SPELLINGS: [(&str, &str); 12] = [
     (r#""startTimeUnixNano":"""#, "unit 1: cause 11 BadShape\n"),
     (r#""startTimeUnixNano":"-""#, "unit 1: cause 11 BadShape\n"),
     (r#""startTimeUnixNano":" 1""#, "unit 1: cause 11 BadShape\n"),
+    (r#""startTimeUnixNano":"1 ""#, "unit 1: cause 11 BadShape\n"),
     (
         r#""startTimeUnixNano":"0x1""#,
         "unit 1: cause 11 BadShape\n",

@@ -303,6 +303,101 @@ const OF_SPANS: [Row; 12] = [
     },
 ];
 
+const OF_TAGS: [Row; 10] = [
+    Row {
+        name: "the span of an SDK, written again",
+        from: SPANS,
+        to: SPANS,
+        input: r#"[{"duration":100000,"id":"b7ad6b7169203331","kind":"CLIENT","localEndpoint":{"serviceName":"shop"},"name":"GET /cart","tags":{"http.request.method":"GET","http.response.status_code":"200","otel.resource.host.name":"n1","otel.scope.name":"lib","otel.scope.version":"1.0"},"timestamp":1700000000123456,"traceId":"0af7651916cd43dd8448eb211c80319c"}]"#,
+        status: 0,
+        output: r#"[{"duration":100000,"id":"b7ad6b7169203331","kind":"CLIENT","localEndpoint":{"serviceName":"shop"},"name":"GET /cart","tags":{"http.request.method":"GET","http.response.status_code":"200","otel.resource.host.name":"n1","otel.scope.name":"lib","otel.scope.version":"1.0"},"timestamp":1700000000123456,"traceId":"0af7651916cd43dd8448eb211c80319c"}]"#,
+        note: "",
+    },
+    Row {
+        name: "a code ERROR without `error`",
+        from: SPANS,
+        to: REQUESTS,
+        input: r#"[{"traceId":"1","id":"2","tags":{"otel.status_code":"ERROR"}}]"#,
+        status: 0,
+        output: "0a26122412220a10000000000000000000000000000000011208000000000000000230017a021802",
+        note: "",
+    },
+    Row {
+        name: "a code ERROR without `error`, written again",
+        from: SPANS,
+        to: SPANS,
+        input: r#"[{"traceId":"1","id":"2","tags":{"otel.status_code":"ERROR"}}]"#,
+        status: 0,
+        output: r#"[{"id":"0000000000000002","tags":{"error":"","otel.status_code":"ERROR"},"traceId":"00000000000000000000000000000001"}]"#,
+        note: "",
+    },
+    Row {
+        name: "a code OK beside `error`",
+        from: SPANS,
+        to: REQUESTS,
+        input: r#"[{"traceId":"1","id":"2","tags":{"otel.status_code":"OK","error":"x"}}]"#,
+        status: 0,
+        output: "0a26122412220a10000000000000000000000000000000011208000000000000000230017a021801",
+        note: "",
+    },
+    Row {
+        name: "a code OK beside `error`, written again",
+        from: SPANS,
+        to: SPANS,
+        input: r#"[{"traceId":"1","id":"2","tags":{"otel.status_code":"OK","error":"x"}}]"#,
+        status: 0,
+        output: r#"[{"id":"0000000000000002","tags":{"otel.status_code":"OK"},"traceId":"00000000000000000000000000000001"}]"#,
+        note: "",
+    },
+    Row {
+        name: "`peer.service` beside another remote name",
+        from: SPANS,
+        to: REQUESTS,
+        input: r#"[{"traceId":"1","id":"2","remoteEndpoint":{"serviceName":"r"},"tags":{"peer.service":"p"}}]"#,
+        status: 0,
+        output: "0a37123512330a10000000000000000000000000000000011208000000000000000230014a130a0c70656572\
+        2e7365727669636512030a0172",
+        note: "",
+    },
+    Row {
+        name: "`peer.service` beside another remote name, written again",
+        from: SPANS,
+        to: SPANS,
+        input: r#"[{"traceId":"1","id":"2","remoteEndpoint":{"serviceName":"r"},"tags":{"peer.service":"p"}}]"#,
+        status: 0,
+        output: r#"[{"id":"0000000000000002","remoteEndpoint":{"serviceName":"r"},"traceId":"00000000000000000000000000000001"}]"#,
+        note: "",
+    },
+    Row {
+        name: "`peer.service` alone",
+        from: SPANS,
+        to: REQUESTS,
+        input: r#"[{"traceId":"1","id":"2","tags":{"peer.service":"p"}}]"#,
+        status: 0,
+        output: "0a37123512330a10000000000000000000000000000000011208000000000000000230014a130a0c70656572\
+        2e7365727669636512030a0170",
+        note: "",
+    },
+    Row {
+        name: "`peer.service` alone, written again",
+        from: SPANS,
+        to: SPANS,
+        input: r#"[{"traceId":"1","id":"2","tags":{"peer.service":"p"}}]"#,
+        status: 0,
+        output: r#"[{"id":"0000000000000002","remoteEndpoint":{"serviceName":"p"},"traceId":"00000000000000000000000000000001"}]"#,
+        note: "",
+    },
+    Row {
+        name: "the last of equal tags",
+        from: SPANS,
+        to: SPANS,
+        input: r#"[{"traceId":"1","id":"2","tags":{"k":"1","k":"2"}}]"#,
+        status: 0,
+        output: r#"[{"id":"0000000000000002","tags":{"k":"2"},"traceId":"00000000000000000000000000000001"}]"#,
+        note: "",
+    },
+];
+
 // What a row tells of a form: JSON as it stands, the bytes of the others in hexadecimal.
 fn bytes_in(alloc: Global, form: &str, told: &str) -> Result<Blob, Fail> {
     if form != SPANS && form != GROUPS {
@@ -355,6 +450,14 @@ fn converts_to_spans(rt: HostRuntime) -> Result<(), Fail> {
 #[test]
 fn converts_what_spans_say(rt: HostRuntime) -> Result<(), Fail> {
     for row in &OF_SPANS {
+        converts_spans(&rt, rt.alloc(), row, 7)?;
+    }
+    Ok(())
+}
+
+#[test]
+fn converts_what_tags_say(rt: HostRuntime) -> Result<(), Fail> {
+    for row in &OF_TAGS {
         converts_spans(&rt, rt.alloc(), row, 7)?;
     }
     Ok(())

@@ -18,7 +18,7 @@ const SECOND_GROUP: Row = Row {
     note: "unit 2: fault 21 Reserved \"span.kind\"\n",
 };
 
-const FAULTS: [Row; 6] = [
+const FAULTS: [Row; 8] = [
     Row {
         name: "ends before it starts",
         from: REQUESTS,
@@ -60,6 +60,25 @@ const FAULTS: [Row; 6] = [
         note: "unit 1: fault 23 EventText\n",
     },
     Row {
+        name: "a double of a resource",
+        from: REQUESTS,
+        to: SPANS,
+        input: "0a120a100a0e0a0164120921000000000000f03f",
+        status: 4,
+        output: "",
+        note: "unit 1: fault 25 DoubleInText\n",
+    },
+    Row {
+        name: "a double of an event",
+        from: REQUESTS,
+        to: SPANS,
+        input: "0a35123312310a1000000000000000000000000000000001120800000000000000022a01615a101a0e0a0164\
+        120921000000000000f03f",
+        status: 4,
+        output: "",
+        note: "unit 1: fault 25 DoubleInText\n",
+    },
+    Row {
         name: "a double behind a good batch",
         from: BATCHES,
         to: SPANS,
@@ -85,7 +104,7 @@ const FAULTS: [Row; 6] = [
     },
 ];
 
-const CAUSES: [Row; 10] = [
+const CAUSES: [Row; 11] = [
     Row {
         name: "no JSON",
         from: SPANS,
@@ -145,6 +164,15 @@ const CAUSES: [Row; 10] = [
         from: SPANS,
         to: SPANS,
         input: r#"[{"traceId":"1","id":"2","x":"\ude00"}]"#,
+        status: 3,
+        output: "",
+        note: "unit 0: cause 10 BadJson\n",
+    },
+    Row {
+        name: "half of a surrogate pair in a tag",
+        from: SPANS,
+        to: SPANS,
+        input: r#"[{"traceId":"1","id":"2","tags":{"k":"\ud83d"}}]"#,
         status: 3,
         output: "",
         note: "unit 0: cause 10 BadJson\n",
