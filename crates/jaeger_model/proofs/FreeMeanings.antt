@@ -17,7 +17,7 @@ use Rattle.jaeger_model.specs.declared.span.JSpan.{JSpan}
 use Rattle.jaeger_model.specs.declared.span.Log.{Log}
 use Rattle.jaeger_model.specs.declared.span.SpanRef.{SpanRef}
 use Rattle.jaeger_model.specs.declared.tag.Tag.{Tag}
-use Rattle.jaeger_model.specs.FreeAnywhere.{FieldsPadded, no_more, on_both, inside, on_this, on_that, EachPadded, no_structs, struct_then, no_protocol, NothingInside, TagPadded, ReferencePadded, InTagged, its_tags, LogPadded, ProcessPadded, InSpan, references, tags, logs, SpanPadded, InBatch, process, spans, stats}
+use Rattle.jaeger_model.specs.FreeAtAnyDepth.{FieldsPadded, no_more, on_both, inside, on_this, on_that, EachPadded, no_structs, struct_then, no_protocol, NothingInside, TagPadded, ReferencePadded, InTagged, its_tags, LogPadded, ProcessPadded, InSpan, references, tags, logs, JSpanPadded, InBatch, process, spans, stats}
 use Rattle.jaeger_model.specs.InnerRows.{with_text}
 use Rattle.jaeger_model.specs.Logs.{MeansTags, IsLog, log_table}
 use Rattle.jaeger_model.specs.Processes.{IsProcess, MeansProcess, process_table}
@@ -166,7 +166,7 @@ in_process _ _ _ (process this other is) = (is, tt)
 in_process _ _ _ (spans trees others each) = tt
 in_process _ _ _ (stats this other) = tt
 
-pub in_spans : (n : ℕ) (tree other : Tree) → InBatch n tree other → AllZip (ListAlike SpanPadded) (of_id list_in 2 (pos n) tree) (of_id list_in 2 (pos n) other)
+pub in_spans : (n : ℕ) (tree other : Tree) → InBatch n tree other → AllZip (ListAlike JSpanPadded) (of_id list_in 2 (pos n) tree) (of_id list_in 2 (pos n) other)
 in_spans _ _ _ (process this other is) = tt
 in_spans _ _ _ (spans trees others each) = (inr each, tt)
 in_spans _ _ _ (stats this other) = tt
@@ -215,12 +215,12 @@ in_span_turned _ _ _ (references trees others each) = references others trees (e
 in_span_turned _ _ _ (tags trees others each) = tags others trees (each_turned TagPadded tag_turned trees others each)
 in_span_turned _ _ _ (logs trees others each) = logs others trees (each_turned LogPadded log_turned trees others each)
 
-span_turned : (f g : Fields) → SpanPadded f g → SpanPadded g f
+span_turned : (f g : Fields) → JSpanPadded f g → JSpanPadded g f
 span_turned f g padded = fields_turned own_span InSpan in_span_turned f g padded
 
 in_batch_turned : (n : ℕ) (tree other : Tree) → InBatch n tree other → InBatch n other tree
 in_batch_turned _ _ _ (process this other is) = process other this (process_turned this other is)
-in_batch_turned _ _ _ (spans trees others each) = spans others trees (each_turned SpanPadded span_turned trees others each)
+in_batch_turned _ _ _ (spans trees others each) = spans others trees (each_turned JSpanPadded span_turned trees others each)
 in_batch_turned _ _ _ (stats this other) = stats other this
 
 batch_turned : (f g : Fields) → FieldsPadded own_batch InBatch f g → FieldsPadded own_batch InBatch g f
@@ -263,7 +263,7 @@ process_means f g padded its is =
     (moves_alike own_process InTagged list_in 2 (λ item free. free.1.0) (ListAlike TagPadded) (λ l. inl refl) in_tagged MeansTags (lists_move IsTag TagPadded tag_means) (or_else []) f g padded)
     is
 
-span_means : (f g : Fields) → SpanPadded f g → (span : JSpan) → IsJSpan span f → IsJSpan span g
+span_means : (f g : Fields) → JSpanPadded f g → (span : JSpan) → IsJSpan span f → IsJSpan span g
 span_means f g padded span is =
     span_moved f g span
     (record {
@@ -285,7 +285,7 @@ batch_means : (f g : Fields) → FieldsPadded own_batch InBatch f g → (batch :
 batch_means f g padded batch is =
     batch_moved f g batch
     (moves_alike own_batch InBatch struct_in 1 (λ item free. free.0) ProcessPadded (fields_self own_process InTagged) in_process MeansProcess process_means required f g padded)
-    (moves_alike own_batch InBatch list_in 2 (λ item free. free.1.0) (ListAlike SpanPadded) (λ l. inl refl) in_spans MeansSpans (lists_move IsJSpan SpanPadded span_means) required f g padded)
+    (moves_alike own_batch InBatch list_in 2 (λ item free. free.1.0) (ListAlike JSpanPadded) (λ l. inl refl) in_spans MeansSpans (lists_move IsJSpan JSpanPadded span_means) required f g padded)
     (same_held own_batch InBatch i64_in 3 (λ item free. free.1.1.0) (long_quiet InBatch batch_shape 3) f g padded)
     (λ few. omega (arith, few, AllZip-long AnyTwo (values_of struct_in 4 f) (values_of struct_in 4 g) (held_alike own_batch InBatch struct_in 4 (λ item free. free.1.1.1.0) AnyTwo (λ x. tt) in_stats f g padded)))
     is
@@ -304,7 +304,7 @@ log_same f g padded x = (log_means f g padded x, log_means g f (log_turned f g p
 pub process_same : (f g : Fields) → ProcessPadded f g → (x : Process) → IsProcess x f ↔ IsProcess x g
 process_same f g padded x = (process_means f g padded x, process_means g f (process_turned f g padded) x)
 
-pub span_same : (f g : Fields) → SpanPadded f g → (x : JSpan) → IsJSpan x f ↔ IsJSpan x g
+pub span_same : (f g : Fields) → JSpanPadded f g → (x : JSpan) → IsJSpan x f ↔ IsJSpan x g
 span_same f g padded x = (span_means f g padded x, span_means g f (span_turned f g padded) x)
 
 pub batch_same : (f g : Fields) → FieldsPadded own_batch InBatch f g → (x : Batch) → IsBatch x f ↔ IsBatch x g

@@ -21,7 +21,7 @@ use Rattle.jaeger_model.proofs.ListLemmas.{First, first, later_to, later_from, t
 use Rattle.jaeger_model.proofs.RowPairs.{Keeps, SameCause, same_moved, cause_moved, Each, Twins, Free, alike_given, RowPair, StructPair}
 use Rattle.jaeger_model.proofs.StructRows.{Stands}
 use Rattle.jaeger_model.proofs.TwoTexts.{Surely, NoneOrFirst, none_or_first}
-use Rattle.jaeger_model.specs.FreeAnywhere.{EachPadded, no_structs, struct_then}
+use Rattle.jaeger_model.specs.FreeAtAnyDepth.{EachPadded, no_structs, struct_then}
 use Rattle.jaeger_model.specs.InnerRows.{with_text, IsOfOthers, BadElement, ElementsOffend, ListOffends, structure, structures}
 use Rattle.jaeger_model.specs.Rows.{given_to, nothing_wrong, singular}
 

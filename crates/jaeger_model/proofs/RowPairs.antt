@@ -24,7 +24,7 @@ use Rattle.jaeger_model.proofs.ListLemmas.{least_same}
 use Rattle.jaeger_model.proofs.RowKinds.{StructProof}
 use Rattle.jaeger_model.proofs.StructRows.{Stands, whole_of}
 use Rattle.jaeger_model.proofs.TwoTexts.{Surely, Beside, no_items, twins_then, free_here, free_there, one_number}
-use Rattle.jaeger_model.specs.FreeAnywhere.{FieldsPadded, no_more, on_both, inside, on_this, on_that}
+use Rattle.jaeger_model.specs.FreeAtAnyDepth.{FieldsPadded, no_more, on_both, inside, on_this, on_that}
 use Rattle.jaeger_model.specs.Rows.{given_to, SomeMissing, Missing}
 
 -- what a protocol is known to keep

@@ -28,7 +28,7 @@ use Rattle.jaeger_model.specs.declared.batch.Batch.{Batch}
 use Rattle.jaeger_model.specs.declared.span.Log.{Log}
 use Rattle.jaeger_model.specs.declared.span.SpanRef.{SpanRef}
 use Rattle.jaeger_model.specs.declared.tag.Tag.{Tag}
-use Rattle.jaeger_model.specs.FreeAnywhere.{FieldsPadded, NothingInside, TagPadded, ReferencePadded, InTagged, LogPadded, ProcessPadded, InSpan, SpanPadded, InBatch, FreeAnywhere}
+use Rattle.jaeger_model.specs.FreeAtAnyDepth.{FieldsPadded, NothingInside, TagPadded, ReferencePadded, InTagged, LogPadded, ProcessPadded, InSpan, JSpanPadded, InBatch, FreeAtAnyDepth}
 use Rattle.jaeger_model.specs.InnerRows.{with_text, structures}
 use Rattle.jaeger_model.specs.Laws.{BatchOffends, OneTree}
 use Rattle.jaeger_model.specs.Logs.{MeansTags, IsLog, log_table, log_ends, log_rules}
@@ -233,7 +233,7 @@ module _ (A B : Spelling) (k : Keeps A) (j : Keeps B) where
       back (inl h) = inl (missing.1 h)
       back (inr h) = inr (ids_moved (fields_of past) (fields_of seen) (sym (same 1 (λ item free. free.0))) (sym (same 2 (λ item free. free.1.0))) (sym (same 3 (λ item free. free.1.1.0))) (sym (same 8 (λ item free. free.1.1.1.1.1.1.1.0))) (sym (same 9 (λ item free. free.1.1.1.1.1.1.1.1.0))) n h)
 
-  span_pair : (left : ℕ) → StructPair A B left SpanPadded (jspan_rules A left) (jspan_rules B left)
+  span_pair : (left : ℕ) → StructPair A B left JSpanPadded (jspan_rules A left) (jspan_rules B left)
   span_pair left = struct_pair A B left own_span InSpan k j (jspan_table A left) (jspan_table B left) (span_rows left) jspan_ends (span_end left) IsJSpan span_same (span_known A k left) (span_known B j left)
 
   -- ---- batches
@@ -241,7 +241,7 @@ module _ (A B : Spelling) (k : Keeps A) (j : Keeps B) where
   batch_rows : (left : ℕ) → TablePair A B left own_batch InBatch (batch_table A left) (batch_table B left)
   batch_rows left =
       row_then _ _ _ _ (structure_pair A B left own_batch InBatch ProcessPadded (fields_self own_process InTagged) (process_rules A (left - 1)) (process_rules B (left - 1)) (process_pair (left - 1)) 1 (λ item free. free.0) in_process MeansProcess required)
-      (row_then _ _ _ _ (structures_pair A B k j left own_batch InBatch SpanPadded (fields_self own_span InSpan) (jspan_rules A (left - 2)) (jspan_rules B (left - 2)) (span_known A k (left - 2)).laws (span_known B j (left - 2)).laws (span_pair (left - 2)) 2 (λ item free. free.1.0) in_spans MeansSpans required)
+      (row_then _ _ _ _ (structures_pair A B k j left own_batch InBatch JSpanPadded (fields_self own_span InSpan) (jspan_rules A (left - 2)) (jspan_rules B (left - 2)) (span_known A k (left - 2)).laws (span_known B j (left - 2)).laws (span_pair (left - 2)) 2 (λ item free. free.1.0) in_spans MeansSpans required)
       (row_then _ _ _ _ (number_pair A B left own_batch InBatch batch_shape 3 (λ item free. free.1.1.0) (or_else (pos 0)))
       (row_then _ _ _ _ (alike_pair A B left own_batch InBatch struct_in 4 (λ item free. free.1.1.1.0) AnyTwo (λ x. tt) in_stats MeansNothing (λ value. Unit {0}) nothing_wrong (λ x n h. absurd h) (λ x y alike n. (λ h. h, λ h. h))) no_rows)))
 
@@ -250,8 +250,8 @@ module _ (A B : Spelling) (k : Keeps A) (j : Keeps B) where
       either_missing n
       (none_too A B left own_batch InBatch ProcessPadded _ _
       (both_hold A B left own_batch InBatch struct_in 1 (λ item free. bare_none item.text (given_to struct_in 1 item) free.0) ProcessPadded (fields_self own_process InTagged) in_process seen past both))
-      (none_too A B left own_batch InBatch (ListAlike SpanPadded) _ _
-      (both_hold A B left own_batch InBatch list_in 2 (λ item free. bare_none item.text (given_to list_in 2 item) free.1.0) (ListAlike SpanPadded) (λ l. inl refl) in_spans seen past both))
+      (none_too A B left own_batch InBatch (ListAlike JSpanPadded) _ _
+      (both_hold A B left own_batch InBatch list_in 2 (λ item free. bare_none item.text (given_to list_in 2 item) free.1.0) (ListAlike JSpanPadded) (λ l. inl refl) in_spans seen past both))
 
   batch_pair : (left : ℕ) → StructPair A B left (FieldsPadded own_batch InBatch) (batch_rules A left) (batch_rules B left)
   batch_pair left = struct_pair A B left own_batch InBatch k j (batch_table A left) (batch_table B left) (batch_rows left) batch_ends (batch_end left) IsBatch batch_same (batch_known A k left) (batch_known B j left)
@@ -283,7 +283,7 @@ one_tree A B k j = record {
   same_cause = λ fields text other stands there. one_batch_cause A B k j fields fields (fields_self own_batch InBatch fields) text other stands there;
 }
 
-pub free_anywhere : (Spells : Spelling) → Keeps Spells → FreeAnywhere Spells
+pub free_anywhere : (Spells : Spelling) → Keeps Spells → FreeAtAnyDepth Spells
 free_anywhere Spells kept = record {
   none = λ items. fields_self own_batch InBatch (fields_of items);
   means = λ items others text other padded stands there. one_batch_text Spells Spells kept kept (fields_of items) (fields_of others) padded text other stands there;

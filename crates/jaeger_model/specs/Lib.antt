@@ -1,7 +1,7 @@
 pub mod BatchSoFar
 pub mod Batches
 pub mod Canonical
-pub mod FreeAnywhere
+pub mod FreeAtAnyDepth
 pub mod Growing
 pub mod Identifiers
 pub mod InnerRows

@@ -1,6 +1,6 @@
 //! Laws of what structs mean, as contracts of functions that do nothing.
 ghost use Rattle.jaeger_model.specs.Laws.{OneBatch, SomeBatch, OneTree, FreeFields, ReadsTimes, ReadsProper};
-ghost use Rattle.jaeger_model.specs.FreeAnywhere.{FreeAnywhere};
+ghost use Rattle.jaeger_model.specs.FreeAtAnyDepth.{FreeAtAnyDepth};
 
 use thrift_core::Protocol;
 
@@ -37,7 +37,7 @@ pub fn free_fields<P: Protocol>()
 /// any depth, change neither the batch that a text is of nor the cause of the offence that counts
 /// in it.
 pub fn free_anywhere<P: Protocol>()
-    ensures { FreeAnywhere P.spells }
+    ensures { FreeAtAnyDepth P.spells }
 {
     // The clause is the law.
 }

@@ -13,7 +13,7 @@ use Rattle.span_tags.specs.TagWords.{Pairs, row, without, text_given, code_given
 use Rattle.trace_model.specs.declared.span.Span.{Span}
 use Rattle.map_zipkin.specs.TagColumns.{count_text}
 use Rattle.map_zipkin.specs.Writing.{error_message, as_text, as_texts, prefixed, resource_pairs, is_told, told_pairs}
-use Rattle.map_zipkin.specs.WritingSoFar.{count_rows, own_rows, shared_pairs, shared_rows}
+use Rattle.map_zipkin.specs.WritingSoFar.{count_rows, unshared_rows, shared_pairs, shared_rows}
 use Rattle.map_zipkin.proofs.ColumnLemmas.{textual}
 use Rattle.map_zipkin.proofs.OwnForms.{text_leaf, count_leaf}
 use Rattle.map_zipkin.proofs.TagsBack.{error_leaf, code_leaf}
@@ -61,8 +61,8 @@ plain_row key None e = All-nil Plain
 plain_row key (Some value) e = All-cons Plain (key, value) [] (sym (ap double_at e)) (All-nil Plain)
 
 -- those of the columns
-pub own_plain : (span : Span) → holds_double (own_rows span) ≡ false
-own_plain span = none_double (own_rows span)
+pub own_plain : (span : Span) → holds_double (unshared_rows span) ≡ false
+own_plain span = none_double (unshared_rows span)
     (All-append Plain (row error_key (error_message span.status.code span.status.message)) _ (plain_row error_key _ (error_leaf span.status.code span.status.message))
     (All-append Plain (count_rows span) _ (counts span)
     (All-append Plain (row code_key (code_given span.status.code)) _ (plain_row code_key _ (code_leaf span.status.code))

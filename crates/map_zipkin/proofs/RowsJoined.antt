@@ -12,7 +12,7 @@ use Rattle.span_tags.specs.TagKeys.{error_key, scope_name_key, scope_version_key
 use Rattle.span_tags.specs.TagWords.{Pairs, row, text_given, code_given}
 use Rattle.map_zipkin.specs.TagColumns.{column_rows}
 use Rattle.map_zipkin.specs.Writing.{zipkin_columns_of, error_message, resource_pairs}
-use Rattle.map_zipkin.specs.WritingSoFar.{count_rows, own_rows, shared_pairs}
+use Rattle.map_zipkin.specs.WritingSoFar.{count_rows, unshared_rows, shared_pairs}
 
 -- ---- pushed one after the other
 
@@ -25,7 +25,7 @@ pub own_joined : (span : Span) (p0 p1 p2 p3 p4 : Pairs) (error code state : Opti
     → p2 ≡ p1 ++ count_rows span
     → p3 ≡ p2 ++ row code_key code
     → p4 ≡ p3 ++ row state_key state
-    → p4 ≡ own_rows span
+    → p4 ≡ unshared_rows span
 own_joined span p0 p1 p2 p3 p4 error code state w1 w2 w3 e0 e1 e2 e3 e4 =
     rw (e4, e3, e2, e1, e0, w1, w2, w3) (simp append_assoc)
 
@@ -93,7 +93,7 @@ swapped name version code state l =
     ∙ in_front_of n (c ++ (v ++ (s ++ l))) (v ++ (c ++ (s ++ l))) (rows_swap code_key scope_version_key code version (s ++ l) refl)))
 
 pub rows_are_columns : (resource : Pairs) (one : Scoped Span) (l : Pairs)
-    → attrs (own_rows one.span ++ (attrs (shared_pairs resource one.name one.version) ++ l)) ≡ attrs (column_rows (zipkin_columns_of one) ++ (resource_pairs resource ++ l))
+    → attrs (unshared_rows one.span ++ (attrs (shared_pairs resource one.name one.version) ++ l)) ≡ attrs (column_rows (zipkin_columns_of one) ++ (resource_pairs resource ++ l))
 rows_are_columns resource one l =
     let error = row error_key (error_message one.span.status.code one.span.status.message) in
     let counts = count_rows one.span in
@@ -104,9 +104,9 @@ rows_are_columns resource one l =
     let rest = resource_pairs resource ++ l in
     let scope_last = c ++ (s ++ (n ++ (v ++ rest))) in
     let scope_first = n ++ (v ++ (c ++ (s ++ rest))) in
-    let shown : own_rows one.span ++ (shared_pairs resource one.name one.version ++ l) ≡ error ++ (counts ++ scope_last) = simp append_assoc in
+    let shown : unshared_rows one.span ++ (shared_pairs resource one.name one.version ++ l) ≡ error ++ (counts ++ scope_last) = simp append_assoc in
     let told : error ++ (counts ++ scope_first) ≡ column_rows (zipkin_columns_of one) ++ rest = simp append_assoc in
-    in_front_of (own_rows one.span) (attrs (shared_pairs resource one.name one.version) ++ l) (shared_pairs resource one.name one.version ++ l) (attrs_within (shared_pairs resource one.name one.version) l)
+    in_front_of (unshared_rows one.span) (attrs (shared_pairs resource one.name one.version) ++ l) (shared_pairs resource one.name one.version ++ l) (attrs_within (shared_pairs resource one.name one.version) l)
     ∙ (ap attrs shown
     ∙ (in_front_of error (counts ++ scope_last) (counts ++ scope_first) (in_front_of counts scope_last scope_first
     (swapped (text_given one.name) (text_given one.version) (code_given one.span.status.code) (text_given one.span.state) rest))

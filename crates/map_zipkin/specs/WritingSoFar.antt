@@ -16,8 +16,8 @@ count_rows span = row dropped_attributes_key (count_text span.dropped_attributes
     ++ row dropped_links_key (count_text span.dropped_links))
 
 -- those of the columns that a span doesn't share with its scope
-abbrev pub own_rows : Span → Pairs
-own_rows span = row error_key (error_message span.status.code span.status.message)
+abbrev pub unshared_rows : Span → Pairs
+unshared_rows span = row error_key (error_message span.status.code span.status.message)
     ++ (count_rows span
     ++ (row code_key (code_given span.status.code)
     ++ row state_key (text_given span.state)))

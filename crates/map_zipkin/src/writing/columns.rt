@@ -1,7 +1,7 @@
 //! The columns of a span that it doesn't share with its scope, as tags hold them under the reserved keys.
 ghost use Rattle.std.specs.Prelude.{◌≡◌, ◌++◌, IfOk, OnOk};
 ghost use Rattle.map_zipkin.specs.Writing as told;
-ghost use Rattle.map_zipkin.specs.WritingSoFar.{count_rows, own_rows};
+ghost use Rattle.map_zipkin.specs.WritingSoFar.{count_rows, unshared_rows};
 
 use crate::count_texts::count_text;
 use span_io::{Items, OutOfMemory, Text};
@@ -21,7 +21,7 @@ fn error_message(code: Code, message: &Text) -> Result<Option<Value>, OutOfMemor
 /// The tags of the columns that a span doesn't share with its scope, in the order of their keys.
 /// Most spans have none.
 pub(crate) fn rows_of_span(alloc: Global, span: &Span) -> Result<Attrs, OutOfMemory>
-    ensures { IfOk result (λ pairs. pairs ≡ own_rows span.now) }
+    ensures { IfOk result (λ pairs. pairs ≡ unshared_rows span.now) }
 {
     let code = span.status.code;
     let error = error_message(code, &span.status.message)?;

@@ -63,13 +63,13 @@ pub data InSpan : ℕ → Tree → Tree → Type 0 where
   tags : (trees others : Trees) → EachPadded TagPadded trees others → InSpan 10 (list_of trees) (list_of others)
   logs : (trees others : Trees) → EachPadded LogPadded trees others → InSpan 11 (list_of trees) (list_of others)
 
-abbrev pub SpanPadded : Fields → Fields → Type 0
-SpanPadded this other = FieldsPadded (jspan_table no_protocol outer_levels) InSpan this other
+abbrev pub JSpanPadded : Fields → Fields → Type 0
+JSpanPadded this other = FieldsPadded (jspan_table no_protocol outer_levels) InSpan this other
 
 -- the stats have no meaning, whatever they hold
 pub data InBatch : ℕ → Tree → Tree → Type 0 where
   process : (this other : Fields) → ProcessPadded this other → InBatch 1 (structure this) (structure other)
-  spans : (trees others : Trees) → EachPadded SpanPadded trees others → InBatch 2 (list_of trees) (list_of others)
+  spans : (trees others : Trees) → EachPadded JSpanPadded trees others → InBatch 2 (list_of trees) (list_of others)
   stats : (this other : Fields) → InBatch 4 (structure this) (structure other)
 
 -- The same fields of a batch, but for free fields in it, and in any struct that its rows hold.
@@ -79,7 +79,7 @@ BatchPadded items others = FieldsPadded (batch_table no_protocol outer_levels) I
 -- ---- what they change
 
 -- Texts of such fields are of the same batch, or what counts in them has the same cause.
-pub record FreeAnywhere (Spells : Spelling) : Type 0 where
+pub record FreeAtAnyDepth (Spells : Spelling) : Type 0 where
   -- nothing need be added
   pub none : (items : List FieldItem) → BatchPadded items items
   pub means : (items others : List FieldItem) (text other : List ℕ) → BatchPadded items others → StructText Spells outer_levels (fields_of items) text
