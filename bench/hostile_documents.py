@@ -113,6 +113,13 @@ def many_resource_tags(order):
     return writes(group(resource + bytes_field(2, GOOD_SPAN)), document(json_span(middle=b',"tags":{%b}' % tags)))
 
 
+def many_empty_scopes():
+    """Half a group of attributes of a resource, and half of scopes without spans, for which nothing is written."""
+    attributes = (bytes_field(1, bytes_field(1, b"%06d" % n) + bytes_field(2, bytes_field(1, b""))) for n in range(GROUP_ROOM // 28 - 16))
+    resource = bytes_field(1, b"".join(attributes))
+    return writes(group(resource + filled(bytes_field(2, b""), GROUP_ROOM - len(resource))), document())
+
+
 def text_in_tag(value, text):
     return writes(one_value(value), document(json_span(middle=b',"tags":{"a":"%b"}' % text)))
 
@@ -184,6 +191,7 @@ def to_document_cases():
     cases = [
         ("smallest good spans", json_spans), ("empty groups", lambda: writes(b"\x0a\0" * UNIT, b"[]")), ("a heavy resource of many spans", heavy_resource),
         ("many attributes of a resource, rising", lambda: many_resource_tags(list)), ("many attributes of a resource, shuffled", lambda: many_resource_tags(shuffled)),
+        ("many attributes of a resource, many scopes without spans", many_empty_scopes),
         ("empty events", lambda: writes(one_span(filled(b"\x5a\0", REST_ROOM)), empty_events())), ("a list of empty values", many_nulls),
         ("a byte value", lambda: text_in_tag(bytes_field(7, bytes(LIST_ROOM)), base64.b64encode(bytes(LIST_ROOM)))),
         ("a double in the last of many lists", lambda: faulted(last_double(), 1, "25 DoubleInText")),

@@ -145,6 +145,9 @@ fn push_scope(
     requires scope { scope_unfit scope ≡ false }
     ensures { OnOk result (spans.new ≡ spans.old ++ map (told.zipkin_span resource.now) (scoped_spans scope)) }
 {
+    if scope.spans.len() == 0 {
+        return Ok(());
+    }
     let shared = rows_of_scope(alloc, resource, &scope.name, &scope.version)?;
     push_spans(alloc, spans, resource, &shared, scope.spans)
 }
