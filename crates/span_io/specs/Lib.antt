@@ -25,6 +25,7 @@ pub mod Steps
 pub mod TableDecisions
 pub mod TableLaws
 pub mod Tables
+pub mod Texts
 pub mod Varint
 pub mod VarintFacts
 pub mod VarintLaws

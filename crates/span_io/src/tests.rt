@@ -130,6 +130,11 @@ fn lists(rt: HostRuntime) -> Result<(), Fail> {
     text.append("t")?;
     assert_eq!(rt; text.copy()?.as_str(), "ét");
     assert_eq!(rt; text.len(), 3);
+    text.append("a short text that grows")?;
+    text.append(" and grows")?;
+    assert_eq!(rt; text.copy()?.as_str(), "éta short text that grows and grows");
+    let long = Text::of(rt.alloc(), "abcdefghijklmnopqrstuvwxy")?;
+    assert_eq!(rt; long.as_str(), "abcdefghijklmnopqrstuvwxy");
     let calls = calls_of(rt.alloc(), &[3, 1])?;
     assert_eq!(rt; calls.copy()?.as_slice(), [3, 1].as_slice());
     assert_eq!(rt; calls.len(), 2);
@@ -148,7 +153,7 @@ fn trees(rt: HostRuntime) -> Result<(), Fail> {
     let tree = Tree::Named(named);
     let printed = format!(in rt.alloc(); "{tree:?}")?;
     let wanted =
-        "Named(Items { items: [(Text { text: \"n\" }, Branch(Items { items: [Leaf(7)] }))] })";
+        "Named(Items { items: [(Text { kept: Short(\"n\", Global) }, Branch(Items { items: [Leaf(7)] }))] })";
     assert_eq!(rt; printed.as_str(), wanted);
     Ok(())
 }

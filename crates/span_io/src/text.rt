@@ -1,24 +1,48 @@
 ghost use Rattle.std.specs.Prelude.{◌≡◌, [], ◌++◌, length, IfOk, OnOk, OnErr, IsUtf8, string_bytes};
 
 use crate::halt::OutOfMemory;
+use arrayvec::ArrayString;
 use std::alloc::Global;
 use std::marker::Model;
 
-/// A growing text in UTF-8, which contracts see as the list of its bytes.
+/// A text of so many bytes, or fewer, needs no memory of its own.
+const SHORT: usize = 24;
+
+/// Where the bytes of a text are kept.
+#[derive(Debug, Drop)]
+enum Kept {
+    /// In the value itself.
+    Short(ArrayString<SHORT>, Global),
+    Long(String),
+}
+
+/// A growing text in UTF-8, which contracts see as the list of its bytes. Most names, keys and values
+/// of attributes are short: they are kept in the value itself.
 #[derive(Debug, Drop)]
 pub struct Text {
-    text: String,
+    kept: Kept,
 }
 
 impl Model for Text {
-    ghost use Rattle.std.specs.Prelude.{ℕ, List, string_bytes};
+    ghost use Rattle.std.specs.Prelude.{ℕ, List};
     ghost use Rattle.std.specs.Coded.{coded_ℕ, coded_list};
+    ghost use Rattle.span_io.specs.Texts.{kept_bytes};
 
     ghost Value = { List ℕ };
 
     ghost coded = { coded_list coded_ℕ };
 
-    ghost view = { λ t. string_bytes t.text };
+    ghost view = { λ t. kept_bytes t.kept };
+}
+
+// Two texts, one behind the other, in memory of their own.
+fn joined(alloc: Global, front: &str, back: &str) -> Result<String, OutOfMemory>
+    ensures { IfOk result (λ text. string_bytes text ≡ front.now ++ back.now) }
+{
+    let mut text = String::with_capacity(alloc, front.len().saturating_add(back.len()))?;
+    text.push_str(front)?;
+    text.push_str(back)?;
+    Ok(text)
 }
 
 impl Text {
@@ -26,46 +50,55 @@ impl Text {
         ensures { result ≡ [] }
     {
         Text {
-            text: String::new(alloc),
+            kept: Kept::Short(ArrayString::new(), alloc),
         }
     }
 
-    /// The same text, in memory of its own.
+    /// The same text, in memory of its own where it is long.
     pub fn of(alloc: Global, piece: &str) -> Result<Text, OutOfMemory>
         ensures { IfOk result (λ text. text ≡ piece.now) }
     {
-        Ok(Text {
-            text: String::from_str(alloc, piece)?,
-        })
+        let kept = match ArrayString::from(piece) {
+            Ok(text) => Kept::Short(text, alloc),
+            Err(_) => Kept::Long(String::from_str(alloc, piece)?),
+        };
+        Ok(Text { kept })
     }
 
     /// The text of a string, which is taken over.
     pub fn from_string(text: String) -> Text
         ensures { result ≡ string_bytes text }
     {
-        Text { text }
+        Text {
+            kept: Kept::Long(text),
+        }
     }
 
     /// The number of bytes.
     pub fn len(&self) -> usize
         ensures { result ≡ length self.now }
     {
-        self.text.len()
+        self.as_str().len()
     }
 
     pub fn copy(&self) -> Result<Text, OutOfMemory>
         ensures { IfOk result (λ copy. copy ≡ self.now) }
     {
-        Ok(Text {
-            text: self.text.clone()?,
-        })
+        let kept = match &self.kept {
+            Kept::Short(text, alloc) => Kept::Short(*text, *alloc),
+            Kept::Long(text) => Kept::Long(text.clone()?),
+        };
+        Ok(Text { kept })
     }
 
     pub fn as_str(&self) -> &str
         ensures value { result.now ≡ self.now }
         ensures utf8 { IsUtf8 self.now }
     {
-        self.text.as_str()
+        match &self.kept {
+            Kept::Short(text, _) => text.as_str(),
+            Kept::Long(text) => text.as_str(),
+        }
     }
 
     /// Adds a text at the end, at amortised cost.
@@ -73,7 +106,19 @@ impl Text {
         ensures ok { OnOk result (self.new ≡ self.old ++ piece.now) }
         ensures err { OnErr result (self.new ≡ self.old) }
     {
-        self.text.push_str(piece)?;
+        let long = match &mut self.kept {
+            Kept::Long(text) => {
+                text.push_str(piece)?;
+                return Ok(());
+            }
+            Kept::Short(text, alloc) => {
+                if text.try_push_str(piece).is_ok() {
+                    return Ok(());
+                }
+                joined(*alloc, text.as_str(), piece)?
+            }
+        };
+        self.kept = Kept::Long(long);
         Ok(())
     }
 }
