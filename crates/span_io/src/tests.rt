@@ -132,7 +132,10 @@ fn lists(rt: HostRuntime) -> Result<(), Fail> {
     assert_eq!(rt; text.len(), 3);
     text.append("a short text that grows")?;
     text.append(" and grows")?;
-    assert_eq!(rt; text.copy()?.as_str(), "éta short text that grows and grows");
+    assert_eq!(rt;
+        text.copy()?.as_str(),
+        "éta short text that grows and grows"
+    );
     let long = Text::of(rt.alloc(), "abcdefghijklmnopqrstuvwxy")?;
     assert_eq!(rt; long.as_str(), "abcdefghijklmnopqrstuvwxy");
     let calls = calls_of(rt.alloc(), &[3, 1])?;

@@ -21,6 +21,6 @@ returns-in_err-port-clause-judged c =
     let halt = c.in_err-port.field-0.0 in
     let members = endpoint_members (view c.args.v.now) in
     let found = halts_later halt _ _ c.in_ok-service.ensures.judged (halts_later halt _ _ c.in_ok-ipv4.ensures.judged
-        (halts_later halt _ _ c.in_ok-ipv6.ensures.judged (halts_first halt _ _ quiet_nothing c.in_err-port.ensures.judged))) in
+    (halts_later halt _ _ c.in_ok-ipv6.ensures.judged (halts_first halt _ _ quiet_nothing c.in_err-port.ensures.judged))) in
     let p = err_from_is_err_and c.from_residual-in_err-port.result c.from_residual-in_err-port.ensures.1 in
     rw (p.1, p.2) (halts_valued halt members (as_object (view c.args.v.now)) shape found)
