@@ -6,10 +6,10 @@ use Rattle.serde_json.specs.Data.{Data}
 use Rattle.span_io.specs.declared.cause.Cause.{Cause}
 use Rattle.span_io.specs.declared.halt.Halt.{Halt}
 use Rattle.span_io.specs.Paths.{optional, Given, NothingOffends, Halts}
-use Rattle.trace_model.specs.Attributes.{AreAttributes, AreRepeated, Rise, StandsTwice}
+use Rattle.trace_model.specs.Attributes.{AreRepeated, StandsTwice}
 use Rattle.trace_model.specs.Remarks.{Keys}
 use Rattle.trace_model.specs.declared.value.Value.{Value}
-use Rattle.trace_model.specs.OtlpParts.{KeyValue, keys_inside}
+use Rattle.trace_model.specs.OtlpParts.{KeyValue, keys_inside, AreNotedAttributes}
 use Rattle.otlp_json.specs.Attributes.{AreJsonPairs, AreJsonAttributes, pairs_faults}
 use Rattle.otlp_json.specs.Found.{ArePairsGiven}
 use Rattle.otlp_json.specs.Values.{AreHeld, held_faults, json_key_value_in, json_key_value_offends}
@@ -33,15 +33,11 @@ unfolding json_key_value_in
 given_pairs pairs None h = h
 given_pairs pairs (Some d) h = record { held = h.held; shape = h.shape; means = h.means }
 
-pub made_attributes : (o : Option Data) (pairs attributes : List (List ℕ × Value)) (noted keys : Keys) → ArePairsGiven 16 o pairs noted → AreAttributes attributes pairs → Rise keys
-    → ((key : List ℕ) → Contains keys key ↔ (StandsTwice key pairs ⊎ Contains noted key)) → AreJsonAttributes attributes keys o
-made_attributes o pairs attributes noted keys h kept rising named = record {
+pub made_attributes : (o : Option Data) (pairs attributes : List (List ℕ × Value)) (noted keys : Keys) → ArePairsGiven 16 o pairs noted → AreNotedAttributes pairs noted attributes keys → AreJsonAttributes attributes keys o
+made_attributes o pairs attributes noted keys h make = record {
   pairs = h.pairs;
   each = given_pairs h.pairs o h.each;
-  kept = subst (λ (l : List (List ℕ × Value)). AreAttributes attributes l) h.entries kept;
-  rising = rising;
-  noted = λ key. subst (λ (l : List (List ℕ × Value)). Contains keys key ↔ (StandsTwice key l ⊎ Contains (keys_inside h.pairs) key)) h.entries
-      (subst (λ (l : Keys). Contains keys key ↔ (StandsTwice key pairs ⊎ Contains l key)) h.noted (named key));
+  make = subst (λ (l : List (List ℕ × Value)). AreNotedAttributes l (keys_inside h.pairs) attributes keys) h.told.entries (subst (λ (l : Keys). AreNotedAttributes pairs l attributes keys) h.told.noted make);
 }
 
 module _ (pairs : List (List ℕ × Value)) (repeated inside noted keys : Keys) (twice : AreRepeated repeated pairs) (e : noted ≡ inside ++ repeated) (same : (key : List ℕ) → Contains keys key ↔ Contains noted key) where

@@ -24,6 +24,8 @@ group_found p remarks is d shape h = record {
   each_scope = h.scopes.each;
   url = p.schema_url;
   its_url = h.url;
-  its_group = ap (group_with p) h.scopes.told.scopes;
-  its_remarks = is ∙ ap (λ l. equal_keys places.Resource p.resource.keys ++ l) h.scopes.told.remarks;
+  group = record {
+    group = ap (group_with p) h.scopes.told.scopes;
+    remarks = is ∙ ap (λ l. equal_keys places.Resource p.resource.keys ++ l) h.scopes.told.remarked;
+  };
 }

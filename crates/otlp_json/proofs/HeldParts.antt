@@ -146,8 +146,8 @@ module _ (L : ValueLaws) where
       let attributes = attributes_held L s.means.attributes s.notes.keys _ (member_sound (codes "attributes") d utf8) is.attributes in
       let each_event = each_has IsJsonEvent (λ e. e.means) HeldEvent event_held is.events _ (member_sound (codes "events") d utf8) is.each_event in
       let each_link = kept_held is.links (each_of IsJsonLink (HoldsOf (λ l. HeldLink l.means)) link_held is.links _ (member_sound (codes "links") d utf8) is.each_link) in
-      let events = all_held IsSoundEvent IsProperEvent double_in_event s.means.events (subst (All HeldEvent) (sym is.its_events) each_event) in
-      let links = all_held IsSoundLink IsProperLink double_in_link s.means.links (subst (All HeldLink) (sym is.its_links) each_link) in
+      let events = all_held IsSoundEvent IsProperEvent double_in_event s.means.events (subst (All HeldEvent) (sym is.its_events.kept) each_event) in
+      let links = all_held IsSoundLink IsProperLink double_in_link s.means.links (subst (All HeldLink) (sym is.its_links.kept) each_link) in
       record {
         sound = record { attributes = attributes.sound; events = events.sound; links = links.sound };
         proper = record {
@@ -188,7 +188,7 @@ module _ (L : ValueLaws) where
       let gives = given_has IsJsonInstrumentationScope no_instrumentation_scope HeldInstrumentation no_instrumentation_held instrumentation_held is.instrumentation _ (member_sound (codes "scope") d utf8) is.its_instrumentation in
       let each_span = each_has IsJsonSpan (λ x. x.means) HeldSpan span_held is.spans _ (member_sound (codes "spans") d utf8) is.each_span in
       let spans = all_held IsSoundSpan IsProperSpan double_in_span (map (λ x. x.means) is.spans) each_span in
-      subst HeldScope (sym is.scope) (record {
+      subst HeldScope (sym is.scope.scope) (record {
         sound = record { attributes = gives.attributes.sound; spans = spans.sound };
         proper = record {
           name = gives.name;
@@ -214,7 +214,7 @@ module _ (L : ValueLaws) where
       let gives = given_has IsJsonResource no_resource HeldResource (record { attributes = none_held; dropped = omega arith }) resource_held is.resource _ (member_sound (codes "resource") d utf8) is.its_resource in
       let each_scope = each_has IsJsonScope (λ x. x.means) HeldScope scope_held is.scopes _ (member_sound (codes "scopeSpans") d utf8) is.each_scope in
       let scopes = all_held IsSoundScope IsProperScope double_in_scope (map (λ x. x.means) is.scopes) each_scope in
-      subst IsHeldByJson (sym is.its_group) (record {
+      subst IsHeldByJson (sym is.group.group) (record {
         sound = record { resource = gives.attributes.sound; scopes = scopes.sound };
         proper = record {
           resource = gives.attributes.proper;

@@ -184,11 +184,11 @@ module _ (L : ValueLaws) where
   module _ (d : ℕ) (IsValue : NotedValue → Data → Type 0) (IsPair : KeyValue → Data → Type 0)
       (values_held : (r : NotedValue) (e : Data) → InUtf8 e → IsValue r e → HeldValue d r.means) (pairs_held : (p : KeyValue) (e : Data) → InUtf8 e → IsPair p e → HeldPair d (entry p)) where
     list_member_held : (r : NotedValue) (e : Data) → InUtf8 e → IsJsonList IsValue r e → HeldValue (d + 1) r.means
-    list_member_held r e utf8 is = subst (HeldValue (d + 1)) (sym is.value)
+    list_member_held r e utf8 is = subst (HeldValue (d + 1)) (sym is.make.value)
         (list_held d (map (λ m. m.means) is.members) (each_has IsValue (λ m. m.means) (HeldValue d) values_held is.members (member (codes "values") e) (member_sound (codes "values") e utf8) is.each))
 
     map_member_held : (r : NotedValue) (e : Data) → InUtf8 e → IsJsonMap IsPair r e → HeldValue (d + 1) r.means
-    map_member_held r e utf8 is = subst (HeldValue (d + 1)) (sym is.value) (map_held d is.attributes is.kept.rising (kept_all (HeldPair d) is.attributes (map entry is.pairs) is.kept
+    map_member_held r e utf8 is = subst (HeldValue (d + 1)) (sym is.make.value) (map_held d is.make.attributes is.make.kept.rising (kept_all (HeldPair d) is.make.attributes (map entry is.pairs) is.make.kept
         (each_has IsPair entry (HeldPair d) pairs_held is.pairs (member (codes "values") e) (member_sound (codes "values") e utf8) is.each)))
 
     member_held : (m : JsonMember) (r : NotedValue) → MemberInUtf8 m → MeansJsonMember IsValue IsPair m r → HeldValue (d + 1) r.means
@@ -240,11 +240,11 @@ module _ (L : ValueLaws) where
 
   pub attributes_held : (attributes : List (List ℕ × Value)) (noted : Keys) (o : Option Data) → HoldsOf InUtf8 o → AreJsonAttributes attributes noted o → HeldAttributes attributes
   attributes_held attributes noted o utf8 is =
-      let all = kept_all (HeldPair 16) attributes (map entry is.pairs) is.kept (each_has (json_key_value_at levels_below) entry (HeldPair 16) attribute_held is.pairs o utf8 is.each) in
+      let all = kept_all (HeldPair 16) attributes (map entry is.pairs) is.make.kept (each_has (json_key_value_at levels_below) entry (HeldPair 16) attribute_held is.pairs o utf8 is.each) in
       let h = all_held (λ (p : List ℕ × Value). Sound 16 p.1) IsProperPair (λ p. has_double p.1) attributes all in
       record {
         sound = record {
-          rising = is.kept.rising;
+          rising = is.make.kept.rising;
           values = All-weaker (λ (p : List ℕ × Value). Sound 16 p.1) (λ p. IsSound p.1) (λ p s. record { shallow = s.shallow; rising = s.rising }) attributes h.sound;
         };
         proper = h.proper;

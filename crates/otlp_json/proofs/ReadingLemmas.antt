@@ -1,5 +1,5 @@
 -- What is answered of a value, of its bytes.
-use Rattle.std.proofs.Common.{◌≡◌, ◌≤◌, ◌⊎◌, inl, inr, ℕ, List, [], None, Result, Ok, Err, refl, sym, subst, arith, IfOk, IsUtf8}
+use Rattle.std.proofs.Common.{◌≡◌, ℕ, List, None, Result, Ok, Err, subst, IfOk, IsUtf8}
 use Rattle.std.specs.List.{All}
 use Rattle.serde_json.specs.Data.{Data}
 use Rattle.serde_json.specs.Errors.{IsMemory}
@@ -7,8 +7,7 @@ use Rattle.serde_json.specs.Read.{read}
 use Rattle.serde_json.specs.declared.error.Error.{Error}
 use Rattle.span_io.specs.Causes.{cause_number}
 use Rattle.span_io.specs.Offences.{OnlyReads}
-use Rattle.span_io.specs.Paths.{RefusesInput, ComesBefore, JudgesInput, HaltsInput}
-use Rattle.span_io.specs.declared.cause.Cause.TheVariants as causes
+use Rattle.span_io.specs.Paths.{JudgesInput}
 use Rattle.span_io.specs.declared.halt.Halt.{Halt}
 use Rattle.span_io.specs.declared.halt.Halt.TheVariants as halts
 use Rattle.span_io.specs.declared.refusal.Refusal.{Refusal}

@@ -45,8 +45,8 @@ module _ (once : AttributesOnce) (exist : AttributesExist) where
         };
         notes = record { keys = p.0.notes; spans = map (λ x. x.notes) p.1.0 };
       })
-      (λ p shape h. record { shape = shape; instrumentation = p.0; its_instrumentation = h.0; spans = p.1.0; each_span = h.1.0; url = p.1.1.0; its_url = h.1.1.0; scope = refl; noted = refl })
-      (λ z h. (h.shape, ((h.instrumentation, (h.spans, (h.url, tt))), (h.its_instrumentation, (h.each_span, (h.its_url, tt))), noted_is z _ _ h.scope h.noted)))
+      (λ p shape h. record { shape = shape; instrumentation = p.0; its_instrumentation = h.0; spans = p.1.0; each_span = h.1.0; url = p.1.1.0; its_url = h.1.1.0; scope = record { scope = refl; noted = refl } })
+      (λ z h. (h.shape, ((h.instrumentation, (h.spans, (h.url, tt))), (h.its_instrumentation, (h.each_span, (h.its_url, tt))), noted_is z _ _ h.scope.scope h.scope.noted)))
 
   resource_settled : (d : Data) → IsSettled (λ r. IsJsonResource r d) (resource_faults d)
   unfolding resource_members
@@ -68,8 +68,8 @@ module _ (once : AttributesOnce) (exist : AttributesExist) where
         means = record { resource = p.0.means.attributes; dropped = p.0.means.dropped; schema_url = p.1.1.0; scopes = map (λ x. x.means) p.1.0 };
         notes = group_remarks p.0.notes (map (λ x. x.notes) p.1.0);
       })
-      (λ p shape h. record { shape = shape; resource = p.0; its_resource = h.0; scopes = p.1.0; each_scope = h.1.0; url = p.1.1.0; its_url = h.1.1.0; its_group = refl; its_remarks = refl })
-      (λ z h. (h.shape, ((h.resource, (h.scopes, (h.url, tt))), (h.its_resource, (h.each_scope, (h.its_url, tt))), noted_is z _ _ h.its_group h.its_remarks)))
+      (λ p shape h. record { shape = shape; resource = p.0; its_resource = h.0; scopes = p.1.0; each_scope = h.1.0; url = p.1.1.0; its_url = h.1.1.0; group = record { group = refl; remarks = refl } })
+      (λ z h. (h.shape, ((h.resource, (h.scopes, (h.url, tt))), (h.its_resource, (h.each_scope, (h.its_url, tt))), noted_is z _ _ h.group.group h.group.remarks)))
 
   remarked_settled : (d : Data) → IsSettled (λ g. IsRemarkedGroup g d) (group_faults d)
   remarked_settled d = decided_as (λ g. IsRemarkedGroup g d) (λ g. (g.means, g.notes)) (λ g h. h) (λ z h. (record { means = z.0; notes = z.1 }, h, refl)) (group_settled d)

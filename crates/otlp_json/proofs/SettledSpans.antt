@@ -138,14 +138,11 @@ module _ (once : AttributesOnce) (exist : AttributesExist) where
         dropped_attributes = h.1.1.1.1.1.1.1.1.1.0;
         events = p.1.1.1.1.1.1.1.1.1.1.0;
         each_event = h.1.1.1.1.1.1.1.1.1.1.0;
-        its_events = refl;
-        events_noted = refl;
+        its_events = record { kept = refl; noted = refl };
         dropped_events = h.1.1.1.1.1.1.1.1.1.1.1.0;
         links = p.1.1.1.1.1.1.1.1.1.1.1.1.0;
         each_link = h.1.1.1.1.1.1.1.1.1.1.1.1.0;
-        its_links = refl;
-        links_noted = refl;
-        any_dropped = refl;
+        its_links = record { kept = refl; noted = refl; any_dropped = refl };
         dropped_links = h.1.1.1.1.1.1.1.1.1.1.1.1.1.0;
         status = h.1.1.1.1.1.1.1.1.1.1.1.1.1.1.0;
         flags = h.1.1.1.1.1.1.1.1.1.1.1.1.1.1.1.0;
@@ -155,6 +152,6 @@ module _ (once : AttributesOnce) (exist : AttributesExist) where
         (
           (z.means.trace, (z.means.id, (z.means.state, (z.means.parent, (z.means.name, (z.means.kind, (z.means.start, (z.means.end, ((z.means.attributes, z.notes.keys), (z.means.dropped_attributes, (h.events, (z.means.dropped_events, (h.links, (z.means.dropped_links, (z.means.status, (z.means.flags, tt)))))))))))))))),
           (h.trace, (h.id, (h.state, (h.parent, (h.name, (h.kind, (h.start, (h.end, (h.attributes, (h.dropped_attributes, (h.each_event, (h.dropped_events, (h.each_link, (h.dropped_links, (h.status, (h.flags, tt)))))))))))))))),
-          span_is z _ _ _ _ _ h.its_events h.its_links h.events_noted h.any_dropped h.links_noted,
+          span_is z _ _ _ _ _ h.its_events.kept h.its_links.kept h.its_events.noted h.its_links.any_dropped h.its_links.noted,
         ),
       ))

@@ -85,8 +85,8 @@ list_settled : (IsValue : NotedValue → Data → Type 0) (left : ℕ) (Offends 
     → (d : Data) → IsSettled (λ r. IsJsonList IsValue r d) (many_faults left Offends d)
 list_settled IsValue left Offends settled d =
     object_settled d (many_settled IsValue left Offends settled d) (λ r. IsJsonList IsValue r d) (λ p. record { means = values.List (map (λ m. m.means) p.0); notes = flat_map (λ m. m.notes) p.0 })
-    (λ p shape h. record { shape = shape; members = p.0; each = h.0; value = refl; noted = refl })
-    (λ z h. (h.shape, ((h.members, tt), (h.each, tt), noted_is z _ _ h.value h.noted)))
+    (λ p shape h. record { shape = shape; members = p.0; each = h.0; make = record { value = refl; noted = refl } })
+    (λ z h. (h.shape, ((h.members, tt), (h.each, tt), noted_is z _ _ h.make.value h.make.noted)))
 
 -- no element stands where no level is left
 too_deep : {A : Type 0} (Means : A → Data → Type 0) (Offends : Data → Faults) → ((x : A) (d : Data) → Means x d → ⊥) → (ds : List Data)
@@ -132,19 +132,21 @@ module _ (once : AttributesOnce) (exist : AttributesExist) where
         shape = shape;
         pairs = pairs;
         each = h;
-        attributes = kept_of (map entry pairs);
-        kept = are_kept (map entry pairs);
-        repeated = repeated_of (map entry pairs);
-        twice = are_repeated (map entry pairs);
-        value = refl;
-        noted = refl;
+        make = record {
+          attributes = kept_of (map entry pairs);
+          kept = are_kept (map entry pairs);
+          repeated = repeated_of (map entry pairs);
+          twice = are_repeated (map entry pairs);
+          value = refl;
+          noted = refl;
+        };
       }
 
       back : (z : NotedValue) (h : IsJsonMap IsPair z d) → made h.pairs ≡ z
       back z h =
-          let attributes = once.attributes (map entry h.pairs) h.attributes (kept_of (map entry h.pairs)) h.kept (are_kept (map entry h.pairs)) in
-          let repeated = once.repeated (map entry h.pairs) h.repeated (repeated_of (map entry h.pairs)) h.twice (are_repeated (map entry h.pairs)) in
-          noted_is z _ _ (h.value ∙ ap (λ list. values.Map list) attributes) (h.noted ∙ ap (λ keys. keys_inside h.pairs ++ keys) repeated)
+          let attributes = once.attributes (map entry h.pairs) h.make.attributes (kept_of (map entry h.pairs)) h.make.kept (are_kept (map entry h.pairs)) in
+          let repeated = once.repeated (map entry h.pairs) h.make.repeated (repeated_of (map entry h.pairs)) h.make.twice (are_repeated (map entry h.pairs)) in
+          noted_is z _ _ (h.make.value ∙ ap (λ list. values.Map list) attributes) (h.make.noted ∙ ap (λ keys. keys_inside h.pairs ++ keys) repeated)
 
   -- ---- by the levels that are left
 
@@ -193,15 +195,15 @@ module _ (once : AttributesOnce) (exist : AttributesExist) where
     noted_of = keys_named (map entry pairs) (repeated_of (map entry pairs)) (keys_inside pairs) gathered keys_of (are_repeated (map entry pairs)) refl in_order.same
 
     made_of : (o : Option Data) → Given AreJsonPairs (λ ps. ps ≡ []) pairs o → AreJsonAttributes (kept_of (map entry pairs)) keys_of o
-    made_of o h = record { pairs = pairs; each = h; kept = are_kept (map entry pairs); rising = in_order.rising; noted = noted_of }
+    made_of o h = record { pairs = pairs; each = h; make = record { kept = are_kept (map entry pairs); rising = in_order.rising; noted = noted_of } }
 
   same_attributes : (o : Option Data) (attributes : List (List ℕ × Value)) (keys : Keys) (h : AreJsonAttributes attributes keys o)
       → ◌≡◌ {A = List (List ℕ × Value) × Keys} (kept_of (map entry h.pairs), keys_of h.pairs) (attributes, keys)
   same_attributes o attributes keys h =
       pair (kept_of (map entry h.pairs)) attributes (keys_of h.pairs) keys
-      (once.attributes (map entry h.pairs) (kept_of (map entry h.pairs)) attributes (are_kept (map entry h.pairs)) h.kept)
-      (once.same_keys (keys_of h.pairs) keys (in_order h.pairs).rising h.rising
-      (λ key. ((λ k. (h.noted key).1 ((noted_of h.pairs key).0 k)), (λ k. (noted_of h.pairs key).1 ((h.noted key).0 k)))))
+      (once.attributes (map entry h.pairs) (kept_of (map entry h.pairs)) attributes (are_kept (map entry h.pairs)) h.make.kept)
+      (once.same_keys (keys_of h.pairs) keys (in_order h.pairs).rising h.make.rising
+      (λ key. ((λ k. (h.make.noted key).1 ((noted_of h.pairs key).0 k)), (λ k. (noted_of h.pairs key).1 ((h.make.noted key).0 k)))))
 
   pub attributes_settled : (d : Data) (name : List ℕ) → IsSettled (λ (p : List (List ℕ × Value) × Keys). AreJsonAttributes p.0 p.1 (member name d)) (optional pairs_faults (member name d))
   attributes_settled d name =

@@ -1,8 +1,6 @@
 -- A span, as it is made of its parts.
-use Rattle.std.proofs.Common.{◌≡◌, ℕ, ◌+◌, List, [], ◌∷◌, ◌++◌, length, map, true, is_some, refl, sym, ap, ◌∙◌, arith}
-use Rattle.std.proofs.lemmas.List.{map-append, length-map}
-use Rattle.trace_model.specs.Remarks.{numbered}
-use Rattle.trace_model.specs.RemarkLaws.{numbered_push}
+use Rattle.std.proofs.Common.{◌≡◌, ℕ, ◌+◌, List, [], ◌∷◌, ◌++◌, length, map, true, is_some, refl, ap, ◌∙◌}
+use Rattle.trace_model.specs.ToldLaws.{span_added}
 use Rattle.json_members.specs.ElementLaws.{each_more}
 use Rattle.otlp_json.specs.Span.{IsJsonSpan}
 use Rattle.otlp_json.specs.declared.noted.FoundSpan.{FoundSpan}
@@ -13,7 +11,7 @@ use Rattle.trace_model.specs.Remarks.{equal_keys, link_dropped}
 use Rattle.trace_model.specs.declared.place.Place.TheVariants as places
 use Rattle.trace_model.specs.declared.remark.Remark.{Remark}
 use Rattle.trace_model.specs.declared.span.Span.{Span}
-use Rattle.trace_model.specs.GroupRemarks.{event_remarks, span_remarks}
+use Rattle.trace_model.specs.GroupRemarks.{event_remarks}
 use Rattle.trace_model.specs.Notes.{Noted, SpanNotes}
 use Rattle.trace_model.specs.OtlpParts.{kept_links}
 use Rattle.otlp_json.specs.Found.{AreSpanParts, IsSpanFound, AreFound, SpansTold}
@@ -57,20 +55,17 @@ span_found number p remarks is d shape h = record {
     dropped_attributes = h.dropped_attributes;
     events = h.events.found;
     each_event = h.events.each;
-    its_events = h.events.told.events;
-    events_noted = refl;
+    its_events = record { kept = h.events.told.events; noted = refl };
     dropped_events = h.dropped_events;
     links = h.links.found;
     each_link = h.links.each;
-    its_links = h.links.told.links;
-    links_noted = refl;
-    any_dropped = h.links.told.dropped;
+    its_links = record { kept = h.links.told.links; noted = refl; any_dropped = h.links.told.any_dropped };
     dropped_links = h.dropped_links;
     status = h.status;
     flags = h.flags;
   };
-  remarks = is ∙ ap (λ l. equal_keys (places.Span number) p.keys ++ (link_dropped (places.Span number) p.links.dropped ++ (l ++ p.links.remarks))) h.events.told.remarks
-      ∙ ap (λ l. equal_keys (places.Span number) p.keys ++ (link_dropped (places.Span number) p.links.dropped ++ (event_remarks number its_notes.events ++ l))) h.links.told.remarks;
+  remarks = is ∙ ap (λ l. equal_keys (places.Span number) p.keys ++ (link_dropped (places.Span number) p.links.dropped ++ (l ++ p.links.remarks))) h.events.told.remarked
+      ∙ ap (λ l. equal_keys (places.Span number) p.keys ++ (link_dropped (places.Span number) p.links.dropped ++ (event_remarks number its_notes.events ++ l))) h.links.told.remarked;
 }
   where
     its_notes : SpanNotes
@@ -79,24 +74,10 @@ span_found number p remarks is d shape h = record {
 -- one more span, which has the number that comes next
 pub span_more : (first number : ℕ) (old new : FoundSpans) (read : FoundSpan) (ds : List Data) (d : Data) → number ≡ first + length old.spans → new.spans ≡ old.spans ++ read.span ∷ [] → new.remarks ≡ old.remarks ++ read.remarks
     → IsSpanFound number read d → AreFound IsJsonSpan (SpansTold first) ds old → AreFound IsJsonSpan (SpansTold first) (ds ++ d ∷ []) new
-span_more first number old new read ds d next spans remarks is h = record {
-  found = h.found ++ this ∷ [];
-  each = each_more IsJsonSpan ds h.found d this h.each is.is_span;
-  told = record {
-    spans = spans ∙ ap (λ l. l ++ read.span ∷ []) h.told.spans ∙ sym (map-append (λ (s : Noted Span SpanNotes). s.means) h.found (this ∷ []));
-    remarks = remarks ∙ ap (λ l. l ++ read.remarks) h.told.remarks ∙ ap (λ l. numbered span_remarks first notes ++ l) (is.remarks ∙ ap (λ (k : ℕ). span_remarks k is.notes) number_of)
-        ∙ sym (numbered_push span_remarks first notes is.notes) ∙ ap (λ l. numbered span_remarks first l) (sym (map-append (λ (s : Noted Span SpanNotes). s.notes) h.found (this ∷ [])));
-  };
-}
-  where
-    this : Noted Span SpanNotes
-    this = record { means = read.span; notes = is.notes }
-
-    notes : List SpanNotes
-    notes = map (λ s. s.notes) h.found
-
-    number_of : number ≡ first + length notes
-    number_of =
-        let count : length old.spans ≡ length h.found = ap length h.told.spans ∙ length-map h.found (λ (s : Noted Span SpanNotes). s.means) in
-        let same : length notes ≡ length h.found = length-map h.found (λ (s : Noted Span SpanNotes). s.notes) in
-        omega (arith, next, count, same)
+span_more first number old new read ds d next spans remarks is h =
+    let this : Noted Span SpanNotes = record { means = read.span; notes = is.notes } in
+    record {
+      found = h.found ++ this ∷ [];
+      each = each_more IsJsonSpan ds h.found d this h.each is.is_span;
+      told = span_added first h.found old.spans new.spans old.remarks new.remarks read.remarks this number next spans remarks is.remarks h.told;
+    }

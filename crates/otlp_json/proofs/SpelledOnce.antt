@@ -10,7 +10,8 @@ use Rattle.base64.proofs.EngineFacts.{decode_of-encode_of}
 use Rattle.span_ids.specs.HexTexts.{SpellsInHex}
 use Rattle.span_ids.specs.declared.hex_text.IdRule.TheVariants.{Exact}
 use Rattle.json_members.specs.ChoiceLaws.{Choice, at_most_chosen, both, either, all_of, hex_digit, same_text_chosen, SpellsOne, zeros_value}
-use Rattle.otlp_json.specs.Identifiers.{SpellsJsonTrace, SpellsJsonSpan, SpellsNoId, SpellsTraceOrNone, SpellsSpanOrNone}
+use Rattle.trace_model.specs.OtlpParts.{IsNoIdentifier}
+use Rattle.otlp_json.specs.Identifiers.{SpellsJsonTrace, SpellsJsonSpan, SpellsTraceOrNone, SpellsSpanOrNone}
 use Rattle.otlp_json.specs.Numbers.{SpellsBytes}
 use Rattle.otlp_json.proofs.ValueLemmas.{bytes_below}
 
@@ -32,35 +33,35 @@ module _ (full : ℕ) (text : List ℕ) where
       on (inl h) = inl (digits_value 16 text, (((h.0.0, h.0.1), (let k = h.1 in omega arith)), refl), (λ y k. sym k.1))
       on (inr fails) = inr (λ y k. fails ((k.0.0.0, k.0.0.1), (let positive = k.0.1 in omega arith)))
 
-  no_id : Choice (SpellsNoId full text)
+  no_id : Choice (IsNoIdentifier 48 full text)
   no_id = either (same_text_chosen text []) (both (same_number (length text) full) (all_of (λ digit. digit ≡ 48) (λ digit. same_number digit 48) text))
 
-  no_value : SpellsNoId full text → digits_value 16 text ≡ 0
+  no_value : IsNoIdentifier 48 full text → digits_value 16 text ≡ 0
   no_value (inl e) = ap (digits_value 16) e
   no_value (inr h) = zeros_value text h.1
 
 -- an identifier or none, whose words differ
-module _ (full : ℕ) (text : List ℕ) (Spells : Option ℕ → Type 0) (is_none : (Spells None → SpellsNoId full text) × (SpellsNoId full text → Spells None))
+module _ (full : ℕ) (text : List ℕ) (Spells : Option ℕ → Type 0) (is_none : (Spells None → IsNoIdentifier 48 full text) × (IsNoIdentifier 48 full text → Spells None))
     (is_some : (id : ℕ) → (Spells (Some id) → SpellsInHex Exact full text id) × (SpellsInHex Exact full text id → Spells (Some id))) where
-  apart : SpellsNoId full text → (id : ℕ) → SpellsInHex Exact full text id → ⊥
+  apart : IsNoIdentifier 48 full text → (id : ℕ) → SpellsInHex Exact full text id → ⊥
   apart none id h = let value = no_value full text none in let positive = h.0.1 in omega arith
 
   or_none : ((x : Option ℕ) × Spells x × ((y : Option ℕ) → Spells y → x ≡ y)) ⊎ ((y : Option ℕ) → Spells y → ⊥)
   or_none = on (no_id full text) (exact full text)
     where
-      only_none : SpellsNoId full text → (y : Option ℕ) → Spells y → None ≡ y
+      only_none : IsNoIdentifier 48 full text → (y : Option ℕ) → Spells y → None ≡ y
       only_none none None h = refl
       only_none none (Some id) h = absurd (apart none id ((is_some id).0 h))
 
-      only_some : (SpellsNoId full text → ⊥) → (id : ℕ) → ((y : ℕ) → SpellsInHex Exact full text y → id ≡ y) → (y : Option ℕ) → Spells y → Some id ≡ y
+      only_some : (IsNoIdentifier 48 full text → ⊥) → (id : ℕ) → ((y : ℕ) → SpellsInHex Exact full text y → id ≡ y) → (y : Option ℕ) → Spells y → Some id ≡ y
       only_some fails id only None h = absurd (fails (is_none.0 h))
       only_some fails id only (Some y) h = ap Some (only y ((is_some y).0 h))
 
-      never : (SpellsNoId full text → ⊥) → ((y : ℕ) → SpellsInHex Exact full text y → ⊥) → (y : Option ℕ) → Spells y → ⊥
+      never : (IsNoIdentifier 48 full text → ⊥) → ((y : ℕ) → SpellsInHex Exact full text y → ⊥) → (y : Option ℕ) → Spells y → ⊥
       never fails fails_too None h = fails (is_none.0 h)
       never fails fails_too (Some y) h = fails_too y ((is_some y).0 h)
 
-      on : Choice (SpellsNoId full text) → SpellsOne (λ t id. SpellsInHex Exact full t id) text → ((x : Option ℕ) × Spells x × ((y : Option ℕ) → Spells y → x ≡ y)) ⊎ ((y : Option ℕ) → Spells y → ⊥)
+      on : Choice (IsNoIdentifier 48 full text) → SpellsOne (λ t id. SpellsInHex Exact full t id) text → ((x : Option ℕ) × Spells x × ((y : Option ℕ) → Spells y → x ≡ y)) ⊎ ((y : Option ℕ) → Spells y → ⊥)
       on (inl none) id = inl (None, is_none.1 none, only_none none)
       on (inr fails) (inl h) = inl (Some h.0, (is_some h.0).1 h.1, only_some fails h.0 h.2)
       on (inr fails) (inr fails_too) = inr (never fails fails_too)

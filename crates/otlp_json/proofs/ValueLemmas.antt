@@ -1,10 +1,8 @@
 -- What is judged of values.
-use Rattle.std.proofs.Common.{◌≡◌, ℕ, zero, suc, ◌+◌, ◌<◌, List, [], ◌∷◌, ◌++◌, length, get_or, take, map, Some, Result, Ok, Err, refl, sym, ap, subst, ◌∙◌, append-nil, arith}
-use Rattle.std.proofs.lemmas.Grind.{flat_map-append}
-use Rattle.std.proofs.lemmas.List.{map-append}
+use Rattle.std.proofs.Common.{◌≡◌, ℕ, zero, suc, ◌+◌, ◌<◌, List, [], ◌∷◌, ◌++◌, length, get_or, take, map, Some, Result, Ok, Err, refl, sym, ap, subst, ◌∙◌, arith}
 use Rattle.std.proofs.lemmas.List.Elements.{All-head, All-tail}
 use Rattle.std.specs.Prelude.{All, slice_index}
-use Rattle.std.specs.List.{AllZip, flat_map}
+use Rattle.std.specs.List.{AllZip}
 use Rattle.serde_json.specs.Data.{Data}
 use Rattle.serde_json.specs.Find.{as_array, as_str}
 use Rattle.serde_json.specs.View.{view, items_view}
@@ -15,7 +13,8 @@ use Rattle.span_io.specs.Paths.{Faults, nothing, here, each, valued, NothingOffe
 use Rattle.span_io.specs.PathLaws.{clean_nothing, clean_parts, quiet_nothing, halts_first, halts_later, counts_here}
 use Rattle.trace_model.specs.Remarks.{Keys}
 use Rattle.trace_model.specs.declared.value.Value.{Value as Val}
-use Rattle.trace_model.specs.OtlpParts.{NotedValue, KeyValue, entry, keys_inside}
+use Rattle.trace_model.specs.OtlpParts.{NotedValue, KeyValue, entry}
+use Rattle.trace_model.specs.ToldLaws.{value_added, pair_added}
 use Rattle.json_members.specs.Members.{elements}
 use Rattle.json_members.specs.ElementLaws.{items_viewed, reads_on, clean_on, halts_here}
 use Rattle.otlp_json.specs.Found.{AreValuesFound, ArePairsFound, AreValuesGiven, ArePairsGiven}
@@ -95,8 +94,7 @@ module _ (left : ℕ) (vs : List Value) (i : ℕ) (v : Value) (within : i < leng
   values_next list keys r h last = record {
     members = h.members ++ r ∷ [];
     each = reads_on vs i v within here (json_value_in left) h.members r h.each last;
-    values = ap (λ l. l ++ r.means ∷ []) h.values ∙ sym (map-append (λ m. m.means) h.members (r ∷ []));
-    noted = ap (λ l. l ++ r.notes) h.noted ∙ ap (λ l. flat_map (λ m. m.notes) h.members ++ l) (sym (append-nil r.notes)) ∙ sym (flat_map-append (λ m. m.notes) h.members (r ∷ []));
+    told = value_added h.members list (list ++ r.means ∷ []) keys (keys ++ r.notes) r refl refl h.told;
   }
 
   pub pairs_next : (list : List (List ℕ × Val)) (keys : Keys) (p : KeyValue) → ArePairsFound left (map view (take i vs)) list keys → json_key_value_in left p (view v)
@@ -104,8 +102,7 @@ module _ (left : ℕ) (vs : List Value) (i : ℕ) (v : Value) (within : i < leng
   pairs_next list keys p h last = record {
     pairs = h.pairs ++ p ∷ [];
     each = reads_on vs i v within here (json_key_value_in left) h.pairs p h.each last;
-    entries = ap (λ l. l ++ entry p ∷ []) h.entries ∙ sym (map-append entry h.pairs (p ∷ []));
-    noted = ap (λ l. l ++ p.value.notes) h.noted ∙ ap (λ l. keys_inside h.pairs ++ l) (sym (append-nil p.value.notes)) ∙ sym (flat_map-append (λ q. q.value.notes) h.pairs (p ∷ []));
+    told = pair_added h.pairs list (list ++ entry p ∷ []) keys (keys ++ p.value.notes) p refl refl h.told;
   }
 
 module _ (left : ℕ) (vs : List Value) (d : Data) (is : Some (items_view vs) ≡ as_array d) where
@@ -113,16 +110,14 @@ module _ (left : ℕ) (vs : List Value) (d : Data) (is : Some (items_view vs) �
   values_given list keys h = record {
     members = h.members;
     each = record { held = items_view vs; shape = sym is; means = subst (λ ds. AllZip (λ x y. json_value_in left y x) ds h.members) (sym (items_viewed vs)) h.each };
-    values = h.values;
-    noted = h.noted;
+    told = h.told;
   }
 
   pub pairs_given : (list : List (List ℕ × Val)) (keys : Keys) → ArePairsFound left (map view vs) list keys → ArePairsGiven left (Some d) list keys
   pairs_given list keys h = record {
     pairs = h.pairs;
     each = record { held = items_view vs; shape = sym is; means = subst (λ ds. AllZip (λ x y. json_key_value_in left y x) ds h.pairs) (sym (items_viewed vs)) h.each };
-    entries = h.entries;
-    noted = h.noted;
+    told = h.told;
   }
 
 -- ---- base64

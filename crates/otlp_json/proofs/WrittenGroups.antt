@@ -73,8 +73,10 @@ module _ (L : Laws) (s : Scope) (sound : IsSoundScope s) (proper : IsProperScope
     each_span = given_row AreJsonSpans (λ xs. xs ≡ []) (map quiet_span s.spans) (codes "spans") (scope_rows s) (list_data otlp_span_data s.spans) refl spans_again;
     url = s.schema_url;
     its_url = text_row (scope_rows s) (codes "schemaUrl") s.schema_url refl;
-    scope = λ i. record s { spans = sym (all_back (λ (x : Noted Span SpanNotes). x.means) quiet_span (λ x. refl) s.spans) i };
-    noted = λ i. record { keys = []; spans = sym (mapped (λ (x : Noted Span SpanNotes). x.notes) quiet_span s.spans) i };
+    scope = record {
+      scope = λ i. record s { spans = sym (all_back (λ (x : Noted Span SpanNotes). x.means) quiet_span (λ x. refl) s.spans) i };
+      noted = λ i. record { keys = []; spans = sym (mapped (λ (x : Noted Span SpanNotes). x.notes) quiet_span s.spans) i };
+    };
   }
 
 -- ---- `Resource` and `ResourceSpans`
@@ -116,8 +118,10 @@ module _ (L : Laws) (g : Group) (h : IsHeldByJson g) where
     each_scope = given_row AreJsonScopes (λ xs. xs ≡ []) (map quiet_scope g.scopes) (codes "scopeSpans") (group_rows g) (list_data scope_data g.scopes) refl scopes_again;
     url = g.schema_url;
     its_url = text_row (group_rows g) (codes "schemaUrl") g.schema_url refl;
-    its_group = λ i. record g { scopes = sym (all_back (λ (x : Noted Scope ScopeNotes). x.means) quiet_scope (λ x. refl) g.scopes) i };
-    its_remarks = sym (ap (scopes_remarks 1 1) (mapped (λ (x : Noted Scope ScopeNotes). x.notes) quiet_scope g.scopes) ∙ quiet_scopes 1 1 g.scopes);
+    group = record {
+      group = λ i. record g { scopes = sym (all_back (λ (x : Noted Scope ScopeNotes). x.means) quiet_scope (λ x. refl) g.scopes) i };
+      remarks = sym (ap (scopes_remarks 1 1) (mapped (λ (x : Noted Scope ScopeNotes). x.notes) quiet_scope g.scopes) ∙ quiet_scopes 1 1 g.scopes);
+    };
   }
 
 -- ---- the whole text

@@ -119,14 +119,11 @@ module _ (L : Laws) (s : Span) (sound : IsSoundSpan s) (proper : IsProperSpan s)
     dropped_attributes = count_row (otlp_span_rows s) (codes "droppedAttributesCount") s.dropped_attributes proper.dropped_attributes refl;
     events = map quiet s.events;
     each_event = given_row AreJsonEvents (λ xs. xs ≡ []) (map quiet s.events) (codes "events") (otlp_span_rows s) (list_data event_data s.events) refl events_again;
-    its_events = sym (all_back (λ (e : Noted Event Keys). e.means) quiet (λ e. refl) s.events);
-    events_noted = sym (mapped (λ (e : Noted Event Keys). e.notes) quiet s.events);
+    its_events = record { kept = sym (all_back (λ (e : Noted Event Keys). e.means) quiet (λ e. refl) s.events); noted = sym (mapped (λ (e : Noted Event Keys). e.notes) quiet s.events) };
     dropped_events = count_row (otlp_span_rows s) (codes "droppedEventsCount") s.dropped_events proper.dropped_events refl;
     links = map quiet_link s.links;
     each_link = given_row AreJsonLinks (λ xs. xs ≡ []) (map quiet_link s.links) (codes "links") (otlp_span_rows s) (list_data link_data s.links) refl links_again;
-    its_links = sym (links_back s.links);
-    links_noted = sym (links_noted s.links);
-    any_dropped = sym (none_dropped s.links);
+    its_links = record { kept = sym (links_back s.links); noted = sym (links_noted s.links); any_dropped = sym (none_dropped s.links) };
     dropped_links = count_row (otlp_span_rows s) (codes "droppedLinksCount") s.dropped_links proper.dropped_links refl;
     status = given_row IsJsonStatus (λ status. status ≡ no_status) s.status (codes "status") (otlp_span_rows s) (unless_empty (members_given (status_rows s.status))) refl (status_again s.status);
     flags = count_row (otlp_span_rows s) (codes "flags") s.flags proper.flags refl;

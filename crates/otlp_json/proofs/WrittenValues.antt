@@ -165,8 +165,7 @@ module _ (L : Laws) (left : ℕ) (inner : (v : Value) → IsHeld left v → json
         shape = values_shape (items_of (map any_value_data members));
         members = map leaf members;
         each = values_again (json_value_in left) any_value_data leaf members each;
-        value = ap values.List (sym (values_back members));
-        noted = sym (values_quiet members);
+        make = record { value = ap values.List (sym (values_back members)); noted = sym (values_quiet members) };
       }))
 
   pair_in_again : (pair : List ℕ × Value) → IsHeldPair left pair → json_key_value_in left (quiet_key_value pair) (pair_data pair)
@@ -186,12 +185,14 @@ module _ (L : Laws) (left : ℕ) (inner : (v : Value) → IsHeld left v → json
         shape = values_shape (items_of (map pair_data pairs));
         pairs = map quiet_key_value pairs;
         each = values_again (json_key_value_in left) pair_data quiet_key_value pairs each;
-        attributes = pairs;
-        kept = pairs_kept L pairs rising;
-        repeated = [];
-        twice = pairs_unrepeated L pairs rising;
-        value = refl;
-        noted = sym (ap (λ (l : List (List ℕ)). l ++ []) (pairs_quiet pairs));
+        make = record {
+          attributes = pairs;
+          kept = pairs_kept L pairs rising;
+          repeated = [];
+          twice = pairs_unrepeated L pairs rising;
+          value = refl;
+          noted = sym (ap (λ (l : List (List ℕ)). l ++ []) (pairs_quiet pairs));
+        };
       }))
 
   abbrev MeansItself : Value → Type 0
@@ -228,10 +229,12 @@ module _ (L : Laws) where
       record {
         pairs = map quiet_key_value attributes;
         each = list_again (json_key_value_at levels_below) pair_data quiet_key_value attributes each;
-        kept = pairs_kept L attributes sound.rising;
-        rising = twice.rising;
-        noted = λ key. (
-          λ there. inl ((twice.twice key).0 there),
-          λ is. ⊎_elim (λ stands. (twice.twice key).1 stands) (λ there. subst (λ l. Contains l key) (pairs_quiet attributes) there) is,
-        );
+        make = record {
+          kept = pairs_kept L attributes sound.rising;
+          rising = twice.rising;
+          noted = λ key. (
+            λ there. inl ((twice.twice key).0 there),
+            λ is. ⊎_elim (λ stands. (twice.twice key).1 stands) (λ there. subst (λ l. Contains l key) (pairs_quiet attributes) there) is,
+          );
+        };
       }

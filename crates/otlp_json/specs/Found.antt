@@ -1,11 +1,9 @@
 -- What the readers of values answer, as what it means.
-use Rattle.std.specs.Prelude.{◌≡◌, ℕ, ◌+◌, List, [], ◌∷◌, ◌++◌, length, map, codes, Option, Some, None, is_none}
-use Rattle.std.specs.List.{AllZip, flat_map, list_any, sum_by}
+use Rattle.std.specs.Prelude.{◌≡◌, ℕ, List, [], ◌∷◌, ◌++◌, codes, Option, Some, None}
+use Rattle.std.specs.List.{AllZip}
 use Rattle.serde_json.specs.Data.{Data}
 use Rattle.span_io.specs.Paths.{Given, Never}
-use Rattle.trace_model.specs.Attributes.{AreAttributes, AreRepeated}
-use Rattle.trace_model.specs.Remarks.{Keys, numbered}
-use Rattle.trace_model.specs.declared.value.Value.TheVariants as values
+use Rattle.trace_model.specs.Remarks.{Keys}
 use Rattle.trace_model.specs.declared.value.Value.{Value}
 use Rattle.otlp_json.specs.Values.{JsonMember, string_member, bool_member, int_member, double_member, array_member, kvlist_member, bytes_member, AreHeld, json_value_in, json_key_value_in}
 use Rattle.trace_model.specs.declared.span.Event.{Event}
@@ -23,9 +21,10 @@ use Rattle.otlp_json.specs.declared.noted.FoundPair.{FoundPair}
 use Rattle.otlp_json.specs.declared.standing.Part.{Part}
 use Rattle.otlp_json.specs.declared.standing.Part.TheVariants as parts
 use Rattle.trace_model.specs.declared.span.Kind.TheVariants as kinds
-use Rattle.trace_model.specs.GroupRemarks.{event_remarks, link_remarks, span_remarks, scope_remarks, scopes_remarks}
+use Rattle.trace_model.specs.GroupRemarks.{span_remarks, scope_remarks}
 use Rattle.trace_model.specs.Notes.{Noted, SpanNotes, ScopeNotes}
-use Rattle.trace_model.specs.OtlpParts.{NotedValue, KeyValue, entry, keys_inside, Resource, no_resource, LinkParts, InstrumentationScope, no_instrumentation_scope, kept_links, no_status}
+use Rattle.trace_model.specs.OtlpParts.{NotedValue, KeyValue, Resource, no_resource, LinkParts, InstrumentationScope, no_instrumentation_scope, no_status}
+use Rattle.trace_model.specs.OtlpTold.{AreToldValues, AreToldPairs, AreToldEvents, AreToldLinks, AreToldSpans, AreToldScopes}
 use Rattle.json_members.specs.Members.{member, IsText, Spelled}
 use Rattle.otlp_json.specs.Attributes.{AreJsonAttributes}
 use Rattle.otlp_json.specs.Identifiers.{SpellsJsonTrace, SpellsJsonSpan, SpellsSpanOrNone}
@@ -72,37 +71,24 @@ told_members (Some (part, d)) = part_member part d ∷ []
 pub record AreValuesFound (left : ℕ) (ds : List Data) (list : List Value) (keys : Keys) : Type 0 where
   pub members : List NotedValue
   pub each : AllZip (λ d x. json_value_in left x d) ds members
-  pub values : list ≡ map (λ m. m.means) members
-  pub noted : keys ≡ flat_map (λ m. m.notes) members
+  pub told : AreToldValues members list keys
 
 -- pairs of a map or of attributes, and the keys that are noted inside their values
 pub record ArePairsFound (left : ℕ) (ds : List Data) (list : List (List ℕ × Value)) (keys : Keys) : Type 0 where
   pub pairs : List KeyValue
   pub each : AllZip (λ d x. json_key_value_in left x d) ds pairs
-  pub entries : list ≡ map entry pairs
-  pub noted : keys ≡ keys_inside pairs
-
--- the map of these pairs, and the keys of which there is a remark
-pub record IsMapFound (pairs : List (List ℕ × Value)) (noted : Keys) (r : FoundValue) : Type 0 where
-  pub attributes : List (List ℕ × Value)
-  pub kept : AreAttributes attributes pairs
-  pub repeated : Keys
-  pub twice : AreRepeated repeated pairs
-  pub value : r.value ≡ values.Map attributes
-  pub keys : r.keys ≡ noted ++ repeated
+  pub told : AreToldPairs pairs list keys
 
 -- the same of values, and of pairs, that may be absent
 pub record AreValuesGiven (left : ℕ) (o : Option Data) (list : List Value) (keys : Keys) : Type 0 where
   pub members : List NotedValue
   pub each : Given (AreHeld (json_value_in left)) (λ ms. ms ≡ []) members o
-  pub values : list ≡ map (λ m. m.means) members
-  pub noted : keys ≡ flat_map (λ m. m.notes) members
+  pub told : AreToldValues members list keys
 
 pub record ArePairsGiven (left : ℕ) (o : Option Data) (list : List (List ℕ × Value)) (keys : Keys) : Type 0 where
   pub pairs : List KeyValue
   pub each : Given (AreHeld (json_key_value_in left)) (λ ps. ps ≡ []) pairs o
-  pub entries : list ≡ map entry pairs
-  pub noted : keys ≡ keys_inside pairs
+  pub told : AreToldPairs pairs list keys
 
 abbrev pub event_found : FoundEvent → Noted Event Keys
 event_found e = record { means = e.event; notes = e.keys }
@@ -140,16 +126,12 @@ TellsMore {X} Told x old new = (found : List X) → Told found old → Told (fou
 abbrev pub FindsMore : {X V : Type 0} → (X → Data → Type 0) → (List X → V → Type 0) → Data → V → V → Type 0
 FindsMore Is Told d old new = (ds : List Data) → AreFound Is Told ds old → AreFound Is Told (ds ++ d ∷ []) new
 
--- events of the span of this number, and the remarks on them
-pub record EventsTold (span : ℕ) (found : List (Noted Event Keys)) (rows : FoundEvents) : Type 0 where
-  pub events : rows.events ≡ map (λ e. e.means) found
-  pub remarks : rows.remarks ≡ event_remarks span (map (λ e. e.notes) found)
+-- events and links of the span of this number
+abbrev pub EventsTold : ℕ → List (Noted Event Keys) → FoundEvents → Type 0
+EventsTold span found rows = AreToldEvents span found rows.events rows.remarks
 
--- links of it: those that are kept, and whether one was dropped
-pub record LinksTold (span : ℕ) (found : List (Option (Noted Link Keys))) (rows : FoundLinks) : Type 0 where
-  pub links : rows.links ≡ map (λ l. l.means) (kept_links found)
-  pub dropped : rows.dropped ≡ list_any (λ l. is_none l) found
-  pub remarks : rows.remarks ≡ link_remarks span (map (λ l. l.notes) (kept_links found))
+abbrev pub LinksTold : ℕ → List (Option (Noted Link Keys)) → FoundLinks → Type 0
+LinksTold span found rows = AreToldLinks span found rows.links rows.dropped rows.remarks
 
 -- ---- spans
 
@@ -178,10 +160,9 @@ pub record IsSpanFound (number : ℕ) (r : FoundSpan) (d : Data) : Type 0 where
   pub is_span : IsJsonSpan (record { means = r.span; notes = notes }) d
   pub remarks : r.remarks ≡ span_remarks number notes
 
--- spans, of which the first has this number, and the remarks on them
-pub record SpansTold (first : ℕ) (found : List (Noted Span SpanNotes)) (rows : FoundSpans) : Type 0 where
-  pub spans : rows.spans ≡ map (λ s. s.means) found
-  pub remarks : rows.remarks ≡ numbered span_remarks first (map (λ s. s.notes) found)
+-- spans, of which the first has this number
+abbrev pub SpansTold : ℕ → List (Noted Span SpanNotes) → FoundSpans → Type 0
+SpansTold first found rows = AreToldSpans first found rows.spans rows.remarks
 
 -- ---- scopes and groups
 
@@ -197,11 +178,9 @@ pub record IsScopeFound (number first : ℕ) (r : FoundScope) (d : Data) : Type 
   pub is_scope : IsJsonScope (record { means = r.scope; notes = notes }) d
   pub remarks : r.remarks ≡ scope_remarks number first notes
 
--- the scopes of a group, the remarks on them, and the number of the span that comes next
-pub record ScopesTold (found : List (Noted Scope ScopeNotes)) (rows : FoundScopes) : Type 0 where
-  pub scopes : rows.scopes ≡ map (λ s. s.means) found
-  pub remarks : rows.remarks ≡ scopes_remarks 1 1 (map (λ s. s.notes) found)
-  pub next_span : rows.next_span ≡ 1 + sum_by (λ n. length n.spans) (map (λ s. s.notes) found)
+-- the scopes of a group
+abbrev pub ScopesTold : List (Noted Scope ScopeNotes) → FoundScopes → Type 0
+ScopesTold found rows = AreToldScopes found rows.scopes rows.remarks rows.next_span
 
 -- the members of an object are these parts of a group
 pub record AreGroupParts (p : GroupParts) (d : Data) : Type 0 where

@@ -1,6 +1,6 @@
 -- `ScopeSpans` with its `InstrumentationScope`, `ResourceSpans` with its `Resource`, and the whole text, an object whose `resourceSpans`
 -- are the groups, in OTLP/JSON. The path to a group begins with its number: the one member of the whole has none.
-use Rattle.std.specs.Prelude.{◌≡◌, ℕ, List, [], map, true, codes, is_some}
+use Rattle.std.specs.Prelude.{◌≡◌, ℕ, List, [], true, codes, is_some}
 use Rattle.std.specs.List.{AllZip}
 use Rattle.serde_json.specs.Data.{Data}
 use Rattle.serde_json.specs.Find.{as_array, as_object}
@@ -10,9 +10,8 @@ use Rattle.trace_model.specs.declared.remark.Remark.{Remark}
 use Rattle.trace_model.specs.declared.span.Span.{Span}
 use Rattle.trace_model.specs.declared.trace.Group.{Group}
 use Rattle.trace_model.specs.declared.trace.Scope.{Scope}
-use Rattle.trace_model.specs.GroupRemarks.{group_remarks}
 use Rattle.trace_model.specs.Notes.{Noted, SpanNotes, ScopeNotes}
-use Rattle.trace_model.specs.OtlpParts.{Resource, no_resource, NotedGroup, InstrumentationScope, no_instrumentation_scope}
+use Rattle.trace_model.specs.OtlpParts.{Resource, no_resource, NotedGroup, IsGroupOfParts, InstrumentationScope, no_instrumentation_scope, IsScopeOfParts}
 use Rattle.json_members.specs.Members.{member, elements, IsText, text_faults}
 use Rattle.otlp_json.specs.Attributes.{AreJsonAttributes, pairs_faults}
 use Rattle.otlp_json.specs.Numbers.{IsJsonCount, json_count_faults}
@@ -50,15 +49,7 @@ pub record IsJsonScope (s : Noted Scope ScopeNotes) (d : Data) : Type 0 where
   pub each_span : Given AreJsonSpans (λ xs. xs ≡ []) spans (member (codes "spans") d)
   pub url : List ℕ
   pub its_url : Given IsText (λ text. text ≡ []) url (member (codes "schemaUrl") d)
-  pub scope : s.means ≡ record {
-    name = instrumentation.means.name;
-    version = instrumentation.means.version;
-    attributes = instrumentation.means.attributes;
-    dropped = instrumentation.means.dropped;
-    schema_url = url;
-    spans = map (λ x. x.means) spans;
-  }
-  pub noted : s.notes ≡ record { keys = instrumentation.notes; spans = map (λ x. x.notes) spans }
+  pub scope : IsScopeOfParts instrumentation spans url s
 
 unfoldable pub scope_members : Data → Faults
 scope_members d = optional instrumentation_scope_faults (member (codes "scope") d) ▹ optional otlp_spans_faults (member (codes "spans") d)
@@ -97,8 +88,7 @@ pub record IsJsonGroup (g : NotedGroup) (d : Data) : Type 0 where
   pub each_scope : Given AreJsonScopes (λ xs. xs ≡ []) scopes (member (codes "scopeSpans") d)
   pub url : List ℕ
   pub its_url : Given IsText (λ text. text ≡ []) url (member (codes "schemaUrl") d)
-  pub its_group : g.means ≡ record { resource = resource.means.attributes; dropped = resource.means.dropped; schema_url = url; scopes = map (λ x. x.means) scopes }
-  pub its_remarks : g.notes ≡ group_remarks resource.notes (map (λ x. x.notes) scopes)
+  pub group : IsGroupOfParts resource scopes url g
 
 unfoldable pub group_members : Data → Faults
 group_members d = optional resource_faults (member (codes "resource") d) ▹ optional scopes_faults (member (codes "scopeSpans") d)

@@ -1,10 +1,11 @@
 -- Identifiers in OTLP/JSON (`traceId`, `spanId` and `parentSpanId`): all hex digits, of either case. The empty text, and as many zeros,
 -- are no identifier.
-use Rattle.std.specs.Prelude.{◌≡◌, ◌⊎◌, ℕ, List, [], length, All, Option, Some, None}
+use Rattle.std.specs.Prelude.{◌≡◌, ℕ, List, Option, Some, None}
 use Rattle.serde_json.specs.Data.{Data}
 use Rattle.span_ids.specs.HexTexts.{SpellsInHex}
 use Rattle.span_ids.specs.declared.hex_text.IdRule.TheVariants.{Exact}
 use Rattle.span_io.specs.Paths.{Faults, here}
+use Rattle.trace_model.specs.OtlpParts.{IsIdentifierOrNone}
 use Rattle.json_members.specs.Members.{unspelled}
 
 abbrev pub SpellsJsonTrace : List ℕ → ℕ → Type 0
@@ -13,16 +14,12 @@ SpellsJsonTrace text id = SpellsInHex Exact 32 text id
 abbrev pub SpellsJsonSpan : List ℕ → ℕ → Type 0
 SpellsJsonSpan text id = SpellsInHex Exact 16 text id
 
-abbrev pub SpellsNoId : ℕ → List ℕ → Type 0
-SpellsNoId full text = (text ≡ []) ⊎ ((length text ≡ full) × All (λ digit. digit ≡ 48) text)
-
+-- 48 is the digit `0`
 abbrev pub SpellsTraceOrNone : List ℕ → Option ℕ → Type 0
-SpellsTraceOrNone text None = SpellsNoId 32 text
-SpellsTraceOrNone text (Some id) = SpellsJsonTrace text id
+SpellsTraceOrNone text id = IsIdentifierOrNone SpellsJsonTrace 48 32 text id
 
 abbrev pub SpellsSpanOrNone : List ℕ → Option ℕ → Type 0
-SpellsSpanOrNone text None = SpellsNoId 16 text
-SpellsSpanOrNone text (Some id) = SpellsJsonSpan text id
+SpellsSpanOrNone text id = IsIdentifierOrNone SpellsJsonSpan 48 16 text id
 
 -- BadId: a text that spells none of these
 abbrev pub json_trace_faults : Data → Faults

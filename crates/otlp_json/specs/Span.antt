@@ -1,7 +1,7 @@
 -- `Span`, `Span.Event`, `Span.Link` and `Status` in OTLP/JSON: what each object means, member by member, and how it offends, its members
 -- in the order in which their offences count, which is that of their field numbers. Members that the tables don't have are passed over.
-use Rattle.std.specs.Prelude.{◌≡◌, ℕ, List, [], map, true, Option, None, is_none, is_some, codes}
-use Rattle.std.specs.List.{AllZip, list_any}
+use Rattle.std.specs.Prelude.{◌≡◌, ℕ, List, [], true, Option, None, is_some, codes}
+use Rattle.std.specs.List.{AllZip}
 use Rattle.serde_json.specs.Data.{Data}
 use Rattle.serde_json.specs.Find.{as_array, as_object}
 use Rattle.span_io.specs.Paths.{Faults, nothing, ◌▹◌, optional, each, valued, Given, Never, OfKind}
@@ -13,7 +13,7 @@ use Rattle.trace_model.specs.declared.span.Link.{Link}
 use Rattle.trace_model.specs.declared.span.Span.{Span}
 use Rattle.trace_model.specs.declared.span.Status.{Status}
 use Rattle.trace_model.specs.Notes.{Noted, SpanNotes}
-use Rattle.trace_model.specs.OtlpParts.{LinkParts, link_of, kept_links, no_status}
+use Rattle.trace_model.specs.OtlpParts.{LinkParts, link_of, no_status, AreEventsOf, AreLinksOf}
 use Rattle.json_members.specs.Members.{member, elements, IsText, text_faults, Spelled}
 use Rattle.otlp_json.specs.Attributes.{AreJsonAttributes, pairs_faults}
 use Rattle.otlp_json.specs.Identifiers.{SpellsJsonTrace, SpellsJsonSpan, SpellsTraceOrNone, SpellsSpanOrNone, json_trace_faults, json_span_faults, trace_or_none_faults, span_or_none_faults, identified}
@@ -99,14 +99,11 @@ pub record IsJsonSpan (s : Noted Span SpanNotes) (d : Data) : Type 0 where
   pub dropped_attributes : Given IsJsonCount (λ n. n ≡ 0) s.means.dropped_attributes (member (codes "droppedAttributesCount") d)
   pub events : List (Noted Event Keys)
   pub each_event : Given AreJsonEvents (λ xs. xs ≡ []) events (member (codes "events") d)
-  pub its_events : s.means.events ≡ map (λ e. e.means) events
-  pub events_noted : s.notes.events ≡ map (λ e. e.notes) events
+  pub its_events : AreEventsOf events s
   pub dropped_events : Given IsJsonCount (λ n. n ≡ 0) s.means.dropped_events (member (codes "droppedEventsCount") d)
   pub links : List (Option (Noted Link Keys))
   pub each_link : Given AreJsonLinks (λ xs. xs ≡ []) links (member (codes "links") d)
-  pub its_links : s.means.links ≡ map (λ l. l.means) (kept_links links)
-  pub links_noted : s.notes.links ≡ map (λ l. l.notes) (kept_links links)
-  pub any_dropped : s.notes.dropped ≡ list_any (λ l. is_none l) links
+  pub its_links : AreLinksOf links s
   pub dropped_links : Given IsJsonCount (λ n. n ≡ 0) s.means.dropped_links (member (codes "droppedLinksCount") d)
   pub status : Given IsJsonStatus (λ status. status ≡ no_status) s.means.status (member (codes "status") d)
   pub flags : Given IsJsonCount (λ n. n ≡ 0) s.means.flags (member (codes "flags") d)

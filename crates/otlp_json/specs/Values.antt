@@ -2,15 +2,12 @@
 -- list are values, those of a map are `KeyValue`s, and a `KeyValue` has a `key`, a text, and a `value`. How deep lists and maps may
 -- stand goes by the levels that are left below one: an attribute's value stands at level 1 of 16, with 15 left.
 use Rattle.std.specs.Prelude.{◌≡◌, ℕ, zero, suc, ℤ, List, [], ◌∷◌, ◌++◌, map, Bool, true, Option, Some, None, codes, is_some}
-use Rattle.std.specs.List.{AllZip, flat_map}
+use Rattle.std.specs.List.{AllZip}
 use Rattle.serde_json.specs.Data.{Data}
 use Rattle.serde_json.specs.Find.{as_array, as_object}
 use Rattle.span_io.specs.Paths.{Faults, nothing, here, ◌▹◌, optional, each, valued, Given, OfKind}
-use Rattle.trace_model.specs.Attributes.{AreAttributes, AreRepeated}
-use Rattle.trace_model.specs.Remarks.{Keys}
-use Rattle.trace_model.specs.declared.value.Value.{Value}
 use Rattle.trace_model.specs.declared.value.Value.TheVariants as values
-use Rattle.trace_model.specs.OtlpParts.{NotedValue, leaf, KeyValue, entry, keys_inside}
+use Rattle.trace_model.specs.OtlpParts.{NotedValue, leaf, KeyValue, entry, keys_inside, IsNotedList, IsNotedMap}
 use Rattle.json_members.specs.Members.{member, elements, IsText, text_faults, IsTruth, truth_faults, Spelled}
 use Rattle.otlp_json.specs.Numbers.{IsJsonSigned, signed_faults, SpellsBytes, base64_faults}
 
@@ -47,20 +44,14 @@ pub record IsJsonList (IsValue : NotedValue → Data → Type 0) (r : NotedValue
   pub shape : is_some (as_object d) ≡ true
   pub members : List NotedValue
   pub each : Given (AreHeld IsValue) (λ ms. ms ≡ []) members (member (codes "values") d)
-  pub value : r.means ≡ values.List (map (λ m. m.means) members)
-  pub noted : r.notes ≡ flat_map (λ m. m.notes) members
+  pub make : IsNotedList members r
 
--- `KeyValueList`, of which the last value of each key is kept
+-- `KeyValueList`
 pub record IsJsonMap (IsPair : KeyValue → Data → Type 0) (r : NotedValue) (d : Data) : Type 0 where
   pub shape : is_some (as_object d) ≡ true
   pub pairs : List KeyValue
   pub each : Given (AreHeld IsPair) (λ ps. ps ≡ []) pairs (member (codes "values") d)
-  pub attributes : List (List ℕ × Value)
-  pub kept : AreAttributes attributes (map entry pairs)
-  pub repeated : Keys
-  pub twice : AreRepeated repeated (map entry pairs)
-  pub value : r.means ≡ values.Map attributes
-  pub noted : r.notes ≡ keys_inside pairs ++ repeated
+  pub make : IsNotedMap (map entry pairs) (keys_inside pairs) r
 
 module _ (IsValue : NotedValue → Data → Type 0) (IsPair : KeyValue → Data → Type 0) where
   -- a double has no meaning

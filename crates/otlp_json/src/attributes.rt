@@ -1,8 +1,9 @@
 //! Attributes.
-ghost use Rattle.std.specs.Prelude.{◌≡◌, ◌↔◌, ◌⊎◌, ℕ, List, Contains, IfOk};
+ghost use Rattle.std.specs.Prelude.{◌≡◌, ◌↔◌, ℕ, List, Contains, IfOk};
 ghost use Rattle.serde_json.specs.View.{view};
 ghost use Rattle.span_io.specs.Paths.{optional, JudgesValue};
-ghost use Rattle.trace_model.specs.Attributes.{Rise, AreAttributes, StandsTwice};
+ghost use Rattle.trace_model.specs.Attributes.{Rise};
+ghost use Rattle.trace_model.specs.OtlpParts.{AreNotedAttributes};
 ghost use Rattle.json_members.specs.Members.{member};
 ghost use Rattle.otlp_json.specs.Attributes.{AreJsonAttributes, pairs_faults};
 
@@ -31,10 +32,7 @@ pub fn attributes_of(
 
 // The attributes of pairs, and the keys of which there is a remark, each once.
 fn finish(alloc: Global, rows: PairRows) -> Result<(Attrs, Items<Text>), OutOfMemory>
-    ensures kept { IfOk result (λ r. AreAttributes r.0 rows.pairs) }
-    ensures rising { IfOk result (λ r. Rise r.1) }
-    ensures noted { IfOk result (λ r. (key : List ℕ) → Contains r.1 key
-        ↔ (StandsTwice key rows.pairs ⊎ Contains rows.noted key)) }
+    ensures { IfOk result (λ r. AreNotedAttributes rows.pairs rows.noted r.0 r.1) }
 {
     let (attributes, repeated) = attrs_of(alloc, rows.pairs)?;
     let mut noted = rows.noted;

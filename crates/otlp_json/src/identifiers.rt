@@ -3,7 +3,8 @@ ghost use Rattle.std.specs.Prelude.{◌≡◌, ◌↔◌, ℕ, List, Option, Non
 ghost use Rattle.serde_json.specs.View.{view};
 ghost use Rattle.span_io.specs.Paths.{optional, JudgesValue, Given, Never};
 ghost use Rattle.json_members.specs.Members.{member, Spelled};
-ghost use Rattle.otlp_json.specs.Identifiers.{SpellsJsonTrace, SpellsJsonSpan, SpellsNoId, SpellsTraceOrNone, SpellsSpanOrNone, json_trace_faults, json_span_faults, trace_or_none_faults, span_or_none_faults, identified};
+ghost use Rattle.trace_model.specs.OtlpParts.{IsNoIdentifier};
+ghost use Rattle.otlp_json.specs.Identifiers.{SpellsJsonTrace, SpellsJsonSpan, SpellsTraceOrNone, SpellsSpanOrNone, json_trace_faults, json_span_faults, trace_or_none_faults, span_or_none_faults, identified};
 ghost use Rattle.otlp_json.specs.Numbers.{SpellsBytes, base64_faults};
 
 use base64::DecodeAllocError;
@@ -30,7 +31,7 @@ fn span_of(text: &str) -> Result<SpanId, BadId>
 
 // Whether a text is empty, or as many zeros as an identifier has digits.
 fn is_no_id(text: &str, full: usize) -> bool
-    ensures { IsTrue result ↔ SpellsNoId full text.now }
+    ensures { IsTrue result ↔ IsNoIdentifier 48 full text.now }
 {
     let digits = text.as_bytes();
     if digits.is_empty() {

@@ -2,9 +2,9 @@
 ghost use Rattle.std.specs.Prelude.{◌≡◌, ◌++◌, ◌∷◌, [], ℕ, List, map, IfOk, OnOk, Some, Bool, ℤ};
 ghost use Rattle.serde_json.specs.View.{view};
 ghost use Rattle.span_io.specs.Paths.{here, optional, Given, Halts, JudgesValue};
-ghost use Rattle.trace_model.specs.OtlpParts.{leaf, entry};
+ghost use Rattle.trace_model.specs.OtlpParts.{leaf, entry, IsNotedMap};
 ghost use Rattle.json_members.specs.Members.{member, IsText, text_faults, IsTruth, truth_faults, Spelled};
-ghost use Rattle.otlp_json.specs.Found.{value_found, pair_found, part_member, AreValuesFound, ArePairsFound, AreValuesGiven, ArePairsGiven, IsMapFound};
+ghost use Rattle.otlp_json.specs.Found.{value_found, pair_found, part_member, AreValuesFound, ArePairsFound, AreValuesGiven, ArePairsGiven};
 ghost use Rattle.otlp_json.specs.Numbers.{IsJsonSigned, signed_faults, SpellsBytes, base64_faults};
 ghost use Rattle.otlp_json.specs.Values.{MeansJsonMember, IsJsonList, IsJsonMap, json_value_in, json_key_value_in, json_value_at, json_key_value_at, values_faults, held_faults, json_value_offends, json_key_value_offends, json_member_faults, json_list_faults, json_map_faults, json_value_faults, json_key_value_faults};
 ghost use Rattle.trace_model.specs.declared.value.Value.TheVariants as values;
@@ -282,7 +282,7 @@ fn value_of(alloc: Global, left: u8, v: &Json, name: &str) -> Result<FoundValue,
 
 // The map of its pairs.
 fn map_of(alloc: Global, rows: PairRows) -> Result<FoundValue, OutOfMemory>
-    ensures { IfOk result (λ r. IsMapFound rows.pairs rows.noted r) }
+    ensures { IfOk result (λ r. IsNotedMap rows.pairs rows.noted (value_found r)) }
 {
     let (attributes, repeated) = attrs_of(alloc, rows.pairs)?;
     let mut keys = rows.noted;

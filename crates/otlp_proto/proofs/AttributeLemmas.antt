@@ -1,47 +1,48 @@
 -- Attributes of a message, pair by pair.
-use Rattle.std.proofs.Common.{◌≡◌, ℕ, List, [], ◌∷◌, ◌++◌, map, ◌⊎◌, inl, inr, ⊎_elim, sym, ap, subst, ◌∙◌}
+use Rattle.std.proofs.Common.{◌≡◌, ℕ, List, [], ◌∷◌, ◌++◌, map, ◌⊎◌, inl, inr, ⊎_elim, sym, subst}
 use Rattle.std.specs.Prelude.{◌↔◌, Contains}
 use Rattle.std.proofs.lemmas.List.Elements.{Contains-append_left, Contains-append_right, Contains-append_cases}
-use Rattle.trace_model.specs.Attributes.{AreRepeated, Rise, StandsTwice}
+use Rattle.trace_model.specs.Attributes.{AreAttributes, AreRepeated, Rise, StandsTwice}
 use Rattle.trace_model.specs.declared.value.Value.{Value}
-use Rattle.std.proofs.lemmas.List.{map-append}
 use Rattle.otlp_proto.specs.declared.attributes.AttributeRows.{AttributeRows}
 use Rattle.trace_model.specs.OtlpParts.{KeyValue, entry, keys_inside}
-use Rattle.otlp_proto.specs.Attributes.{attribute_at, NotedIn}
+use Rattle.trace_model.specs.ToldLaws.{pair_added}
+use Rattle.otlp_proto.specs.Attributes.{attribute_at, AttributesOf}
 use Rattle.otlp_proto.specs.AttributesSoFar.{GatheredAttributes}
 use Rattle.span_io.specs.RowLaws.{all_zip_push}
-use Rattle.span_io.specs.TableLaws.{flat_more}
 
 pub attribute_push : (earlier : List (List ℕ)) (held : List ℕ) (old new : AttributeRows) (p : KeyValue) → attribute_at held p → new.pairs ≡ old.pairs ++ entry p ∷ [] → new.noted ≡ old.noted ++ p.value.notes
     → GatheredAttributes earlier old → GatheredAttributes (earlier ++ held ∷ []) new
 attribute_push earlier held old new p pair pairs noted so_far = record {
   members = so_far.members ++ p ∷ [];
   each = all_zip_push attribute_at earlier so_far.members held p so_far.each pair;
-  pairs = pairs ∙ ap (λ l. l ++ entry p ∷ []) so_far.pairs ∙ sym (map-append entry so_far.members (p ∷ []));
-  noted = noted ∙ ap (λ l. l ++ p.value.notes) so_far.noted ∙ sym (flat_more (λ (m : KeyValue). m.value.notes) so_far.members p);
+  told = pair_added so_far.members old.pairs new.pairs old.noted new.noted p pairs noted so_far.told;
 }
 
--- the keys that are noted: those inside the values, and those that stand more than once
-pub noted_in : (texts : List (List ℕ)) (rows : AttributeRows) (repeated noted keys : List (List ℕ)) → GatheredAttributes texts rows → AreRepeated repeated rows.pairs → noted ≡ rows.noted ++ repeated
-    → Rise keys → ((key : List ℕ) → Contains keys key ↔ Contains noted key) → NotedIn texts keys
-noted_in texts rows repeated noted keys gathered twice e rising same = record {
+-- the attributes, and the keys that are noted: those inside the values, and those that stand more than once
+pub attributes_are : (texts : List (List ℕ)) (rows : AttributeRows) (attributes : List (List ℕ × Value)) (repeated noted keys : List (List ℕ)) → GatheredAttributes texts rows → AreAttributes attributes rows.pairs → AreRepeated repeated rows.pairs
+    → noted ≡ rows.noted ++ repeated → Rise keys → ((key : List ℕ) → Contains keys key ↔ Contains noted key) → AttributesOf texts attributes keys
+attributes_are texts rows attributes repeated noted keys gathered kept twice e rising same = record {
   pairs = gathered.members;
   each = gathered.each;
-  rising = rising;
-  noted = λ key. (λ there. given key ((same key).0 there), λ is. (same key).1 (back key is));
+  make = record {
+    kept = subst (λ (l : List (List ℕ × Value)). AreAttributes attributes l) gathered.told.entries kept;
+    rising = rising;
+    noted = λ key. (λ there. given key ((same key).0 there), λ is. (same key).1 (back key is));
+  };
 }
   where
     of_members : AreRepeated repeated (map entry gathered.members)
-    of_members = subst (λ (l : List (List ℕ × Value)). AreRepeated repeated l) gathered.pairs twice
+    of_members = subst (λ (l : List (List ℕ × Value)). AreRepeated repeated l) gathered.told.entries twice
 
     given : (key : List ℕ) → Contains noted key → StandsTwice key (map entry gathered.members) ⊎ Contains (keys_inside gathered.members) key
     given key there = ⊎_elim
-        (λ (h : Contains rows.noted key). inr (subst (λ (l : List (List ℕ)). Contains l key) gathered.noted h))
+        (λ (h : Contains rows.noted key). inr (subst (λ (l : List (List ℕ)). Contains l key) gathered.told.noted h))
         (λ (h : Contains repeated key). inl ((of_members.twice key).0 h))
         (Contains-append_cases rows.noted repeated key (subst (λ (l : List (List ℕ)). Contains l key) e there))
 
     back : (key : List ℕ) → StandsTwice key (map entry gathered.members) ⊎ Contains (keys_inside gathered.members) key → Contains noted key
     back key is = subst (λ (l : List (List ℕ)). Contains l key) (sym e) (⊎_elim
         (λ (h : StandsTwice key (map entry gathered.members)). Contains-append_right rows.noted repeated key ((of_members.twice key).1 h))
-        (λ (h : Contains (keys_inside gathered.members) key). Contains-append_left rows.noted repeated key (subst (λ (l : List (List ℕ)). Contains l key) (sym gathered.noted) h))
+        (λ (h : Contains (keys_inside gathered.members) key). Contains-append_left rows.noted repeated key (subst (λ (l : List (List ℕ)). Contains l key) (sym gathered.told.noted) h))
         is)

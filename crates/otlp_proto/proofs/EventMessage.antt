@@ -29,9 +29,9 @@ unfoldable pub event_bridge : Bridge (Noted Event Keys) event_table no_ends IsEv
 event_bridge = record {
   of = λ v. record { means = record { time = v.0; name = v.1.0; attributes = v.1.1.0.means; dropped = v.1.1.1.0 }; notes = v.1.1.0.notes };
   values = λ e records is. (e.means.time, (e.means.name, (record { means = e.means.attributes; notes = e.notes }, (e.means.dropped, tt))));
-  mean = λ e records is. (is.time, (is.name, ((is.attributes, is.noted), (is.dropped, tt))));
+  mean = λ e records is. (is.time, (is.name, (is.attributes, (is.dropped, tt))));
   again = λ e records is. refl;
-  build = λ records v clean m. record { time = m.0; name = m.1.0; attributes = m.1.1.0.0; noted = m.1.1.0.1; dropped = m.1.1.1.0 };
+  build = λ records v clean m. record { time = m.0; name = m.1.0; attributes = m.1.1.0; dropped = m.1.1.1.0 };
   ended = λ e records is n h. h;
   ends_same = λ records others same n h. h;
 }
@@ -57,13 +57,13 @@ event_again L e sound proper fits =
     tt in
     read_back event_table no_ends IsEvent event_bridge rows refl (λ records mean n h. h) fits
 
-module _ (attributes_proper : (texts : List (List ℕ)) (attributes : List (List ℕ × Value)) → AllByRecursion AreBytes texts → AttributesOf texts attributes → AreProper attributes) where
+module _ (attributes_proper : (texts : List (List ℕ)) (attributes : List (List ℕ × Value)) (keys : Keys) → AllByRecursion AreBytes texts → AttributesOf texts attributes keys → AreProper attributes) where
   pub event_proper : (e : Noted Event Keys) (text : List ℕ) → AreBytes text → MeansMessage IsEvent text e → IsProperEvent e.means
   event_proper e text all is =
       let seen : AllInRange is.items = wire_in_range is.items text all is.are in
       record {
         time = number_proper (2 ^ 64) (omega arith) (fixed64s_of 1 is.items) e.means.time (all_times 1 is.items seen) is.is.time;
         name = text_proper (bytes_of 2 is.items) e.means.name (all_bytes 2 is.items seen) is.is.name;
-        attributes = attributes_proper (bytes_of 3 is.items) e.means.attributes (all_bytes 3 is.items seen) is.is.attributes;
+        attributes = attributes_proper (bytes_of 3 is.items) e.means.attributes e.notes (all_bytes 3 is.items seen) is.is.attributes;
         dropped = count_proper (varints_of 4 is.items) e.means.dropped is.is.dropped;
       }

@@ -33,8 +33,7 @@ module _ (facts : WireFacts) where
     wire = goes;
     members = is.members;
     each = subst (λ l. AllZip (value_in left) l is.members) (ap (bytes_of 1) (facts.one_reading text is.records records is.wire wire) ∙ (λ i. (same i).0)) is.each;
-    value = is.value;
-    noted = is.noted;
+    make = is.make;
   })
 
   pub map_passes : (left : ℕ) → PassesFreeIn (many_table left KeyValue (key_value_in left) (key_value_offends left)) (λ text r. IsMapText (key_value_in left) text r)
@@ -43,12 +42,7 @@ module _ (facts : WireFacts) where
     wire = goes;
     pairs = is.pairs;
     each = subst (λ l. AllZip (key_value_in left) l is.pairs) (ap (bytes_of 1) (facts.one_reading text is.records records is.wire wire) ∙ (λ i. (same i).0)) is.each;
-    attributes = is.attributes;
-    kept = is.kept;
-    repeated = is.repeated;
-    twice = is.twice;
-    value = is.value;
-    noted = is.noted;
+    make = is.make;
   })
 
   pub key_value_passes : (left : ℕ) → PassesFreeIn (table_of_key_value left) (key_value_at left)

@@ -40,9 +40,9 @@ unfoldable pub resource_bridge : Bridge (Noted Resource Keys) resource_table no_
 resource_bridge = record {
   of = λ v. record { means = record { attributes = v.0.means; dropped = v.1.0 }; notes = v.0.notes };
   values = λ r records is. (record { means = r.means.attributes; notes = r.notes }, (r.means.dropped, tt));
-  mean = λ r records is. ((is.attributes, is.noted), (is.dropped, tt));
+  mean = λ r records is. (is.attributes, (is.dropped, tt));
   again = λ r records is. refl;
-  build = λ records v clean m. record { attributes = m.0.0; noted = m.0.1; dropped = m.1.0 };
+  build = λ records v clean m. record { attributes = m.0; dropped = m.1.0 };
   ended = λ r records is n h. h;
   ends_same = λ records others same n h. h;
 }
@@ -83,8 +83,8 @@ group_bridge = record {
   };
   values = λ g records is. (is.resource, (is.scopes, (is.url, tt)));
   mean = λ g records is. (is.its_resource, (is.each_scope, (is.its_url, tt)));
-  again = λ g records is i. record { means = is.its_group i; notes = is.its_remarks i };
-  build = λ records v clean m. record { resource = v.0; its_resource = m.0; scopes = v.1.0; each_scope = m.1.0; url = v.1.1.0; its_url = m.1.1.0; its_group = refl; its_remarks = refl };
+  again = λ g records is i. record { means = is.group.group i; notes = is.group.remarks i };
+  build = λ records v clean m. record { resource = v.0; its_resource = m.0; scopes = v.1.0; each_scope = m.1.0; url = v.1.1.0; its_url = m.1.1.0; group = record { group = refl; remarks = refl } };
   ended = λ g records is n h. h;
   ends_same = λ records others same n h. h;
 }
@@ -117,7 +117,7 @@ group_again L g sound proper fits =
 
 -- ---- what is read is proper
 
-module _ (attributes_proper : (texts : List (List ℕ)) (attributes : List (List ℕ × Value)) → AllByRecursion AreBytes texts → AttributesOf texts attributes → AreProper attributes) where
+module _ (attributes_proper : (texts : List (List ℕ)) (attributes : List (List ℕ × Value)) (keys : Keys) → AllByRecursion AreBytes texts → AttributesOf texts attributes keys → AreProper attributes) where
   -- the parts of a group that its resource gives
   record ProperResource (r : Noted Resource Keys) : Type 0 where
     attributes : AreProper r.means.attributes
@@ -125,7 +125,7 @@ module _ (attributes_proper : (texts : List (List ℕ)) (attributes : List (List
 
   resource_proper : (r : Noted Resource Keys) (text : List ℕ) → AreBytes text → MeansMessage IsResource text r → ProperResource r
   resource_proper r text all is = record {
-    attributes = attributes_proper (bytes_of 1 is.items) r.means.attributes (all_bytes 1 is.items (wire_in_range is.items text all is.are)) is.is.attributes;
+    attributes = attributes_proper (bytes_of 1 is.items) r.means.attributes r.notes (all_bytes 1 is.items (wire_in_range is.items text all is.are)) is.is.attributes;
     dropped = count_proper (varints_of 2 is.items) r.means.dropped is.is.dropped;
   }
 
@@ -136,7 +136,7 @@ module _ (attributes_proper : (texts : List (List ℕ)) (attributes : List (List
       let resource : ProperResource is.resource = singular_in_range (MeansMessage IsResource) no_resource AreBytes ProperResource
       (record { attributes = All-nil IsProperPair; dropped = omega arith }) (λ held r b one. resource_proper r held b one)
       (bytes_of 1 h.items) is.resource (all_bytes 1 h.items seen) is.its_resource in
-      subst (λ (x : Group). IsProperGroup x) (sym is.its_group) (record {
+      subst (λ (x : Group). IsProperGroup x) (sym is.group.group) (record {
         resource = resource.attributes;
         dropped = resource.dropped;
         schema_url = text_proper (bytes_of 3 h.items) is.url (all_bytes 3 h.items seen) is.its_url;

@@ -6,7 +6,7 @@ use Rattle.span_io.specs.Tables.{givens, MeansText}
 use Rattle.trace_model.specs.declared.span.Link.{Link}
 use Rattle.trace_model.specs.declared.value.Value.{Value}
 use Rattle.otlp_proto.specs.declared.link.LinkRows.{LinkRows}
-use Rattle.otlp_proto.specs.Attributes.{AttributesOf, NotedIn}
+use Rattle.otlp_proto.specs.Attributes.{AttributesOf}
 use Rattle.otlp_proto.specs.Identifiers.{MeansTraceId, MeansSpanId}
 use Rattle.otlp_proto.specs.Link.{IsLink, link_table}
 use Rattle.otlp_proto.specs.LinkSoFar.{GatheredLink}
@@ -26,9 +26,9 @@ parts_of rows attributes keys = record {
   flags = unwrap_or rows.flags 0;
 }
 
-pub link_is : (l : Option (Noted Link Keys)) (rows : LinkRows) (records : List Record) (attributes : List (List ℕ × Value)) (keys : Keys) → AttributesOf (bytes_of 4 records) attributes → NotedIn (bytes_of 4 records) keys
+pub link_is : (l : Option (Noted Link Keys)) (rows : LinkRows) (records : List Record) (attributes : List (List ℕ × Value)) (keys : Keys) → AttributesOf (bytes_of 4 records) attributes keys
     → l ≡ link_of (unwrap_or rows.trace None) (unwrap_or rows.span None) (parts_of rows attributes keys) → GatheredLink rows (givens link_table records) → IsLink l records
-link_is l rows records attributes keys of_records in_records link gathered = record {
+link_is l rows records attributes keys of_records link gathered = record {
   trace = unwrap_or rows.trace None;
   trace_id = gave_or MeansTraceId (λ id. id ≡ None) (bytes_of 1 records) rows.trace None refl gathered.trace;
   span = unwrap_or rows.span None;
@@ -36,7 +36,6 @@ link_is l rows records attributes keys of_records in_records link gathered = rec
   parts = parts_of rows attributes keys;
   state = gave_or MeansText (λ text. text ≡ []) (bytes_of 3 records) rows.state [] refl gathered.state;
   attributes = of_records;
-  noted = in_records;
   dropped = gave_or MeansCount (λ n. n ≡ 0) (varints_of 5 records) rows.dropped 0 refl gathered.dropped;
   flags = gave_or MeansNumber (λ n. n ≡ 0) (fixed32s_of 6 records) rows.flags 0 refl gathered.flags;
   link = link;

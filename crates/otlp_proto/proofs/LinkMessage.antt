@@ -37,7 +37,7 @@ unfoldable pub link_bridge : Bridge (Option (Noted Link Keys)) link_table no_end
 link_bridge = record {
   of = λ v. link_of v.0 v.1.0 (link_parts v);
   values = λ l records is. (is.trace, (is.span, (is.parts.state, (record { means = is.parts.attributes; notes = is.parts.keys }, (is.parts.dropped, (is.parts.flags, tt))))));
-  mean = λ l records is. (is.trace_id, (is.span_id, (is.state, ((is.attributes, is.noted), (is.dropped, (is.flags, tt))))));
+  mean = λ l records is. (is.trace_id, (is.span_id, (is.state, (is.attributes, (is.dropped, (is.flags, tt))))));
   again = λ l records is. is.link;
   build = λ records v clean m. record {
     trace = v.0;
@@ -46,8 +46,7 @@ link_bridge = record {
     span_id = m.1.0;
     parts = link_parts v;
     state = m.1.1.0;
-    attributes = m.1.1.1.0.0;
-    noted = m.1.1.1.0.1;
+    attributes = m.1.1.1.0;
     dropped = m.1.1.1.1.0;
     flags = m.1.1.1.1.1.0;
     link = refl;
@@ -92,7 +91,7 @@ link_made (Some trace) (Some span) parts link e t s state attributes dropped fla
     same_link : (one other : Noted Link Keys) → Some one ≡ Some other → one ≡ other
     same_link one other e = cc
 
-module _ (attributes_proper : (texts : List (List ℕ)) (attributes : List (List ℕ × Value)) → AllByRecursion AreBytes texts → AttributesOf texts attributes → AreProper attributes) where
+module _ (attributes_proper : (texts : List (List ℕ)) (attributes : List (List ℕ × Value)) (keys : Keys) → AllByRecursion AreBytes texts → AttributesOf texts attributes keys → AreProper attributes) where
   link_proper : (link : Noted Link Keys) (text : List ℕ) → AreBytes text → MeansMessage IsLink text (Some link) → IsProperLink link.means
   link_proper link text all h =
       let seen : AllInRange h.items = wire_in_range h.items text all h.are in
@@ -101,7 +100,7 @@ module _ (attributes_proper : (texts : List (List ℕ)) (attributes : List (List
       (trace_proper (bytes_of 1 h.items) is.trace (all_bytes 1 h.items seen) is.trace_id)
       (span_id_proper (bytes_of 2 h.items) is.span (all_bytes 2 h.items seen) is.span_id)
       (text_proper (bytes_of 3 h.items) is.parts.state (all_bytes 3 h.items seen) is.state)
-      (attributes_proper (bytes_of 4 h.items) is.parts.attributes (all_bytes 4 h.items seen) is.attributes)
+      (attributes_proper (bytes_of 4 h.items) is.parts.attributes is.parts.keys (all_bytes 4 h.items seen) is.attributes)
       (count_proper (varints_of 5 h.items) is.parts.dropped is.dropped)
       (number_proper (2 ^ 32) (omega arith) (fixed32s_of 6 h.items) is.parts.flags (all_flags 6 h.items seen) is.flags)
 

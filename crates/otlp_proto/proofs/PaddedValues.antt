@@ -104,7 +104,7 @@ module _ (facts : WireFacts) (once : AttributesOnce) (exist : AttributesExist) (
       none = text_self messages facts.format next (table_of_list left) (value_padded left, tt) list_pads;
       means = λ held other t r is.
           let m = moved facts (table_of_list left) (value_padded left, tt) list_pads held other t is.records is.wire (is.members, tt) (is.each, tt) in
-          record { records = m.records; wire = m.wire; members = is.members; each = m.mean.0; value = is.value; noted = is.noted };
+          record { records = m.records; wire = m.wire; members = is.members; each = m.mean.0; make = is.make };
       same = endless_same facts (table_of_list left) (value_padded left, tt) list_pads (list_table_decides facts once exist next left) (list_laws facts.format left);
     }
 
@@ -113,18 +113,7 @@ module _ (facts : WireFacts) (once : AttributesOnce) (exist : AttributesExist) (
       none = text_self messages facts.format next (table_of_map left) (key_value_padded left, tt) map_pads;
       means = λ held other t r is.
           let m = moved facts (table_of_map left) (key_value_padded left, tt) map_pads held other t is.records is.wire (is.pairs, tt) (is.each, tt) in
-          record {
-            records = m.records;
-            wire = m.wire;
-            pairs = is.pairs;
-            each = m.mean.0;
-            attributes = is.attributes;
-            kept = is.kept;
-            repeated = is.repeated;
-            twice = is.twice;
-            value = is.value;
-            noted = is.noted;
-          };
+          record { records = m.records; wire = m.wire; pairs = is.pairs; each = m.mean.0; make = is.make };
       same = endless_same facts (table_of_map left) (key_value_padded left, tt) map_pads (map_table_decides facts once exist next left) (map_laws facts.format left);
     }
 
@@ -210,10 +199,7 @@ module _ (facts : WireFacts) (once : AttributesOnce) (exist : AttributesExist) (
     none = attribute_keeps.none;
     here = λ earlier others each x y padded n. (λ h. h, λ h. h);
     inside = attribute_keeps.same;
-    means = λ xs ys each a is. (
-      record { pairs = is.0.pairs; each = goes xs ys each is.0.pairs is.0.each; kept = is.0.kept },
-      record { pairs = is.1.pairs; each = goes xs ys each is.1.pairs is.1.each; rising = is.1.rising; noted = is.1.noted },
-    );
+    means = λ xs ys each a is. record { pairs = is.pairs; each = goes xs ys each is.pairs is.each; make = is.make };
   }
     where
       goes : (xs ys : List (List ℕ)) → AllZip AttributePadded xs ys → (pairs : List KeyValue) → AllZip attribute_at xs pairs → AllZip attribute_at ys pairs

@@ -9,6 +9,7 @@ use Rattle.std.proofs.lemmas.Str.{IsUtf8-nil}
 use Rattle.span_io.specs.Tables.{Singular, MeansText}
 use Rattle.proto_wire.specs.Records.{Held, varint, fixed64, bytes, fixed32, Record}
 use Rattle.trace_model.specs.Proper.{IsProperValue, IsProperPair, AreProper}
+use Rattle.trace_model.specs.Remarks.{Keys}
 use Rattle.trace_model.specs.declared.value.Value.{Value}
 use Rattle.trace_model.specs.declared.value.Value.TheVariants as values
 use Rattle.otlp_proto.specs.Attributes.{attribute_at, AttributesOf}
@@ -70,11 +71,11 @@ module _ (list_proper : (members : List Value) → IsProperValue (values.List me
   module _ (IsValue : List ℕ → NotedValue → Type 0) (IsKeyValue : List ℕ → KeyValue → Type 0)
       (values_proper : (r : NotedValue) (text : List ℕ) → AreBytes text → IsValue text r → IsProperValue r.means) (key_values_proper : (p : KeyValue) (text : List ℕ) → AreBytes text → IsKeyValue text p → IsProperPair (entry p)) where
     list_member_proper : (r : NotedValue) (text : List ℕ) → AreBytes text → IsListText IsValue text r → IsProperValue r.means
-    list_member_proper r text all is = subst IsProperValue (sym is.value)
+    list_member_proper r text all is = subst IsProperValue (sym is.make.value)
         ((list_proper (map (λ m. m.means) is.members)).1 (each_in_range IsValue (λ m. m.means) AreBytes IsProperValue (λ x a b h. values_proper x a b h) (bytes_of 1 is.records) is.members (all_bytes 1 is.records (wire_in_range is.records text all is.wire)) is.each))
 
     map_member_proper : (r : NotedValue) (text : List ℕ) → AreBytes text → IsMapText IsKeyValue text r → IsProperValue r.means
-    map_member_proper r text all is = subst IsProperValue (sym is.value) ((map_proper is.attributes).1 (kept_all IsProperPair is.attributes (map entry is.pairs) is.kept
+    map_member_proper r text all is = subst IsProperValue (sym is.make.value) ((map_proper is.make.attributes).1 (kept_all IsProperPair is.make.attributes (map entry is.pairs) is.make.kept
         (each_in_range IsKeyValue entry AreBytes IsProperPair (λ x a b h. key_values_proper x a b h) (bytes_of 1 is.records) is.pairs (all_bytes 1 is.records (wire_in_range is.records text all is.wire)) is.each)))
 
     leaf_proper : (r : NotedValue) (v : Value) → IsProperValue v → r ≡ leaf v → IsProperValue r.means
@@ -114,8 +115,8 @@ module _ (list_proper : (members : List Value) → IsProperValue (values.List me
   attribute_proper : (p : KeyValue) (text : List ℕ) → AreBytes text → attribute_at text p → IsProperPair (entry p)
   attribute_proper p text all is = key_value_proper (value_in levels_below) (key_value_in levels_below) (value_in_proper levels_below) (key_value_in_proper levels_below) p text all is
 
-  pub attributes_proper : (texts : List (List ℕ)) (attributes : List (List ℕ × Value)) → AllByRecursion AreBytes texts → AttributesOf texts attributes → AreProper attributes
-  attributes_proper texts attributes all is = kept_all IsProperPair attributes (map entry is.pairs) is.kept
+  pub attributes_proper : (texts : List (List ℕ)) (attributes : List (List ℕ × Value)) (keys : Keys) → AllByRecursion AreBytes texts → AttributesOf texts attributes keys → AreProper attributes
+  attributes_proper texts attributes keys all is = kept_all IsProperPair attributes (map entry is.pairs) is.make.kept
       (each_in_range (λ held p. attribute_at held p) entry AreBytes IsProperPair (λ p held b h. attribute_proper p held b h) texts is.pairs all is.each)
 
 -- ---- rows of numbers and identifiers

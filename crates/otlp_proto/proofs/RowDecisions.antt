@@ -1,5 +1,5 @@
 -- Whether something offends in a row is decided, and what doesn't offend means something.
-use Rattle.std.proofs.Common.{◌≡◌, ◌≢◌, ◌≤◌, ◌%◌, ◌^◌, ℕ, zero, suc, ◌⊎◌, inl, inr, List, [], ◌∷◌, ◌++◌, length, Option, Some, None, refl, sym, ◌∙◌, arith}
+use Rattle.std.proofs.Common.{◌≡◌, ◌≢◌, ◌≤◌, ◌%◌, ◌^◌, ℕ, ◌⊎◌, inl, inr, List, [], ◌∷◌, ◌++◌, length, Option, Some, None, All, refl, arith}
 use Rattle.std.specs.Prelude.{Any}
 use Rattle.std.specs.Int.{w64, w128, from_be_bytes}
 use Rattle.std.proofs.lemmas.Bool.{cases_eq}
@@ -14,25 +14,12 @@ use Rattle.span_io.specs.TableDecisions.{Decided, DecidedHere, Clean, RowDecides
 use Rattle.proto_wire.specs.Records.{Record}
 use Rattle.otlp_proto.specs.Identifiers.{MeansTraceId, MeansSpanId, WrongLength}
 use Rattle.otlp_proto.specs.Rows.{bytes_row, number_row, text, time, flags, count, enum, trace_id, span_id, message, messages_of, fixed64_in, fixed32_in, varint_in}
-use Rattle.otlp_proto.proofs.RowMeanings.{Reads}
+use Rattle.otlp_proto.proofs.RowMeanings.{Reads, zeros_or}
 
 nothing_inside : Decided (λ place n. ⊥)
 nothing_inside = inl (λ place n h. h)
 
 -- ---- identifiers
-
-pub nonzero_or : (held : List ℕ) → Any (λ b. b ≢ 0) held ⊎ (Any (λ b. b ≢ 0) held → ⊥)
-nonzero_or [] = inr (λ any. omega (arith, any.2))
-nonzero_or (b ∷ held) = of (cases_eq b 0) (nonzero_or held)
-  where
-    never : b ≡ 0 → (Any (λ c. c ≢ 0) held → ⊥) → Any (λ c. c ≢ 0) (b ∷ held) → ⊥
-    never zeros none (zero, x, lt, at, some) = some (sym at ∙ zeros)
-    never zeros none (suc k, x, lt, at, some) = none (k, x, omega arith, at, some)
-
-    of : (b ≡ 0) ⊎ (b ≡ 0 → ⊥) → Any (λ c. c ≢ 0) held ⊎ (Any (λ c. c ≢ 0) held → ⊥) → Any (λ c. c ≢ 0) (b ∷ held) ⊎ (Any (λ c. c ≢ 0) (b ∷ held) → ⊥)
-    of (inr some) rest = inl (0, b, omega arith, refl, some)
-    of (inl zeros) (inl any) = inl (suc any.0, any.1, omega (arith, any.2), any.3, any.4)
-    of (inl zeros) (inr none) = inr (never zeros none)
 
 pub empty_or : (held : List ℕ) → (held ≡ []) ⊎ (held ≡ [] → ⊥)
 empty_or [] = inl refl
@@ -56,20 +43,20 @@ right_length size held right = of (empty_or held) (cases_eq (length held) size)
     of (inr some) (inr other) = absurd (right 12 (refl, some, other))
 
 some_trace : (held : List ℕ) → ((n : ℕ) → WrongLength 16 held n → ⊥) → (id : Option ℕ) × MeansTraceId held id
-some_trace held right = of (right_length 16 held right) (nonzero_or held)
+some_trace held right = of (right_length 16 held right) (zeros_or held)
   where
-    of : (held ≡ []) ⊎ (length held ≡ 16) → Any (λ b. b ≢ 0) held ⊎ (Any (λ b. b ≢ 0) held → ⊥) → (id : Option ℕ) × MeansTraceId held id
+    of : (held ≡ []) ⊎ (length held ≡ 16) → All (λ b. b ≡ 0) held ⊎ Any (λ b. b ≢ 0) held → (id : Option ℕ) × MeansTraceId held id
     of (inl none) any = (None, inl none)
-    of (inr size) (inl any) = (Some (from_be_bytes w128 held), ((size, any), refl))
-    of (inr size) (inr zeros) = (None, inr (size, zeros))
+    of (inr size) (inr any) = (Some (from_be_bytes w128 held), ((size, any), refl))
+    of (inr size) (inl zeros) = (None, inr (size, zeros))
 
 some_span : (held : List ℕ) → ((n : ℕ) → WrongLength 8 held n → ⊥) → (id : Option ℕ) × MeansSpanId held id
-some_span held right = of (right_length 8 held right) (nonzero_or held)
+some_span held right = of (right_length 8 held right) (zeros_or held)
   where
-    of : (held ≡ []) ⊎ (length held ≡ 8) → Any (λ b. b ≢ 0) held ⊎ (Any (λ b. b ≢ 0) held → ⊥) → (id : Option ℕ) × MeansSpanId held id
+    of : (held ≡ []) ⊎ (length held ≡ 8) → All (λ b. b ≡ 0) held ⊎ Any (λ b. b ≢ 0) held → (id : Option ℕ) × MeansSpanId held id
     of (inl none) any = (None, inl none)
-    of (inr size) (inl any) = (Some (from_be_bytes w64 held), ((size, any), refl))
-    of (inr size) (inr zeros) = (None, inr (size, zeros))
+    of (inr size) (inr any) = (Some (from_be_bytes w64 held), ((size, any), refl))
+    of (inr size) (inl zeros) = (None, inr (size, zeros))
 
 -- ---- rows
 

@@ -1,23 +1,40 @@
 -- What is given to a row means one value at most, and nothing in it offends where it means one.
-use Rattle.std.proofs.Common.{◌≡◌, ◌+◌, ◌%◌, ◌^◌, ℕ, inl, inr, List, [], length, Option, Some, None, refl, sym, ap, ◌∙◌, arith}
+use Rattle.std.proofs.Common.{◌≡◌, ◌≢◌, ◌+◌, ◌%◌, ◌^◌, ℕ, suc, ◌⊎◌, inl, inr, List, [], ◌∷◌, length, Option, Some, None, All, refl, sym, ap, ◌∙◌, arith}
+use Rattle.std.specs.Prelude.{Any}
 use Rattle.std.specs.List.{AllZip}
+use Rattle.std.proofs.lemmas.Bool.{cases_eq}
+use Rattle.std.proofs.lemmas.List.Elements.{All-nil, All-cons}
 use Rattle.span_io.specs.Tables.{Singular, Twice, NotText, MeansText, Above}
 use Rattle.span_io.specs.TableLaws.{RowMeaning}
 use Rattle.span_io.specs.RowLaws.{all_zip_split, all_zip_once, singular_split, singular_once, singular_fine, EnumLaws}
 use Rattle.span_ids.specs.Identifiers.{IsIdText, SpellsTraceId, SpellsSpanId}
 use Rattle.proto_wire.specs.Records.{Record}
-use Rattle.otlp_proto.specs.Identifiers.{IsNoId, MeansTraceId, MeansSpanId, WrongLength}
+use Rattle.otlp_proto.specs.Identifiers.{MeansTraceId, MeansSpanId, WrongLength}
+use Rattle.trace_model.specs.OtlpParts.{IsNoIdentifier}
 use Rattle.otlp_proto.specs.Rows.{bytes_row, number_row, text, time, flags, count, enum, trace_id, span_id, message, messages_of, fixed64_in, fixed32_in, varint_in}
 
 -- ---- identifiers
 
-no_id_length : (size : ℕ) (held : List ℕ) → IsNoId size held → (n : ℕ) → WrongLength size held n → ⊥
+-- bytes are zeros, or one of them isn't
+pub zeros_or : (held : List ℕ) → All (λ b. b ≡ 0) held ⊎ Any (λ b. b ≢ 0) held
+zeros_or [] = inl (All-nil (λ b. b ≡ 0))
+zeros_or (b ∷ held) = of (cases_eq b 0) (zeros_or held)
+  where
+    of : (b ≡ 0) ⊎ (b ≡ 0 → ⊥) → All (λ c. c ≡ 0) held ⊎ Any (λ c. c ≢ 0) held → All (λ c. c ≡ 0) (b ∷ held) ⊎ Any (λ c. c ≢ 0) (b ∷ held)
+    of (inr some) rest = inr (0, b, omega arith, refl, some)
+    of (inl zero) (inl zeros) = inl (All-cons (λ c. c ≡ 0) b held zero zeros)
+    of (inl zero) (inr any) = inr (suc any.0, any.1, omega (arith, any.2), any.3, any.4)
+
+pub zeros_only : (held : List ℕ) → All (λ b. b ≡ 0) held → Any (λ b. b ≢ 0) held → ⊥
+zeros_only held zeros (k, b, within, at, some) = some (sym at ∙ zeros k b within)
+
+no_id_length : (size : ℕ) (held : List ℕ) → IsNoIdentifier 0 size held → (n : ℕ) → WrongLength size held n → ⊥
 no_id_length size held (inl none) n wrong = wrong.1 none
 no_id_length size held (inr zeros) n wrong = wrong.2 zeros.0
 
-no_id_spelled : (size more : ℕ) (held : List ℕ) → size ≡ more + 1 → IsNoId size held → IsIdText size held → ⊥
+no_id_spelled : (size more : ℕ) (held : List ℕ) → size ≡ more + 1 → IsNoIdentifier 0 size held → IsIdText size held → ⊥
 no_id_spelled size more held e (inl none) spelled = absurd (omega (arith, ap length none, spelled.0))
-no_id_spelled size more held e (inr zeros) spelled = zeros.1 spelled.1
+no_id_spelled size more held e (inr zeros) spelled = zeros_only held zeros.1 spelled.1
 
 trace_length : (held : List ℕ) (id : Option ℕ) → MeansTraceId held id → (n : ℕ) → WrongLength 16 held n → ⊥
 trace_length held None means n wrong = no_id_length 16 held means n wrong

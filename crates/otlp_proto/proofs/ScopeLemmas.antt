@@ -1,6 +1,5 @@
 -- Spans that were read, one after the other, and what was read of a scope.
-use Rattle.std.proofs.Common.{◌≡◌, ℕ, ◌+◌, List, [], ◌∷◌, ◌++◌, length, map, refl, sym, ap, ◌∙◌, arith}
-use Rattle.std.proofs.lemmas.List.{map-append, length-map}
+use Rattle.std.proofs.Common.{◌≡◌, ℕ, ◌+◌, List, [], ◌∷◌, ◌++◌, length, map, refl, ap, ◌∙◌}
 use Rattle.std.specs.Option.{unwrap_or}
 use Rattle.span_io.specs.Tables.{givens, MeansText}
 use Rattle.proto_wire.specs.Records.{Record}
@@ -17,10 +16,9 @@ use Rattle.otlp_proto.specs.ReadParts.{IsReadSpan, IsReadScope, instrumentation_
 use Rattle.trace_model.specs.Remarks.{equal_keys, numbered}
 use Rattle.otlp_proto.specs.Rows.{bytes_of, MeansMessage}
 use Rattle.otlp_proto.specs.Scope.{IsInstrumentationScope, scope_table}
-use Rattle.trace_model.specs.GroupRemarks.{span_remarks}
 use Rattle.trace_model.specs.Notes.{Noted, SpanNotes}
 use Rattle.trace_model.specs.OtlpParts.{no_instrumentation_scope}
-use Rattle.trace_model.specs.RemarkLaws.{numbered_push}
+use Rattle.trace_model.specs.ToldLaws.{span_added}
 use Rattle.otlp_proto.specs.ScopeSoFar.{GatheredSpans, GatheredScope}
 use Rattle.otlp_proto.specs.Span.{IsSpan}
 use Rattle.span_io.specs.RowLaws.{all_zip_push, singular_or, singular_read}
@@ -29,30 +27,18 @@ use Rattle.span_io.specs.RowLaws.{all_zip_push, singular_or, singular_read}
 
 pub no_spans : (first : ℕ) (list : SpanList) → list.first ≡ first → list.spans ≡ [] → list.remarks ≡ [] → GatheredSpans first [] list
 unfolding numbered
-no_spans first list its_first spans remarks = record { begins = its_first; read = []; each = tt; spans = spans; remarks = remarks }
+no_spans first list its_first spans remarks = record { begins = its_first; read = []; each = tt; told = record { spans = spans; remarked = remarks } }
 
 pub span_push : (first : ℕ) (earlier : List (List ℕ)) (held : List ℕ) (old new : SpanList) (number : ℕ) (read : ReadSpan) → new.first ≡ old.first → new.spans ≡ old.spans ++ read.span ∷ [] → new.remarks ≡ old.remarks ++ read.remarks
     → number ≡ old.first + length old.spans → IsReadSpan number read held → GatheredSpans first earlier old → GatheredSpans first (earlier ++ held ∷ []) new
-span_push first earlier held old new number read same_first spans remarks its_number is so_far = record {
-  begins = same_first ∙ so_far.begins;
-  read = so_far.read ++ this ∷ [];
-  each = all_zip_push (MeansMessage IsSpan) earlier so_far.read held this so_far.each is.is_span;
-  spans = spans ∙ ap (λ l. l ++ read.span ∷ []) so_far.spans ∙ sym (map-append (λ (s : Noted Span SpanNotes). s.means) so_far.read (this ∷ []));
-  remarks = remarks ∙ ap (λ l. l ++ read.remarks) so_far.remarks ∙ ap (λ l. numbered span_remarks first notes ++ l) (is.remarks ∙ ap (λ (k : ℕ). span_remarks k is.notes) number_of)
-      ∙ sym (numbered_push span_remarks first notes is.notes) ∙ ap (λ l. numbered span_remarks first l) (sym (map-append (λ (s : Noted Span SpanNotes). s.notes) so_far.read (this ∷ [])));
-}
-  where
-    this : Noted Span SpanNotes
-    this = record { means = read.span; notes = is.notes }
-
-    notes : List SpanNotes
-    notes = map (λ s. s.notes) so_far.read
-
-    number_of : number ≡ first + length notes
-    number_of =
-        let count : length old.spans ≡ length so_far.read = ap length so_far.spans ∙ length-map so_far.read (λ (s : Noted Span SpanNotes). s.means) in
-        let same : length notes ≡ length so_far.read = length-map so_far.read (λ (s : Noted Span SpanNotes). s.notes) in
-        omega (arith, its_number, so_far.begins, count, same)
+span_push first earlier held old new number read same_first spans remarks its_number is so_far =
+    let this : Noted Span SpanNotes = record { means = read.span; notes = is.notes } in
+    record {
+      begins = same_first ∙ so_far.begins;
+      read = so_far.read ++ this ∷ [];
+      each = all_zip_push (MeansMessage IsSpan) earlier so_far.read held this so_far.each is.is_span;
+      told = span_added first so_far.read old.spans new.spans old.remarks new.remarks read.remarks this number (its_number ∙ ap (λ (n : ℕ). n + length old.spans) so_far.begins) spans remarks is.remarks so_far.told;
+    }
 
 -- ---- what was read of a scope
 
@@ -75,9 +61,8 @@ module _ (rows : ScopeRows) (records : List Record) (instrumentation : ReadInstr
         each_span = gathered.spans.each;
         url = url;
         its_url = singular_or MeansText (λ text. text ≡ []) (bytes_of 3 records) rows.schema_url [] url its_url refl gathered.schema_url;
-        scope = ap with_spans gathered.spans.spans;
-        noted = refl;
+        scope = record { scope = ap with_spans gathered.spans.told.spans; noted = refl };
       };
     };
-    remarks = its_remarks ∙ ap (λ l. equal_keys (places.Scope number) instrumentation.keys ++ l) gathered.spans.remarks;
+    remarks = its_remarks ∙ ap (λ l. equal_keys (places.Scope number) instrumentation.keys ++ l) gathered.spans.told.remarked;
   }

@@ -40,9 +40,9 @@ unfoldable pub instrumentation_scope_bridge : Bridge (Noted InstrumentationScope
 instrumentation_scope_bridge = record {
   of = λ v. record { means = record { name = v.0; version = v.1.0; attributes = v.1.1.0.means; dropped = v.1.1.1.0 }; notes = v.1.1.0.notes };
   values = λ s records is. (s.means.name, (s.means.version, (record { means = s.means.attributes; notes = s.notes }, (s.means.dropped, tt))));
-  mean = λ s records is. (is.name, (is.version, ((is.attributes, is.noted), (is.dropped, tt))));
+  mean = λ s records is. (is.name, (is.version, (is.attributes, (is.dropped, tt))));
   again = λ s records is. refl;
-  build = λ records v clean m. record { name = m.0; version = m.1.0; attributes = m.1.1.0.0; noted = m.1.1.0.1; dropped = m.1.1.1.0 };
+  build = λ records v clean m. record { name = m.0; version = m.1.0; attributes = m.1.1.0; dropped = m.1.1.1.0 };
   ended = λ s records is n h. h;
   ends_same = λ records others same n h. h;
 }
@@ -92,8 +92,8 @@ scope_bridge = record {
   of = scope_of;
   values = λ s records is. (is.instrumentation, (is.spans, (is.url, tt)));
   mean = λ s records is. (is.its_instrumentation, (is.each_span, (is.its_url, tt)));
-  again = λ s records is i. record { means = is.scope i; notes = is.noted i };
-  build = λ records v clean m. record { instrumentation = v.0; its_instrumentation = m.0; spans = v.1.0; each_span = m.1.0; url = v.1.1.0; its_url = m.1.1.0; scope = refl; noted = refl };
+  again = λ s records is i. record { means = is.scope.scope i; notes = is.scope.noted i };
+  build = λ records v clean m. record { instrumentation = v.0; its_instrumentation = m.0; spans = v.1.0; each_span = m.1.0; url = v.1.1.0; its_url = m.1.1.0; scope = record { scope = refl; noted = refl } };
   ended = λ s records is n h. h;
   ends_same = λ records others same n h. h;
 }
@@ -126,7 +126,7 @@ scope_again L s sound proper fits =
 
 -- ---- what is read is proper
 
-module _ (attributes_proper : (texts : List (List ℕ)) (attributes : List (List ℕ × Value)) → AllByRecursion AreBytes texts → AttributesOf texts attributes → AreProper attributes) where
+module _ (attributes_proper : (texts : List (List ℕ)) (attributes : List (List ℕ × Value)) (keys : Keys) → AllByRecursion AreBytes texts → AttributesOf texts attributes keys → AreProper attributes) where
   -- the parts of a scope that its origin gives
   record ProperInstrumentationScope (o : Noted InstrumentationScope Keys) : Type 0 where
     name : IsUtf8 o.means.name
@@ -140,7 +140,7 @@ module _ (attributes_proper : (texts : List (List ℕ)) (attributes : List (List
       record {
         name = text_proper (bytes_of 1 is.items) o.means.name (all_bytes 1 is.items seen) is.is.name;
         version = text_proper (bytes_of 2 is.items) o.means.version (all_bytes 2 is.items seen) is.is.version;
-        attributes = attributes_proper (bytes_of 3 is.items) o.means.attributes (all_bytes 3 is.items seen) is.is.attributes;
+        attributes = attributes_proper (bytes_of 3 is.items) o.means.attributes o.notes (all_bytes 3 is.items seen) is.is.attributes;
         dropped = count_proper (varints_of 4 is.items) o.means.dropped is.is.dropped;
       }
 
@@ -151,7 +151,7 @@ module _ (attributes_proper : (texts : List (List ℕ)) (attributes : List (List
       let origin : ProperInstrumentationScope is.instrumentation = singular_in_range (MeansMessage IsInstrumentationScope) no_instrumentation_scope AreBytes ProperInstrumentationScope
       (record { name = IsUtf8-nil; version = IsUtf8-nil; attributes = All-nil IsProperPair; dropped = omega arith }) (λ held o b one. instrumentation_scope_proper o held b one)
       (bytes_of 1 h.items) is.instrumentation (all_bytes 1 h.items seen) is.its_instrumentation in
-      subst (λ (x : Scope). IsProperScope x) (sym is.scope) (record {
+      subst (λ (x : Scope). IsProperScope x) (sym is.scope.scope) (record {
         name = origin.name;
         version = origin.version;
         attributes = origin.attributes;

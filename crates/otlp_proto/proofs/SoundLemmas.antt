@@ -4,6 +4,7 @@ use Rattle.std.specs.Prelude.{◌↔◌}
 use Rattle.std.proofs.lemmas.List.Elements.{All-nil, All-cons}
 use Rattle.std.specs.List.{AllZip}
 use Rattle.trace_model.specs.Attributes.{Rise, keys}
+use Rattle.trace_model.specs.Remarks.{Keys}
 use Rattle.trace_model.specs.Values.{depth, MapsRise, IsSound, AreSound}
 use Rattle.trace_model.specs.declared.value.Value.{Value}
 use Rattle.trace_model.specs.declared.value.Value.TheVariants as values
@@ -27,18 +28,18 @@ module _ (list_depth : (d : ℕ) (members : List Value) → (depth (values.List 
   module _ (d : ℕ) (IsValue : List ℕ → NotedValue → Type 0) (IsKeyValue : List ℕ → KeyValue → Type 0)
       (values_sound : (r : NotedValue) (text : List ℕ) → IsValue text r → Sound d r.means) (pairs_sound : (p : KeyValue) (text : List ℕ) → IsKeyValue text p → Sound d p.value.means) where
     list_sound : (r : NotedValue) (text : List ℕ) → IsListText IsValue text r → Sound (d + 1) r.means
-    list_sound r text is = subst (Sound (d + 1)) (sym is.value) (record {
+    list_sound r text is = subst (Sound (d + 1)) (sym is.make.value) (record {
       shallow = (list_depth d (map (λ m. m.means) is.members)).1 (each_all IsValue (λ m. m.means) (λ v. depth v ≤ d) (λ x a h. (values_sound x a h).shallow) (bytes_of 1 is.records) is.members is.each);
       rising = (list_rises (map (λ m. m.means) is.members)).1 (each_all IsValue (λ m. m.means) MapsRise (λ x a h. (values_sound x a h).rising) (bytes_of 1 is.records) is.members is.each);
     })
 
     map_sound : (r : NotedValue) (text : List ℕ) → IsMapText IsKeyValue text r → Sound (d + 1) r.means
-    map_sound r text is = subst (Sound (d + 1)) (sym is.value) (record {
-      shallow = (map_depth d is.attributes).1 (kept_all (λ pair. depth pair.1 ≤ d) is.attributes (map entry is.pairs) is.kept
+    map_sound r text is = subst (Sound (d + 1)) (sym is.make.value) (record {
+      shallow = (map_depth d is.make.attributes).1 (kept_all (λ pair. depth pair.1 ≤ d) is.make.attributes (map entry is.pairs) is.make.kept
           (each_all IsKeyValue entry (λ pair. depth pair.1 ≤ d) (λ x a h. (pairs_sound x a h).shallow) (bytes_of 1 is.records) is.pairs is.each));
-      rising = (map_rises is.attributes).1 (
-        is.kept.rising,
-        kept_all (λ pair. MapsRise pair.1) is.attributes (map entry is.pairs) is.kept
+      rising = (map_rises is.make.attributes).1 (
+        is.make.kept.rising,
+        kept_all (λ pair. MapsRise pair.1) is.make.attributes (map entry is.pairs) is.make.kept
             (each_all IsKeyValue entry (λ pair. MapsRise pair.1) (λ x a h. (pairs_sound x a h).rising) (bytes_of 1 is.records) is.pairs is.each),
       );
     })
@@ -90,8 +91,8 @@ module _ (list_depth : (d : ℕ) (members : List Value) → (depth (values.List 
       sound : (p : KeyValue) (held : List ℕ) → key_value_at 15 held p → IsSound p.value.means
       sound p held is = let so = pair_sound 15 (value_in 15) (key_value_in 15) (value_in_sound 15) (key_value_in_sound 15) p held is in record { shallow = so.shallow; rising = so.rising }
 
-  pub attributes_of_sound : (texts : List (List ℕ)) (attributes : List (List ℕ × Value)) → AttributesOf texts attributes → AreSound attributes
-  attributes_of_sound texts attributes is = record {
-    rising = is.kept.rising;
-    values = kept_all (λ pair. IsSound pair.1) attributes (map entry is.pairs) is.kept (attributes_sound texts is.pairs is.each);
+  pub attributes_of_sound : (texts : List (List ℕ)) (attributes : List (List ℕ × Value)) (keys : Keys) → AttributesOf texts attributes keys → AreSound attributes
+  attributes_of_sound texts attributes keys is = record {
+    rising = is.make.kept.rising;
+    values = kept_all (λ pair. IsSound pair.1) attributes (map entry is.pairs) is.make.kept (attributes_sound texts is.pairs is.each);
   }

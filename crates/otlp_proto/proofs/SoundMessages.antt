@@ -44,9 +44,9 @@ none_sound : AreSound []
 unfolding IsStrictlySortedBy
 none_sound = record { rising = tt; values = All-nil (λ pair. IsSound pair.1) }
 
-module _ (attributes_sound : (texts : List (List ℕ)) (attributes : List (List ℕ × Value)) → AttributesOf texts attributes → AreSound attributes) where
+module _ (attributes_sound : (texts : List (List ℕ)) (attributes : List (List ℕ × Value)) (keys : Keys) → AttributesOf texts attributes keys → AreSound attributes) where
   event_sound : (e : Noted Event Keys) (text : List ℕ) → MeansMessage IsEvent text e → IsSoundEvent e.means
-  event_sound e text is = attributes_sound (bytes_of 3 is.items) e.means.attributes is.is.attributes
+  event_sound e text is = attributes_sound (bytes_of 3 is.items) e.means.attributes e.notes is.is.attributes
 
   links_sound : (texts : List (List ℕ)) (links : List (Option (Noted Link Keys))) → AllZip (MeansMessage IsLink) texts links → All IsSoundLink (map (λ l. l.means) (kept_links links))
   links_sound [] [] each = All-nil IsSoundLink
@@ -55,36 +55,36 @@ module _ (attributes_sound : (texts : List (List ℕ)) (attributes : List (List 
   links_sound (text ∷ texts) (None ∷ links) each = links_sound texts links each.1
   links_sound (text ∷ texts) (Some link ∷ links) each =
       let is = each.0.is in
-      All-cons IsSoundLink link.means (map (λ l. l.means) (kept_links links)) (link_has AreSound is.trace is.span is.parts link (attributes_sound (bytes_of 4 each.0.items) is.parts.attributes is.attributes) is.link)
+      All-cons IsSoundLink link.means (map (λ l. l.means) (kept_links links)) (link_has AreSound is.trace is.span is.parts link (attributes_sound (bytes_of 4 each.0.items) is.parts.attributes is.parts.keys is.attributes) is.link)
       (links_sound texts links each.1)
 
   span_sound : (s : Noted Span SpanNotes) (text : List ℕ) → MeansMessage IsSpan text s → IsSoundSpan s.means
   span_sound s text h =
       let is = h.is in
       record {
-        attributes = attributes_sound (bytes_of 9 h.items) s.means.attributes is.attributes;
-        events = subst (λ (l : List Event). All IsSoundEvent l) (sym is.its_events) (each_all (MeansMessage IsEvent) (λ e. e.means) IsSoundEvent (λ e held one. event_sound e held one) (bytes_of 11 h.items) is.events is.each_event);
-        links = subst (λ (l : List Link). All IsSoundLink l) (sym is.its_links) (links_sound (bytes_of 13 h.items) is.links is.each_link);
+        attributes = attributes_sound (bytes_of 9 h.items) s.means.attributes s.notes.keys is.attributes;
+        events = subst (λ (l : List Event). All IsSoundEvent l) (sym is.its_events.kept) (each_all (MeansMessage IsEvent) (λ e. e.means) IsSoundEvent (λ e held one. event_sound e held one) (bytes_of 11 h.items) is.events is.each_event);
+        links = subst (λ (l : List Link). All IsSoundLink l) (sym is.its_links.kept) (links_sound (bytes_of 13 h.items) is.links is.each_link);
       }
 
   instrumentation_scope_sound : (o : Noted InstrumentationScope Keys) (text : List ℕ) → MeansMessage IsInstrumentationScope text o → AreSound o.means.attributes
-  instrumentation_scope_sound o text is = attributes_sound (bytes_of 3 is.items) o.means.attributes is.is.attributes
+  instrumentation_scope_sound o text is = attributes_sound (bytes_of 3 is.items) o.means.attributes o.notes is.is.attributes
 
   scope_sound : (s : Noted Scope ScopeNotes) (text : List ℕ) → MeansMessage IsScope text s → IsSoundScope s.means
   scope_sound s text h =
       let is = h.is in
-      subst (λ (x : Scope). IsSoundScope x) (sym is.scope) (record {
+      subst (λ (x : Scope). IsSoundScope x) (sym is.scope.scope) (record {
         attributes = singular_has (MeansMessage IsInstrumentationScope) no_instrumentation_scope (λ o. AreSound o.means.attributes) none_sound (λ held o one. instrumentation_scope_sound o held one) (bytes_of 1 h.items) is.instrumentation is.its_instrumentation;
         spans = each_all (MeansMessage IsSpan) (λ s. s.means) IsSoundSpan (λ s held one. span_sound s held one) (bytes_of 2 h.items) is.spans is.each_span;
       })
 
   resource_sound : (r : Noted Resource Keys) (text : List ℕ) → MeansMessage IsResource text r → AreSound r.means.attributes
-  resource_sound r text is = attributes_sound (bytes_of 1 is.items) r.means.attributes is.is.attributes
+  resource_sound r text is = attributes_sound (bytes_of 1 is.items) r.means.attributes r.notes is.is.attributes
 
   pub group_sound : (g : Group) (remarks : List Remark) (text : List ℕ) → IsGroupText g remarks text → IsSoundGroup g
   group_sound g remarks text h =
       let is = h.is in
-      subst (λ (x : Group). IsSoundGroup x) (sym is.its_group) (record {
+      subst (λ (x : Group). IsSoundGroup x) (sym is.group.group) (record {
         resource = singular_has (MeansMessage IsResource) no_resource (λ r. AreSound r.means.attributes) none_sound (λ held r one. resource_sound r held one) (bytes_of 1 h.items) is.resource is.its_resource;
         scopes = each_all (MeansMessage IsScope) (λ s. s.means) IsSoundScope (λ s held one. scope_sound s held one) (bytes_of 2 h.items) is.scopes is.each_scope;
       })

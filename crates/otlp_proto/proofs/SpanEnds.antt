@@ -1,6 +1,6 @@
 -- The end of a span, which has both identifiers.
 use Rattle.std.specs.Prelude.{◌↔◌, Any}
-use Rattle.std.proofs.Common.{◌≡◌, ◌≢◌, ℕ, ◌⊎◌, inl, inr, List, [], ◌∷◌, length, Option, Some, None, refl, sym, subst, ⊎_elim, arith}
+use Rattle.std.proofs.Common.{◌≡◌, ◌≢◌, ℕ, ◌⊎◌, inl, inr, List, [], ◌∷◌, length, Option, Some, None, All, refl, sym, subst, ⊎_elim, arith}
 use Rattle.std.proofs.lemmas.Bool.{cases_eq}
 use Rattle.span_io.specs.declared.cause.Cause.TheVariants as causes
 use Rattle.span_io.specs.FreeItems.{GivenPadded}
@@ -9,27 +9,28 @@ use Rattle.span_io.specs.TableDecisions.{DecidedHere}
 use Rattle.span_io.specs.Tables.{Singular}
 use Rattle.span_ids.specs.Laws.{IdentifiersReadBack}
 use Rattle.proto_wire.specs.Records.{Record}
-use Rattle.otlp_proto.specs.Identifiers.{IsNoId, MeansTraceId, MeansSpanId}
+use Rattle.trace_model.specs.OtlpParts.{IsNoIdentifier}
+use Rattle.otlp_proto.specs.Identifiers.{MeansTraceId, MeansSpanId}
 use Rattle.otlp_proto.specs.Rows.{bytes_of}
 use Rattle.otlp_proto.specs.Span.{span_table, span_padded, span_ends}
 use Rattle.otlp_proto.proofs.MessageProofs.{EndProof}
-use Rattle.otlp_proto.proofs.RowDecisions.{empty_or, nonzero_or}
-use Rattle.otlp_proto.proofs.RowMeanings.{trace_id_once, span_id_once}
+use Rattle.otlp_proto.proofs.RowDecisions.{empty_or}
+use Rattle.otlp_proto.proofs.RowMeanings.{trace_id_once, span_id_once, zeros_or, zeros_only}
 
 -- ---- whether an identifier is missing is decided
 
-no_id_or : (size : ℕ) (held : List ℕ) → IsNoId size held ⊎ (IsNoId size held → ⊥)
-no_id_or size held = of (empty_or held) (cases_eq (length held) size) (nonzero_or held)
+no_id_or : (size : ℕ) (held : List ℕ) → IsNoIdentifier 0 size held ⊎ (IsNoIdentifier 0 size held → ⊥)
+no_id_or size held = of (empty_or held) (cases_eq (length held) size) (zeros_or held)
   where
-    never : (held ≡ [] → ⊥) → ((length held ≡ size → ⊥) ⊎ Any (λ b. b ≢ 0) held) → IsNoId size held → ⊥
+    never : (held ≡ [] → ⊥) → ((length held ≡ size → ⊥) ⊎ Any (λ b. b ≢ 0) held) → IsNoIdentifier 0 size held → ⊥
     never some other (inl none) = some none
     never some (inl other) (inr zeros) = other zeros.0
-    never some (inr any) (inr zeros) = zeros.1 any
+    never some (inr any) (inr zeros) = zeros_only held zeros.1 any
 
-    of : (held ≡ []) ⊎ (held ≡ [] → ⊥) → (length held ≡ size) ⊎ (length held ≡ size → ⊥) → Any (λ b. b ≢ 0) held ⊎ (Any (λ b. b ≢ 0) held → ⊥) → IsNoId size held ⊎ (IsNoId size held → ⊥)
+    of : (held ≡ []) ⊎ (held ≡ [] → ⊥) → (length held ≡ size) ⊎ (length held ≡ size → ⊥) → All (λ b. b ≡ 0) held ⊎ Any (λ b. b ≢ 0) held → IsNoIdentifier 0 size held ⊎ (IsNoIdentifier 0 size held → ⊥)
     of (inl none) same any = inl (inl none)
-    of (inr some) (inl same) (inr zeros) = inl (inr (same, zeros))
-    of (inr some) (inl same) (inl any) = inr (never some (inr any))
+    of (inr some) (inl same) (inl zeros) = inl (inr (same, zeros))
+    of (inr some) (inl same) (inr any) = inr (never some (inr any))
     of (inr some) (inr other) any = inr (never some (inl other))
 
 no_trace_or : (xs : List (List ℕ)) → Singular MeansTraceId (λ id. id ≡ None) xs None ⊎ (Singular MeansTraceId (λ id. id ≡ None) xs None → ⊥)

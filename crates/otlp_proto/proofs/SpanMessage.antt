@@ -121,7 +121,7 @@ module _ (ids : IdentifiersReadBack) where
                   (
                     is.end,
                     (
-                      (is.attributes, is.noted),
+                      is.attributes,
                       (
                         is.dropped_attributes,
                         (is.each_event, (is.dropped_events, (is.each_link, (is.dropped_links, (is.status, (is.flags, tt)))))),
@@ -136,8 +136,8 @@ module _ (ids : IdentifiersReadBack) where
       ),
     );
     again = λ s records is i. record {
-      means = record s.means { events = is.its_events i; links = is.its_links i };
-      notes = record { keys = s.notes.keys; dropped = is.any_dropped i; events = is.events_noted i; links = is.links_noted i };
+      means = record s.means { events = is.its_events.kept i; links = is.its_links.kept i };
+      notes = record { keys = s.notes.keys; dropped = is.its_links.any_dropped i; events = is.its_events.noted i; links = is.its_links.noted i };
     };
     build = λ records v clean m. record {
       trace = subst (λ (x : Option ℕ). Singular MeansTraceId (λ id. id ≡ None) (bytes_of 1 records) x) (known_trace records v.0 m.0 clean) m.0;
@@ -148,19 +148,15 @@ module _ (ids : IdentifiersReadBack) where
       kind = m.1.1.1.1.1.0;
       start = m.1.1.1.1.1.1.0;
       end = m.1.1.1.1.1.1.1.0;
-      attributes = m.1.1.1.1.1.1.1.1.0.0;
-      noted = m.1.1.1.1.1.1.1.1.0.1;
+      attributes = m.1.1.1.1.1.1.1.1.0;
       dropped_attributes = m.1.1.1.1.1.1.1.1.1.0;
       events = v.1.1.1.1.1.1.1.1.1.1.0;
       each_event = m.1.1.1.1.1.1.1.1.1.1.0;
-      its_events = refl;
-      events_noted = refl;
+      its_events = record { kept = refl; noted = refl };
       dropped_events = m.1.1.1.1.1.1.1.1.1.1.1.0;
       links = v.1.1.1.1.1.1.1.1.1.1.1.1.0;
       each_link = m.1.1.1.1.1.1.1.1.1.1.1.1.0;
-      its_links = refl;
-      links_noted = refl;
-      any_dropped = refl;
+      its_links = record { kept = refl; noted = refl; any_dropped = refl };
       dropped_links = m.1.1.1.1.1.1.1.1.1.1.1.1.1.0;
       status = m.1.1.1.1.1.1.1.1.1.1.1.1.1.1.0;
       flags = m.1.1.1.1.1.1.1.1.1.1.1.1.1.1.1.0;
@@ -233,7 +229,7 @@ span_again L s sound proper fits =
 
 -- ---- what is read is proper
 
-module _ (attributes_proper : (texts : List (List ℕ)) (attributes : List (List ℕ × Value)) → AllByRecursion AreBytes texts → AttributesOf texts attributes → AreProper attributes) where
+module _ (attributes_proper : (texts : List (List ℕ)) (attributes : List (List ℕ × Value)) (keys : Keys) → AllByRecursion AreBytes texts → AttributesOf texts attributes keys → AreProper attributes) where
   pub span_proper : (s : Noted Span SpanNotes) (text : List ℕ) → AreBytes text → MeansMessage IsSpan text s → IsProperSpan s.means
   span_proper s text all h =
       let seen : AllInRange h.items = wire_in_range h.items text all h.are in
@@ -246,12 +242,12 @@ module _ (attributes_proper : (texts : List (List ℕ)) (attributes : List (List
         name = text_proper (bytes_of 5 h.items) s.means.name (all_bytes 5 h.items seen) is.name;
         start = number_proper (2 ^ 64) (omega arith) (fixed64s_of 7 h.items) s.means.start (all_times 7 h.items seen) is.start;
         end = number_proper (2 ^ 64) (omega arith) (fixed64s_of 8 h.items) s.means.end (all_times 8 h.items seen) is.end;
-        attributes = attributes_proper (bytes_of 9 h.items) s.means.attributes (all_bytes 9 h.items seen) is.attributes;
+        attributes = attributes_proper (bytes_of 9 h.items) s.means.attributes s.notes.keys (all_bytes 9 h.items seen) is.attributes;
         dropped_attributes = count_proper (varints_of 10 h.items) s.means.dropped_attributes is.dropped_attributes;
-        events = subst (λ (l : List Event). All IsProperEvent l) (sym is.its_events)
+        events = subst (λ (l : List Event). All IsProperEvent l) (sym is.its_events.kept)
             (each_in_range (MeansMessage IsEvent) (λ e. e.means) AreBytes IsProperEvent (λ e held b one. event_proper attributes_proper e held b one) (bytes_of 11 h.items) is.events (all_bytes 11 h.items seen) is.each_event);
         dropped_events = count_proper (varints_of 12 h.items) s.means.dropped_events is.dropped_events;
-        links = subst (λ (l : List Link). All IsProperLink l) (sym is.its_links) (links_proper attributes_proper (bytes_of 13 h.items) is.links (all_bytes 13 h.items seen) is.each_link);
+        links = subst (λ (l : List Link). All IsProperLink l) (sym is.its_links.kept) (links_proper attributes_proper (bytes_of 13 h.items) is.links (all_bytes 13 h.items seen) is.each_link);
         dropped_links = count_proper (varints_of 14 h.items) s.means.dropped_links is.dropped_links;
         status = singular_in_range (MeansMessage IsStatus) no_status AreBytes IsProperStatus (record { message = IsUtf8-nil }) (λ held status b one. status_proper status held b one)
             (bytes_of 15 h.items) s.means.status (all_bytes 15 h.items seen) is.status;

@@ -17,7 +17,7 @@ use Rattle.trace_model.specs.Proper.{IsProperValue, IsProperPair, AreProper}
 use Rattle.trace_model.specs.Values.{depth, MapsRise, AreSound}
 use Rattle.trace_model.specs.declared.value.Value.{Value}
 use Rattle.trace_model.specs.declared.value.Value.TheVariants as values
-use Rattle.otlp_proto.specs.Attributes.{attribute_at, AttributesOf, NotedIn}
+use Rattle.otlp_proto.specs.Attributes.{attribute_at, AttributesOf}
 use Rattle.otlp_proto.specs.Rows.{bytes_in}
 use Rattle.otlp_proto.specs.Texts.{bytes_field, list_text, truth_bit, value_text, key_value_text, attributes_text}
 use Rattle.otlp_proto.specs.Values.{Member, members_of, MeansMember, value_in, key_value_in, value_at, key_value_at, table_of_key_value}
@@ -142,8 +142,7 @@ module _ (L : Laws) where
         members = map leaf members;
         each = subst (λ l. AllZip (value_in left) l (map leaf members)) (sym (given_all (bytes_in 1) (record_of bytes 1) (λ x. chosen_own 1 x) (map value_text members)))
             (each_row (value_in left) value_text leaf members (λ k d lt. inner (get_or members k d) (all_given k d lt)));
-        value = ap values.List (sym (values_back members));
-        noted = sym (values_quiet members);
+        make = record { value = ap values.List (sym (values_back members)); noted = sym (values_quiet members) };
       };
     })
       where
@@ -174,12 +173,14 @@ module _ (L : Laws) where
         pairs = map quiet_key_value pairs;
         each = subst (λ l. AllZip (key_value_in left) l (map quiet_key_value pairs)) (sym (given_all (bytes_in 1) (record_of bytes 1) (λ x. chosen_own 1 x) (map key_value_text pairs)))
             (each_row (key_value_in left) key_value_text quiet_key_value pairs (λ k d lt. key_value_in_again left inner (get_or pairs k d) (all_given k d lt)));
-        attributes = pairs;
-        kept = subst (λ l. AreAttributes pairs l) (sym (pairs_back pairs)) (L.rising.themselves pairs rises.0);
-        repeated = [];
-        twice = subst (λ l. AreRepeated [] l) (sym (pairs_back pairs)) (L.rising.unrepeated pairs rises.0);
-        value = refl;
-        noted = sym (ap (λ (l : List (List ℕ)). l ++ []) (pairs_quiet pairs));
+        make = record {
+          attributes = pairs;
+          kept = subst (λ l. AreAttributes pairs l) (sym (pairs_back pairs)) (L.rising.themselves pairs rises.0);
+          repeated = [];
+          twice = subst (λ l. AreRepeated [] l) (sym (pairs_back pairs)) (L.rising.unrepeated pairs rises.0);
+          value = refl;
+          noted = sym (ap (λ (l : List (List ℕ)). l ++ []) (pairs_quiet pairs));
+        };
       };
     })
       where
@@ -235,26 +236,19 @@ module _ (L : Laws) where
       fits = list_fits number key_value_text attributes fits k d lt;
     }
 
-    each_attribute : AllZip attribute_at (map key_value_text attributes) (map quiet_key_value attributes)
-    each_attribute = each_row attribute_at key_value_text quiet_key_value attributes (λ k d lt. attribute_again (get_or attributes k d) (all_given k d lt))
-
-    pub attributes_again : AttributesOf (map key_value_text attributes) attributes
-    attributes_again = record {
-      pairs = map quiet_key_value attributes;
-      each = each_attribute;
-      kept = subst (λ l. AreAttributes attributes l) (sym (pairs_back attributes)) (L.rising.themselves attributes sound.rising);
-    }
-
     unrepeated : AreRepeated [] (map entry (map quiet_key_value attributes))
     unrepeated = subst (λ l. AreRepeated [] l) (sym (pairs_back attributes)) (L.rising.unrepeated attributes sound.rising)
 
-    pub none_noted : NotedIn (map key_value_text attributes) []
-    none_noted = record {
+    pub attributes_again : AttributesOf (map key_value_text attributes) attributes []
+    attributes_again = record {
       pairs = map quiet_key_value attributes;
-      each = each_attribute;
-      rising = unrepeated.rising;
-      noted = λ key. (
-        λ there. inl ((unrepeated.twice key).0 there),
-        λ is. ⊎_elim (λ twice. (unrepeated.twice key).1 twice) (λ there. subst (λ l. Contains l key) (pairs_quiet attributes) there) is,
-      );
+      each = each_row attribute_at key_value_text quiet_key_value attributes (λ k d lt. attribute_again (get_or attributes k d) (all_given k d lt));
+      make = record {
+        kept = subst (λ l. AreAttributes attributes l) (sym (pairs_back attributes)) (L.rising.themselves attributes sound.rising);
+        rising = unrepeated.rising;
+        noted = λ key. (
+          λ there. inl ((unrepeated.twice key).0 there),
+          λ is. ⊎_elim (λ twice. (unrepeated.twice key).1 twice) (λ there. subst (λ l. Contains l key) (pairs_quiet attributes) there) is,
+        );
+      };
     }

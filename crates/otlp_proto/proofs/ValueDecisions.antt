@@ -21,7 +21,7 @@ use Rattle.trace_model.specs.Laws.{AttributesOnce, AttributesExist}
 use Rattle.trace_model.specs.declared.value.Value.{Value}
 use Rattle.trace_model.specs.declared.value.Value.TheVariants as values
 use Rattle.otlp_proto.specs.Laws.{WireFacts}
-use Rattle.otlp_proto.specs.Attributes.{attribute_at, attribute_rules, AttributesOf, NotedIn, attributes}
+use Rattle.otlp_proto.specs.Attributes.{attribute_at, attribute_rules, AttributesOf, attributes}
 use Rattle.trace_model.specs.Remarks.{Keys}
 use Rattle.otlp_proto.specs.Rows.{bytes_in, varint_in, fixed64_in, fixed32_in, bytes_of, bytes_row}
 use Rattle.otlp_proto.proofs.Shapes.{shape_of_value, shape_of_key_value, many_shape, value_bounded, key_value_bounded, list_laws, map_laws, value_laws, key_value_laws}
@@ -152,7 +152,7 @@ module _ (facts : WireFacts) (once : AttributesOnce) (exist : AttributesExist) (
     list_chosen : (text : List ℕ) → Chosen (λ held r. IsListText (value_in left) held r) (λ held p n. Offence messages (list_rules left) held p n) text
     list_chosen text = ⊎_elim (λ m. inl (
       record { means = values.List (map (λ x. x.means) m.values.0); notes = flat_map (λ x. x.notes) m.values.0 },
-      record { records = m.items; wire = whole_wire m.items text m.whole; members = m.values.0; each = m.mean.0; value = refl; noted = refl },
+      record { records = m.items; wire = whole_wire m.items text m.whole; members = m.values.0; each = m.mean.0; make = record { value = refl; noted = refl } },
     )) (λ least. inr least)
         (many_chosen left NotedValue (value_in left) (value_offends left) below.value_inside below.value_some
         (many_shape facts.format left NotedValue (value_in left) (value_offends left) (value_bounded facts.format left)) (list_laws facts.format left) text)
@@ -162,7 +162,13 @@ module _ (facts : WireFacts) (once : AttributesOnce) (exist : AttributesExist) (
         let kept = exist.attributes (map entry pairs) in
         let twice = exist.repeated (map entry pairs) in (
           record { means = values.Map kept.0; notes = keys_inside pairs ++ twice.0 },
-          record { records = records; wire = wire; pairs = pairs; each = each; attributes = kept.0; kept = kept.1; repeated = twice.0; twice = twice.1; value = refl; noted = refl },
+          record {
+            records = records;
+            wire = wire;
+            pairs = pairs;
+            each = each;
+            make = record { attributes = kept.0; kept = kept.1; repeated = twice.0; twice = twice.1; value = refl; noted = refl };
+          },
         )
 
     map_chosen : (text : List ℕ) → Chosen (λ held r. IsMapText (key_value_in left) held r) (λ held p n. Offence messages (map_rules left) held p n) text
@@ -271,11 +277,11 @@ module _ (facts : WireFacts) (once : AttributesOnce) (exist : AttributesExist) (
       same_clean [] earlier clean = tt
       same_clean (x ∷ xs) earlier clean = (clean.0, clean.1, same_clean xs (earlier ++ x ∷ []) clean.2)
 
-      of : (xs : List (List ℕ)) → (pairs : List KeyValue) × AllZip attribute_at xs pairs → (a : Noted (List (List ℕ × Value)) Keys) × (AttributesOf xs a.means × NotedIn xs a.notes)
+      of : (xs : List (List ℕ)) → (pairs : List KeyValue) × AllZip attribute_at xs pairs → (a : Noted (List (List ℕ × Value)) Keys) × AttributesOf xs a.means a.notes
       of xs (pairs, each) =
           let kept = exist.attributes (map entry pairs) in
           let twice = exist.repeated (map entry pairs) in
           let keys = exist.in_order (twice.0 ++ keys_inside pairs) in (
             record { means = kept.0; notes = keys.0 },
-            (record { pairs = pairs; each = each; kept = kept.1 }, record { pairs = pairs; each = each; rising = keys.1.rising; noted = in_order pairs twice.0 keys.0 twice.1 keys.1.same }),
+            record { pairs = pairs; each = each; make = record { kept = kept.1; rising = keys.1.rising; noted = in_order pairs twice.0 keys.0 twice.1 keys.1.same } },
           )

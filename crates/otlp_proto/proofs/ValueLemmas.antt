@@ -1,7 +1,6 @@
 -- The messages of values, record by record.
 use Rattle.std.proofs.Common.{◌≡◌, ℕ, zero, suc, List, [], ◌∷◌, ◌++◌, ◌⊎◌, inl, inr, Option, Some, None, Result, Err, refl, sym, ap, subst, ◌∙◌, arith}
 use Rattle.std.specs.Result.{IsErrAnd}
-use Rattle.std.proofs.lemmas.List.{map-append}
 use Rattle.std.proofs.lemmas.Result.{err_from_is_err_and}
 use Rattle.std.specs.List.{AllZip}
 use Rattle.span_io.specs.declared.cause.Cause.{Cause}
@@ -19,6 +18,7 @@ use Rattle.otlp_proto.specs.Rows.{bytes_in, bytes_of}
 use Rattle.span_io.specs.RowsSoFar.{Gave}
 use Rattle.otlp_proto.specs.Values.{Member, MeansMember, value_in, key_value_in, value_at, key_value_at, value_offends, key_value_offends, value_rules, key_value_rules}
 use Rattle.trace_model.specs.OtlpParts.{NotedValue, KeyValue, entry}
+use Rattle.trace_model.specs.ToldLaws.{value_added, pair_added}
 use Rattle.otlp_proto.specs.ValuesSoFar.{GatheredMembers, GatheredField, GatheredList, GatheredMap}
 use Rattle.span_io.specs.RowLaws.{all_zip_push}
 use Rattle.span_io.specs.TableLaws.{flat_more}
@@ -85,8 +85,7 @@ module _ (below left : ℕ) (deeper : left ≡ suc below) (seen : List Record) (
     members = so_far.members ++ v ∷ [];
     each = subst (λ (l : List (List ℕ)). AllZip (value_in left) l (so_far.members ++ v ∷ [])) (sym one_more)
         (all_zip_push (value_in left) (bytes_of 1 seen) so_far.members held v so_far.each (value_below below left deeper v held value));
-    values = values ∙ ap (λ l. l ++ v.means ∷ []) so_far.values ∙ sym (map-append (λ (m : NotedValue). m.means) so_far.members (v ∷ []));
-    noted = noted ∙ ap (λ l. l ++ v.notes) so_far.noted ∙ sym (flat_more (λ (m : NotedValue). m.notes) so_far.members v);
+    told = value_added so_far.members old.values new.values old.noted new.noted v values noted so_far.told;
   }
 
   pub map_push : (old new : MapRows) (q : KeyValue) → key_value_at below held q → new.pairs ≡ old.pairs ++ entry q ∷ [] → new.noted ≡ old.noted ++ q.value.notes → GatheredMap left seen old → GatheredMap left (seen ++ r ∷ []) new
@@ -94,6 +93,5 @@ module _ (below left : ℕ) (deeper : left ≡ suc below) (seen : List Record) (
     members = so_far.members ++ q ∷ [];
     each = subst (λ (l : List (List ℕ)). AllZip (key_value_in left) l (so_far.members ++ q ∷ [])) (sym one_more)
         (all_zip_push (key_value_in left) (bytes_of 1 seen) so_far.members held q so_far.each (key_value_below below left deeper q held value));
-    pairs = pairs ∙ ap (λ l. l ++ entry q ∷ []) so_far.pairs ∙ sym (map-append entry so_far.members (q ∷ []));
-    noted = noted ∙ ap (λ l. l ++ q.value.notes) so_far.noted ∙ sym (flat_more (λ (m : KeyValue). m.value.notes) so_far.members q);
+    told = pair_added so_far.members old.pairs new.pairs old.noted new.noted q pairs noted so_far.told;
   }

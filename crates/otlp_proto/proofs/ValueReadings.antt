@@ -1,6 +1,6 @@
 -- Bytes mean one value at most, and nothing offends in those that mean one: values, lists, maps, `KeyValue`s and attributes.
 use Rattle.std.proofs.Common.{◌≡◌, ◌≢◌, ℕ, zero, suc, ◌⊎◌, inl, inr, List, [], ◌∷◌, ◌++◌, map, Bool, true, false, refl, sym, ap, subst, ◌∙◌, arith}
-use Rattle.std.specs.Prelude.{◌↔◌, Contains, IsTrue}
+use Rattle.std.specs.Prelude.{◌↔◌, IsTrue}
 use Rattle.std.specs.List.{AllZip, flat_map}
 use Rattle.span_io.specs.Offences.{Offence}
 use Rattle.span_io.specs.Tables.{Singular, Twice, no_ends, MeansText}
@@ -8,18 +8,17 @@ use Rattle.span_io.specs.TableLaws.{RowMeaning, TableShape, TableMeaning, Whole,
 use Rattle.proto_wire.specs.Messages.{messages}
 use Rattle.proto_wire.specs.Records.{Record}
 use Rattle.proto_wire.specs.Wire.{Wire}
-use Rattle.trace_model.specs.Attributes.{AreAttributes, AreRepeated, StandsTwice}
 use Rattle.trace_model.specs.Laws.{AttributesOnce}
 use Rattle.trace_model.specs.declared.value.Value.{Value}
 use Rattle.trace_model.specs.declared.value.Value.TheVariants as values
 use Rattle.otlp_proto.specs.Laws.{WireFacts}
-use Rattle.otlp_proto.specs.Attributes.{attribute_at, attribute_rules, AttributesOf, NotedIn, attributes}
+use Rattle.otlp_proto.specs.Attributes.{attribute_at, attribute_rules, AttributesOf, attributes}
 use Rattle.trace_model.specs.Remarks.{Keys}
 use Rattle.otlp_proto.specs.Rows.{bytes_of}
 use Rattle.otlp_proto.proofs.Shapes.{shape_of_value, shape_of_key_value, many_shape, value_bounded, key_value_bounded}
 use Rattle.otlp_proto.specs.Values.{Member, string_value, bool_value, int_value, double_value, array_value, kvlist_value, bytes_value, members_of, IsListText, IsMapText, MeansMember, value_in, key_value_in, value_at, key_value_at, BadMember, InMember, value_table, many_table, many_rules, value_offends, key_value_offends, table_of_value, value_rules, table_of_key_value, key_value_rules, list_rules, map_rules}
 use Rattle.trace_model.specs.Notes.{Noted}
-use Rattle.trace_model.specs.OtlpParts.{NotedValue, KeyValue, leaf, entry, keys_inside}
+use Rattle.trace_model.specs.OtlpParts.{NotedValue, KeyValue, leaf, entry, keys_inside, IsNotedMap, AreNotedAttributes}
 use Rattle.span_io.specs.RowLaws.{all_zip_split, all_zip_once, singular_split, singular_once}
 use Rattle.otlp_proto.proofs.RowMeanings.{Reads, text_meaning, message_meaning, repeated_meaning}
 
@@ -50,16 +49,21 @@ module _ (facts : WireFacts) (once : AttributesOnce) where
     list_once text r s a b =
         let records = facts.one_reading text a.records b.records a.wire b.wire in
         let members : a.members ≡ b.members = all_zip_once IsValue value_one (bytes_of 1 b.records) a.members b.members (subst (λ (l : List Record). AllZip IsValue (bytes_of 1 l) a.members) records a.each) b.each in
-        noted_same r s (a.value ∙ ap (λ (l : List NotedValue). values.List (map (λ m. m.means) l)) members ∙ sym b.value) (a.noted ∙ ap (λ (l : List NotedValue). flat_map (λ m. m.notes) l) members ∙ sym b.noted)
+        noted_same r s (a.make.value ∙ ap (λ (l : List NotedValue). values.List (map (λ m. m.means) l)) members ∙ sym b.make.value)
+        (a.make.noted ∙ ap (λ (l : List NotedValue). flat_map (λ m. m.notes) l) members ∙ sym b.make.noted)
+
+    map_made_once : (pairs : List (List ℕ × Value)) (inside : Keys) (r s : NotedValue) → IsNotedMap pairs inside r → IsNotedMap pairs inside s → r ≡ s
+    map_made_once pairs inside r s a b =
+        let kept : a.attributes ≡ b.attributes = once.attributes pairs a.attributes b.attributes a.kept b.kept in
+        let twice : a.repeated ≡ b.repeated = once.repeated pairs a.repeated b.repeated a.twice b.twice in
+        noted_same r s (a.value ∙ ap (λ (l : List (List ℕ × Value)). values.Map l) kept ∙ sym b.value)
+        (a.noted ∙ ap (λ (l : Keys). inside ++ l) twice ∙ sym b.noted)
 
     map_once : (text : List ℕ) (r s : NotedValue) → IsMapText IsKeyValue text r → IsMapText IsKeyValue text s → r ≡ s
     map_once text r s a b =
         let records = facts.one_reading text a.records b.records a.wire b.wire in
         let pairs : a.pairs ≡ b.pairs = all_zip_once IsKeyValue pair_one (bytes_of 1 b.records) a.pairs b.pairs (subst (λ (l : List Record). AllZip IsKeyValue (bytes_of 1 l) a.pairs) records a.each) b.each in
-        let kept : a.attributes ≡ b.attributes = once.attributes (map entry b.pairs) a.attributes b.attributes (subst (λ (l : List KeyValue). AreAttributes a.attributes (map entry l)) pairs a.kept) b.kept in
-        let twice : a.repeated ≡ b.repeated = once.repeated (map entry b.pairs) a.repeated b.repeated (subst (λ (l : List KeyValue). AreRepeated a.repeated (map entry l)) pairs a.twice) b.twice in
-        noted_same r s (a.value ∙ ap (λ (l : List (List ℕ × Value)). values.Map l) kept ∙ sym b.value)
-        (a.noted ∙ ap (λ (l : List KeyValue). keys_inside l ++ a.repeated) pairs ∙ ap (λ (l : List (List ℕ)). keys_inside b.pairs ++ l) twice ∙ sym b.noted)
+        map_made_once (map entry b.pairs) (keys_inside b.pairs) r s (subst (λ (l : List KeyValue). IsNotedMap (map entry l) (keys_inside l) r) pairs a.make) b.make
 
     member_once : (m : Member) (r s : NotedValue) → MeansMember IsValue IsKeyValue m r → MeansMember IsValue IsKeyValue m s → r ≡ s
     member_once (string_value held) r s a b = a.1 ∙ sym b.1
@@ -193,20 +197,18 @@ module _ (facts : WireFacts) (once : AttributesOnce) where
   pub attribute_reads : Reads attribute_at (λ held p n. Offence messages attribute_rules held p n)
   attribute_reads = key_value_over 15 (value_reads 15) (key_value_reads 15)
 
-  pub attributes_of_once : (texts : List (List ℕ)) (xs ys : List (List ℕ × Value)) → AttributesOf texts xs → AttributesOf texts ys → xs ≡ ys
-  attributes_of_once texts xs ys a b =
-      let pairs = all_zip_once attribute_at attribute_reads.once texts a.pairs b.pairs a.each b.each in
-      once.attributes (map entry b.pairs) xs ys (subst (λ (l : List KeyValue). AreAttributes xs (map entry l)) pairs a.kept) b.kept
+  attributes_made_once : (pairs : List (List ℕ × Value)) (inside : Keys) (a b : Noted (List (List ℕ × Value)) Keys) → AreNotedAttributes pairs inside a.means a.notes → AreNotedAttributes pairs inside b.means b.notes → a ≡ b
+  attributes_made_once pairs inside a b h k = noted_same a b (once.attributes pairs a.means b.means h.kept k.kept)
+      (once.same_keys a.notes b.notes h.rising k.rising (λ z. (λ there. (k.noted z).1 ((h.noted z).0 there), λ there. (h.noted z).1 ((k.noted z).0 there))))
 
-  pub noted_in_once : (texts : List (List ℕ)) (xs ys : Keys) → NotedIn texts xs → NotedIn texts ys → xs ≡ ys
-  noted_in_once texts xs ys a b =
-      let pairs = all_zip_once attribute_at attribute_reads.once texts a.pairs b.pairs a.each b.each in
-      let noted = subst (λ (l : List KeyValue). (key : List ℕ) → Contains xs key ↔ (StandsTwice key (map entry l) ⊎ Contains (keys_inside l) key)) pairs a.noted in
-      once.same_keys xs ys a.rising b.rising (λ z. (λ there. (b.noted z).1 ((noted z).0 there), λ there. (noted z).1 ((b.noted z).0 there)))
+  attributes_of_once : (texts : List (List ℕ)) (a b : Noted (List (List ℕ × Value)) Keys) → AttributesOf texts a.means a.notes → AttributesOf texts b.means b.notes → a ≡ b
+  attributes_of_once texts a b h k =
+      let pairs = all_zip_once attribute_at attribute_reads.once texts h.pairs k.pairs h.each k.each in
+      attributes_made_once (map entry k.pairs) (keys_inside k.pairs) a b (subst (λ (l : List KeyValue). AreNotedAttributes (map entry l) (keys_inside l) a.means a.notes) pairs h.make) k.make
 
   pub attributes_meaning : (number : ℕ) → RowMeaning (attributes number)
   attributes_meaning number = record {
-    once = λ xs a b h k. noted_same a b (attributes_of_once xs a.means b.means h.0 k.0) (noted_in_once xs a.notes b.notes h.1 k.1);
+    once = λ xs a b h k. attributes_of_once xs a b h k;
     fine_here = λ front back x value is n h. h;
-    fine_inside = λ front back x value is place n o. let at = all_zip_split attribute_at front back x is.0.pairs is.0.each in attribute_reads.fine at.0 x at.1 place n o;
+    fine_inside = λ front back x value is place n o. let at = all_zip_split attribute_at front back x is.pairs is.each in attribute_reads.fine at.0 x at.1 place n o;
   }

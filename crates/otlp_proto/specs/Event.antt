@@ -6,7 +6,7 @@ use Rattle.span_io.specs.Tables.{Row, Singular, rules_by, no_ends, MeansText}
 use Rattle.proto_wire.specs.Messages.{messages}
 use Rattle.proto_wire.specs.Records.{Record}
 use Rattle.trace_model.specs.declared.span.Event.{Event}
-use Rattle.otlp_proto.specs.Attributes.{AttributesOf, NotedIn, attributes}
+use Rattle.otlp_proto.specs.Attributes.{AttributesOf, attributes}
 use Rattle.trace_model.specs.Remarks.{Keys}
 use Rattle.trace_model.specs.Notes.{Noted}
 use Rattle.otlp_proto.specs.PaddedValues.{AttributePadded}
@@ -16,8 +16,7 @@ use Rattle.otlp_proto.specs.Rows.{bytes_of, varints_of, fixed64s_of, MeansNumber
 pub record IsEvent (e : Noted Event Keys) (records : List Record) : Type 0 where
   pub time : Singular MeansNumber (λ n. n ≡ 0) (fixed64s_of 1 records) e.means.time
   pub name : Singular MeansText (λ text. text ≡ []) (bytes_of 2 records) e.means.name
-  pub attributes : AttributesOf (bytes_of 3 records) e.means.attributes
-  pub noted : NotedIn (bytes_of 3 records) e.notes
+  pub attributes : AttributesOf (bytes_of 3 records) e.means.attributes e.notes
   pub dropped : Singular MeansCount (λ n. n ≡ 0) (varints_of 4 records) e.means.dropped
 
 abbrev pub event_table : List (Row Record)

@@ -1,6 +1,6 @@
 -- `Resource` (OTLP resource.proto): `attributes` 1 and `dropped_attributes_count` 2; and `ResourceSpans` (trace.proto): `resource` 1,
 -- `scope_spans` 2 and `schema_url` 3, a text.
-use Rattle.std.specs.Prelude.{◌≡◌, ℕ, List, [], ◌∷◌, map}
+use Rattle.std.specs.Prelude.{◌≡◌, ℕ, List, [], ◌∷◌}
 use Rattle.std.specs.List.{AllZip}
 use Rattle.span_io.specs.FreeItems.{Paddings, Same, TextPadded}
 use Rattle.span_io.specs.Offences.{Rules, Offence}
@@ -10,20 +10,18 @@ use Rattle.proto_wire.specs.Records.{Record}
 use Rattle.trace_model.specs.declared.remark.Remark.{Remark}
 use Rattle.trace_model.specs.declared.trace.Group.{Group}
 use Rattle.trace_model.specs.declared.trace.Scope.{Scope}
-use Rattle.otlp_proto.specs.Attributes.{AttributesOf, NotedIn, attributes}
+use Rattle.otlp_proto.specs.Attributes.{AttributesOf, attributes}
 use Rattle.trace_model.specs.Remarks.{Keys}
-use Rattle.trace_model.specs.GroupRemarks.{group_remarks}
 use Rattle.trace_model.specs.Notes.{Noted, ScopeNotes}
 use Rattle.otlp_proto.specs.PaddedValues.{AttributePadded}
 use Rattle.otlp_proto.specs.Rows.{bytes_of, varints_of, MeansCount, text, count, message, messages_of, MeansMessage}
 use Rattle.otlp_proto.specs.Scope.{IsScope, scope_rules, ScopePadded}
-use Rattle.trace_model.specs.OtlpParts.{Resource, no_resource, NotedGroup}
+use Rattle.trace_model.specs.OtlpParts.{Resource, no_resource, NotedGroup, IsGroupOfParts}
 
 -- ---- `Resource`
 
 pub record IsResource (r : Noted Resource Keys) (records : List Record) : Type 0 where
-  pub attributes : AttributesOf (bytes_of 1 records) r.means.attributes
-  pub noted : NotedIn (bytes_of 1 records) r.notes
+  pub attributes : AttributesOf (bytes_of 1 records) r.means.attributes r.notes
   pub dropped : Singular MeansCount (λ n. n ≡ 0) (varints_of 2 records) r.means.dropped
 
 abbrev pub resource_table : List (Row Record)
@@ -49,8 +47,7 @@ pub record IsGroup (g : NotedGroup) (records : List Record) : Type 0 where
   pub each_scope : AllZip (MeansMessage IsScope) (bytes_of 2 records) scopes
   pub url : List ℕ
   pub its_url : Singular MeansText (λ text. text ≡ []) (bytes_of 3 records) url
-  pub its_group : g.means ≡ record { resource = resource.means.attributes; dropped = resource.means.dropped; schema_url = url; scopes = map (λ x. x.means) scopes }
-  pub its_remarks : g.notes ≡ group_remarks resource.notes (map (λ x. x.notes) scopes)
+  pub group : IsGroupOfParts resource scopes url g
 
 -- the bytes are a text of this group, and these are the remarks on it
 abbrev pub IsGroupText : Group → List Remark → List ℕ → Type 0

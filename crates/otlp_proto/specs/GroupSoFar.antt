@@ -1,6 +1,6 @@
 -- What the readers of a `Resource` and of a `ResourceSpans` have gathered.
-use Rattle.std.specs.Prelude.{◌≡◌, ℕ, ◌+◌, List, length, map}
-use Rattle.std.specs.List.{AllZip, sum_by}
+use Rattle.std.specs.Prelude.{ℕ, List}
+use Rattle.std.specs.List.{AllZip}
 use Rattle.span_io.specs.Tables.{Givens, givens, MeansText}
 use Rattle.proto_wire.specs.Records.{Record}
 use Rattle.trace_model.specs.declared.remark.Remark.{Remark}
@@ -13,8 +13,8 @@ use Rattle.otlp_proto.specs.declared.resource.ResourceRows.{ResourceRows}
 use Rattle.otlp_proto.specs.AttributesSoFar.{GatheredAttributes}
 use Rattle.otlp_proto.specs.Group.{IsResource, resource_table, IsGroup, group_table}
 use Rattle.otlp_proto.specs.ReadParts.{resource_read}
-use Rattle.trace_model.specs.GroupRemarks.{scopes_remarks}
 use Rattle.trace_model.specs.Notes.{Noted, ScopeNotes}
+use Rattle.trace_model.specs.OtlpTold.{AreToldScopes}
 use Rattle.otlp_proto.specs.Rows.{MeansCount, MeansMessage}
 use Rattle.span_io.specs.RowsSoFar.{Gave}
 use Rattle.otlp_proto.specs.Scope.{IsScope}
@@ -34,9 +34,7 @@ MeansResource held read = MeansMessage IsResource held (resource_read read)
 pub record GatheredScopes (texts : List (List ℕ)) (list : ScopeList) : Type 0 where
   pub read : List (Noted Scope ScopeNotes)
   pub each : AllZip (MeansMessage IsScope) texts read
-  pub scopes : list.scopes ≡ map (λ s. s.means) read
-  pub remarks : list.remarks ≡ scopes_remarks 1 1 (map (λ s. s.notes) read)
-  pub next_span : list.next_span ≡ 1 + sum_by (λ n. length n.spans) (map (λ s. s.notes) read)
+  pub told : AreToldScopes read list.scopes list.remarks list.next_span
 
 pub record GatheredGroup (rows : GroupRows) (given : Givens group_table) : Type 0 where
   pub resource : Gave MeansResource given.0 rows.resource

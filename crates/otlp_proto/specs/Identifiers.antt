@@ -1,21 +1,16 @@
 -- Identifiers in a message (OTLP trace.proto: `trace_id` of 16 bytes, `span_id` and `parent_span_id` of 8). Empty bytes, and as many
 -- zeros, are no identifier.
-use Rattle.std.specs.Prelude.{◌≡◌, ◌≢◌, ◌⊎◌, ℕ, List, [], length, Option, Some, None, Result, Any}
+use Rattle.std.specs.Prelude.{◌≡◌, ◌≢◌, ℕ, List, [], length, Option, Result}
 use Rattle.span_io.specs.declared.cause.Cause.{Cause}
 use Rattle.span_io.specs.RowsSoFar.{JudgesSingular}
 use Rattle.span_ids.specs.Identifiers.{SpellsTraceId, SpellsSpanId}
-
--- no bytes, or so many zeros
-abbrev pub IsNoId : ℕ → List ℕ → Type 0
-IsNoId size held = (held ≡ []) ⊎ ((length held ≡ size) × ¬ Any (λ b. b ≢ 0) held)
+use Rattle.trace_model.specs.OtlpParts.{IsIdentifierOrNone}
 
 abbrev pub MeansTraceId : List ℕ → Option ℕ → Type 0
-MeansTraceId held None = IsNoId 16 held
-MeansTraceId held (Some id) = SpellsTraceId held id
+MeansTraceId held id = IsIdentifierOrNone SpellsTraceId 0 16 held id
 
 abbrev pub MeansSpanId : List ℕ → Option ℕ → Type 0
-MeansSpanId held None = IsNoId 8 held
-MeansSpanId held (Some id) = SpellsSpanId held id
+MeansSpanId held id = IsIdentifierOrNone SpellsSpanId 0 8 held id
 
 -- BadId: there are bytes, and not so many
 abbrev pub WrongLength : ℕ → List ℕ → ℕ → Type 0

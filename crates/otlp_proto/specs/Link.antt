@@ -7,7 +7,7 @@ use Rattle.span_io.specs.Tables.{Row, Singular, rules_by, no_ends, MeansText}
 use Rattle.proto_wire.specs.Messages.{messages}
 use Rattle.proto_wire.specs.Records.{Record}
 use Rattle.trace_model.specs.declared.span.Link.{Link}
-use Rattle.otlp_proto.specs.Attributes.{AttributesOf, NotedIn, attributes}
+use Rattle.otlp_proto.specs.Attributes.{AttributesOf, attributes}
 use Rattle.otlp_proto.specs.Identifiers.{MeansTraceId, MeansSpanId}
 use Rattle.trace_model.specs.Remarks.{Keys}
 use Rattle.trace_model.specs.Notes.{Noted}
@@ -23,8 +23,7 @@ pub record IsLink (l : Option (Noted Link Keys)) (records : List Record) : Type 
   pub span_id : Singular MeansSpanId (λ id. id ≡ None) (bytes_of 2 records) span
   pub parts : LinkParts
   pub state : Singular MeansText (λ text. text ≡ []) (bytes_of 3 records) parts.state
-  pub attributes : AttributesOf (bytes_of 4 records) parts.attributes
-  pub noted : NotedIn (bytes_of 4 records) parts.keys
+  pub attributes : AttributesOf (bytes_of 4 records) parts.attributes parts.keys
   pub dropped : Singular MeansCount (λ n. n ≡ 0) (varints_of 5 records) parts.dropped
   pub flags : Singular MeansNumber (λ n. n ≡ 0) (fixed32s_of 6 records) parts.flags
   pub link : l ≡ link_of trace span parts

@@ -1,6 +1,6 @@
 -- `InstrumentationScope` (OTLP common.proto): `name` 1 and `version` 2, texts, `attributes` 3 and `dropped_attributes_count` 4; and
 -- `ScopeSpans` (trace.proto): `scope` 1, `spans` 2 and `schema_url` 3, a text.
-use Rattle.std.specs.Prelude.{◌≡◌, ℕ, List, [], ◌∷◌, map}
+use Rattle.std.specs.Prelude.{◌≡◌, ℕ, List, [], ◌∷◌}
 use Rattle.std.specs.List.{AllZip}
 use Rattle.span_io.specs.FreeItems.{Paddings, Same, TextPadded}
 use Rattle.span_io.specs.Offences.{Rules, Offence}
@@ -9,21 +9,20 @@ use Rattle.proto_wire.specs.Messages.{messages}
 use Rattle.proto_wire.specs.Records.{Record}
 use Rattle.trace_model.specs.declared.span.Span.{Span}
 use Rattle.trace_model.specs.declared.trace.Scope.{Scope}
-use Rattle.otlp_proto.specs.Attributes.{AttributesOf, NotedIn, attributes}
+use Rattle.otlp_proto.specs.Attributes.{AttributesOf, attributes}
 use Rattle.trace_model.specs.Remarks.{Keys}
 use Rattle.trace_model.specs.Notes.{Noted, SpanNotes, ScopeNotes}
 use Rattle.otlp_proto.specs.PaddedValues.{AttributePadded}
 use Rattle.otlp_proto.specs.Rows.{bytes_of, varints_of, MeansCount, text, count, message, messages_of, MeansMessage}
 use Rattle.otlp_proto.specs.Span.{IsSpan, span_rules, SpanPadded}
-use Rattle.trace_model.specs.OtlpParts.{InstrumentationScope, no_instrumentation_scope}
+use Rattle.trace_model.specs.OtlpParts.{InstrumentationScope, no_instrumentation_scope, IsScopeOfParts}
 
 -- ---- `InstrumentationScope`
 
 pub record IsInstrumentationScope (s : Noted InstrumentationScope Keys) (records : List Record) : Type 0 where
   pub name : Singular MeansText (λ text. text ≡ []) (bytes_of 1 records) s.means.name
   pub version : Singular MeansText (λ text. text ≡ []) (bytes_of 2 records) s.means.version
-  pub attributes : AttributesOf (bytes_of 3 records) s.means.attributes
-  pub noted : NotedIn (bytes_of 3 records) s.notes
+  pub attributes : AttributesOf (bytes_of 3 records) s.means.attributes s.notes
   pub dropped : Singular MeansCount (λ n. n ≡ 0) (varints_of 4 records) s.means.dropped
 
 abbrev pub instrumentation_scope_table : List (Row Record)
@@ -48,15 +47,7 @@ pub record IsScope (s : Noted Scope ScopeNotes) (records : List Record) : Type 0
   pub each_span : AllZip (MeansMessage IsSpan) (bytes_of 2 records) spans
   pub url : List ℕ
   pub its_url : Singular MeansText (λ text. text ≡ []) (bytes_of 3 records) url
-  pub scope : s.means ≡ record {
-    name = instrumentation.means.name;
-    version = instrumentation.means.version;
-    attributes = instrumentation.means.attributes;
-    dropped = instrumentation.means.dropped;
-    schema_url = url;
-    spans = map (λ x. x.means) spans;
-  }
-  pub noted : s.notes ≡ record { keys = instrumentation.notes; spans = map (λ x. x.notes) spans }
+  pub scope : IsScopeOfParts instrumentation spans url s
 
 abbrev pub scope_table : List (Row Record)
 scope_table = message 1 (Noted InstrumentationScope Keys) (MeansMessage IsInstrumentationScope) no_instrumentation_scope (λ held p n. Offence messages instrumentation_scope_rules held p n)

@@ -1,5 +1,5 @@
 -- What the readers of an `InstrumentationScope` and of a `ScopeSpans` have gathered.
-use Rattle.std.specs.Prelude.{◌≡◌, ℕ, List, map}
+use Rattle.std.specs.Prelude.{◌≡◌, ℕ, List}
 use Rattle.std.specs.List.{AllZip}
 use Rattle.span_io.specs.Tables.{Givens, givens, MeansText}
 use Rattle.proto_wire.specs.Records.{Record}
@@ -12,9 +12,8 @@ use Rattle.otlp_proto.specs.declared.scope.ScopeRows.{ScopeRows}
 use Rattle.otlp_proto.specs.declared.scope.SpanList.{SpanList}
 use Rattle.otlp_proto.specs.AttributesSoFar.{GatheredAttributes}
 use Rattle.otlp_proto.specs.ReadParts.{IsReadScope, instrumentation_scope_read}
-use Rattle.trace_model.specs.Remarks.{numbered}
-use Rattle.trace_model.specs.GroupRemarks.{span_remarks}
 use Rattle.trace_model.specs.Notes.{Noted, SpanNotes}
+use Rattle.trace_model.specs.OtlpTold.{AreToldSpans}
 use Rattle.otlp_proto.specs.Rows.{MeansCount, MeansMessage}
 use Rattle.span_io.specs.RowsSoFar.{Gave}
 use Rattle.otlp_proto.specs.Scope.{IsInstrumentationScope, instrumentation_scope_table, scope_table}
@@ -39,8 +38,7 @@ pub record GatheredSpans (first : ℕ) (texts : List (List ℕ)) (list : SpanLis
   pub begins : list.first ≡ first
   pub read : List (Noted Span SpanNotes)
   pub each : AllZip (MeansMessage IsSpan) texts read
-  pub spans : list.spans ≡ map (λ s. s.means) read
-  pub remarks : list.remarks ≡ numbered span_remarks first (map (λ s. s.notes) read)
+  pub told : AreToldSpans first read list.spans list.remarks
 
 -- of a scope whose first span has this number
 pub record GatheredScope (first : ℕ) (rows : ScopeRows) (given : Givens scope_table) : Type 0 where

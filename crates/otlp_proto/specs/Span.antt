@@ -1,8 +1,8 @@
 -- `Span` (OTLP trace.proto): `trace_id` 1, `span_id` 2, `trace_state` 3, `parent_span_id` 4, `name` 5, `kind` 6, an enum of 0 to 5,
 -- `start_time_unix_nano` 7 and `end_time_unix_nano` 8, eight bytes each, `attributes` 9, `dropped_attributes_count` 10, `events` 11,
 -- `dropped_events_count` 12, `links` 13, `dropped_links_count` 14, `status` 15 and `flags` 16, four bytes.
-use Rattle.std.specs.Prelude.{◌≡◌, ℕ, ◌⊎◌, List, [], ◌∷◌, map, Option, Some, None, is_none}
-use Rattle.std.specs.List.{AllZip, list_any}
+use Rattle.std.specs.Prelude.{◌≡◌, ℕ, ◌⊎◌, List, [], ◌∷◌, Option, Some, None}
+use Rattle.std.specs.List.{AllZip}
 use Rattle.span_io.specs.FreeItems.{Paddings, Same, TextPadded}
 use Rattle.span_io.specs.Offences.{Rules, Offence}
 use Rattle.span_io.specs.Tables.{Row, Singular, rules_by, MeansText}
@@ -14,7 +14,7 @@ use Rattle.trace_model.specs.declared.span.Kind.TheVariants as kinds
 use Rattle.trace_model.specs.declared.span.Link.{Link}
 use Rattle.trace_model.specs.declared.span.Span.{Span}
 use Rattle.trace_model.specs.declared.span.Status.{Status}
-use Rattle.otlp_proto.specs.Attributes.{AttributesOf, NotedIn, attributes}
+use Rattle.otlp_proto.specs.Attributes.{AttributesOf, attributes}
 use Rattle.otlp_proto.specs.Event.{IsEvent, event_rules, EventPadded}
 use Rattle.otlp_proto.specs.Identifiers.{MeansTraceId, MeansSpanId}
 use Rattle.otlp_proto.specs.Link.{IsLink, link_rules, LinkPadded}
@@ -23,7 +23,7 @@ use Rattle.otlp_proto.specs.PaddedValues.{AttributePadded}
 use Rattle.otlp_proto.specs.Rows.{bytes_of, varints_of, fixed64s_of, fixed32s_of, MeansNumber, MeansCount, text, time, count, flags, enum, trace_id, span_id, message, messages_of, MeansMessage}
 use Rattle.otlp_proto.specs.Status.{IsStatus, status_rules, StatusPadded}
 use Rattle.trace_model.specs.Notes.{Noted, SpanNotes}
-use Rattle.trace_model.specs.OtlpParts.{no_status, kind_number, kept_links}
+use Rattle.trace_model.specs.OtlpParts.{no_status, kind_number, AreEventsOf, AreLinksOf}
 
 abbrev pub MeansKind : ℕ → Kind → Type 0
 MeansKind n kind = n ≡ kind_number kind
@@ -38,19 +38,15 @@ pub record IsSpan (s : Noted Span SpanNotes) (records : List Record) : Type 0 wh
   pub kind : Singular MeansKind (λ kind. kind ≡ kinds.Unspecified) (varints_of 6 records) s.means.kind
   pub start : Singular MeansNumber (λ n. n ≡ 0) (fixed64s_of 7 records) s.means.start
   pub end : Singular MeansNumber (λ n. n ≡ 0) (fixed64s_of 8 records) s.means.end
-  pub attributes : AttributesOf (bytes_of 9 records) s.means.attributes
-  pub noted : NotedIn (bytes_of 9 records) s.notes.keys
+  pub attributes : AttributesOf (bytes_of 9 records) s.means.attributes s.notes.keys
   pub dropped_attributes : Singular MeansCount (λ n. n ≡ 0) (varints_of 10 records) s.means.dropped_attributes
   pub events : List (Noted Event Keys)
   pub each_event : AllZip (MeansMessage IsEvent) (bytes_of 11 records) events
-  pub its_events : s.means.events ≡ map (λ e. e.means) events
-  pub events_noted : s.notes.events ≡ map (λ e. e.notes) events
+  pub its_events : AreEventsOf events s
   pub dropped_events : Singular MeansCount (λ n. n ≡ 0) (varints_of 12 records) s.means.dropped_events
   pub links : List (Option (Noted Link Keys))
   pub each_link : AllZip (MeansMessage IsLink) (bytes_of 13 records) links
-  pub its_links : s.means.links ≡ map (λ l. l.means) (kept_links links)
-  pub links_noted : s.notes.links ≡ map (λ l. l.notes) (kept_links links)
-  pub any_dropped : s.notes.dropped ≡ list_any (λ l. is_none l) links
+  pub its_links : AreLinksOf links s
   pub dropped_links : Singular MeansCount (λ n. n ≡ 0) (varints_of 14 records) s.means.dropped_links
   pub status : Singular (λ held status. MeansMessage IsStatus held status) (λ status. status ≡ no_status) (bytes_of 15 records) s.means.status
   pub flags : Singular MeansNumber (λ n. n ≡ 0) (fixed32s_of 16 records) s.means.flags

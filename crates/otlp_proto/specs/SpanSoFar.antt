@@ -1,6 +1,6 @@
 -- What the reader of a span has gathered, of which the number in its group is known.
-use Rattle.std.specs.Prelude.{◌≡◌, ℕ, List, map, Option, Some, None, is_none, Result, IfOk}
-use Rattle.std.specs.List.{AllZip, list_any}
+use Rattle.std.specs.Prelude.{◌≡◌, ℕ, List, Option, Some, None, Result, IfOk}
+use Rattle.std.specs.List.{AllZip}
 use Rattle.span_io.specs.declared.cause.Cause.{Cause}
 use Rattle.span_io.specs.declared.halt.Halt.{Halt}
 use Rattle.span_io.specs.Tables.{Givens, givens, Singular, MeansText}
@@ -20,25 +20,22 @@ use Rattle.trace_model.specs.Remarks.{Keys}
 use Rattle.otlp_proto.specs.Rows.{MeansNumber, MeansCount, MeansMessage}
 use Rattle.span_io.specs.RowsSoFar.{Gave}
 use Rattle.otlp_proto.specs.Span.{IsSpan, MeansKind, span_table}
-use Rattle.trace_model.specs.GroupRemarks.{event_remarks, link_remarks, span_remarks}
+use Rattle.trace_model.specs.GroupRemarks.{span_remarks}
 use Rattle.trace_model.specs.Notes.{Noted, SpanNotes}
-use Rattle.trace_model.specs.OtlpParts.{kept_links}
+use Rattle.trace_model.specs.OtlpTold.{AreToldEvents, AreToldLinks}
 use Rattle.otlp_proto.specs.Status.{IsStatus}
 
 -- of these bytes of events of the span
 pub record GatheredEvents (span : ℕ) (texts : List (List ℕ)) (list : EventList) : Type 0 where
   pub members : List (Noted Event Keys)
   pub each : AllZip (MeansMessage IsEvent) texts members
-  pub events : list.events ≡ map (λ e. e.means) members
-  pub remarks : list.remarks ≡ event_remarks span (map (λ e. e.notes) members)
+  pub told : AreToldEvents span members list.events list.remarks
 
 -- of these bytes of links of the span
 pub record GatheredLinks (span : ℕ) (texts : List (List ℕ)) (list : LinkList) : Type 0 where
   pub members : List (Option (Noted Link Keys))
   pub each : AllZip (MeansMessage IsLink) texts members
-  pub links : list.links ≡ map (λ l. l.means) (kept_links members)
-  pub dropped : list.dropped ≡ list_any (λ l. is_none l) members
-  pub remarks : list.remarks ≡ link_remarks span (map (λ l. l.notes) (kept_links members))
+  pub told : AreToldLinks span members list.links list.dropped list.remarks
 
 abbrev pub MeansStatus : List ℕ → Status → Type 0
 MeansStatus held status = MeansMessage IsStatus held status

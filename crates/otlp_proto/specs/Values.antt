@@ -1,7 +1,7 @@
 -- `AnyValue`, `ArrayValue`, `KeyValueList` and `KeyValue` (OTLP common.proto). Of the members of a value one at most stands. The
 -- `values` 1 of a list are values, those of a map are `KeyValue`s, and a `KeyValue` has `key` 1, a text, and `value` 2. How deep lists
 -- and maps may stand goes by the levels that are left below one: an attribute's value stands at level 1 of 16, with 15 left.
-use Rattle.std.specs.Prelude.{◌≡◌, ◌≢◌, ◌↔◌, ℕ, zero, suc, ◌⊎◌, ◌==◌, if◌then◌else◌, List, [], ◌∷◌, ◌++◌, map, Bool, IsTrue, IsUtf8}
+use Rattle.std.specs.Prelude.{◌≡◌, ◌≢◌, ◌↔◌, ℕ, zero, suc, ◌⊎◌, ◌==◌, if◌then◌else◌, List, [], ◌∷◌, map, Bool, IsTrue, IsUtf8}
 use Rattle.std.specs.Int.{w64, cast_signed, to_be_bytes}
 use Rattle.std.specs.List.{AllZip, flat_map}
 use Rattle.span_io.specs.Offences.{Rules, Offence}
@@ -9,11 +9,9 @@ use Rattle.span_io.specs.Tables.{Row, Singular, Twice, NotText, rules_by, no_end
 use Rattle.proto_wire.specs.Messages.{messages}
 use Rattle.proto_wire.specs.Records.{Held, varint, fixed64, bytes, fixed32, Record}
 use Rattle.proto_wire.specs.Wire.{Wire}
-use Rattle.trace_model.specs.Attributes.{AreAttributes, AreRepeated}
-use Rattle.trace_model.specs.declared.value.Value.{Value}
 use Rattle.trace_model.specs.declared.value.Value.TheVariants as values
 use Rattle.otlp_proto.specs.Rows.{bytes_of, bytes_row, text, message}
-use Rattle.trace_model.specs.OtlpParts.{NotedValue, leaf, KeyValue, entry, keys_inside}
+use Rattle.trace_model.specs.OtlpParts.{NotedValue, leaf, KeyValue, entry, keys_inside, IsNotedList, IsNotedMap}
 
 -- a member of a value
 pub data Member : Type 0 where
@@ -47,21 +45,14 @@ pub record IsListText (IsValue : List ℕ → NotedValue → Type 0) (text : Lis
   pub wire : Wire records text
   pub members : List NotedValue
   pub each : AllZip IsValue (bytes_of 1 records) members
-  pub value : r.means ≡ values.List (map (λ m. m.means) members)
-  pub noted : r.notes ≡ flat_map (λ m. m.notes) members
+  pub make : IsNotedList members r
 
--- the last value of each key is kept
 pub record IsMapText (IsKeyValue : List ℕ → KeyValue → Type 0) (text : List ℕ) (r : NotedValue) : Type 0 where
   pub records : List Record
   pub wire : Wire records text
   pub pairs : List KeyValue
   pub each : AllZip IsKeyValue (bytes_of 1 records) pairs
-  pub attributes : List (List ℕ × Value)
-  pub kept : AreAttributes attributes (map entry pairs)
-  pub repeated : List (List ℕ)
-  pub twice : AreRepeated repeated (map entry pairs)
-  pub value : r.means ≡ values.Map attributes
-  pub noted : r.notes ≡ keys_inside pairs ++ repeated
+  pub make : IsNotedMap (map entry pairs) (keys_inside pairs) r
 
 -- the value of a member, by what the values of a list and the pairs of a map mean
 abbrev pub MeansMember : (List ℕ → NotedValue → Type 0) → (List ℕ → KeyValue → Type 0) → Member → NotedValue → Type 0

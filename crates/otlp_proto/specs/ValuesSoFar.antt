@@ -1,6 +1,6 @@
 -- What the readers of the messages of values have gathered, and what they answer of one record more.
-use Rattle.std.specs.Prelude.{◌≡◌, ℕ, ◌⊎◌, List, map, Option, Result}
-use Rattle.std.specs.List.{AllZip, flat_map}
+use Rattle.std.specs.Prelude.{◌≡◌, ℕ, ◌⊎◌, List, Option, Result}
+use Rattle.std.specs.List.{AllZip}
 use Rattle.span_io.specs.declared.cause.Cause.{Cause}
 use Rattle.span_io.specs.declared.halt.Halt.{Halt}
 use Rattle.span_io.specs.Offences.{Offence, HereOrInside, Judges}
@@ -18,21 +18,20 @@ use Rattle.otlp_proto.specs.ReadParts.{value_read}
 use Rattle.otlp_proto.specs.Rows.{bytes_of}
 use Rattle.span_io.specs.RowsSoFar.{Gave, Adds}
 use Rattle.otlp_proto.specs.Values.{Member, members_of, MeansMember, BadMember, InMember, value_in, key_value_in, value_at, list_rules, map_rules}
-use Rattle.trace_model.specs.OtlpParts.{NotedValue, KeyValue, leaf, entry, keys_inside}
+use Rattle.trace_model.specs.OtlpParts.{NotedValue, KeyValue, leaf}
+use Rattle.trace_model.specs.OtlpTold.{AreToldValues, AreToldPairs}
 
 -- ---- of these records
 
 pub record GatheredList (left : ℕ) (records : List Record) (rows : ListRows) : Type 0 where
   pub members : List NotedValue
   pub each : AllZip (value_in left) (bytes_of 1 records) members
-  pub values : rows.values ≡ map (λ m. m.means) members
-  pub noted : rows.noted ≡ flat_map (λ m. m.notes) members
+  pub told : AreToldValues members rows.values rows.noted
 
 pub record GatheredMap (left : ℕ) (records : List Record) (rows : MapRows) : Type 0 where
   pub members : List KeyValue
   pub each : AllZip (key_value_in left) (bytes_of 1 records) members
-  pub pairs : rows.pairs ≡ map entry members
-  pub noted : rows.noted ≡ keys_inside members
+  pub told : AreToldPairs members rows.pairs rows.noted
 
 -- of these members
 abbrev pub GatheredMembers : ℕ → List Member → Option ReadValue → Type 0

@@ -4,7 +4,7 @@ ghost use Rattle.span_io.specs.Offences.{Offence, Judges};
 ghost use Rattle.proto_wire.specs.Messages.{messages};
 ghost use Rattle.trace_model.specs.Attributes.{Rise};
 ghost use Rattle.trace_model.specs.Values.{AreSound};
-ghost use Rattle.otlp_proto.specs.Attributes.{attribute_rules, AttributesOf, NotedIn};
+ghost use Rattle.otlp_proto.specs.Attributes.{attribute_rules, AttributesOf};
 ghost use Rattle.otlp_proto.specs.AttributesSoFar.{GatheredAttributes};
 ghost use Rattle.span_io.specs.RowsSoFar.{Adds};
 
@@ -49,8 +49,7 @@ impl AttributeRows {
     /// The attributes, and the keys of which the message has a remark, each once.
     pub fn finish(self, alloc: Global) -> Result<(Attrs, Items<Text>), OutOfMemory>
         ensures attributes { (texts : List (List ℕ)) → GatheredAttributes texts self
-            → IfOk result (λ parts. AttributesOf texts parts.0) }
-        ensures noted { (texts : List (List ℕ)) → GatheredAttributes texts self → IfOk result (λ parts. NotedIn texts parts.1) }
+            → IfOk result (λ parts. AttributesOf texts parts.0 parts.1) }
         ensures sound { (texts : List (List ℕ)) → GatheredAttributes texts self → IfOk result (λ parts. AreSound parts.0) }
     {
         members_of_values();

@@ -11,11 +11,13 @@ pub mod LeastOf
 pub mod Notes
 pub mod OtlpEnums
 pub mod OtlpParts
+pub mod OtlpTold
 pub mod PartLaws
 pub mod Proper
 pub mod RemarkLaws
 pub mod Remarks
 pub mod Soundness
+pub mod ToldLaws
 pub mod ValueTexts
 pub mod Values
 pub mod WrittenTokens

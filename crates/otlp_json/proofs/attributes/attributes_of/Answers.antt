@@ -10,4 +10,4 @@ pub returns-clause-judged : goal.returns-clause-judged
 returns-clause-judged c = attributes_clean _ c.in_ok-rows.ensures.judged
 
 pub returns-clause-value : goal.returns-clause-value
-returns-clause-value c = made_attributes _ c.in_ok-rows.rows.pairs _ c.in_ok-rows.rows.noted _ c.in_ok-rows.ensures.value c.in_ok-read.ensures.kept c.in_ok-read.ensures.rising c.in_ok-read.ensures.noted
+returns-clause-value c = made_attributes _ c.in_ok-rows.rows.pairs _ c.in_ok-rows.rows.noted _ c.in_ok-rows.ensures.value c.in_ok-read.ensures

@@ -38,21 +38,17 @@ returns-clause-value c = λ span records gathered.
         start = singular_or MeansNumber (λ n. n ≡ 0) (fixed64s_of 7 records) rows.start 0 c.unwrap_or-5.result c.unwrap_or-5.ensures refl gathered.start;
         end = singular_or MeansNumber (λ n. n ≡ 0) (fixed64s_of 8 records) rows.end 0 c.unwrap_or-6.result c.unwrap_or-6.ensures refl gathered.end;
         attributes = c.in_ok-attributes.ensures.attributes (bytes_of 9 records) gathered.attributes;
-        noted = c.in_ok-attributes.ensures.noted (bytes_of 9 records) gathered.attributes;
         dropped_attributes = singular_or MeansCount (λ n. n ≡ 0) (varints_of 10 records) rows.dropped_attributes 0 c.unwrap_or-7.result c.unwrap_or-7.ensures refl gathered.dropped_attributes;
         events = gathered.events.members;
         each_event = gathered.events.each;
-        its_events = gathered.events.events;
-        events_noted = refl;
+        its_events = record { kept = gathered.events.told.events; noted = refl };
         dropped_events = singular_or MeansCount (λ n. n ≡ 0) (varints_of 12 records) rows.dropped_events 0 c.unwrap_or-8.result c.unwrap_or-8.ensures refl gathered.dropped_events;
         links = gathered.links.members;
         each_link = gathered.links.each;
-        its_links = gathered.links.links;
-        links_noted = refl;
-        any_dropped = gathered.links.dropped;
+        its_links = record { kept = gathered.links.told.links; noted = refl; any_dropped = gathered.links.told.any_dropped };
         dropped_links = singular_or MeansCount (λ n. n ≡ 0) (varints_of 14 records) rows.dropped_links 0 c.unwrap_or-9.result c.unwrap_or-9.ensures refl gathered.dropped_links;
         status = singular_or MeansStatus (λ status. status ≡ no_status) (bytes_of 15 records) rows.status c.status_unset.result c.unwrap_or-10.result c.unwrap_or-10.ensures c.status_unset.ensures gathered.status;
         flags = singular_or MeansNumber (λ n. n ≡ 0) (fixed32s_of 16 records) rows.flags 0 c.unwrap_or-11.result c.unwrap_or-11.ensures refl gathered.flags;
       };
-      remarks = remarks_are span rows.number notes rows.events.remarks rows.links.remarks c.in_ok-remarks.remarks gathered.number gathered.events.remarks gathered.links.remarks c.in_ok-remarks.ensures;
+      remarks = remarks_are span rows.number notes rows.events.remarks rows.links.remarks c.in_ok-remarks.remarks gathered.number gathered.events.told.remarked gathered.links.told.remarked c.in_ok-remarks.ensures;
     }

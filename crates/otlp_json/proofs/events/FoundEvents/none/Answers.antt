@@ -3,4 +3,4 @@ use Rattle.otlp_json.proofs.events.FoundEvents.none.Goals as goal
 
 pub returns : goal.returns
 unfolding numbered
-returns c = λ span. record { events = c.new.ensures; remarks = c.new-2.ensures }
+returns c = λ span. record { events = c.new.ensures; remarked = c.new-2.ensures }

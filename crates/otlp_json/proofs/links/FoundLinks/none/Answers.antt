@@ -4,4 +4,4 @@ use Rattle.otlp_json.proofs.links.FoundLinks.none.Goals as goal
 
 pub returns : goal.returns
 unfolding numbered
-returns c = λ span. record { links = c.new.ensures; dropped = refl; remarks = c.new-2.ensures }
+returns c = λ span. record { links = c.new.ensures; any_dropped = refl; remarked = c.new-2.ensures }

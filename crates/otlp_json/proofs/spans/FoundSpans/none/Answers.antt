@@ -3,4 +3,4 @@ use Rattle.otlp_json.proofs.spans.FoundSpans.none.Goals as goal
 
 pub returns : goal.returns
 unfolding numbered
-returns c = λ first. record { spans = c.new.ensures; remarks = c.new-2.ensures }
+returns c = λ first. record { spans = c.new.ensures; remarked = c.new-2.ensures }

@@ -1,27 +1,20 @@
 use Rattle.std.proofs.Common.{subst, sym, List, ℕ}
 use Rattle.std.specs.Prelude.{All, Contains, ◌↔◌}
-use Rattle.trace_model.specs.Attributes.{AreAttributes, Rise}
+use Rattle.trace_model.specs.Attributes.{Rise}
 use Rattle.trace_model.specs.Values.{IsSound}
 use Rattle.trace_model.specs.declared.value.Value.{Value}
-use Rattle.otlp_proto.proofs.AttributeLemmas.{noted_in}
+use Rattle.otlp_proto.proofs.AttributeLemmas.{attributes_are}
 use Rattle.otlp_proto.proofs.SoundLemmas.{attributes_sound}
 use Rattle.otlp_proto.proofs.attributes.AttributeRows.finish.Goals as goal
 
 pub returns-clause-attributes : goal.returns-clause-attributes
-returns-clause-attributes c = λ texts gathered. record {
-  pairs = gathered.members;
-  each = gathered.each;
-  kept = subst (λ (l : List (List ℕ × Value)). AreAttributes c.in_ok-attributes.attributes l) gathered.pairs c.in_ok-attributes.ensures.attributes;
-}
-
-pub returns-clause-noted : goal.returns-clause-noted
-returns-clause-noted c = λ texts gathered.
-    noted_in texts c.args.self c.in_ok-attributes.repeated c.note_all.new.noted c.in_ok-keys.keys gathered c.in_ok-attributes.ensures.repeated c.in_ok-note_all.ensures
+returns-clause-attributes c = λ texts gathered.
+    attributes_are texts c.args.self c.in_ok-attributes.attributes c.in_ok-attributes.repeated c.note_all.new.noted c.in_ok-keys.keys gathered c.in_ok-attributes.ensures.attributes c.in_ok-attributes.ensures.repeated c.in_ok-note_all.ensures
     (subst (λ l. Rise l) (sym c.in_ok-keys.ensures) c.in_ok-rising.ensures.rising)
     (λ key. subst (λ l. Contains l key ↔ Contains c.note_all.new.noted key) (sym c.in_ok-keys.ensures) (c.in_ok-rising.ensures.same key))
 
 pub returns-clause-sound : goal.returns-clause-sound
 returns-clause-sound c = λ texts gathered.
     let laws = c.members_of_values.ensures in
-    c.in_ok-attributes.ensures.sound (subst (λ (l : List (List ℕ × Value)). All (λ pair. IsSound pair.1) l) (sym gathered.pairs)
+    c.in_ok-attributes.ensures.sound (subst (λ (l : List (List ℕ × Value)). All (λ pair. IsSound pair.1) l) (sym gathered.told.entries)
     (attributes_sound laws.list_depth laws.map_depth laws.list_rises laws.map_rises texts gathered.members gathered.each))
