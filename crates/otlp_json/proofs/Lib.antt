@@ -1,6 +1,7 @@
 pub mod NumberLemmas
 pub mod ValueLemmas
 pub mod StandingLemmas
+pub mod SingleMembers
 pub mod AttributeLemmas
 pub mod Examples
 pub mod ListLemmas

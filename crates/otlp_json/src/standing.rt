@@ -1,5 +1,7 @@
 //! The members of a value, of which one at most may stand.
-ghost use Rattle.std.specs.Prelude.{◌≡◌, ◌++◌, [], ◌∷◌, List, Option, Some, None, IfOk, OnErr, option_map};
+ghost use Rattle.std.specs.Prelude.{◌≡◌, ◌++◌, [], ◌∷◌, List, Option, Some, None, IfOk, IfSome, OnErr, option_map, string_bytes};
+ghost use Rattle.serde_json.specs.Data.{Data, object, no_members, member as has};
+ghost use Rattle.serde_json.specs.Find.{as_null};
 ghost use Rattle.serde_json.specs.View.{view};
 ghost use Rattle.json_members.specs.Members.{member};
 ghost use Rattle.otlp_json.specs.Found.{part_member, told_members, AreSeveral};
@@ -26,6 +28,65 @@ pub struct Several;
 
 /// The only one of the members that stand in a value, if there is one.
 pub fn only_member<'v>(v: &'v Value) -> Result<Option<(Part, &'v Value)>, Several>
+    ensures only { IfOk result (λ o. standing_members (view v.now)
+        ≡ told_members (option_map (λ m. (m.0, view m.1.now)) o)) }
+    ensures several { OnErr result (AreSeveral (standing_members (view v.now))) }
+{
+    match single_member(v) {
+        Some((name, held)) => Ok(named_member(name.as_str(), held)),
+        None => only_of_all(v),
+    }
+}
+
+// The member of an object that has no other.
+fn single_member<'v>(v: &'v Value) -> Option<(&'v String, &'v Value)>
+    ensures { IfSome result (λ m. view v.now ≡ object (has (string_bytes m.0.now) (view m.1.now) no_members)) }
+{
+    let Some(members) = v.as_object() else {
+        return None;
+    };
+    if members.len() != 1 {
+        return None;
+    }
+    let Some((name, held)) = members.first_key_value() else {
+        return None;
+    };
+    Some((name, held))
+}
+
+// What a member of this name tells of an object that has no other.
+fn named_member<'v>(name: &str, held: &'v Value) -> Option<(Part, &'v Value)>
+    ensures { standing_members (object (has name.now (view held.now) no_members))
+        ≡ told_members (option_map (λ m. (m.0, view m.1.now)) result) }
+{
+    if held.is_null() {
+        return None;
+    }
+    match part_named(name) {
+        None => None,
+        Some(part) => Some((part, held)),
+    }
+}
+
+// Which part of a value has this name.
+fn part_named(name: &str) -> Option<Part>
+    ensures { (d : Data) → as_null d ≡ None → standing_members (object (has name.now d no_members))
+        ≡ told_members (option_map (λ part. (part, d)) result) }
+{
+    match name {
+        "stringValue" => Some(Part::Text),
+        "intValue" => Some(Part::Number),
+        "boolValue" => Some(Part::Truth),
+        "arrayValue" => Some(Part::List),
+        "kvlistValue" => Some(Part::Map),
+        "bytesValue" => Some(Part::Bytes),
+        "doubleValue" => Some(Part::Double),
+        _ => None,
+    }
+}
+
+// The only one of the members that stand, each looked up.
+fn only_of_all<'v>(v: &'v Value) -> Result<Option<(Part, &'v Value)>, Several>
     ensures only { IfOk result (λ o. standing_members (view v.now)
         ≡ told_members (option_map (λ m. (m.0, view m.1.now)) o)) }
     ensures several { OnErr result (AreSeveral (standing_members (view v.now))) }

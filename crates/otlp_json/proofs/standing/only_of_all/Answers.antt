@@ -1,7 +1,7 @@
 use Rattle.std.proofs.Common.{sym}
 use Rattle.otlp_json.specs.Values.{standing_members}
 use Rattle.otlp_json.proofs.StandingLemmas.{several_more, several_here, looked_at, on_any_err}
-use Rattle.otlp_json.proofs.standing.only_member.Goals as goal
+use Rattle.otlp_json.proofs.standing.only_of_all.Goals as goal
 
 pub returns-in_err-only-clause-several : goal.returns-in_err-only-clause-several
 unfolding standing_members
