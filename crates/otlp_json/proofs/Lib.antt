@@ -1,4 +1,5 @@
 pub mod NumberLemmas
+pub mod ShortNumbers
 pub mod ValueLemmas
 pub mod StandingLemmas
 pub mod SingleMembers

@@ -23,6 +23,9 @@ fn integer_of_text(text: &str) -> Option<i128>
     if bytes.is_empty() || bytes[0] == b'+' {
         return None;
     }
+    if let Ok(short) = text.parse::<i64>() {
+        return Some(i128::from(short));
+    }
     text.parse::<i128>().ok()
 }
 
