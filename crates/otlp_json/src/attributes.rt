@@ -37,8 +37,21 @@ fn finish(alloc: Global, rows: PairRows) -> Result<(Attrs, Items<Text>), OutOfMe
     let (attributes, repeated) = attrs_of(alloc, rows.pairs)?;
     let mut noted = rows.noted;
     note_keys(&mut noted, repeated)?;
-    let keys = listed(alloc, rising(noted)?)?;
+    let keys = once_each(alloc, noted)?;
     Ok((attributes, keys))
+}
+
+// The texts in the order of their bytes, each once, as a list of their own.
+fn once_each(alloc: Global, texts: Items<Text>) -> Result<Items<Text>, OutOfMemory>
+    ensures rising { IfOk result (λ list. Rise list) }
+    ensures same { IfOk result (λ list. (text : List ℕ) → Contains list text ↔ Contains texts text) }
+{
+    if texts.len() == 0 {
+        return Ok(texts);
+    }
+    let sorted = rising(texts)?;
+    let list = listed(alloc, sorted)?;
+    Ok(list)
 }
 
 // The texts in the order of their bytes, each once.
@@ -56,7 +69,7 @@ fn rising(texts: Items<Text>) -> Result<Vec<Text>, OutOfMemory>
 fn listed(alloc: Global, texts: Vec<Text>) -> Result<Items<Text>, OutOfMemory>
     ensures { IfOk result (λ list. list ≡ texts.items) }
 {
-    let mut list = Items::new(alloc);
+    let mut list = Items::with_room(alloc, texts.len())?;
     'texts: for text in texts {
         list.push(text)?;
     }

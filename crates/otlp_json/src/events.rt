@@ -32,6 +32,16 @@ impl FoundEvents {
         }
     }
 
+    // Nothing was read, and there is room for so many events.
+    fn with_room(alloc: Global, room: usize) -> Result<FoundEvents, OutOfMemory>
+        ensures { IfOk result (λ rows. (span : ℕ) → EventsTold span [] rows) }
+    {
+        Ok(FoundEvents {
+            events: Items::with_room(alloc, room)?,
+            remarks: Items::new(alloc),
+        })
+    }
+
     // Adds an event of the span of this number.
     fn push(&mut self, span: u32, read: FoundEvent) -> Result<(), OutOfMemory>
         ensures { OnOk result (TellsMore (EventsTold span) (event_found read) self.old self.new) }
@@ -47,7 +57,7 @@ fn read_events(alloc: Global, span: u32, elements: &Vec<Value>) -> Result<FoundE
     ensures value { IfOk result (λ rows. AreFound IsJsonEvent (EventsTold span) (map view elements.now.items) rows) }
     ensures judged { JudgesValue result (each event_faults (map view elements.now.items)) }
 {
-    let mut rows = FoundEvents::none(alloc);
+    let mut rows = FoundEvents::with_room(alloc, elements.len())?;
     'elements: for element in elements {
         let read = read_event(alloc, element)?;
         rows.push(span, read)?;

@@ -34,6 +34,17 @@ impl FoundLinks {
         }
     }
 
+    // Nothing was read, and there is room for so many links.
+    fn with_room(alloc: Global, room: usize) -> Result<FoundLinks, OutOfMemory>
+        ensures { IfOk result (λ rows. (span : ℕ) → LinksTold span [] rows) }
+    {
+        Ok(FoundLinks {
+            links: Items::with_room(alloc, room)?,
+            dropped: false,
+            remarks: Items::new(alloc),
+        })
+    }
+
     // Adds a link of the span of this number, unless it is none.
     fn push(&mut self, span: u32, read: Option<FoundLink>) -> Result<(), OutOfMemory>
         ensures { OnOk result (TellsMore (LinksTold span) (option_map link_found read) self.old self.new) }
@@ -53,7 +64,7 @@ fn read_links(alloc: Global, span: u32, elements: &Vec<Value>) -> Result<FoundLi
     ensures value { IfOk result (λ rows. AreFound IsJsonLink (LinksTold span) (map view elements.now.items) rows) }
     ensures judged { JudgesValue result (each link_faults (map view elements.now.items)) }
 {
-    let mut rows = FoundLinks::none(alloc);
+    let mut rows = FoundLinks::with_room(alloc, elements.len())?;
     'elements: for element in elements {
         let read = read_link(alloc, element)?;
         rows.push(span, read)?;

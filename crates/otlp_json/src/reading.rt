@@ -23,7 +23,7 @@ fn read_each(
     ensures value { IfOk result (λ groups. AllZip (λ d x. IsRemarkedGroup x d) (map view elements.now.items) groups) }
     ensures judged { JudgesInput result (each group_faults (map view elements.now.items)) }
 {
-    let mut groups = Items::new(alloc);
+    let mut groups = Items::with_room(alloc, elements.len())?;
     let mut unit = 0;
     'elements: for element in elements {
         unit += 1;

@@ -9,7 +9,7 @@ ghost use Rattle.otlp_json.specs.Group.{IsJsonScope, scope_faults, scopes_faults
 use crate::scope::read_scope;
 use json_members::member_of;
 use serde_json::Value;
-use span_io::{Cause, Halt, Items};
+use span_io::{Cause, Halt, Items, OutOfMemory};
 use std::alloc::Global;
 use trace_model::{Remark, Scope, number_behind, remark_all};
 
@@ -34,6 +34,17 @@ impl FoundScopes {
         }
     }
 
+    // Nothing was read, and there is room for so many scopes.
+    fn with_room(alloc: Global, room: usize) -> Result<FoundScopes, OutOfMemory>
+        ensures { IfOk result (λ rows. ScopesTold [] rows) }
+    {
+        Ok(FoundScopes {
+            scopes: Items::with_room(alloc, room)?,
+            remarks: Items::new(alloc),
+            next_span: 1,
+        })
+    }
+
     // Reads one more scope.
     fn add(&mut self, alloc: Global, v: &Value) -> Result<(), Halt<Cause>>
         ensures ok { OnOk result (FindsMore IsJsonScope ScopesTold (view v.now) self.old self.new) }
@@ -52,7 +63,7 @@ fn read_scopes(alloc: Global, elements: &Vec<Value>) -> Result<FoundScopes, Halt
     ensures value { IfOk result (λ rows. AreFound IsJsonScope ScopesTold (map view elements.now.items) rows) }
     ensures judged { JudgesValue result (each scope_faults (map view elements.now.items)) }
 {
-    let mut rows = FoundScopes::none(alloc);
+    let mut rows = FoundScopes::with_room(alloc, elements.len())?;
     'elements: for element in elements {
         rows.add(alloc, element)?;
     }

@@ -10,7 +10,7 @@ ghost use Rattle.otlp_json.specs.Span.{IsJsonSpan, otlp_span_faults};
 use crate::span::read_span;
 use json_members::member_of;
 use serde_json::Value;
-use span_io::{Cause, Halt, Items};
+use span_io::{Cause, Halt, Items, OutOfMemory};
 use std::alloc::Global;
 use trace_model::{Remark, Span, number_behind, remark_all};
 
@@ -32,6 +32,16 @@ impl FoundSpans {
         }
     }
 
+    // Nothing was read, and there is room for so many spans.
+    fn with_room(alloc: Global, room: usize) -> Result<FoundSpans, OutOfMemory>
+        ensures { IfOk result (λ rows. (first : ℕ) → SpansTold first [] rows) }
+    {
+        Ok(FoundSpans {
+            spans: Items::with_room(alloc, room)?,
+            remarks: Items::new(alloc),
+        })
+    }
+
     // Reads one more span, of which the first has this number.
     fn add(&mut self, alloc: Global, first: u32, v: &Value) -> Result<(), Halt<Cause>>
         ensures ok { OnOk result (FindsMore IsJsonSpan (SpansTold first) (view v.now) self.old self.new) }
@@ -49,7 +59,7 @@ fn read_spans(alloc: Global, first: u32, elements: &Vec<Value>) -> Result<FoundS
     ensures value { IfOk result (λ rows. AreFound IsJsonSpan (SpansTold first) (map view elements.now.items) rows) }
     ensures judged { JudgesValue result (each otlp_span_faults (map view elements.now.items)) }
 {
-    let mut rows = FoundSpans::none(alloc);
+    let mut rows = FoundSpans::with_room(alloc, elements.len())?;
     'elements: for element in elements {
         rows.add(alloc, first, element)?;
     }

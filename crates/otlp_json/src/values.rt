@@ -183,7 +183,7 @@ fn read_elements(
     ensures judged { JudgesValue result
         (values_faults left (json_value_offends left) (map view elements.now.items)) }
 {
-    let mut values = Items::new(alloc);
+    let mut values = Items::with_room(alloc, elements.len())?;
     let mut noted = Items::new(alloc);
     'elements: for element in elements {
         let Some(below) = left.checked_sub(1) else {
@@ -241,7 +241,7 @@ fn read_pairs(alloc: Global, left: u8, elements: &Vec<Json>) -> Result<PairRows,
     ensures judged { JudgesValue result
         (values_faults left (json_key_value_offends left) (map view elements.now.items)) }
 {
-    let mut rows = PairRows::none(alloc);
+    let mut rows = PairRows::with_room(alloc, elements.len())?;
     'elements: for element in elements {
         let Some(below) = left.checked_sub(1) else {
             return Err(Halt::Why(Cause::TooDeep));
@@ -303,6 +303,17 @@ impl PairRows {
             pairs: Items::new(alloc),
             noted: Items::new(alloc),
         }
+    }
+
+    // Nothing was read, and there is room for so many pairs.
+    fn with_room(alloc: Global, room: usize) -> Result<PairRows, OutOfMemory>
+        ensures pairs { IfOk result (λ rows. rows.pairs ≡ []) }
+        ensures noted { IfOk result (λ rows. rows.noted ≡ []) }
+    {
+        Ok(PairRows {
+            pairs: Items::with_room(alloc, room)?,
+            noted: Items::new(alloc),
+        })
     }
 
     /// Adds a `KeyValue`.

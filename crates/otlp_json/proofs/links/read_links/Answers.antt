@@ -8,7 +8,7 @@ use Rattle.otlp_json.proofs.ListLemmas.{found_next}
 use Rattle.otlp_json.proofs.links.read_links.Goals as goal
 
 pub elements-init : goal.elements-init
-elements-init c = record { read = record { found = []; each = tt; told = c.none-rows.ensures c.args.span }; clean = clean_nothing }
+elements-init c = record { read = record { found = []; each = tt; told = c.in_ok-rows.ensures c.args.span }; clean = clean_nothing }
 
 pub returns-in_err-read-clause-judged : goal.returns-in_err-read-clause-judged
 returns-in_err-read-clause-judged c =

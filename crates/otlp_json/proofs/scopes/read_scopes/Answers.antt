@@ -7,7 +7,7 @@ use Rattle.otlp_json.proofs.ListLemmas.{found_on}
 use Rattle.otlp_json.proofs.scopes.read_scopes.Goals as goal
 
 pub elements-init : goal.elements-init
-elements-init c = record { read = record { found = []; each = tt; told = c.none-rows.ensures }; clean = clean_nothing }
+elements-init c = record { read = record { found = []; each = tt; told = c.in_ok-rows.ensures }; clean = clean_nothing }
 
 pub returns-in_err-add-clause-judged : goal.returns-in_err-add-clause-judged
 returns-in_err-add-clause-judged c =
