@@ -19,6 +19,7 @@ pub mod InputForms
 pub mod JsonTexts
 pub mod RequestLaws
 pub mod RequestUnits
+pub mod SameVerdicts
 pub mod SomeVerdict
 pub mod SourceLaws
 pub mod Sources

@@ -6,8 +6,11 @@ use Rattle.span_io.specs.declared.cause.Cause.{Cause}
 use Rattle.span_io.specs.declared.limits.Limits.{Limits}
 use Rattle.thrift_core.specs.Parts.{Part, Spelling}
 use Rattle.thrift_core.specs.Protocols.{WritingOf}
+use Rattle.thrift_core.specs.Reading.{ReadingOf}
 use Rattle.thrift_core.specs.Values.{struct_frames, RefusedStruct}
+use Rattle.thrift_binary.specs.Reading.{binary_reads}
 use Rattle.thrift_binary.specs.Spelling as binary_protocol
+use Rattle.thrift_compact.specs.Reading.{compact_reads}
 use Rattle.thrift_compact.specs.Spelling as compact_protocol
 use Rattle.trace_model.specs.declared.trace.Group.{Group}
 use Rattle.jaeger_model.specs.Batches.{IsBatchText}
@@ -19,24 +22,25 @@ use Rattle.map_jaeger.specs.Writing.{batch_of}
 
 -- ---- the words of a protocol
 
--- how it spells the parts of a text, behind which fronts a varint stands, what it refuses, and how it writes them
+-- how it spells the parts of a text, how they are read, behind which fronts a varint stands, what it refuses, and how it writes them
 pub record ProtocolWords : Type 1 where
   pub spells : Spelling
+  pub reads : ReadingOf
   pub then_varint : Part → List ℕ → Type 0
   pub refuses : Part → Cause → List ℕ → Type 0
   pub keeps : Option Bool → Option Bool
   pub writes : WritingOf
 
-abbrev pub words : Spelling → (Part → List ℕ → Type 0) → (Part → Cause → List ℕ → Type 0) → (Option Bool → Option Bool) → WritingOf
-    → ProtocolWords
-words spells then_varint refuses keeps writes =
-    record { spells = spells; then_varint = then_varint; refuses = refuses; keeps = keeps; writes = writes }
+abbrev pub words : Spelling → ReadingOf → (Part → List ℕ → Type 0) → (Part → Cause → List ℕ → Type 0) → (Option Bool → Option Bool)
+    → WritingOf → ProtocolWords
+words spells reads then_varint refuses keeps writes =
+    record { spells = spells; reads = reads; then_varint = then_varint; refuses = refuses; keeps = keeps; writes = writes }
 
 abbrev pub binary : ProtocolWords
-binary = words binary_protocol.binary_spells binary_protocol.binary_then_varint binary_protocol.binary_refuses binary_protocol.binary_keeps binary_protocol.binary_writes
+binary = words binary_protocol.binary_spells binary_reads binary_protocol.binary_then_varint binary_protocol.binary_refuses binary_protocol.binary_keeps binary_protocol.binary_writes
 
 abbrev pub compact : ProtocolWords
-compact = words compact_protocol.compact_spells compact_protocol.compact_then_varint compact_protocol.compact_refuses compact_protocol.compact_keeps compact_protocol.compact_writes
+compact = words compact_protocol.compact_spells compact_reads compact_protocol.compact_then_varint compact_protocol.compact_refuses compact_protocol.compact_keeps compact_protocol.compact_writes
 
 -- ---- the units of a file
 

@@ -3,6 +3,8 @@ use Rattle.std.specs.Prelude.{◌<◌, ◌^◌, [], length}
 use Rattle.span_io.specs.Framings.{OneFraming, OneStep}
 use Rattle.proto_wire.specs.Laws.{OneWireReading, ShortestRecord}
 use Rattle.proto_wire.specs.Wire.{records, RefusedBy}
+use Rattle.thrift_core.specs.Laws.{OneReading, OpenFronts, PartsReadBack}
+use Rattle.thrift_core.specs.WrittenLaws.{WrittenStructs}
 use Rattle.trace_model.specs.Proper.{IsProperGroup}
 use Rattle.trace_model.specs.Soundness.{IsSoundGroup}
 use Rattle.trace_model.specs.declared.trace.Group.{Group}
@@ -10,8 +12,9 @@ use Rattle.otlp_json.specs.Laws.{OneJsonGroups, SomeJsonGroups, GroupsWrittenAga
 use Rattle.otlp_proto.specs.Group.{IsGroupText}
 use Rattle.otlp_proto.specs.Laws.{OneGroup}
 use Rattle.otlp_proto.specs.Texts.{group_text, group_record}
-use Rattle.jaeger_model.specs.Laws.{OneBatch, SomeBatch, ReadsTimes, ReadsProper}
-use Rattle.jaeger_model.specs.WrittenAgain.{WrittenAgain}
+use Rattle.jaeger_model.specs.FreeAtAnyDepth.{FreeAtAnyDepth}
+use Rattle.jaeger_model.specs.Laws.{OneBatch, OneTree, SomeBatch, FreeFields, ReadsTimes, ReadsProper}
+use Rattle.jaeger_model.specs.WrittenAgain.{EqualBatchTexts, WrittenAgain}
 use Rattle.map_jaeger.specs.Laws.{BatchesReadBack, NormalForms, WrittenIsProper}
 use Rattle.map_zipkin.specs.Laws.{ReadIsHeld, ReadIsZipkinNormal, Regroupings, SpansReadBack, WrittenIsWritable, ZipkinNormalForms}
 use Rattle.zipkin_json.specs.Laws.{OneList, SomeList, SpansWrittenAgain, ReadsWritable}
@@ -23,15 +26,29 @@ pub record RequestLaws : Type 0 where
   pub step : OneStep records RefusedBy
   pub group : OneGroup
 
--- the same of batches in a protocol, and what is read and written of them
+-- the same of batches in a protocol, and what is read and written of them, whole and part by part
 pub record BatchLaws (protocol : ProtocolWords) : Type 0 where
   pub framing : OneFraming (batches protocol) (RefusedBatch protocol)
   pub step : OneStep (batches protocol) (RefusedBatch protocol)
+  pub reading : OneReading protocol.spells
+  pub parts : PartsReadBack protocol.reads protocol.keeps protocol.writes
+  pub structs : WrittenStructs protocol.spells protocol.keeps protocol.writes
+  pub fronts : OpenFronts protocol.spells protocol.reads (batches protocol) (RefusedBatch protocol)
   pub batch : OneBatch protocol.spells
   pub some : SomeBatch protocol.spells
+  pub free : FreeFields protocol.spells
+  pub anywhere : FreeAtAnyDepth protocol.spells
   pub times : ReadsTimes protocol.spells
   pub proper : ReadsProper protocol.spells
   pub again : WrittenAgain protocol.spells protocol.keeps protocol.writes
+  pub equal : EqualBatchTexts protocol.keeps protocol.writes
+
+-- what they say of one tree in two protocols, from the one to the other
+pub record TreeLaws : Type 0 where
+  pub in_binary : OneTree binary.spells binary.spells
+  pub to_compact : OneTree binary.spells compact.spells
+  pub to_binary : OneTree compact.spells binary.spells
+  pub in_compact : OneTree compact.spells compact.spells
 
 -- the same of spans in JSON, and what is read and written of them
 pub record SpanFileLaws : Type 0 where

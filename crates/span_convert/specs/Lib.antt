@@ -7,6 +7,7 @@ pub mod GroupFiles
 pub mod InputLaws
 pub mod Requests
 pub mod Rests
+pub mod SameBatches
 pub mod SpanFiles
 pub mod Units
 pub mod Verdicts

@@ -1,12 +1,14 @@
 //! Conversion in one call.
-ghost use Rattle.std.specs.Prelude.{◌≡◌, ◌<◌, ◌^◌, length, IfOk};
+ghost use Rattle.std.specs.Prelude.{◌≡◌, ◌<◌, ◌^◌, ℕ, List, length, IfOk};
 ghost use Rattle.span_io.specs.Limits.{AreLimits};
+ghost use Rattle.span_io.specs.declared.form.Form.{Form};
 ghost use Rattle.span_convert.specs.Canonical.{ReadsBack};
+ghost use Rattle.span_convert.specs.SameBatches.{SameBatches};
 ghost use Rattle.span_convert.specs.Verdicts.{Verdict, IsVerdict, Answers, IsAnswered};
 ghost use Rattle.span_convert.specs.Walks.{IsLookedAt};
 
 use crate::bad::Bad;
-use crate::laws::{one_verdict, output_read_back};
+use crate::laws::{one_verdict, output_read_back, same_batches};
 use crate::progress::WalkStop;
 use crate::units::input_limit;
 use crate::walk::write_units;
@@ -65,11 +67,16 @@ pub fn convert_all(
     ensures judged { IsAnswered from to limits.now bytes.now result }
     ensures verdict { (verdict : Verdict) → IsVerdict from to limits.now bytes.now verdict → Answers verdict result }
 
+    // An input that holds the same batches of Jaeger, in whichever protocol, is answered so, too.
+    ensures same { (other : Form) (others : List ℕ) → SameBatches limits.now from bytes.now other others
+        → (verdict : Verdict) → IsVerdict other to limits.now others verdict → Answers verdict result }
+
     // What is answered is read back as the normal form of the input's trace.
     ensures back { IfOk result (λ out. ReadsBack from to limits.now bytes.now out) }
 {
     one_verdict();
     output_read_back();
+    same_batches();
     let (looked, too_long) = looked_at(bytes, input_limit(from, limits));
     let mut out = GrowingSink {
         text: Blob::new(alloc),

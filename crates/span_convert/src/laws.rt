@@ -7,7 +7,8 @@ ghost use Rattle.span_io.specs.declared.limits.Limits.{Limits};
 ghost use Rattle.trace_model.specs.declared.trace.Group.{Group};
 ghost use Rattle.span_convert.specs.Canonical.{ConvertsToItself, Reads, ReadsPlainly, ReadsBack, IsHeldBy, IsSized, IsWithin};
 ghost use Rattle.span_convert.specs.BatchFiles.{words};
-ghost use Rattle.span_convert.specs.InputLaws.{BatchLaws, GroupFileLaws, InputLaws, SpanFileLaws, TextLaws};
+ghost use Rattle.span_convert.specs.InputLaws.{BatchLaws, GroupFileLaws, InputLaws, SpanFileLaws, TextLaws, TreeLaws};
+ghost use Rattle.span_convert.specs.SameBatches.{SameBatches};
 ghost use Rattle.span_convert.specs.Units.{input_form, IsSizedGroup, normal_form, canonical_text, partial_text, closing_text, span_count};
 ghost use Rattle.span_convert.specs.Verdicts.{Verdict, IsFaultless, IsVerdict, IsGood, IsTextSoFar, WritesFront, verdict_text};
 
@@ -18,15 +19,32 @@ use thrift_core::Protocol;
 
 // What the crates below say of the batches of a protocol.
 fn batch_laws<P: Protocol>()
-    ensures { BatchLaws (words P.spells P.then_varint P.refuses P.keeps P.writes) }
+    ensures { BatchLaws (words P.spells P.reads P.then_varint P.refuses P.keeps P.writes) }
 {
     thrift_core::laws::one_framing::<P>();
     thrift_core::laws::one_step::<P>();
+    thrift_core::laws::one_reading::<P>();
+    thrift_core::laws::reads_back::<P>();
+    thrift_core::laws::written_structs::<P>();
+    thrift_core::laws::open_fronts::<P>();
     jaeger_model::laws::one_batch::<P>();
     jaeger_model::laws::some_batch::<P>();
+    jaeger_model::laws::free_fields::<P>();
+    jaeger_model::laws::free_anywhere::<P>();
     jaeger_model::laws::reads_times::<P>();
     jaeger_model::laws::reads_proper::<P>();
     jaeger_model::written_laws::written_again::<P>();
+    jaeger_model::written_laws::equal_texts::<P>();
+}
+
+// What they say of one tree in two protocols.
+fn tree_laws()
+    ensures { TreeLaws }
+{
+    jaeger_model::laws::one_tree::<Binary, Binary>();
+    jaeger_model::laws::one_tree::<Binary, Compact>();
+    jaeger_model::laws::one_tree::<Compact, Binary>();
+    jaeger_model::laws::one_tree::<Compact, Compact>();
 }
 
 // What they say of spans in JSON.
@@ -78,6 +96,17 @@ pub fn one_verdict()
         → IsTextSoFar (input_form from) to limits bytes text → IsVerdict from to limits bytes v → IsFront text (verdict_text v) }
 {
     input_laws();
+}
+
+/// Two inputs of Jaeger that hold the same batches have the same verdicts, whichever protocols they are
+/// in, and whatever free fields stand in the one and not in the other.
+pub fn same_batches()
+    ensures { (from other to : Form) (limits : Limits) (bytes others : List ℕ) → AreLimits limits
+        → SameBatches limits from bytes other others → (verdict : Verdict)
+        → IsVerdict from to limits bytes verdict ↔ IsVerdict other to limits others verdict }
+{
+    input_laws();
+    tree_laws();
 }
 
 /// Bytes have a verdict.

@@ -40,3 +40,15 @@ returns-in-Ok-clause-back c =
     let text : c.write_units.new.out.text ≡ w.text = w.gains.held ∙ ap (λ l. l ++ w.text) c.new.ensures in
     subst (λ (l : List ℕ). ReadsBack c.args.from c.args.to c.args.limits.now c.args.bytes.now l) (sym text) (c.output_read_back.ensures.back c.args.from c.args.to c.args.limits.now c.args.bytes.now w.text c.in-Ok.field-0 c.requires.limits
     (subst (λ (l : List ℕ). length l < 2 ^ 63) (c.as_slice.ensures ∙ text) c.bytes_known.ensures) w.is_good w.sized)
+
+pub returns-in-Ok-clause-same : goal.returns-in-Ok-clause-same
+returns-in-Ok-clause-same c = λ other others same verdict is.
+    returns-in-Ok-clause-verdict c verdict ((c.same_batches.ensures c.args.from other c.args.to c.args.limits.now c.args.bytes.now others c.requires.limits same verdict).1 is)
+
+pub returns-in-Err-Refused-clause-same : goal.returns-in-Err-Refused-clause-same
+returns-in-Err-Refused-clause-same c = λ other others same verdict is.
+    returns-in-Err-Refused-clause-verdict c verdict ((c.same_batches.ensures c.args.from other c.args.to c.args.limits.now c.args.bytes.now others c.requires.limits same verdict).1 is)
+
+pub returns-in-Err-Faulted-clause-same : goal.returns-in-Err-Faulted-clause-same
+returns-in-Err-Faulted-clause-same c = λ other others same verdict is.
+    returns-in-Err-Faulted-clause-verdict c verdict ((c.same_batches.ensures c.args.from other c.args.to c.args.limits.now c.args.bytes.now others c.requires.limits same verdict).1 is)
