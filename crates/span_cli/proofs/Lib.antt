@@ -3,3 +3,4 @@ pub mod EndingLaws
 pub mod FrontVerdicts
 pub mod InputLemmas
 pub mod NoteLemmas
+pub mod SameRuns

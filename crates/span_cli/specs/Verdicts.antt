@@ -1,5 +1,5 @@
 -- What is said of the verdict on an input: the status, what is written, and the line that is noted.
-use Rattle.std.specs.Prelude.{◌≡◌, ℕ, ◌⊎◌, ◌==◌, if◌then◌else◌, List, [], ◌∷◌, ◌++◌, Option, IfSome, IsTrue, codes, decimal}
+use Rattle.std.specs.Prelude.{◌≡◌, ℕ, ◌⊎◌, ◌==◌, if◌then◌else◌, List, [], ◌∷◌, ◌++◌, Option, Some, IfSome, IsTrue, codes, decimal}
 use Rattle.std.specs.List.{list_any}
 use Rattle.span_io.specs.Causes.{cause_number, cause_name}
 use Rattle.span_io.specs.Limits.{shipped_limits}
@@ -11,7 +11,8 @@ use Rattle.json.specs.Token.{string}
 use Rattle.trace_model.specs.Faults.{fault_number, fault_name}
 use Rattle.trace_model.specs.declared.fault.Fault.{Fault}
 use Rattle.trace_model.specs.declared.fault.Fault.TheVariants as faults
-use Rattle.span_convert.specs.Verdicts.{Verdict, good, refused, faulted, IsVerdict}
+use Rattle.span_convert.specs.SameBatches.{SameBatches}
+use Rattle.span_convert.specs.Verdicts.{Verdict, good, refused, faulted, IsVerdict, verdict_text}
 use Rattle.span_convert.specs.declared.target_fault.TargetFault.{TargetFault}
 use Rattle.span_cli.specs.declared.ending.Ending.{Ending}
 use Rattle.span_cli.specs.declared.ending.Ending.TheVariants as endings
@@ -19,6 +20,11 @@ use Rattle.span_cli.specs.declared.ending.Ending.TheVariants as endings
 -- Where the bytes of the input are told, the fact holds of each verdict on them by the forms of the conversion.
 abbrev pub OnVerdict : Form → Form → Option (List ℕ) → (Verdict → Type 0) → Type 0
 OnVerdict from to left P = IfSome left (λ bytes. (verdict : Verdict) → IsVerdict from to shipped_limits bytes verdict → P verdict)
+
+-- The same of each verdict on other bytes that hold the same batches of Jaeger, in a protocol of their own.
+abbrev pub OnSameBatches : Form → Form → Option (List ℕ) → (Verdict → Type 0) → Type 0
+OnSameBatches from to left P = IfSome left (λ bytes.
+    (other : Form) (others : List ℕ) → SameBatches shipped_limits from bytes other others → OnVerdict other to (Some others) P)
 
 -- ---- how a run ends
 
@@ -134,3 +140,10 @@ abbrev pub Notes : Outlet → Outlet → List ℕ → Type 0
 Notes before now line =
     Gains before now line × (now.faults ≡ before.faults)
     ⊎ GainsFront before now line × Rose before.faults now.faults
+
+-- The run that ended with this status did what the verdict asks for, as far as its stage says: its status tells it, the output
+-- gained its text, and the notes its line.
+pub record CarriesOut (status : ℕ) (output_before output_now notes_before notes_now : Outlet) (verdict : Verdict) : Type 0 where
+  pub agrees : AgreesWith (stage_of status) status verdict
+  pub writes : Writes (stage_of status) (verdict_text verdict) output_before output_now
+  pub notes : Notes notes_before notes_now (line_of (stage_of status) verdict)

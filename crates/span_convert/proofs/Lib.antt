@@ -6,6 +6,9 @@ pub mod BatchTimes
 pub mod CarryLemmas
 pub mod CauseNumbers
 pub mod CompactProper
+pub mod CutCauses
+pub mod CutLaws
+pub mod CutOffences
 pub mod DocumentInputs
 pub mod DocumentTexts
 pub mod DocumentWalks

@@ -22,7 +22,7 @@ use Rattle.map_jaeger.specs.Writing.{batch_of}
 
 -- ---- the words of a protocol
 
--- how it spells the parts of a text, how they are read, behind which fronts a varint stands, what it refuses, and how it writes them
+-- how it spells the parts of a text and reads them, behind which fronts a varint stands, what it refuses, and how it writes them
 pub record ProtocolWords : Type 1 where
   pub spells : Spelling
   pub reads : ReadingOf
@@ -31,8 +31,8 @@ pub record ProtocolWords : Type 1 where
   pub keeps : Option Bool → Option Bool
   pub writes : WritingOf
 
-abbrev pub words : Spelling → ReadingOf → (Part → List ℕ → Type 0) → (Part → Cause → List ℕ → Type 0) → (Option Bool → Option Bool)
-    → WritingOf → ProtocolWords
+abbrev pub words : Spelling → ReadingOf → (Part → List ℕ → Type 0) → (Part → Cause → List ℕ → Type 0)
+    → (Option Bool → Option Bool) → WritingOf → ProtocolWords
 words spells reads then_varint refuses keeps writes =
     record { spells = spells; reads = reads; then_varint = then_varint; refuses = refuses; keeps = keeps; writes = writes }
 

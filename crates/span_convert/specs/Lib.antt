@@ -1,6 +1,7 @@
 pub mod BatchFiles
 pub mod Canonical
 pub mod Converters
+pub mod CutBatches
 pub mod Documents
 pub mod FramedForms
 pub mod GroupFiles

@@ -12,8 +12,8 @@ use Rattle.span_convert.specs.BatchFiles.{ProtocolWords, binary, compact, HoldsB
 
 -- ---- one batch
 
--- The two are texts of one batch, each in its protocol, but for free fields in it and in any struct that its rows hold. Such fields
--- are added and removed in the second protocol, where `plain` is the text of the first's own fields.
+-- The two are texts of one batch, each in its protocol, but for free fields in it and in any struct that its rows hold. Such
+-- fields are added and removed in the second protocol, where `plain` is the text of the first's own fields.
 pub record SaysTheSame (Spells Others : Spelling) (text other : List ℕ) : Type 0 where
   pub items : List FieldItem
   pub others : List FieldItem

@@ -1,14 +1,16 @@
 //! Conversion in one call.
 ghost use Rattle.std.specs.Prelude.{◌≡◌, ◌<◌, ◌^◌, ℕ, List, length, IfOk};
 ghost use Rattle.span_io.specs.Limits.{AreLimits};
+ghost use Rattle.span_io.specs.declared.cause.Cause.TheVariants as causes;
 ghost use Rattle.span_io.specs.declared.form.Form.{Form};
 ghost use Rattle.span_convert.specs.Canonical.{ReadsBack};
+ghost use Rattle.span_convert.specs.CutBatches.{EndsInBatch, IfJaeger};
 ghost use Rattle.span_convert.specs.SameBatches.{SameBatches};
 ghost use Rattle.span_convert.specs.Verdicts.{Verdict, IsVerdict, Answers, IsAnswered};
 ghost use Rattle.span_convert.specs.Walks.{IsLookedAt};
 
 use crate::bad::Bad;
-use crate::laws::{one_verdict, output_read_back, same_batches};
+use crate::laws::{cut_batches, one_verdict, output_read_back, same_batches};
 use crate::progress::WalkStop;
 use crate::units::input_limit;
 use crate::walk::write_units;
@@ -71,12 +73,17 @@ pub fn convert_all(
     ensures same { (other : Form) (others : List ℕ) → SameBatches limits.now from bytes.now other others
         → (verdict : Verdict) → IsVerdict other to limits.now others verdict → Answers verdict result }
 
+    // Where an input of Jaeger ends too early, more bytes make its last batch whole.
+    ensures cut { (unit : ℕ) → result ≡ Err (Bad.Refused (record { unit = unit; cause = causes.Truncated }))
+        → IfJaeger from (λ protocol. EndsInBatch protocol limits.now bytes.now unit) }
+
     // What is answered is read back as the normal form of the input's trace.
     ensures back { IfOk result (λ out. ReadsBack from to limits.now bytes.now out) }
 {
     one_verdict();
     output_read_back();
     same_batches();
+    cut_batches();
     let (looked, too_long) = looked_at(bytes, input_limit(from, limits));
     let mut out = GrowingSink {
         text: Blob::new(alloc),

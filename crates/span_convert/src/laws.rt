@@ -2,15 +2,17 @@
 ghost use Rattle.std.specs.Prelude.{◌≡◌, ◌↔◌, ◌<◌, ◌^◌, ◌++◌, ℕ, List, length, All};
 ghost use Rattle.span_io.specs.Limits.{AreLimits};
 ghost use Rattle.span_io.specs.Outside.{Outlet, IsFront};
+ghost use Rattle.span_io.specs.declared.cause.Cause.TheVariants as causes;
 ghost use Rattle.span_io.specs.declared.form.Form.{Form};
 ghost use Rattle.span_io.specs.declared.limits.Limits.{Limits};
 ghost use Rattle.trace_model.specs.declared.trace.Group.{Group};
 ghost use Rattle.span_convert.specs.Canonical.{ConvertsToItself, Reads, ReadsPlainly, ReadsBack, IsHeldBy, IsSized, IsWithin};
 ghost use Rattle.span_convert.specs.BatchFiles.{words};
+ghost use Rattle.span_convert.specs.CutBatches.{EndsInBatch, IfJaeger};
 ghost use Rattle.span_convert.specs.InputLaws.{BatchLaws, GroupFileLaws, InputLaws, SpanFileLaws, TextLaws, TreeLaws};
 ghost use Rattle.span_convert.specs.SameBatches.{SameBatches};
 ghost use Rattle.span_convert.specs.Units.{input_form, IsSizedGroup, normal_form, canonical_text, partial_text, closing_text, span_count};
-ghost use Rattle.span_convert.specs.Verdicts.{Verdict, IsFaultless, IsVerdict, IsGood, IsTextSoFar, WritesFront, verdict_text};
+ghost use Rattle.span_convert.specs.Verdicts.{Verdict, refused, IsFaultless, IsVerdict, IsGood, IsTextSoFar, WritesFront, verdict_text};
 
 use crate::tally::Tally;
 use thrift_binary::Binary;
@@ -107,6 +109,16 @@ pub fn same_batches()
 {
     input_laws();
     tree_laws();
+}
+
+/// An input of Jaeger that is refused because it ends too early ends inside a batch, which more bytes make
+/// whole once a varint at its end that isn't ended is dropped.
+pub fn cut_batches()
+    ensures { (from to : Form) (limits : Limits) (bytes text : List ℕ) (unit : ℕ)
+        → IsVerdict from to limits bytes (refused (record { unit = unit; cause = causes.Truncated }) text)
+        → IfJaeger from (λ protocol. EndsInBatch protocol limits bytes unit) }
+{
+    input_laws();
 }
 
 /// Bytes have a verdict.

@@ -3,9 +3,10 @@ use Rattle.std.specs.Prelude.{IfSome}
 use Rattle.span_convert.specs.Verdicts.{verdict_text}
 use Rattle.span_cli.specs.declared.command.Command.{Command}
 use Rattle.span_cli.specs.declared.command.Command.TheVariants.{Convert}
-use Rattle.span_cli.specs.Verdicts.{OnVerdict, IsRunStatus, IsJudgedAt, AgreesWith, Writes, Notes, stage_of, status_of, line_of}
+use Rattle.span_cli.specs.Verdicts.{OnVerdict, CarriesOut, IsRunStatus, IsJudgedAt, AgreesWith, Writes, Notes, stage_of, status_of, line_of}
 use Rattle.span_cli.proofs.CommandLemmas.{command_read}
 use Rattle.span_cli.proofs.EndingLaws.{never_usage, is_status, on_verdict}
+use Rattle.span_cli.proofs.SameRuns.{carried_out, on_same_batches}
 use Rattle.span_cli.proofs.top.run.Goals as goal
 
 pub returns-clause-usage : goal.returns-clause-usage
@@ -57,3 +58,17 @@ returns-clause-notes g c = λ from to spelled.
     subst (λ (status : ℕ). OnVerdict from to (g.S.Source.inlet c.args.input.now).left (λ verdict. Notes before now (line_of (stage_of status) verdict))) (sym c.status.ensures)
     (on_verdict from to (g.S.Source.inlet c.args.input.now).left _ (λ verdict. Notes before now (line_of (stage_of (status_of c.convert-ending.result)) verdict))
     (λ verdict line. subst (λ (l : List ℕ). Notes before now l) line c.note_ending.ensures.line) (rw same at c.convert-ending.ensures).line)
+
+pub returns-in_default-clause-same : goal.returns-in_default-clause-same
+returns-in_default-clause-same g c = λ from to spelled. absurd (let h : ◌≡◌ {A = Option Command} None (Some (Convert from to)) = sym c.in_default.is ∙ (c.read_words.ensures (Convert from to)).1 spelled in cc)
+
+pub returns-clause-same : goal.returns-clause-same
+returns-clause-same g c = λ from to spelled.
+    let left = (g.S.Source.inlet c.args.input.now).left in
+    let output_before = g.K.Sink.outlet c.args.output.now in
+    let output_now = g.K.Sink.outlet c.convert-ending.new.output in
+    let notes_before = g.N.Sink.outlet c.args.notes.now in
+    let notes_now = g.N.Sink.outlet c.note_ending.new.notes in
+    on_same_batches c.same_batches.ensures from to left (CarriesOut c.status.result output_before output_now notes_before notes_now)
+    (carried_out from to left c.status.result output_before output_now notes_before notes_now
+    (returns-clause-verdict g c from to spelled) (returns-clause-output g c from to spelled) (returns-clause-notes g c from to spelled))

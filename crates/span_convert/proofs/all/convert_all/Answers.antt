@@ -1,7 +1,9 @@
 use Rattle.std.proofs.Common.{◌≡◌, ◌++◌, ◌<◌, ◌^◌, ℕ, List, length, ap, sym, subst, ◌∙◌}
+use Rattle.span_io.specs.declared.refusal.Refusal.{Refusal}
 use Rattle.span_convert.specs.Canonical.{ReadsBack}
-use Rattle.span_convert.specs.Verdicts.{good, refused, faulted}
+use Rattle.span_convert.specs.Verdicts.{good, refused, faulted, IsVerdict}
 use Rattle.span_convert.proofs.CarryLemmas.{answers_whole, answers_refused, answers_faulted}
+use Rattle.span_convert.proofs.CutLaws.{cut_at}
 use Rattle.span_convert.proofs.all.convert_all.Goals as goal
 
 pub returns-in-Ok-clause-judged : goal.returns-in-Ok-clause-judged
@@ -52,3 +54,10 @@ returns-in-Err-Refused-clause-same c = λ other others same verdict is.
 pub returns-in-Err-Faulted-clause-same : goal.returns-in-Err-Faulted-clause-same
 returns-in-Err-Faulted-clause-same c = λ other others same verdict is.
     returns-in-Err-Faulted-clause-verdict c verdict ((c.same_batches.ensures c.args.from other c.args.to c.args.limits.now c.args.bytes.now others c.requires.limits same verdict).1 is)
+
+pub returns-in-Err-Refused-clause-cut : goal.returns-in-Err-Refused-clause-cut
+returns-in-Err-Refused-clause-cut c = λ unit e.
+    let w = (rw c.in-Err-Refused.field-0-is at c.in-Err-Refused.ensures).walk c.args.bytes.now (rw c.input_limit.ensures at c.looked_at-too_long.ensures) in
+    let same : c.in-Err-Refused.refusal ≡ cut_at unit = cc in
+    c.cut_batches.ensures c.args.from c.args.to c.args.limits.now c.args.bytes.now w.text unit
+    (subst (λ (r : Refusal). IsVerdict c.args.from c.args.to c.args.limits.now c.args.bytes.now (refused r w.text)) same w.is_refused)

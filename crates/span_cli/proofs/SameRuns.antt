@@ -1,0 +1,35 @@
+-- What a run says of the verdict on its input it says of the verdicts on inputs that hold the same batches.
+use Rattle.std.proofs.Common.{◌↔◌, ℕ, List, Option, Some, None, arith}
+use Rattle.span_io.specs.Limits.{AreLimits, shipped_limits}
+use Rattle.span_io.specs.Outside.{Outlet}
+use Rattle.span_io.specs.declared.form.Form.{Form}
+use Rattle.span_io.specs.declared.limits.Limits.{Limits}
+use Rattle.span_convert.specs.SameBatches.{SameBatches}
+use Rattle.span_convert.specs.Verdicts.{Verdict, IsVerdict, verdict_text}
+use Rattle.span_cli.specs.Verdicts.{OnVerdict, OnSameBatches, CarriesOut, AgreesWith, Writes, Notes, stage_of, line_of}
+
+shipped_valid : AreLimits shipped_limits
+shipped_valid = record {
+  unit = (omega arith, omega arith);
+  json = (omega arith, omega arith);
+  binary = (omega arith, omega arith);
+  head = (omega arith, omega arith);
+  body = (omega arith, omega arith);
+  reply = (omega arith, omega arith);
+}
+
+pub on_same_batches : ((from other to : Form) (limits : Limits) (bytes others : List ℕ) → AreLimits limits → SameBatches limits from bytes other others
+    → (verdict : Verdict) → IsVerdict from to limits bytes verdict ↔ IsVerdict other to limits others verdict)
+    → (from to : Form) (left : Option (List ℕ)) (P : Verdict → Type 0) → OnVerdict from to left P → OnSameBatches from to left P
+on_same_batches law from to None P h = tt
+on_same_batches law from to (Some bytes) P h = λ other others same verdict is. h verdict ((law from other to shipped_limits bytes others shipped_valid same verdict).1 is)
+
+-- its status, its output and its note together
+pub carried_out : (from to : Form) (left : Option (List ℕ)) (status : ℕ) (output_before output_now notes_before notes_now : Outlet)
+    → OnVerdict from to left (AgreesWith (stage_of status) status)
+    → OnVerdict from to left (λ verdict. Writes (stage_of status) (verdict_text verdict) output_before output_now)
+    → OnVerdict from to left (λ verdict. Notes notes_before notes_now (line_of (stage_of status) verdict))
+    → OnVerdict from to left (CarriesOut status output_before output_now notes_before notes_now)
+carried_out from to None status output_before output_now notes_before notes_now agrees writes notes = tt
+carried_out from to (Some bytes) status output_before output_now notes_before notes_now agrees writes notes =
+    λ verdict is. record { agrees = agrees verdict is; writes = writes verdict is; notes = notes verdict is }
