@@ -17,6 +17,7 @@ pub mod HeldParts
 pub mod ScopeLemmas
 pub mod GroupLemmas
 pub mod ReadingLemmas
+pub mod SoundGroups
 pub mod NumbersAgain
 pub mod WrittenLaws
 pub mod WrittenLists

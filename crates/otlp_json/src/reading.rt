@@ -4,6 +4,7 @@ ghost use Rattle.std.specs.List.{AllZip};
 ghost use Rattle.serde_json.specs.View.{view};
 ghost use Rattle.span_io.specs.Offences.{OnlyReads};
 ghost use Rattle.span_io.specs.Paths.{each, JudgesInput};
+ghost use Rattle.trace_model.specs.Soundness.{IsSoundGroup};
 ghost use Rattle.otlp_json.specs.Group.{RemarkedGroup, IsRemarkedGroup, AreRemarkedGroups, AreJsonGroups, group_faults, groups_faults, json_groups_faults};
 ghost use Rattle.otlp_json.specs.Held.{IsHeldByJson};
 ghost use Rattle.otlp_json.specs.Texts.{AreGroupsText, groups_document_faults};
@@ -69,11 +70,13 @@ fn read_root(alloc: Global, v: &Value) -> Result<Items<(Group, Items<Remark>)>, 
 /// least offence.
 pub fn read_groups(alloc: Global, v: &Value) -> Result<Items<(Group, Items<Remark>)>, Halt<Refusal>>
     ensures value { IfOk result (λ groups. AreJsonGroups groups (view v.now)) }
+    ensures sound { IfOk result (All (λ g. IsSoundGroup g.0)) }
     ensures judged { JudgesInput result (json_groups_faults (view v.now)) }
     // Whatever groups the value stands for are the answer.
     ensures only { (groups : List RemarkedGroup) → AreJsonGroups groups (view v.now) → OnlyReads result groups }
 {
     one_json_groups();
+    trace_model::laws::members_of_values();
     read_root(alloc, v)
 }
 
