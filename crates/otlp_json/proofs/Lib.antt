@@ -4,6 +4,7 @@ pub mod ValueLemmas
 pub mod StandingLemmas
 pub mod SingleMembers
 pub mod AttributeLemmas
+pub mod BareGroups
 pub mod Examples
 pub mod ListLemmas
 pub mod SpanLemmas

@@ -114,8 +114,32 @@ impl Element for Group {
 
 // ---- the text of a group
 
-// Appends the text of a group, or a front of it.
+// Whether nothing stands in a group.
+fn is_bare(group: &Group) -> bool
+    ensures { IsTrue result ↔ ((group.now.resource ≡ []) × (group.now.dropped ≡ 0)
+        × (group.now.schema_url ≡ []) × (group.now.scopes ≡ [])) }
+{
+    group.resource.as_slice().is_empty()
+        && group.dropped == 0
+        && group.schema_url.as_str().is_empty()
+        && group.scopes.as_slice().is_empty()
+}
+
+// Appends the text of a group, or a front of it. A writer makes some kB of its buffer ready, which a
+// group in which nothing stands isn't worth.
+#[tactic(auto, using(crate::proofs::BareGroups::bare_text))]
 fn write_text(out: &mut Blob, group: &Group) -> Result<(), OutOfMemory>
+    ensures ok { OnOk result (out.new ≡ out.old ++ json_group_text group.now) }
+    ensures front { OnErr result (GrewFront out.old out.new (json_group_text group.now)) }
+{
+    if is_bare(group) {
+        return out.append(b"{}");
+    }
+    write_object(out, group)
+}
+
+// The same by a writer of JSON.
+fn write_object(out: &mut Blob, group: &Group) -> Result<(), OutOfMemory>
     ensures ok { OnOk result (out.new ≡ out.old ++ json_group_text group.now) }
     ensures front { OnErr result (GrewFront out.old out.new (json_group_text group.now)) }
 {
