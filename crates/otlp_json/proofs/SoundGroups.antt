@@ -67,11 +67,11 @@ module _ (L : MembersOfValues) where
   module _ (d : ℕ) (IsValue : NotedValue → Data → Type 0) (IsPair : KeyValue → Data → Type 0)
       (values_sound : (r : NotedValue) (e : Data) → IsValue r e → Sound d r.means) (pairs_sound : (p : KeyValue) (e : Data) → IsPair p e → SoundPair d (entry p)) where
     list_member_sound : (r : NotedValue) (e : Data) → IsJsonList IsValue r e → Sound (d + 1) r.means
-    list_member_sound r e is = subst (Sound (d + 1)) (sym is.value)
+    list_member_sound r e is = subst (Sound (d + 1)) (sym is.make.value)
         (list_sound d (map (λ m. m.means) is.members) (each_is IsValue (λ m. m.means) (Sound d) values_sound is.members (member (codes "values") e) is.each))
 
     map_member_sound : (r : NotedValue) (e : Data) → IsJsonMap IsPair r e → Sound (d + 1) r.means
-    map_member_sound r e is = subst (Sound (d + 1)) (sym is.value) (map_sound d is.attributes is.kept.rising (kept_all (SoundPair d) is.attributes (map entry is.pairs) is.kept
+    map_member_sound r e is = subst (Sound (d + 1)) (sym is.make.value) (map_sound d is.make.attributes is.make.kept.rising (kept_all (SoundPair d) is.make.attributes (map entry is.pairs) is.make.kept
         (each_is IsPair entry (SoundPair d) pairs_sound is.pairs (member (codes "values") e) is.each)))
 
     one_sound : (m : JsonMember) (r : NotedValue) → MeansJsonMember IsValue IsPair m r → Sound (d + 1) r.means
@@ -119,9 +119,9 @@ module _ (L : MembersOfValues) where
 
   attributes_sound : (attributes : List (List ℕ × Value)) (noted : Keys) (o : Option Data) → AreJsonAttributes attributes noted o → AreSound attributes
   attributes_sound attributes noted o is =
-      let all = kept_all (SoundPair 16) attributes (map entry is.pairs) is.kept (each_is (json_key_value_at levels_below) entry (SoundPair 16) attribute_sound is.pairs o is.each) in
+      let all = kept_all (SoundPair 16) attributes (map entry is.pairs) is.make.kept (each_is (json_key_value_at levels_below) entry (SoundPair 16) attribute_sound is.pairs o is.each) in
       record {
-        rising = is.kept.rising;
+        rising = is.make.kept.rising;
         values = All-weaker (SoundPair 16) (λ p. IsSound p.1) (λ p s. record { shallow = s.shallow; rising = s.rising }) attributes all;
       }
 
@@ -159,8 +159,8 @@ module _ (L : MembersOfValues) where
   span_sound : (s : Noted Span SpanNotes) (d : Data) → IsJsonSpan s d → IsSoundSpan s.means
   span_sound s d is = record {
     attributes = attributes_sound L s.means.attributes s.notes.keys _ is.attributes;
-    events = subst (All IsSoundEvent) (sym is.its_events) (each_is IsJsonEvent (λ e. e.means) IsSoundEvent event_sound is.events _ is.each_event);
-    links = subst (All IsSoundLink) (sym is.its_links) (kept_sound is.links (each_of IsJsonLink (HoldsOf (λ l. IsSoundLink l.means)) link_sound is.links _ is.each_link));
+    events = subst (All IsSoundEvent) (sym is.its_events.kept) (each_is IsJsonEvent (λ e. e.means) IsSoundEvent event_sound is.events _ is.each_event);
+    links = subst (All IsSoundLink) (sym is.its_links.kept) (kept_sound is.links (each_of IsJsonLink (HoldsOf (λ l. IsSoundLink l.means)) link_sound is.links _ is.each_link));
   }
 
   -- ---- scopes and groups
@@ -169,7 +169,7 @@ module _ (L : MembersOfValues) where
   instrumentation_sound i d is = attributes_sound L i.means.attributes i.notes _ is.attributes
 
   scope_sound : (s : Noted Scope ScopeNotes) (d : Data) → IsJsonScope s d → IsSoundScope s.means
-  scope_sound s d is = subst IsSoundScope (sym is.scope) (record {
+  scope_sound s d is = subst IsSoundScope (sym is.scope.scope) (record {
     attributes = given_is IsJsonInstrumentationScope no_instrumentation_scope (λ (i : Noted InstrumentationScope Keys). AreSound i.means.attributes) none_sound instrumentation_sound is.instrumentation _ is.its_instrumentation;
     spans = each_is IsJsonSpan (λ x. x.means) IsSoundSpan span_sound is.spans _ is.each_span;
   })
@@ -178,7 +178,7 @@ module _ (L : MembersOfValues) where
   resource_sound r d is = attributes_sound L r.means.attributes r.notes _ is.attributes
 
   group_sound : (g : NotedGroup) (d : Data) → IsJsonGroup g d → IsSoundGroup g.means
-  group_sound g d is = subst IsSoundGroup (sym is.its_group) (record {
+  group_sound g d is = subst IsSoundGroup (sym is.group.group) (record {
     resource = given_is IsJsonResource no_resource (λ (r : Noted Resource Keys). AreSound r.means.attributes) none_sound resource_sound is.resource _ is.its_resource;
     scopes = each_is IsJsonScope (λ x. x.means) IsSoundScope scope_sound is.scopes _ is.each_scope;
   })
