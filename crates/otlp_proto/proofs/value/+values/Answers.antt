@@ -183,6 +183,12 @@ read_map-returns-in-Ok-None-clause-judged t c =
     let all = seen_to_end c.message_cuts.ensures _ _ _ _ c.pairs.invariant (next.end.0 tt) in
     all.fine (λ n h. h)
 
+pub read_map-returns-in-Ok-None-clause-value : goal.read_map-returns-in-Ok-None-clause-value
+read_map-returns-in-Ok-None-clause-value t c =
+    let next = rw c.in-Ok-None.field-0-is at c.in-Ok-None.ensures in
+    let all = seen_to_end c.message_cuts.ensures _ _ _ _ c.pairs.invariant (next.end.0 tt) in
+    c.in_ok-finish-in-Ok-None.ensures c.args.left all.items c.args.bytes.now all.are all.gathered
+
 pub read_key_value-fields-init : goal.read_key_value-fields-init
 read_key_value-fields-init t c = rw c.new-cursor.ensures (seen_start messages c.message_cuts.ensures.laws _ _ _ (record { key = tt; value = tt }))
 
