@@ -105,7 +105,7 @@ fn prints_and_copies_values(rt: HostRuntime) -> Result<(), Fail> {
     for (value, wanted) in [
         (
             Value::Text(Text::of(rt.alloc(), "t")?),
-            "Text(Text { text: \"t\" })",
+            "Text(Text { kept: Short(\"t\", Global) })",
         ),
         (Value::Truth(true), "Truth(true)"),
         (Value::Number(-5), "Number(-5)"),
@@ -120,7 +120,7 @@ fn prints_and_copies_values(rt: HostRuntime) -> Result<(), Fail> {
         ),
         (
             Value::Map(one(rt.alloc(), pair)?),
-            "Map(Items { items: [(Text { text: \"k\" }, Truth(false))] })",
+            "Map(Items { items: [(Text { kept: Short(\"k\", Global) }, Truth(false))] })",
         ),
     ] {
         let copy = value.copy(rt.alloc())?;
@@ -232,7 +232,10 @@ fn numbers_and_names_faults(rt: HostRuntime) -> Result<(), Fail> {
         assert_eq!(rt; (fault.number(), fault.name()), (number, name));
     }
     let shown = format!(in alloc; "{:?}", Fault::OwnKey(Text::of(alloc, "k")?))?;
-    assert_eq!(rt; shown.as_str(), "OwnKey(Text { text: \"k\" })");
+    assert_eq!(rt;
+        shown.as_str(),
+        "OwnKey(Text { kept: Short(\"k\", Global) })"
+    );
     Ok(())
 }
 
@@ -303,7 +306,8 @@ fn holds_traces(rt: HostRuntime) -> Result<(), Fail> {
         kind: RemarkKind::EqualKey,
         key: Text::of(alloc, "k")?,
     };
-    let wanted = "Remark { place: Event(1, 2), kind: EqualKey, key: Text { text: \"k\" } }";
+    let wanted =
+        "Remark { place: Event(1, 2), kind: EqualKey, key: Text { kept: Short(\"k\", Global) } }";
     assert_eq!(rt; format!(in alloc; "{remark:?}")?.as_str(), wanted);
     Ok(())
 }
