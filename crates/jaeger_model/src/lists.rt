@@ -32,6 +32,9 @@ pub(crate) trait Element<P: Protocol>: Drop {
         ensures shorter { length c.new.rest ≤ length c.old.rest };
 }
 
+/// A list has room for so many elements at most before they are read.
+const ROOM: u32 = 32;
+
 // Reads so many elements, which are known to stand at the cursor.
 fn read_elements<P: Protocol, E: Element<P>>(
     alloc: Global,
@@ -47,7 +50,7 @@ fn read_elements<P: Protocol, E: Element<P>>(
     ensures counted { IfOk result (λ elements. length elements ≡ size) }
     ensures shorter { length c.new.rest ≤ length c.old.rest }
 {
-    let mut elements = Items::new(alloc);
+    let mut elements = Items::with_room(alloc, size.min(ROOM) as usize)?;
     'elements: for _ in 0..size {
         elements.push(E::read(alloc, c, left)?)?;
     }

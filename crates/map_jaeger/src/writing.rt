@@ -19,7 +19,7 @@ use crate::writing_columns::{Held, put_columns};
 use crate::writing_flags::flags_of;
 use jaeger_model::{Batch, JSpan, Log, SpanRef, Tag, TagValue};
 use span_io::{Halt, Items, OutOfMemory, Text};
-use span_tags::{add_others, put_row, text_kept, text_or_none, text_told};
+use span_tags::{others, put_row, text_kept, text_or_none, text_told};
 use std::alloc::Global;
 use trace_model::{Attrs, Event, Fault, Group, Link, Scope, Span, Value, find};
 
@@ -58,26 +58,14 @@ fn tags_in_order(alloc: Global, pairs: Vec<(Text, Value)>) -> Result<Items<Tag>,
 
 // The attributes under other keys than this one.
 #[tactic(auto, using(crate::proofs::GroupResource::without_absent))]
-pub(crate) fn attributes_but(
-    alloc: Global,
-    key: &str,
-    attributes: Attrs,
-) -> Result<Attrs, OutOfMemory>
+pub(crate) fn attributes_but(key: &str, attributes: Attrs) -> Attrs
     requires { Rise (keys_of attributes) }
-    ensures { IfOk result (λ others. others ≡ without key.now attributes) }
+    ensures { result ≡ without key.now attributes }
 {
     match find(&attributes, key) {
-        None => Ok(attributes),
-        Some(_) => others_of(alloc, key, attributes),
+        None => attributes,
+        Some(_) => others(key, attributes),
     }
-}
-
-fn others_of(alloc: Global, key: &str, attributes: Attrs) -> Result<Attrs, OutOfMemory>
-    ensures { IfOk result (λ others. others ≡ without key.now attributes) }
-{
-    let mut others = Items::new(alloc);
-    add_others(&mut others, key, attributes)?;
-    Ok(others)
 }
 
 // The tags of a span that has these attributes, under the name and version of its scope.
@@ -92,7 +80,7 @@ fn tags_of_span(
     requires rising { Rise (keys_of attributes) }
     ensures { IfOk result (λ tags. tags ≡ tags_held name.now version.now held attributes) }
 {
-    let mut pairs = attributes_but(alloc, "jaeger.flags", attributes)?.into_vec();
+    let mut pairs = attributes_but("jaeger.flags", attributes).into_vec();
     put_columns(alloc, &mut pairs, name, version, held)?;
     tags_in_order(alloc, pairs)
 }
@@ -245,7 +233,7 @@ fn process_tags(alloc: Global, resource: Attrs) -> Result<Items<Tag>, OutOfMemor
     requires rising { Rise (keys_of resource) }
     ensures { IfOk result (λ tags. tags ≡ map values.tag_of (without service_key resource)) }
 {
-    let others = attributes_but(alloc, "service.name", resource)?;
+    let others = attributes_but("service.name", resource);
     tags_in_order(alloc, others.into_vec())
 }
 

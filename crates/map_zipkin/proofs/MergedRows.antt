@@ -1,5 +1,5 @@
 -- Rising rows and rising pairs become one list: the rows below a pair stand before it, one of its key gives way, and those above it come after.
-use Rattle.std.proofs.Common.{◌≡◌, ℕ, Bool, true, false, cond, List, [], ◌∷◌, ◌++◌, filter, take, drop, None, refl, sym, ap, subst, ◌∙◌, append_assoc}
+use Rattle.std.proofs.Common.{◌≡◌, ℕ, Bool, true, false, cond, List, [], ◌∷◌, ◌++◌, filter, map, take, drop, None, refl, sym, ap, subst, ◌∙◌, append_assoc}
 use Rattle.std.specs.Cmp.Lexicographic.{slice_cmp}
 use Rattle.std.specs.List.{AllByRecursion}
 use Rattle.std.specs.List.Sorted.{IsStrictlySortedBy}
@@ -7,6 +7,7 @@ use Rattle.std.specs.Ordering.{nat_cmp, is_eq, ordering_reverse}
 use Rattle.std.specs.declared.cmp.Ordering.{Ordering}
 use Rattle.std.specs.declared.cmp.Ordering.TheVariants.{Less, Equal, Greater}
 use Rattle.std.proofs.lemmas.Cmp.{nat_list_cmp_total}
+use Rattle.std.proofs.lemmas.List.{map-append}
 use Rattle.std.proofs.lemmas.Map.Text.{is_eq-slice_cmp}
 use Rattle.trace_model.specs.Attributes.{Rise, keys, by_order, placed, attrs}
 use Rattle.trace_model.specs.ValueTexts.{value_text}
@@ -14,9 +15,9 @@ use Rattle.trace_model.specs.declared.value.Value.{Value, Text}
 use Rattle.span_tags.specs.AttributeLaws.{same_key, below_all, attrs_itself, attrs_rise, at_attrs, same_pairs, at_filter, filter_rise, map_attrs}
 use Rattle.span_tags.specs.RowLaws.{last_at-filter}
 use Rattle.span_tags.specs.TagWords.{Pairs}
-use Rattle.map_zipkin.specs.Writing.{as_text, as_texts, is_told, told_pairs}
+use Rattle.map_zipkin.specs.Writing.{as_text, as_texts, is_told, told_pairs, zipkin_tag_of}
 use Rattle.map_zipkin.specs.WritingSoFar.{rows_below, rows_above}
-use Rattle.map_zipkin.proofs.RowsJoined.{in_front_of}
+use Rattle.map_zipkin.proofs.RowsJoined.{attrs_within, in_front_of}
 
 abbrev cmp : List ℕ → List ℕ → Ordering
 cmp = slice_cmp nat_cmp
@@ -128,6 +129,15 @@ all_in_order own shared attributes held e =
     ∙ in_front_of own (shared ++ told_pairs (attrs attributes)) (shared ++ told_pairs attributes)
     (in_front_of shared (told_pairs (attrs attributes)) (told_pairs attributes) (told_in_order attributes))
 
+-- rows that became one list before make the same tags
+pub joined_before : (own shared attributes held rows : Pairs) → held ≡ attrs attributes → rows ≡ attrs (own ++ shared)
+    → attrs (rows ++ told_pairs held) ≡ attrs (own ++ (shared ++ told_pairs attributes))
+joined_before own shared attributes held rows e is =
+    ap (λ l. attrs (l ++ told_pairs held)) is
+    ∙ (attrs_within (own ++ shared) (told_pairs held)
+    ∙ (ap attrs (append_assoc own shared (told_pairs held))
+    ∙ all_in_order own shared attributes held e))
+
 -- ---- one attribute more
 
 -- one that has a place of its own
@@ -137,18 +147,21 @@ passed pair more e = ap (λ b. as_texts (cond b (pair ∷ filter (λ attribute. 
 pub kept : (pair : List ℕ × Value) (more : Pairs) → is_told pair.0 ≡ true → told_pairs (pair ∷ more) ≡ as_text pair ∷ told_pairs more
 kept pair more e = ap (λ b. as_texts (cond b (pair ∷ filter (λ attribute. is_told attribute.0) more) (filter (λ attribute. is_told attribute.0) more))) e
 
-pub added_between : (old below_added new rows more : Pairs) (pair : List ℕ × Value) → is_told pair.0 ≡ true
-    → below_added ≡ old ++ rows_below pair.0 rows → new ≡ below_added ++ (as_text pair ∷ [])
+pub added_between : (old below_added new : List (List ℕ × List ℕ)) (rows more : Pairs) (pair : List ℕ × Value) → is_told pair.0 ≡ true
+    → below_added ≡ old ++ map zipkin_tag_of (rows_below pair.0 rows) → new ≡ below_added ++ (zipkin_tag_of pair ∷ [])
     → Rise (keys rows) → Rise (keys (told_pairs (pair ∷ more)))
-    → new ++ attrs (rows_above pair.0 rows ++ told_pairs more) ≡ old ++ attrs (rows ++ told_pairs (pair ∷ more))
+    → new ++ map zipkin_tag_of (attrs (rows_above pair.0 rows ++ told_pairs more)) ≡ old ++ map zipkin_tag_of (attrs (rows ++ told_pairs (pair ∷ more)))
 added_between old below_added new rows more pair told e1 e2 up_rows up =
     let left = attrs (rows_above pair.0 rows ++ told_pairs more) in
-    ap (λ l. l ++ left) e2
-    ∙ (append_assoc below_added (as_text pair ∷ []) left
-    ∙ (ap (λ l. l ++ (as_text pair ∷ left)) e1
-    ∙ (append_assoc old (rows_below pair.0 rows) (as_text pair ∷ left)
-    ∙ (ap (λ l. old ++ l) (sym (one_between (as_text pair) rows (told_pairs more) up_rows (subst (λ l. Rise (keys l)) (kept pair more told) up)))
-    ∙ ap (λ l. old ++ attrs (rows ++ l)) (sym (kept pair more told))))))
+    let tags = map zipkin_tag_of left in
+    let below = rows_below pair.0 rows in
+    ap (λ l. l ++ tags) e2
+    ∙ (append_assoc below_added (zipkin_tag_of pair ∷ []) tags
+    ∙ (ap (λ l. l ++ (zipkin_tag_of pair ∷ tags)) e1
+    ∙ (append_assoc old (map zipkin_tag_of below) (zipkin_tag_of pair ∷ tags)
+    ∙ (ap (λ l. old ++ l) (sym (map-append zipkin_tag_of below (as_text pair ∷ left)))
+    ∙ (ap (λ l. old ++ map zipkin_tag_of l) (sym (one_between (as_text pair) rows (told_pairs more) up_rows (subst (λ l. Rise (keys l)) (kept pair more told) up)))
+    ∙ ap (λ l. old ++ map zipkin_tag_of (attrs (rows ++ l))) (sym (kept pair more told)))))))
 
 -- ---- going over rows up to a key
 

@@ -1,8 +1,12 @@
 -- No double stands in the tags of a span, which are texts.
-use Rattle.std.proofs.Common.{◌≡◌, ℕ, Bool, true, false, cond, ◌||◌, List, [], ◌∷◌, ◌++◌, map, filter, not, All, Option, Some, None, option_map, refl, sym, ap, ◌∙◌, true≢false, append_assoc, ◌+◌, ◌<◌, suc, length, get_or, drop, add-one, drop-cons}
+use Rattle.std.proofs.Common.{◌≡◌, ℕ, Bool, true, false, cond, ◌||◌, List, [], ◌∷◌, ◌++◌, map, not, All, Option, Some, None, option_map, refl, sym, ap, ◌∙◌, true≢false, append_assoc, ◌+◌, ◌<◌, suc, length, get_or, drop, add-one, drop-cons}
 use Rattle.std.proofs.lemmas.List.Elements.{All-nil, All-cons, All-head, All-tail, All-append}
+use Rattle.std.specs.Cmp.Lexicographic.{slice_cmp}
+use Rattle.std.specs.Ordering.{nat_cmp}
 use Rattle.std.specs.Str.{bytes_eq}
-use Rattle.trace_model.specs.Attributes.{attrs, at}
+use Rattle.std.specs.declared.cmp.Ordering.{Ordering}
+use Rattle.std.specs.declared.cmp.Ordering.TheVariants.{Less, Equal, Greater}
+use Rattle.trace_model.specs.Attributes.{by_order, attrs, at}
 use Rattle.trace_model.specs.EventTexts.{holds_double}
 use Rattle.trace_model.specs.ValueTexts.{has_double}
 use Rattle.trace_model.specs.declared.value.Value.{Value}
@@ -12,8 +16,8 @@ use Rattle.span_tags.specs.TagKeys.{service_key, error_key, dropped_attributes_k
 use Rattle.span_tags.specs.TagWords.{Pairs, row, without, text_given, code_given}
 use Rattle.trace_model.specs.declared.span.Span.{Span}
 use Rattle.map_zipkin.specs.TagColumns.{count_text}
-use Rattle.map_zipkin.specs.Writing.{error_message, as_text, as_texts, prefixed, resource_pairs, is_told, told_pairs}
-use Rattle.map_zipkin.specs.WritingSoFar.{count_rows, unshared_rows, shared_pairs, shared_rows}
+use Rattle.map_zipkin.specs.Writing.{error_message, as_text, as_texts, prefixed, resource_pairs}
+use Rattle.map_zipkin.specs.WritingSoFar.{count_rows, unshared_rows, shared_pairs, shared_rows, rows_below, rows_above}
 use Rattle.map_zipkin.proofs.ColumnLemmas.{textual}
 use Rattle.map_zipkin.proofs.OwnForms.{text_leaf, count_leaf}
 use Rattle.map_zipkin.proofs.TagsBack.{error_leaf, code_leaf}
@@ -51,10 +55,6 @@ prefixed_plain : (pairs : Pairs) → All Plain (map prefixed (as_texts pairs))
 prefixed_plain [] = All-nil Plain
 prefixed_plain (pair ∷ pairs) = All-cons Plain (prefixed (as_text pair)) (map prefixed (as_texts pairs)) refl (prefixed_plain pairs)
 
-told_plain : (pairs : Pairs) → All Plain (as_texts pairs)
-told_plain [] = All-nil Plain
-told_plain (pair ∷ pairs) = All-cons Plain (as_text pair) (as_texts pairs) refl (told_plain pairs)
-
 -- a row whose value is a text
 plain_row : (key : List ℕ) (value : Option Value) → option_map textual value ≡ value → All Plain (row key value)
 plain_row key None e = All-nil Plain
@@ -79,16 +79,40 @@ shared_plain resource name version = none_double (shared_rows resource name vers
     (All-append Plain (row scope_version_key (text_given version)) _ (plain_row scope_version_key _ (text_leaf version))
     (prefixed_plain (without service_key resource)))))
 
--- all of them
-pub tags_plain : (own shared attributes held : Pairs) → holds_double own ≡ false → holds_double shared ≡ false
-    → held ≡ attrs (own ++ (shared ++ told_pairs attributes)) → holds_double held ≡ false
-tags_plain own shared attributes held own_is shared_is e =
-    let all = All-append Plain own (shared ++ told_pairs attributes) (each_plain own own_is)
-    (All-append Plain shared (told_pairs attributes) (each_plain shared shared_is) (told_plain (filter (λ attribute. is_told attribute.0) attributes))) in
-    ap holds_double e ∙ none_double (attrs (own ++ (shared ++ told_pairs attributes))) (all_attrs Plain (own ++ (shared ++ told_pairs attributes)) all)
+-- the rows of a span and those in common
+pub rows_plain : (own shared held : Pairs) → holds_double own ≡ false → holds_double shared ≡ false → held ≡ attrs (own ++ shared) → holds_double held ≡ false
+rows_plain own shared held own_is shared_is e =
+    ap holds_double e ∙ none_double (attrs (own ++ shared)) (all_attrs Plain (own ++ shared) (All-append Plain own shared (each_plain own own_is) (each_plain shared shared_is)))
 
 pub attrs_plain : (l held : Pairs) → holds_double l ≡ false → held ≡ attrs l → holds_double held ≡ false
 attrs_plain l held plain e = ap holds_double e ∙ none_double (attrs l) (all_attrs Plain l (each_plain l plain))
+
+-- ---- rows around a key
+
+pub plain_below : (key : List ℕ) (rows : Pairs) → holds_double rows ≡ false → holds_double (rows_below key rows) ≡ false
+plain_below key [] plain = refl
+plain_below key (row ∷ rows) plain = by (slice_cmp nat_cmp row.0 key) (has_double row.1) refl (plain_below key rows) plain
+  where
+    by : (o : Ordering) (d : Bool) → has_double row.1 ≡ d → (holds_double rows ≡ false → holds_double (rows_below key rows) ≡ false) → (d || holds_double rows) ≡ false
+        → holds_double (by_order o (row ∷ rows_below key rows) [] []) ≡ false
+    by o true is later none = absurd (true≢false none)
+    by Less false is later none = ap (λ d. d || holds_double (rows_below key rows)) is ∙ later none
+    by Equal false is later none = refl
+    by Greater false is later none = refl
+
+pub plain_above : (key : List ℕ) (rows : Pairs) → holds_double rows ≡ false → holds_double (rows_above key rows) ≡ false
+plain_above key [] plain = refl
+plain_above key (row ∷ rows) plain = by (slice_cmp nat_cmp row.0 key) (behind (has_double row.1) plain) (plain_above key rows)
+  where
+    behind : (d : Bool) → (d || holds_double rows) ≡ false → holds_double rows ≡ false
+    behind true none = absurd (true≢false none)
+    behind false none = none
+
+    by : (o : Ordering) → holds_double rows ≡ false → (holds_double rows ≡ false → holds_double (rows_above key rows) ≡ false)
+        → holds_double (by_order o (rows_above key rows) rows (row ∷ rows)) ≡ false
+    by Less is later = later is
+    by Equal is later = is
+    by Greater is later = plain
 
 -- ---- parts of what is fit
 

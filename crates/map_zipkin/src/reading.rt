@@ -1,5 +1,7 @@
 //! Spans of Zipkin as spans of runs.
 ghost use Rattle.std.specs.Prelude.{◌≡◌, IfOk};
+ghost use Rattle.trace_model.specs.Soundness.{IsSoundSpan};
+ghost use Rattle.trace_model.specs.Values.{AreSound};
 ghost use Rattle.map_zipkin.specs.Reading as meant;
 ghost use Rattle.map_zipkin.specs.Remarks.{zipkin_remarks};
 
@@ -37,7 +39,10 @@ fn kind_of(kind: ZKind) -> Kind
 pub fn triple_of_span(alloc: Global, span: ZSpan) -> Result<(Run, Span, Items<Remark>), OutOfMemory>
     ensures value { IfOk result (λ parts. (parts.0, parts.1) ≡ meant.run_span_of span) }
     ensures remarks { IfOk result (λ parts. parts.2 ≡ zipkin_remarks span) }
+    ensures sound { IfOk result (λ parts. AreSound parts.0.resource × IsSoundSpan parts.1) }
 {
+    trace_model::laws::event_texts_exact();
+    trace_model::laws::event_texts_once();
     let tags = pairs_of(alloc, span.tags)?;
     let remarks = remarks_of(alloc, &span.remote.service, &tags)?;
     let told = told_by(alloc, &tags)?;

@@ -1,8 +1,7 @@
 //! Attributes.
-ghost use Rattle.std.specs.Prelude.{◌≡◌, ◌↔◌, ℕ, List, Contains, IfOk};
+ghost use Rattle.std.specs.Prelude.{IfOk};
 ghost use Rattle.serde_json.specs.View.{view};
 ghost use Rattle.span_io.specs.Paths.{optional, JudgesValue};
-ghost use Rattle.trace_model.specs.Attributes.{Rise};
 ghost use Rattle.trace_model.specs.OtlpParts.{AreNotedAttributes};
 ghost use Rattle.json_members.specs.Members.{member};
 ghost use Rattle.otlp_json.specs.Attributes.{AreJsonAttributes, pairs_faults};
@@ -11,7 +10,7 @@ use crate::values::{PairRows, note_keys, pairs_of};
 use serde_json::Value as Json;
 use span_io::{Cause, Halt, Items, OutOfMemory, Text};
 use std::alloc::Global;
-use trace_model::{Attrs, attrs_of};
+use trace_model::{Attrs, attrs_of, keys_in_order};
 
 /// How many levels attributes have, with that of their own values.
 const LEVELS: u8 = 16;
@@ -37,41 +36,6 @@ fn finish(alloc: Global, rows: PairRows) -> Result<(Attrs, Items<Text>), OutOfMe
     let (attributes, repeated) = attrs_of(alloc, rows.pairs)?;
     let mut noted = rows.noted;
     note_keys(&mut noted, repeated)?;
-    let keys = once_each(alloc, noted)?;
+    let keys = keys_in_order(noted)?;
     Ok((attributes, keys))
-}
-
-// The texts in the order of their bytes, each once, as a list of their own.
-fn once_each(alloc: Global, texts: Items<Text>) -> Result<Items<Text>, OutOfMemory>
-    ensures rising { IfOk result (λ list. Rise list) }
-    ensures same { IfOk result (λ list. (text : List ℕ) → Contains list text ↔ Contains texts text) }
-{
-    if texts.len() == 0 {
-        return Ok(texts);
-    }
-    let sorted = rising(texts)?;
-    let list = listed(alloc, sorted)?;
-    Ok(list)
-}
-
-// The texts in the order of their bytes, each once.
-fn rising(texts: Items<Text>) -> Result<Vec<Text>, OutOfMemory>
-    ensures rising { IfOk result (λ list. Rise list.items) }
-    ensures same { IfOk result (λ list. (text : List ℕ) → Contains list.items text ↔ Contains texts text) }
-{
-    let mut sorted = texts.into_vec();
-    sorted.sort_by(|a, b| a.as_str().cmp(b.as_str()))?;
-    sorted.dedup_by(|a, b| a.as_str() == b.as_str());
-    Ok(sorted)
-}
-
-// The same as a list of its own.
-fn listed(alloc: Global, texts: Vec<Text>) -> Result<Items<Text>, OutOfMemory>
-    ensures { IfOk result (λ list. list ≡ texts.items) }
-{
-    let mut list = Items::with_room(alloc, texts.len())?;
-    'texts: for text in texts {
-        list.push(text)?;
-    }
-    Ok(list)
 }

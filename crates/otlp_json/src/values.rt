@@ -83,6 +83,9 @@ fn double_value() -> Halt<Cause>
 pub fn note_keys(noted: &mut Items<Text>, more: Items<Text>) -> Result<(), OutOfMemory>
     ensures { OnOk result (noted.new ≡ noted.old ++ more) }
 {
+    if more.len() == 0 {
+        return Ok(());
+    }
     'keys: for key in more.into_vec() {
         noted.push(key)?;
     }

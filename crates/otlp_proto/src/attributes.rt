@@ -1,8 +1,7 @@
 //! Attributes of a message, as its reader gathers them.
-ghost use Rattle.std.specs.Prelude.{◌≡◌, ◌↔◌, ◌++◌, ◌∷◌, [], ℕ, List, Contains, IfOk, OnOk};
+ghost use Rattle.std.specs.Prelude.{[], ℕ, List, IfOk, OnOk};
 ghost use Rattle.span_io.specs.Offences.{Offence, Judges};
 ghost use Rattle.proto_wire.specs.Messages.{messages};
-ghost use Rattle.trace_model.specs.Attributes.{Rise};
 ghost use Rattle.trace_model.specs.Values.{AreSound};
 ghost use Rattle.otlp_proto.specs.Attributes.{attribute_rules, AttributesOf};
 ghost use Rattle.otlp_proto.specs.AttributesSoFar.{GatheredAttributes};
@@ -13,7 +12,7 @@ use crate::value_rows::{note_all, push_key_value};
 use span_io::{Cause, Halt, Items, OutOfMemory, Text};
 use std::alloc::Global;
 use trace_model::laws::members_of_values;
-use trace_model::{Attrs, Value, attrs_of};
+use trace_model::{Attrs, Value, attrs_of, keys_in_order};
 
 /// How many levels are left below the value of an attribute, which stands at level 1 of 16.
 const LEVELS_BELOW: u8 = 15;
@@ -56,29 +55,7 @@ impl AttributeRows {
         let (attributes, repeated) = attrs_of(alloc, self.pairs)?;
         let mut noted = self.noted;
         note_all(&mut noted, repeated)?;
-        let keys = listed(alloc, rising(noted)?)?;
+        let keys = keys_in_order(noted)?;
         Ok((attributes, keys))
     }
-}
-
-// The texts in the order of their bytes, each once.
-fn rising(texts: Items<Text>) -> Result<Vec<Text>, OutOfMemory>
-    ensures rising { IfOk result (λ list. Rise list.items) }
-    ensures same { IfOk result (λ list. (text : List ℕ) → Contains list.items text ↔ Contains texts text) }
-{
-    let mut sorted = texts.into_vec();
-    sorted.sort_by(|a, b| a.as_str().cmp(b.as_str()))?;
-    sorted.dedup_by(|a, b| a.as_str() == b.as_str());
-    Ok(sorted)
-}
-
-// The same as a list of its own.
-fn listed(alloc: Global, texts: Vec<Text>) -> Result<Items<Text>, OutOfMemory>
-    ensures { IfOk result (λ list. list ≡ texts.items) }
-{
-    let mut list = Items::new(alloc);
-    'texts: for text in texts {
-        list.push(text)?;
-    }
-    Ok(list)
 }

@@ -27,14 +27,30 @@ impl DocumentReader for SpanFile {
     }
 }
 
+// Appends the text of a span. A writer of JSON makes room ready by the size of what stands before it,
+// so the text is made in a list of its own, whose room the next span has again.
+fn append_span(out: &mut Blob, text: &mut Blob, span: &ZSpan) -> Result<(), OutOfMemory>
+    ensures { OnOk result (out.new ≡ out.old ++ zspan_text span.now) }
+{
+    text.clear();
+    write_span(text, span)?;
+    out.append(text.as_slice())
+}
+
 // Appends the texts of spans, each with a comma before it where a span stands before.
-fn append_spans(out: &mut Blob, behind: bool, spans: &[ZSpan]) -> Result<(), OutOfMemory>
+fn append_spans(
+    alloc: Global,
+    out: &mut Blob,
+    behind: bool,
+    spans: &[ZSpan],
+) -> Result<(), OutOfMemory>
     ensures { OnOk result (out.new ≡ out.old ++ pieces_added behind (map zspan_text spans.now)) }
 {
     let mut behind = behind;
+    let mut text = Blob::new(alloc);
     'spans: for span in spans {
         append_if(out, behind, b",")?;
-        write_span(out, span)?;
+        append_span(out, &mut text, span)?;
         behind = true;
     }
     Ok(())
@@ -53,7 +69,7 @@ impl UnitWriter for SpanFile {
         proper_group(&group);
         let spans = spans_of_group(alloc, group)?;
         append_if(out, before.units == 0, b"[")?;
-        append_spans(out, before.spans > 0, spans.as_slice())?;
+        append_spans(alloc, out, before.spans > 0, spans.as_slice())?;
         Ok(())
     }
 

@@ -40,6 +40,13 @@ impl<T> Items<T> {
         })
     }
 
+    /// The elements of a vector, with its room.
+    pub fn from_vec(items: Vec<T>) -> Items<T>
+        ensures { result ≡ items.items }
+    {
+        Items { items }
+    }
+
     pub fn len(&self) -> usize
         ensures { result ≡ length self.now }
     {

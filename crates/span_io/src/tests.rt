@@ -141,7 +141,9 @@ fn lists(rt: HostRuntime) -> Result<(), Fail> {
     let calls = calls_of(rt.alloc(), &[3, 1])?;
     assert_eq!(rt; calls.copy()?.as_slice(), [3, 1].as_slice());
     assert_eq!(rt; calls.len(), 2);
-    assert_eq!(rt; calls.into_vec().as_slice(), [3, 1].as_slice());
+    let calls = calls.into_vec();
+    assert_eq!(rt; calls.as_slice(), [3, 1].as_slice());
+    assert_eq!(rt; Items::from_vec(calls).as_slice(), [3, 1].as_slice());
     Ok(())
 }
 

@@ -13,6 +13,6 @@ pub use left_out::{
     is_idle_code, is_idle_count, is_idle_library, is_idle_text, is_there, remark_if,
 };
 pub use placed_rows::{put_row, put_rows};
-pub use rows::{add_others, add_row, code_given, text_given, text_kept, word_given};
+pub use rows::{add_row, code_given, others, text_given, text_kept, word_given};
 pub use runs::{ReadSpan, Runs};
 pub use words::{code_in, count_in, name_in, text_in, text_or_empty, text_or_none, text_told};

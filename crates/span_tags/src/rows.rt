@@ -3,7 +3,7 @@ ghost use Rattle.std.specs.Prelude.{◌≡◌, ◌++◌, Some, IfOk, OnOk};
 ghost use Rattle.trace_model.specs.declared.value.Value.TheVariants as values;
 ghost use Rattle.span_tags.specs.TagWords as told;
 
-use span_io::{OutOfMemory, Text};
+use span_io::{Items, OutOfMemory, Text};
 use std::alloc::Global;
 use trace_model::{Attrs, Code, Value};
 
@@ -22,16 +22,13 @@ pub fn add_row(
     pairs.push((Text::of(alloc, key)?, value))
 }
 
-/// Adds the pairs of other keys than this one.
-pub fn add_others(pairs: &mut Attrs, key: &str, tags: Attrs) -> Result<(), OutOfMemory>
-    ensures { OnOk result (pairs.new ≡ pairs.old ++ told.without key.now tags) }
+/// The pairs of other keys than this one.
+pub fn others(key: &str, tags: Attrs) -> Attrs
+    ensures { result ≡ told.without key.now tags }
 {
-    'tags: for pair in tags.into_vec() {
-        if key != pair.0.as_str() {
-            pairs.push(pair)?;
-        }
-    }
-    Ok(())
+    let mut pairs = tags.into_vec();
+    pairs.retain(|pair| key != pair.0.as_str());
+    Items::from_vec(pairs)
 }
 
 /// A copy of a text, unless it is empty.

@@ -20,6 +20,7 @@ pub mod Places
 pub mod ProperRows
 pub mod Rising
 pub mod RisingAttributes
+pub mod RisingGathered
 pub mod Rows
 pub mod SoundLemmas
 pub mod TextLaws

@@ -1,6 +1,6 @@
 ghost use Rattle.std.specs.Prelude.{◌≡◌, All, IfOk, OnOk, IsSortedBy, IsTrue};
 ghost use Rattle.std.specs.List.Sorted.{IsStableBy};
-ghost use Rattle.trace_model.specs.Attributes.{AreAttributes, AreRepeated, Rise, attrs, keys};
+ghost use Rattle.trace_model.specs.Attributes.{AreAttributes, AreKeysInOrder, AreRepeated, Rise, attrs, keys};
 ghost use Rattle.trace_model.specs.Gathering.{key_above, ends_with, kept_with, repeated_with};
 ghost use Rattle.trace_model.specs.Values.{IsSound, AreSound};
 
@@ -52,6 +52,11 @@ fn gathered(alloc: Global, list: Items<(Text, Value)>) -> Result<(Attrs, Items<T
     ensures repeated { IfOk result (λ parts. AreRepeated parts.1 list) }
 {
     let mut pairs = falling(list)?;
+    pairs.reverse();
+    if keys_rise(pairs.as_slice()) {
+        return Ok((Items::from_vec(pairs), Items::new(alloc)));
+    }
+    pairs.reverse();
     let mut kept = Items::with_room(alloc, pairs.len())?;
     let mut repeated = Items::new(alloc);
     'pairs: while let Some(pair) = pairs.pop() {
@@ -86,6 +91,16 @@ fn gather(
         return Ok(());
     }
     repeated.push(pair.0)
+}
+
+/// The keys in the order of their bytes, each once.
+pub fn keys_in_order(keys: Items<Text>) -> Result<Items<Text>, OutOfMemory>
+    ensures { IfOk result (λ list. AreKeysInOrder list keys) }
+{
+    let mut sorted = keys.into_vec();
+    sorted.sort_by(|a, b| a.as_str().cmp(b.as_str()))?;
+    sorted.dedup_by(|a, b| a.as_str() == b.as_str());
+    Ok(Items::from_vec(sorted))
 }
 
 fn last_key_is(pairs: &[(Text, Value)], key: &Text) -> bool

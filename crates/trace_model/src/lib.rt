@@ -18,7 +18,7 @@ mod tokens;
 mod trace;
 mod value;
 
-pub use attributes::attrs_of;
+pub use attributes::{attrs_of, keys_in_order};
 pub use event_reading::read_event_text;
 pub use event_texts::event_text;
 pub use fault::Fault;

@@ -4,7 +4,7 @@ use crate::laws::{
 };
 use crate::{
     Attrs, Code, Event, Fault, Group, Kind, Link, Place, Remark, RemarkKind, Scope, Span, Status,
-    Value, attrs_copy, attrs_of, find, proper_group, value_text,
+    Value, attrs_copy, attrs_of, find, keys_in_order, proper_group, value_text,
 };
 use span_ids::{Nanos, SpanId, TraceId};
 use span_io::{Blob, Halt, Items, OutOfMemory, Text};
@@ -94,6 +94,17 @@ fn gathers_many_pairs(rt: HostRuntime) -> Result<(), Fail> {
     let (attributes, twice) = attrs_of(rt.alloc(), equal)?;
     assert!(rt; are_numbers(&attributes, &[("k", 999)]));
     assert!(rt; are_texts(&twice, &["k"]));
+    Ok(())
+}
+
+#[test]
+fn puts_keys_in_order(rt: HostRuntime) -> Result<(), Fail> {
+    let mut keys = Items::new(rt.alloc());
+    for key in ["b", "a", "", "b", "ab"] {
+        keys.push(Text::of(rt.alloc(), key)?)?;
+    }
+    let keys = keys_in_order(keys)?;
+    assert!(rt; are_texts(&keys, &["", "a", "ab", "b"]));
     Ok(())
 }
 

@@ -4,7 +4,7 @@ ghost use Rattle.trace_model.specs.Attributes.{Rise, attrs, keys};
 ghost use Rattle.span_tags.specs.TagWords as told;
 ghost use Rattle.map_jaeger.specs.Keys.{flags_key};
 ghost use Rattle.map_jaeger.specs.Reading as meant;
-ghost use Rattle.map_jaeger.specs.ReadColumns.{ArePartsOf};
+ghost use Rattle.map_jaeger.specs.ReadColumns.{ArePartsOf, own_tags};
 
 use crate::keys::is_reserved;
 use crate::writing::attributes_but;
@@ -38,7 +38,7 @@ pub(crate) fn process_attributes(
     requires { Rise (keys tags) }
     ensures { IfOk result (λ attributes. attributes ≡ meant.process_attributes service tags) }
 {
-    let others = attributes_but(alloc, "service.name", tags)?;
+    let others = attributes_but("service.name", tags);
     with_row(alloc, "service.name", text_kept(service), others)
 }
 
@@ -58,18 +58,7 @@ fn with_row(
     }
     let mut pairs = attributes.into_vec();
     put_row(alloc, &mut pairs, key, value)?;
-    items_of(alloc, pairs)
-}
-
-// The same pairs, as a list of attributes.
-fn items_of(alloc: Global, pairs: Vec<(Text, Value)>) -> Result<Attrs, OutOfMemory>
-    ensures { IfOk result (λ items. items ≡ pairs.items) }
-{
-    let mut items = Items::with_room(alloc, pairs.len())?;
-    'pairs: for pair in pairs {
-        items.push(pair)?;
-    }
-    Ok(items)
+    Ok(Items::from_vec(pairs))
 }
 
 /// Tags of a span, by their keys.
@@ -84,16 +73,24 @@ pub(crate) struct Parted {
 pub(crate) fn part_tags(alloc: Global, tags: Attrs) -> Result<Parted, OutOfMemory>
     ensures { IfOk result (λ parts. ArePartsOf tags parts) }
 {
+    let own = own_of(alloc, &tags)?;
+    let mut free = tags.into_vec();
+    free.retain(|tag| is_free(tag.0.as_str()));
+    let free = Items::from_vec(free);
+    Ok(Parted { own, free })
+}
+
+// Copies of the tags of Jaeger's own.
+fn own_of(alloc: Global, tags: &Attrs) -> Result<Attrs, OutOfMemory>
+    ensures { IfOk result (λ own. own ≡ own_tags tags.now) }
+{
     let mut own = Items::new(alloc);
-    let mut free = Items::with_room(alloc, tags.len())?;
-    'tags: for tag in tags.into_vec() {
-        if is_free(tag.0.as_str()) {
-            free.push(tag)?;
-        } else {
-            own.push(tag)?;
+    'tags: for tag in tags.as_slice() {
+        if !is_free(tag.0.as_str()) {
+            own.push((tag.0.copy()?, tag.1.copy(alloc)?))?;
         }
     }
-    Ok(Parted { own, free })
+    Ok(own)
 }
 
 fn is_free(key: &str) -> bool

@@ -7,7 +7,7 @@ ghost use Rattle.map_jaeger.specs.Remarks.{RepeatsOf, is_idle_event, log_remarks
 use crate::reading::tags::attributes_of;
 use jaeger_model::Log;
 use span_io::{Items, OutOfMemory, Text};
-use span_tags::{add_others, is_idle_text, remark_if, text_or_empty};
+use span_tags::{is_idle_text, others, remark_if, text_or_empty};
 use std::alloc::Global;
 use trace_model::{Event, Place, Remark, find, number_behind, remark_keys};
 
@@ -41,8 +41,9 @@ pub(crate) fn events_of(
     ensures events { IfOk result (λ read. read.events ≡ map meant.event_of logs) }
     ensures remarks { IfOk result (λ read. AreNumbered RepeatsOf (log_remarks span) 1 logs read.remarks) }
 {
+    let events = Items::with_room(alloc, logs.len())?;
     let mut read = ReadEvents {
-        events: Items::new(alloc),
+        events,
         remarks: Items::new(alloc),
     };
     let mut number = 0;
@@ -69,12 +70,10 @@ fn event_of(alloc: Global, log: Log) -> Result<ReadEvent, OutOfMemory>
     let (tags, keys) = attributes_of(alloc, log.fields)?;
     let name = text_or_empty(alloc, find(&tags, "event"))?;
     let idle = is_idle_text(&tags, "event");
-    let mut attributes = Items::new(alloc);
-    add_others(&mut attributes, "event", tags)?;
     let event = Event {
         time: log.time,
         name,
-        attributes,
+        attributes: others("event", tags),
         dropped: 0,
     };
     Ok(ReadEvent { event, keys, idle })

@@ -38,10 +38,9 @@ pub(crate) fn rows_of_scope(
 fn prefixed(alloc: Global, key: &str) -> Result<Text, OutOfMemory>
     ensures { IfOk result (λ text. text ≡ resource_prefix ++ key.now) }
 {
-    let mut text = String::with_capacity(alloc, key.len().saturating_add(14))?;
-    text.push_str("otel.resource.")?;
-    text.push_str(key)?;
-    Ok(Text::from_string(text))
+    let mut text = Text::of(alloc, "otel.resource.")?;
+    text.append(key)?;
+    Ok(text)
 }
 
 // Adds the tag of an attribute of the resource, unless it is the service.

@@ -1,5 +1,5 @@
 //! The tags of a span. Those in common with its scope and its attributes are two rising lists, which
-//! become one by going over each once.
+//! become the tags by going over each once.
 ghost use Rattle.std.specs.Prelude.{◌≡◌, ◌∷◌, ◌++◌, map, false, IfOk, OnOk};
 ghost use Rattle.trace_model.specs.Attributes.{Rise, attrs, keys};
 ghost use Rattle.trace_model.specs.EventTexts.{holds_double};
@@ -30,58 +30,94 @@ pub(crate) fn tags_of(
     ensures { IfOk result (λ tags. tags ≡ tags_by own shared.now attributes) }
 {
     let (attributes, _) = attrs_of(alloc, attributes)?;
-    let pairs = merged(alloc, own.len(), shared, attributes)?;
-    let mut pairs = pairs.into_vec();
-    put_rows(&mut pairs, own.into_vec())?;
-    tags_in_order(alloc, pairs)
+    if own.len() == 0 {
+        return merged(alloc, shared, attributes);
+    }
+    let rows = rows_with(alloc, own, shared)?;
+    merged(alloc, rows.as_slice(), attributes)
 }
 
-// ---- one list of two
+// ---- the rows of a span among those in common
 
-// The tags of attributes and these rows, with room for so many others.
+// Copies of the rows in common, into which a span's own are put.
+fn rows_with(
+    alloc: Global,
+    own: Attrs,
+    shared: &[(Text, Value)],
+) -> Result<Vec<(Text, Value)>, OutOfMemory>
+    requires { Rise (keys shared.now) }
+    ensures { IfOk result (λ rows. rows.items ≡ attrs (own ++ shared.now)) }
+{
+    let room = own.len().saturating_add(shared.len());
+    let mut rows = Vec::with_capacity(alloc, room)?;
+    add_copies(alloc, &mut rows, shared)?;
+    put_rows(&mut rows, own.into_vec())?;
+    Ok(rows)
+}
+
+fn add_copies(
+    alloc: Global,
+    pairs: &mut Vec<(Text, Value)>,
+    rows: &[(Text, Value)],
+) -> Result<(), OutOfMemory>
+    ensures { OnOk result (pairs.new.items ≡ pairs.old.items ++ rows.now) }
+{
+    'rows: for row in rows {
+        pairs.push((row.0.copy()?, row.1.copy(alloc)?))?;
+    }
+    Ok(())
+}
+
+// ---- tags of rows and attributes
+
+// The tags of these rows and of attributes.
 fn merged(
     alloc: Global,
-    others: usize,
     rows: &[(Text, Value)],
     attributes: Attrs,
-) -> Result<Attrs, OutOfMemory>
+) -> Result<Items<(Text, Text)>, OutOfMemory>
     requires rising { Rise (keys rows.now) }
+    requires rows { holds_double rows.now ≡ false }
     requires in_order { Rise (keys attributes) }
     requires plain { holds_double attributes ≡ false }
-    ensures { IfOk result (λ pairs. pairs ≡ attrs (rows.now ++ told.told_pairs attributes)) }
+    ensures { IfOk result (λ tags.
+        tags ≡ map told.zipkin_tag_of (attrs (rows.now ++ told.told_pairs attributes))) }
 {
-    let room = others
-        .saturating_add(rows.len())
-        .saturating_add(attributes.len());
-    let mut pairs = Items::with_room(alloc, room)?;
+    let room = rows.len().saturating_add(attributes.len());
+    let mut tags = Items::with_room(alloc, room)?;
     let mut rows = rows;
     'attributes: for pair in attributes.into_vec() {
-        rows = add_between(alloc, &mut pairs, rows, pair)?;
+        rows = add_between(alloc, &mut tags, rows, pair)?;
     }
-    add_copies(alloc, &mut pairs, rows)?;
-    Ok(pairs)
+    add_tags(alloc, &mut tags, rows)?;
+    Ok(tags)
 }
 
-// Adds the rows below an attribute, and then its tag, unless it has a place of its own. The rows
-// above it are left.
+// Adds the tags of the rows below an attribute, and then the attribute's, unless it has a place of
+// its own. The rows above it are left.
 fn add_between<'a>(
     alloc: Global,
-    pairs: &mut Attrs,
+    tags: &mut Items<(Text, Text)>,
     rows: &'a [(Text, Value)],
     pair: (Text, Value),
 ) -> Result<&'a [(Text, Value)], OutOfMemory>
-    requires { texts.has_double pair.1 ≡ false }
-    ensures { (more : Pairs) → Rise (keys rows.now) → Rise (keys (told.told_pairs (pair ∷ more)))
-        → IfOk result (λ left. (pairs.new ++ attrs (left.now ++ told.told_pairs more)
-        ≡ pairs.old ++ attrs (rows.now ++ told.told_pairs (pair ∷ more))) × Rise (keys left.now)) }
+    requires rows { holds_double rows.now ≡ false }
+    requires plain { texts.has_double pair.1 ≡ false }
+    ensures added { (more : Pairs) → Rise (keys rows.now)
+        → Rise (keys (told.told_pairs (pair ∷ more)))
+        → IfOk result (λ left.
+        tags.new ++ map told.zipkin_tag_of (attrs (left.now ++ told.told_pairs more))
+        ≡ tags.old ++ map told.zipkin_tag_of (attrs (rows.now ++ told.told_pairs (pair ∷ more)))) }
+    ensures rising { Rise (keys rows.now) → IfOk result (λ left. Rise (keys left.now)) }
+    ensures plain { IfOk result (λ left. holds_double left.now ≡ false) }
 {
     if !is_told(pair.0.as_str()) {
         return Ok(rows);
     }
     let (below, above) = around(rows, pair.0.as_str());
-    add_copies(alloc, pairs, below)?;
+    add_tags(alloc, tags, below)?;
     let (key, value) = pair;
-    pairs.push((key, Value::Text(text_of(alloc, value)?)))?;
+    tags.push((key, text_of(alloc, value)?))?;
     Ok(above)
 }
 
@@ -100,16 +136,21 @@ fn around<'a>(rows: &'a [(Text, Value)], key: &str) -> (&'a [(Text, Value)], &'a
     (rows, &[])
 }
 
-fn add_copies(alloc: Global, pairs: &mut Attrs, rows: &[(Text, Value)]) -> Result<(), OutOfMemory>
-    ensures { OnOk result (pairs.new ≡ pairs.old ++ rows.now) }
+fn add_tags(
+    alloc: Global,
+    tags: &mut Items<(Text, Text)>,
+    rows: &[(Text, Value)],
+) -> Result<(), OutOfMemory>
+    requires { holds_double rows.now ≡ false }
+    ensures { OnOk result (tags.new ≡ tags.old ++ map told.zipkin_tag_of rows.now) }
 {
     'rows: for row in rows {
-        pairs.push((row.0.copy()?, row.1.copy(alloc)?))?;
+        tags.push((row.0.copy()?, text_told(alloc, &row.1)?))?;
     }
     Ok(())
 }
 
-// ---- pairs as tags
+// ---- values as texts
 
 fn text_of(alloc: Global, value: Value) -> Result<Text, OutOfMemory>
     requires { texts.has_double value ≡ false }
@@ -119,21 +160,4 @@ fn text_of(alloc: Global, value: Value) -> Result<Text, OutOfMemory>
         Value::Text(text) => Ok(text),
         other => text_told(alloc, &other),
     }
-}
-
-// The tags of pairs, in their order.
-fn tags_in_order(
-    alloc: Global,
-    pairs: Vec<(Text, Value)>,
-) -> Result<Items<(Text, Text)>, OutOfMemory>
-    requires { holds_double pairs.items ≡ false }
-    ensures { IfOk result (λ tags. tags ≡ map told.zipkin_tag_of pairs.items) }
-{
-    let mut tags = Items::with_room(alloc, pairs.len())?;
-    'pairs: for pair in pairs {
-        let (key, value) = pair;
-        let text = text_of(alloc, value)?;
-        tags.push((key, text))?;
-    }
-    Ok(tags)
 }

@@ -7,14 +7,14 @@ use Rattle.jaeger_model.proofs.lists.read_elements.Goals as goal
 
 pub elements-init : goal.elements-init
 elements-init g c =
-    subst (λ l. Listing g.P.Protocol.spells c.args.left c.args.size (g.E.Element.rules c.args.left) g.E.Element.means l c.args.c.now.rest c.args.c.now.rest 0) (sym c.new-elements.ensures)
+    subst (λ l. Listing g.P.Protocol.spells c.args.left c.args.size (g.E.Element.rules c.args.left) g.E.Element.means l c.args.c.now.rest c.args.c.now.rest 0) (sym c.in_ok-elements.ensures)
     (listing_start g.P.Protocol.spells _ _ _ g.met.P.Protocol.reads_exactly g.met.P.Protocol.part_laws c.args.left (g.E.Element.rules c.args.left) g.E.Element.means c.args.size c.args.c.now.rest)
 
 pub returns-in_err-read-clause-judged : goal.returns-in_err-read-clause-judged
 returns-in_err-read-clause-judged g c = λ text tail trees e are total within.
     let here = c.elements.invariant.standing text tail trees e are in
     let this = this_one g.P.Protocol.spells _ _ _ g.met.P.Protocol.reads_exactly g.met.P.Protocol.part_laws c.args.left (g.E.Element.rules c.args.left) g.E.Element.means c.args.size c.elements.elements text tail trees c.elements.c.rest c.elements.counter c.elements-test.true here in
-    let p = err_from_is_err_and c.from_residual.result c.from_residual.ensures.1 in
+    let p = err_from_is_err_and c.from_residual-in_err-read.result c.from_residual-in_err-read.ensures.1 in
     rw (p.1, p.2) (element_halts g.P.Protocol.spells _ _ _ g.met.P.Protocol.reads_exactly g.met.P.Protocol.part_laws c.args.left (g.E.Element.rules c.args.left) g.E.Element.means c.args.size c.elements.elements text tail trees c.elements.c.rest c.elements.counter c.elements-test.true here c.requires.lawful g.row.E.Denot (Items g.row.E.Denot) c.in_err-read.field-0.0
     (c.in_err-read.ensures.judged this.text (this.after ++ tail) this.fields (its_bytes g.P.Protocol.spells _ _ _ g.met.P.Protocol.reads_exactly g.met.P.Protocol.part_laws c.args.left (g.E.Element.rules c.args.left) g.E.Element.means c.args.size c.elements.elements text tail trees c.elements.c.rest c.elements.counter c.elements-test.true here) this.stands) total within)
 

@@ -1,9 +1,13 @@
-use Rattle.std.proofs.Common.{option_map, ap, ◌∙◌}
+use Rattle.std.proofs.Common.{option_map, ap, sym, subst, ◌∙◌}
 use Rattle.std.proofs.lemmas.Result.{err_from_is_err_and}
 use Rattle.trace_model.specs.Remarks.{tags_dropped}
+use Rattle.trace_model.specs.Soundness.{IsSoundSpan}
+use Rattle.trace_model.specs.Values.{AreSound}
 use Rattle.trace_model.specs.declared.place.Place.TheVariants as places
 use Rattle.map_zipkin.specs.Remarks.{left_out_by}
 use Rattle.map_zipkin.specs.TagColumns.{columns_in}
+use Rattle.map_zipkin.proofs.EventFacts.{EventsRead}
+use Rattle.map_zipkin.proofs.ReadHeld.{resource_sound, span_sound}
 use Rattle.map_zipkin.proofs.SpanJoined.{span_joined}
 use Rattle.map_zipkin.proofs.reading.triple_of_span.Goals as goal
 
@@ -17,6 +21,16 @@ pub returns-clause-remarks : goal.returns-clause-remarks
 returns-clause-remarks c = c.in_ok-remarks.ensures
     ∙ ap (λ t. tags_dropped (places.Span 1) (left_out_by c.args.span.remote.service (columns_in t) t)) c.in_ok-tags.ensures
 
+pub returns-clause-sound : goal.returns-clause-sound
+returns-clause-sound c =
+    let facts : EventsRead = record {
+      reads = c.event_texts_exact.ensures;
+      no_bytes = c.event_texts_once.ensures.no_bytes;
+      no_double = c.event_texts_once.ensures.no_double;
+    } in
+    subst (λ parts. AreSound parts.0.resource × IsSoundSpan parts.1) (sym (returns-clause-value c))
+    (resource_sound c.args.span, span_sound facts c.args.span)
+
 -- want of memory is handed on
 pub returns-in_err-events-clause-value : goal.returns-in_err-events-clause-value
 returns-in_err-events-clause-value c =
@@ -25,5 +39,10 @@ returns-in_err-events-clause-value c =
 
 pub returns-in_err-events-clause-remarks : goal.returns-in_err-events-clause-remarks
 returns-in_err-events-clause-remarks c =
+    let p = err_from_is_err_and c.from_residual-in_err-events.result c.from_residual-in_err-events.ensures.1 in
+    rw (p.1) tt
+
+pub returns-in_err-events-clause-sound : goal.returns-in_err-events-clause-sound
+returns-in_err-events-clause-sound c =
     let p = err_from_is_err_and c.from_residual-in_err-events.result c.from_residual-in_err-events.ensures.1 in
     rw (p.1) tt

@@ -4,8 +4,8 @@ use Rattle.map_jaeger.proofs.ReadLists.{events_begin, events_more, events_end}
 use Rattle.map_jaeger.proofs.reading.events.events_of.Goals as goal
 
 pub logs-init : goal.logs-init
-logs-init c = events_begin c.args.span c.args.logs c.into_iter-log-iterator.result.rest.items (record { events = c.new.result; remarks = c.new-2.result })
-    (c.into_iter-log-iterator.ensures.into_iter_gives.0 ∙ c.into_vec-log-items.ensures) c.new.ensures c.new-2.ensures
+logs-init c = events_begin c.args.span c.args.logs c.into_iter-log-iterator.result.rest.items (record { events = c.in_ok-events.events; remarks = c.new.result })
+    (c.into_iter-log-iterator.ensures.into_iter_gives.0 ∙ c.into_vec-log-items.ensures) c.in_ok-events.ensures c.new.ensures
 
 pub logs-preserved : goal.logs-preserved
 logs-preserved c =

@@ -1,6 +1,5 @@
 use Rattle.std.proofs.Common.{subst, sym, List, ℕ}
-use Rattle.std.specs.Prelude.{All, Contains, ◌↔◌}
-use Rattle.trace_model.specs.Attributes.{Rise}
+use Rattle.std.specs.Prelude.{All}
 use Rattle.trace_model.specs.Values.{IsSound}
 use Rattle.trace_model.specs.declared.value.Value.{Value}
 use Rattle.otlp_proto.proofs.AttributeLemmas.{attributes_are}
@@ -9,9 +8,7 @@ use Rattle.otlp_proto.proofs.attributes.AttributeRows.finish.Goals as goal
 
 pub returns-clause-attributes : goal.returns-clause-attributes
 returns-clause-attributes c = λ texts gathered.
-    attributes_are texts c.args.self c.in_ok-attributes.attributes c.in_ok-attributes.repeated c.note_all.new.noted c.in_ok-keys.keys gathered c.in_ok-attributes.ensures.attributes c.in_ok-attributes.ensures.repeated c.in_ok-note_all.ensures
-    (subst (λ l. Rise l) (sym c.in_ok-keys.ensures) c.in_ok-rising.ensures.rising)
-    (λ key. subst (λ l. Contains l key ↔ Contains c.note_all.new.noted key) (sym c.in_ok-keys.ensures) (c.in_ok-rising.ensures.same key))
+    attributes_are texts c.args.self c.in_ok-attributes.attributes c.in_ok-attributes.repeated c.note_all.new.noted c.in_ok-keys.keys gathered c.in_ok-attributes.ensures.attributes c.in_ok-attributes.ensures.repeated c.in_ok-note_all.ensures c.in_ok-keys.ensures.rising c.in_ok-keys.ensures.same
 
 pub returns-clause-sound : goal.returns-clause-sound
 returns-clause-sound c = λ texts gathered.
