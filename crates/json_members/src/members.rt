@@ -22,6 +22,17 @@ pub fn member_of<'v>(v: &'v Value, name: &str) -> Option<&'v Value>
     Some(found)
 }
 
+/// Takes a member out of an object, where it is there and not null.
+#[tactic(auto, using(crate::specs::MemberLaws::finds))]
+pub fn take_member(v: &mut Value, name: &str) -> Option<Value>
+    ensures { option_map view result ≡ member name.now (view v.old) }
+{
+    match v.get_mut(name) {
+        Some(found) if !found.is_null() => Some(found.take()),
+        _ => None,
+    }
+}
+
 /// A copy of the text that the value is.
 pub fn text_of(alloc: Global, v: &Value) -> Result<Text, Halt<Cause>>
     ensures value { IfOk result (λ text. IsText text (view v.now)) }

@@ -1,7 +1,7 @@
 use crate::{
     close_array, close_object, count_member, given_text_member, id_member, member_of, name_of,
-    open_array, open_object, own_text_member, parent_member, text, text_member, text_of,
-    trace_member, truth_member, truth_of, unread, whole_count_member, whole_text_member,
+    open_array, open_object, own_text_member, parent_member, take_member, text, text_member,
+    text_of, trace_member, truth_member, truth_of, unread, whole_count_member, whole_text_member,
 };
 use json::Writer;
 use serde_json::Value;
@@ -21,10 +21,14 @@ fn finds_members(rt: HostRuntime) {
         ("7", None),
     ];
     for (text, number) in cases {
-        let Ok(v) = Value::from_str(rt.alloc(), text) else {
+        let Ok(mut v) = Value::from_str(rt.alloc(), text) else {
             panic!(rt; "no value: {text}");
         };
         match member_of(&v, "a") {
+            Some(found) => assert_eq!(rt; found.as_u64(), number, "{text}"),
+            None => assert!(rt; number.is_none(), "{text}"),
+        }
+        match take_member(&mut v, "a") {
             Some(found) => assert_eq!(rt; found.as_u64(), number, "{text}"),
             None => assert!(rt; number.is_none(), "{text}"),
         }

@@ -11,24 +11,25 @@ ghost use Rattle.otlp_json.specs.Texts.{AreGroupsText, groups_document_faults};
 
 use crate::group::read_group;
 use crate::laws::{one_json_groups, reads_held_groups};
-use json_members::{member_of, unread};
+use json_members::{take_member, unread};
 use serde_json::Value;
 use span_io::{Cause, Halt, Items, Refusal};
 use std::alloc::Global;
 use trace_model::{Group, Remark};
 
+// Reads groups. The value of each is given back as soon as it is read.
 fn read_each(
     alloc: Global,
-    elements: &Vec<Value>,
+    elements: Vec<Value>,
 ) -> Result<Items<(Group, Items<Remark>)>, Halt<Refusal>>
-    ensures value { IfOk result (λ groups. AllZip (λ d x. IsRemarkedGroup x d) (map view elements.now.items) groups) }
-    ensures judged { JudgesInput result (each group_faults (map view elements.now.items)) }
+    ensures value { IfOk result (λ groups. AllZip (λ d x. IsRemarkedGroup x d) (map view elements.items) groups) }
+    ensures judged { JudgesInput result (each group_faults (map view elements.items)) }
 {
     let mut groups = Items::with_room(alloc, elements.len())?;
     let mut unit = 0;
     'elements: for element in elements {
         unit += 1;
-        match read_group(alloc, element) {
+        match read_group(alloc, &element) {
             Ok(group) => groups.push(group)?,
             Err(halt) => return Err(halt.in_unit(unit)),
         }
@@ -36,11 +37,11 @@ fn read_each(
     Ok(groups)
 }
 
-fn read_array(alloc: Global, v: &Value) -> Result<Items<(Group, Items<Remark>)>, Halt<Refusal>>
-    ensures value { IfOk result (λ groups. AreRemarkedGroups groups (view v.now)) }
-    ensures judged { JudgesInput result (groups_faults (view v.now)) }
+fn read_array(alloc: Global, v: Value) -> Result<Items<(Group, Items<Remark>)>, Halt<Refusal>>
+    ensures value { IfOk result (λ groups. AreRemarkedGroups groups (view v)) }
+    ensures judged { JudgesInput result (groups_faults (view v)) }
 {
-    let Some(elements) = v.as_array() else {
+    let Value::Array(elements) = v else {
         return Err(Halt::Why(Refusal {
             unit: 0,
             cause: Cause::BadShape,
@@ -50,30 +51,31 @@ fn read_array(alloc: Global, v: &Value) -> Result<Items<(Group, Items<Remark>)>,
     Ok(groups)
 }
 
-fn read_root(alloc: Global, v: &Value) -> Result<Items<(Group, Items<Remark>)>, Halt<Refusal>>
-    ensures value { IfOk result (λ groups. AreJsonGroups groups (view v.now)) }
-    ensures judged { JudgesInput result (json_groups_faults (view v.now)) }
+fn read_root(alloc: Global, v: Value) -> Result<Items<(Group, Items<Remark>)>, Halt<Refusal>>
+    ensures value { IfOk result (λ groups. AreJsonGroups groups (view v)) }
+    ensures judged { JudgesInput result (json_groups_faults (view v)) }
 {
+    let mut v = v;
     if !v.is_object() {
         return Err(Halt::Why(Refusal {
             unit: 0,
             cause: Cause::BadShape,
         }));
     }
-    match member_of(v, "resourceSpans") {
+    match take_member(&mut v, "resourceSpans") {
         None => Ok(Items::new(alloc)),
         Some(found) => read_array(alloc, found),
     }
 }
 
 /// Reads the groups of a JSON value in OTLP/JSON, with the remarks on each, or refuses it by its
-/// least offence.
-pub fn read_groups(alloc: Global, v: &Value) -> Result<Items<(Group, Items<Remark>)>, Halt<Refusal>>
-    ensures value { IfOk result (λ groups. AreJsonGroups groups (view v.now)) }
+/// least offence. The value is given back group by group, while it is near.
+pub fn read_groups(alloc: Global, v: Value) -> Result<Items<(Group, Items<Remark>)>, Halt<Refusal>>
+    ensures value { IfOk result (λ groups. AreJsonGroups groups (view v)) }
     ensures sound { IfOk result (All (λ g. IsSoundGroup g.0)) }
-    ensures judged { JudgesInput result (json_groups_faults (view v.now)) }
+    ensures judged { JudgesInput result (json_groups_faults (view v)) }
     // Whatever groups the value stands for are the answer.
-    ensures only { (groups : List RemarkedGroup) → AreJsonGroups groups (view v.now) → OnlyReads result groups }
+    ensures only { (groups : List RemarkedGroup) → AreJsonGroups groups (view v) → OnlyReads result groups }
 {
     one_json_groups();
     trace_model::laws::members_of_values();
@@ -94,7 +96,7 @@ pub fn read_text(
 {
     reads_held_groups();
     match Value::from_slice(alloc, bytes) {
-        Ok(v) => read_groups(alloc, &v),
+        Ok(v) => read_groups(alloc, v),
         Err(error) => Err(unread(&error)),
     }
 }

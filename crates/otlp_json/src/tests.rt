@@ -252,7 +252,7 @@ fn reads_a_value_and_notes_equal_keys(rt: HostRuntime) {
     let Ok(v) = Value::from_str(rt.alloc(), text) else {
         panic!(rt; "no value");
     };
-    let Ok(groups) = read_groups(rt.alloc(), &v) else {
+    let Ok(groups) = read_groups(rt.alloc(), v) else {
         panic!(rt; "refused");
     };
     let [(group, remarks), (_, none)] = groups.as_slice() else {

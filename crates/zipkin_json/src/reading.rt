@@ -79,16 +79,17 @@ fn read_span(alloc: Global, v: &Value) -> Result<ZSpan, Halt<Cause>>
     })
 }
 
-fn read_each(alloc: Global, elements: &Vec<Value>) -> Result<Items<ZSpan>, Halt<Refusal>>
-    ensures value { IfOk result (λ spans. AllZip (λ d x. IsZSpan x d) (map view elements.now.items) spans) }
+// Reads spans. The value of each is given back as soon as it is read.
+fn read_each(alloc: Global, elements: Vec<Value>) -> Result<Items<ZSpan>, Halt<Refusal>>
+    ensures value { IfOk result (λ spans. AllZip (λ d x. IsZSpan x d) (map view elements.items) spans) }
     ensures rising { IfOk result (All HasRisingTags) }
-    ensures judged { JudgesInput result (each span_faults (map view elements.now.items)) }
+    ensures judged { JudgesInput result (each span_faults (map view elements.items)) }
 {
     let mut spans = Items::new(alloc);
     let mut unit = 0;
     'elements: for element in elements {
         unit += 1;
-        match read_span(alloc, element) {
+        match read_span(alloc, &element) {
             Ok(span) => spans.push(span)?,
             Err(halt) => return Err(halt.in_unit(unit)),
         }
@@ -96,12 +97,12 @@ fn read_each(alloc: Global, elements: &Vec<Value>) -> Result<Items<ZSpan>, Halt<
     Ok(spans)
 }
 
-fn read_root(alloc: Global, v: &Value) -> Result<Items<ZSpan>, Halt<Refusal>>
-    ensures value { IfOk result (λ spans. AreSpans spans (view v.now)) }
+fn read_root(alloc: Global, v: Value) -> Result<Items<ZSpan>, Halt<Refusal>>
+    ensures value { IfOk result (λ spans. AreSpans spans (view v)) }
     ensures rising { IfOk result (All HasRisingTags) }
-    ensures judged { JudgesInput result (spans_faults (view v.now)) }
+    ensures judged { JudgesInput result (spans_faults (view v)) }
 {
-    let Some(elements) = v.as_array() else {
+    let Value::Array(elements) = v else {
         return Err(Halt::Why(Refusal {
             unit: 0,
             cause: Cause::BadShape,
@@ -112,12 +113,13 @@ fn read_root(alloc: Global, v: &Value) -> Result<Items<ZSpan>, Halt<Refusal>>
 }
 
 /// Reads the spans of a JSON value, which is an array of them, or refuses it by its least offence.
-pub fn read_spans(alloc: Global, v: &Value) -> Result<Items<ZSpan>, Halt<Refusal>>
-    ensures value { IfOk result (λ spans. AreSpans spans (view v.now)) }
+/// The value is given back span by span, while it is near.
+pub fn read_spans(alloc: Global, v: Value) -> Result<Items<ZSpan>, Halt<Refusal>>
+    ensures value { IfOk result (λ spans. AreSpans spans (view v)) }
     ensures rising { IfOk result (All HasRisingTags) }
-    ensures judged { JudgesInput result (spans_faults (view v.now)) }
+    ensures judged { JudgesInput result (spans_faults (view v)) }
     // Whatever spans the value stands for are the answer.
-    ensures only { (spans : List ZSpan) → AreSpans spans (view v.now) → OnlyReads result spans }
+    ensures only { (spans : List ZSpan) → AreSpans spans (view v) → OnlyReads result spans }
 {
     one_list();
     read_root(alloc, v)
@@ -135,7 +137,7 @@ pub fn read_text(alloc: Global, bytes: &[u8]) -> Result<Items<ZSpan>, Halt<Refus
 {
     reads_proper();
     match Value::from_slice(alloc, bytes) {
-        Ok(v) => read_spans(alloc, &v),
+        Ok(v) => read_spans(alloc, v),
         Err(error) => Err(unread(&error)),
     }
 }

@@ -128,7 +128,7 @@ fn reads_two_spans(rt: HostRuntime) {
     let Ok(v) = Value::from_str(rt.alloc(), text) else {
         panic!(rt; "no value");
     };
-    let Ok(spans) = read_spans(rt.alloc(), &v) else {
+    let Ok(spans) = read_spans(rt.alloc(), v) else {
         panic!(rt; "refused");
     };
     let [client, server] = spans.as_slice() else {

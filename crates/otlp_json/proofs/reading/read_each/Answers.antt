@@ -1,18 +1,30 @@
-use Rattle.std.proofs.Common.{◌+◌, arith, rules}
-use Rattle.json_members.specs.ElementLaws.{reads_on, clean_on, refuses_here}
+use Rattle.std.proofs.Common.{rules, ◌≡◌, ◌∷◌, sym, ◌∙◌}
+use Rattle.json_members.specs.ElementLaws.{elements_begin, elements_more, elements_refuse, elements_end}
 use Rattle.otlp_json.specs.Group.{IsRemarkedGroup, group_faults}
 use Rattle.otlp_json.proofs.reading.read_each.Goals as goal
 
+pub elements-init : goal.elements-init
+elements-init c = elements_begin IsRemarkedGroup group_faults c.args.elements.items c.into_iter-element-iterator.result.rest.items
+    c.into_iter-element-iterator.ensures.into_iter_gives.0 _ c.in_ok-groups.ensures
+
 pub returns-in-Err-clause-judged : goal.returns-in-Err-clause-judged
 returns-in-Err-clause-judged c =
-    rw c.in_unit.ensures (refuses_here c.args.elements.now.items c.elements.element-index c.element-item.result (search rules) (search rules)
-    group_faults c.in-Err.halt (c.elements.unit + 1) (omega arith) (search rules) c.in-Err.ensures.judged)
+    let split : c.elements.element-iterator.rest.items ≡ c.in-Some.element ∷ c.next.new.self.rest.items = search rules in
+    rw c.in_unit.ensures (elements_refuse IsRemarkedGroup group_faults c.args.elements.items _ _ c.elements.unit c.in-Some.element _ split
+    c.elements.invariant c.in-Err.halt c.in-Err.ensures.judged)
 
-pub elements-preserved : goal.elements-preserved
-elements-preserved c = record {
-  read = rw c.in_ok-push-in-Ok.ensures.ok (reads_on c.deref-element-items.result.now c.elements.element-index c.element-item.result c.elements-test.true c.element-item.is
-      IsRemarkedGroup c.elements.groups c.in-Ok.group c.elements.invariant.read c.in-Ok.ensures.value);
-  clean = clean_on c.deref-element-items.result.now c.elements.element-index c.element-item.result c.elements-test.true c.element-item.is
-      group_faults c.elements.invariant.clean c.in-Ok.ensures.judged;
-  unit = omega arith;
-}
+pub elements-preserved-in_ok-push-in-Ok-3 : goal.elements-preserved-in_ok-push-in-Ok-3
+elements-preserved-in_ok-push-in-Ok-3 c =
+    let split : c.elements.element-iterator.rest.items ≡ c.in-Some.element ∷ c.next.new.self.rest.items = search rules in
+    rw c.in_ok-push-in-Ok.ensures.ok (elements_more IsRemarkedGroup group_faults c.args.elements.items _ _ c.elements.unit c.in-Some.element _ split
+    c.elements.invariant c.in-Ok.group c.in-Ok.ensures.value c.in-Ok.ensures.judged)
+
+pub returns-clause-value : goal.returns-clause-value
+returns-clause-value c =
+    (elements_end IsRemarkedGroup group_faults c.args.elements.items c.elements.element-iterator.rest.items c.elements.unit c.elements.groups
+    (sym c.elements.element-iterator.rest.ok.0 ∙ c.in-None.ensures.steps.0) c.elements.invariant).0
+
+pub returns-clause-judged : goal.returns-clause-judged
+returns-clause-judged c =
+    (elements_end IsRemarkedGroup group_faults c.args.elements.items c.elements.element-iterator.rest.items c.elements.unit c.elements.groups
+    (sym c.elements.element-iterator.rest.ok.0 ∙ c.in-None.ensures.steps.0) c.elements.invariant).1

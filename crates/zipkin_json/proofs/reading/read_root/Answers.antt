@@ -1,20 +1,21 @@
 use Rattle.std.proofs.Common.{sym, rules}
 use Rattle.serde_json.specs.View.{items_view}
 use Rattle.span_io.specs.PathLaws.{exits_input}
-use Rattle.json_members.specs.ElementLaws.{items_viewed, clean_array, refuses_array}
+use Rattle.json_members.specs.ElementLaws.{items_viewed, array_held, clean_array, refuses_array}
 use Rattle.zipkin_json.specs.Span.{span_faults}
 use Rattle.zipkin_json.proofs.reading.read_root.Goals as goal
 
 pub returns-in_err-spans-clause-judged : goal.returns-in_err-spans-clause-judged
 returns-in_err-spans-clause-judged c =
-    exits_input c.in_err-spans.field-0.0 _ _ (search rules) (refuses_array span_faults _ _ _ c.in-Some.ensures c.in_err-spans.ensures.judged)
+    let held = array_held c.args.v c.in-Array.elements c.in-Array.is in
+    exits_input c.in_err-spans.field-0.0 _ _ (search rules) (refuses_array span_faults _ _ _ held c.in_err-spans.ensures.judged)
 
 pub returns-clause-value : goal.returns-clause-value
 returns-clause-value c = record {
-  held = items_view c.in-Some.elements.now.items;
-  shape = sym c.in-Some.ensures;
+  held = items_view c.in-Array.elements.items;
+  shape = sym (array_held c.args.v c.in-Array.elements c.in-Array.is);
   means = rw items_viewed c.in_ok-spans.ensures.value;
 }
 
 pub returns-clause-judged : goal.returns-clause-judged
-returns-clause-judged c = clean_array span_faults _ _ c.in-Some.ensures c.in_ok-spans.ensures.judged
+returns-clause-judged c = clean_array span_faults _ _ (array_held c.args.v c.in-Array.elements c.in-Array.is) c.in_ok-spans.ensures.judged
