@@ -1,5 +1,6 @@
-"""Runs the built program. It needs Debian's `time` for the peak of memory."""
+"""Runs the built program as ./spanx does. It needs Debian's `time` for the peak of memory."""
 import os
+import re
 import resource
 import signal
 import subprocess
@@ -9,6 +10,16 @@ import time
 TOP = os.path.dirname(os.path.dirname(os.path.abspath(__file__)))
 PROGRAM = os.path.join(TOP, "crates", "spanx", "out", "spanx")
 BUILD = "build the program first: ./spanx convert --from otlp-proto --to otlp-proto < examples/checkout.bin"
+
+
+def set_as_the_launcher_does():
+    """Gives what is run the settings that ./spanx gives the program, unless there are some."""
+    with open(os.path.join(TOP, "spanx")) as launcher:
+        name, settings = re.search(r"^(\w+)=\$\{\1-(.+)\}$", launcher.read(), re.MULTILINE).groups()
+    os.environ.setdefault(name, settings)
+
+
+set_as_the_launcher_does()
 
 
 def command(source, target):
