@@ -1,5 +1,5 @@
 -- Equal batches, and only they, have equal texts.
-use Rattle.std.proofs.Common.{◌≡◌, ap, subst}
+use Rattle.std.proofs.Common.{ap, subst}
 use Rattle.thrift_core.specs.Parts.{Spelling}
 use Rattle.thrift_core.specs.Protocols.{WritingOf}
 use Rattle.thrift_core.specs.Written.{Keeping}

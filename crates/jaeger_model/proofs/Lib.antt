@@ -28,6 +28,7 @@ pub mod WrittenMeanings
 pub mod AllLemmas
 pub mod WrittenTexts
 pub mod ReadTimes
+pub mod CountedSpans
 pub mod ReadProper
 pub mod TwoTexts
 pub mod RowPairs

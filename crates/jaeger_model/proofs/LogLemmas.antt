@@ -93,7 +93,7 @@ list_required {B} Is id items row value is gave =
   where
     of : (xs : List (Trees × List ℕ)) → Gave (MeansEach Is) xs (Some value) → Required (λ trees ys. EachStruct Is trees ys) (map (λ (x : Trees × List ℕ). x.0) xs) value
     of [] gave = absurd gave
-    of (x ∷ []) gave = gave
+    of (x ∷ []) gave = gave.0
     of (x ∷ y ∷ more) gave = absurd gave
 
 pub none_given : {A B : Type 0} (M : A → B → Type 0) (xs : List A) (row : Option B) → row ≡ None → Gave M xs row → xs ≡ []

@@ -6,14 +6,15 @@ use Rattle.std.specs.List.{flat_map}
 use Rattle.std.proofs.lemmas.Int.{fits_signed_from_abs}
 use Rattle.std.proofs.lemmas.List.Elements.{All-nil, All-cons, All-head, All-tail, All-append, All-map}
 use Rattle.std.proofs.lemmas.Str.{IsUtf8-nil}
+use Rattle.span_io.specs.Frames.{AreBytes}
 use Rattle.span_io.specs.Tables.{Singular, MeansText}
 use Rattle.thrift_core.specs.FieldValues.{i32_in, i64_in, double_in, binary_in, struct_in, list_in, IsStructOf, has_id, of_id, values_of, EachStruct}
 use Rattle.thrift_core.specs.Parts.{Part, header, truth, byte, short, int, long, eight, size, list_head, map_head, WordOf, Spelling, Begins}
+use Rattle.thrift_core.specs.Protocols.{IsProperLong, SpellsProper}
 use Rattle.thrift_core.specs.Trees.{Leaf, truth_value, i8, i16, i32, i64, double, Tree, leaf, binary, structure, map_of, set_of, list_of, Fields, no_fields, field_then, Trees, no_trees, tree_then, Pairs, no_pairs, pair_then, LeafThen, ValueThen, FieldsThen, ElementsThen, PairsThen, outer_levels}
 use Rattle.thrift_core.specs.declared.type_code.TypeCode.{TypeCode}
 use Rattle.jaeger_model.specs.Batches.{IsBatch, IsBatchText}
 use Rattle.jaeger_model.specs.Identifiers.{some_id, span_id_of, trace_id_of}
-use Rattle.jaeger_model.specs.Laws.{IsProperLong, SpellsProper}
 use Rattle.jaeger_model.specs.Logs.{IsLog}
 use Rattle.jaeger_model.specs.Meanings.{Required, Means, MeansTime}
 use Rattle.jaeger_model.specs.Processes.{IsProcess, MeansProcess}
@@ -31,9 +32,6 @@ use Rattle.jaeger_model.specs.declared.span.SpanRef.{SpanRef}
 use Rattle.jaeger_model.specs.declared.tag.Tag.{Tag}
 use Rattle.jaeger_model.specs.declared.tag.TagValue.{TagValue}
 use Rattle.jaeger_model.specs.declared.tag.TagValue.TheVariants as values
-
-abbrev AreBytes : List ℕ → Type 0
-AreBytes text = All (λ b. b < 256) text
 
 -- ---- trees of bytes
 

@@ -25,7 +25,7 @@ module _ {B : Type 0} (Is : B → Fields → Type 0) (P : B → Type 0) (each : 
   of_tree (structure inner) x h = each x inner h
   of_tree other x h = absurd h
 
-  of_trees : (trees : Trees) (xs : List B) → EachStruct Is trees xs → All P xs
+  pub of_trees : (trees : Trees) (xs : List B) → EachStruct Is trees xs → All P xs
   unfolding EachStruct
   of_trees no_trees [] h = All-nil P
   of_trees no_trees (x ∷ xs) h = absurd h

@@ -1,5 +1,5 @@
 -- What is known of a span of which nothing is missing.
-use Rattle.std.proofs.Common.{◌≡◌, ◌≤◌, ◌<◌, ◌⊎◌, ◌+◌, ◌^◌, ◌++◌, ℕ, ℤ, pos, List, [], ◌∷◌, Option, Some, None, inl, inr, refl, sym, ap, subst, ◌∙◌, arith}
+use Rattle.std.proofs.Common.{◌≡◌, ◌≤◌, ◌<◌, ◌⊎◌, ◌+◌, ◌^◌, ◌++◌, ℕ, ℤ, pos, List, [], ◌∷◌, length, Option, Some, None, inl, inr, refl, sym, ap, subst, ◌∙◌, arith}
 use Rattle.std.specs.List.{flat_map}
 use Rattle.std.specs.Prelude.{map}
 use Rattle.std.specs.Option.{unwrap_or}
@@ -9,15 +9,17 @@ use Rattle.std.proofs.lemmas.List.Concat.{flat_map-cons}
 use Rattle.span_ids.specs.Times.{nanos, last_micros}
 use Rattle.span_io.specs.RowsSoFar.{Gave}
 use Rattle.span_io.specs.Tables.{MeansText, Singular}
-use Rattle.thrift_core.specs.FieldValues.{values_of, i32_in, i64_in, binary_in, list_in}
+use Rattle.thrift_core.specs.FieldValues.{values_of, i32_in, i64_in, binary_in, list_in, EachStruct}
 use Rattle.thrift_core.specs.Messages.{FieldItem, fields_of}
 use Rattle.thrift_core.specs.Trees.{Fields, Tree, Trees}
 use Rattle.jaeger_model.proofs.FieldLemmas.{values_given}
 use Rattle.jaeger_model.specs.declared.references.References.{References}
 use Rattle.jaeger_model.specs.declared.span.SpanRef.{SpanRef}
 use Rattle.jaeger_model.specs.declared.span_rows.SpanParts.{SpanParts}
+use Rattle.jaeger_model.specs.Counted.{IsCounted}
 use Rattle.jaeger_model.specs.Identifiers.{span_id_of, trace_id_of}
 use Rattle.jaeger_model.specs.InnerRows.{with_text}
+use Rattle.jaeger_model.specs.ListsSoFar.{MeansEach}
 use Rattle.jaeger_model.specs.Meanings.{Required, Means, MeansTime}
 use Rattle.jaeger_model.specs.ReferenceSoFar.{KeepsOf, KeepsReferences}
 use Rattle.jaeger_model.specs.Rows.{SomeMissing, given_to}
@@ -147,17 +149,35 @@ lists_given id items = all items ∙ values_given list_in id items
         ∙ (ap (λ l. l ++ map (λ (x : Trees × List ℕ). x.0) (flat_map give items)) (without_text (given_to list_in id item) item.text)
         ∙ (ap (λ l. given_to list_in id item ++ l) (all items) ∙ sym (flat_map-cons (λ (i : FieldItem). given_to list_in id i) item items))))
 
+-- what is so of a value that a row may mean, and of the one that stands for an absent one
+pub given_held : {A B : Type 0} (M : A → B → Type 0) (P : B → Type 0) → ((held : A) (value : B) → M held value → P value) → (xs : List A) (row : Option B) (default value : B) → value ≡ unwrap_or row default → P default
+    → Gave M xs row → P value
+given_held M P each [] None default value e is gave = subst P (sym e) is
+given_held M P each [] (Some y) default value e is gave = absurd gave
+given_held M P each (x ∷ []) None default value e is gave = absurd gave
+given_held M P each (x ∷ []) (Some y) default value e is gave = subst P (sym e) (each x y gave)
+given_held M P each (x ∷ w ∷ more) row default value e is gave = absurd gave
+
 -- those of an optional list
-pub list_held : {B : Type 0} (M : Trees → List B → Type 0) (id : ℕ) (items : List FieldItem) (row : Option (List B)) (default value : List B) → value ≡ unwrap_or row default → default ≡ []
-    → Gave (λ (held : Trees × List ℕ) value. M held.0 value) (flat_map (λ (item : FieldItem). with_text item.text (given_to list_in id item)) items) row → Singular M (λ list. list ≡ []) (values_of list_in id (fields_of items)) value
-list_held {B} M id items row default value e none gave = subst (λ (l : List Trees). Singular M (λ list. list ≡ []) l value) (lists_given id items) (of (flat_map (λ (item : FieldItem). with_text item.text (given_to list_in id item)) items) row e gave)
+pub list_held : {B : Type 0} (Is : B → Fields → Type 0) (id : ℕ) (items : List FieldItem) (row : Option (List B)) (default value : List B) → value ≡ unwrap_or row default → default ≡ []
+    → Gave (MeansEach Is) (flat_map (λ (item : FieldItem). with_text item.text (given_to list_in id item)) items) row → Singular (λ trees xs. EachStruct Is trees xs) (λ list. list ≡ []) (values_of list_in id (fields_of items)) value
+list_held {B} Is id items row default value e none gave = subst (λ (l : List Trees). Singular (λ trees xs. EachStruct Is trees xs) (λ list. list ≡ []) l value) (lists_given id items) (of (flat_map (λ (item : FieldItem). with_text item.text (given_to list_in id item)) items) row e gave)
   where
-    of : (xs : List (Trees × List ℕ)) (row : Option (List B)) → value ≡ unwrap_or row default → Gave (λ (held : Trees × List ℕ) value. M held.0 value) xs row → Singular M (λ list. list ≡ []) (map (λ x. x.0) xs) value
+    of : (xs : List (Trees × List ℕ)) (row : Option (List B)) → value ≡ unwrap_or row default → Gave (MeansEach Is) xs row → Singular (λ trees ys. EachStruct Is trees ys) (λ list. list ≡ []) (map (λ x. x.0) xs) value
     of [] None e gave = e ∙ none
     of [] (Some y) e gave = absurd gave
     of (x ∷ []) None e gave = absurd gave
-    of (x ∷ []) (Some y) e gave = subst (λ (l : List B). M x.0 l) (sym e) gave
+    of (x ∷ []) (Some y) e gave = subst (λ (l : List B). EachStruct Is x.0 l) (sym e) gave.0
     of (x ∷ w ∷ more) row e gave = absurd gave
+
+-- they are counted
+pub list_counted : {B : Type 0} (Is : B → Fields → Type 0) (xs : List (Trees × List ℕ)) (row : Option (List B)) (default value : List B) → value ≡ unwrap_or row default → default ≡ [] → Gave (MeansEach Is) xs row → IsCounted value
+list_counted {B} Is xs row default value e none gave =
+    given_held (MeansEach Is) (λ (l : List B). IsCounted l) (λ held value means. means.1) xs row default value e (omega (arith, ap length none)) gave
+
+pub references_counted : (xs : List (Trees × List ℕ)) (row : Option References) (default value : References) → value ≡ unwrap_or row default → KeepsOf [] default → Gave KeepsReferences xs row → IsCounted value.kept
+references_counted xs row default value e none gave =
+    given_held KeepsReferences (λ (r : References). IsCounted r.kept) (λ held value means. means.2.counted) xs row default value e none.counted gave
 
 pub references_held : (items : List FieldItem) (row : Option References) (default value : References) → value ≡ unwrap_or row default → KeepsOf [] default
     → Gave KeepsReferences (flat_map (λ (item : FieldItem). with_text item.text (given_to list_in 6 item)) items) row → HasReferences (fields_of items) value.kept value.others

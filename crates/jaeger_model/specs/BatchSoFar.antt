@@ -9,11 +9,11 @@ use Rattle.jaeger_model.specs.Batches.{MeansNothing, batch_table}
 use Rattle.jaeger_model.specs.ListsSoFar.{MeansEach, MeansOne}
 use Rattle.jaeger_model.specs.Meanings.{Means}
 use Rattle.jaeger_model.specs.Processes.{IsProcess}
-use Rattle.jaeger_model.specs.Spans.{IsJSpan}
+use Rattle.jaeger_model.specs.SpanSoFar.{IsReadJSpan}
 
 pub record GatheredBatch (Spells : Spelling) (left : ℕ) (rows : BatchRows) (given : Givens (batch_table Spells left)) : Type 0 where
   pub process : Gave (MeansOne IsProcess) given.0 rows.process
-  pub spans : Gave (MeansEach IsJSpan) given.1.0 rows.spans
+  pub spans : Gave (MeansEach IsReadJSpan) given.1.0 rows.spans
   pub sequence : Gave Means given.1.1.0 rows.sequence
   pub stats : Gave MeansNothing given.1.1.1.0 rows.stats
 

@@ -1,12 +1,12 @@
 -- What is known of what structs of jaeger.thrift mean.
-use Rattle.std.specs.Prelude.{◌≡◌, ◌↔◌, ◌⊎◌, ℕ, ◌<◌, ◌^◌, ℤ, List, [], ◌∷◌, length, All, FitsSigned}
-use Rattle.std.specs.Int.{w32, w64, cast_unsigned}
+use Rattle.std.specs.Prelude.{◌≡◌, ◌↔◌, ◌⊎◌, ℕ, List, [], ◌∷◌, All}
 use Rattle.span_io.specs.Causes.{cause_number}
 use Rattle.span_io.specs.declared.cause.Cause.{Cause}
+use Rattle.span_io.specs.Frames.{AreBytes}
 use Rattle.span_io.specs.Offences.{Offence, Least}
 use Rattle.span_io.specs.Tables.{Row, IsFree}
 use Rattle.thrift_core.specs.Messages.{FieldItem, fields_of, structs, whole_struct}
-use Rattle.thrift_core.specs.Parts.{int, long, eight, Spelling}
+use Rattle.thrift_core.specs.Parts.{Spelling}
 use Rattle.thrift_core.specs.Trees.{Fields, StructText, outer_levels}
 use Rattle.jaeger_model.specs.Batches.{IsBatch, IsBatchText, batch_table, batch_rules}
 use Rattle.jaeger_model.specs.declared.batch.Batch.{Batch}
@@ -71,17 +71,6 @@ pub record FreeFields (Spells : Spelling) : Type 0 where
 abbrev pub ReadsTimes : Spelling → Type 0
 ReadsTimes Spells = (batch : Batch) (text : List ℕ) → IsBatchText Spells batch text → All IsTimed batch.spans
 
--- a number of 64 bits
-abbrev pub IsProperLong : ℤ → Type 0
-IsProperLong n = FitsSigned w64 n × (cast_unsigned w64 n < 2 ^ 64)
-
--- what bytes spell has the bits of its type
-pub record SpellsProper (Spells : Spelling) : Type 0 where
-  pub int : (n : ℤ) (text : List ℕ) → All (λ b. b < 256) text → Spells int n text → FitsSigned w32 n
-  pub long : (n : ℤ) (text : List ℕ) → All (λ b. b < 256) text → Spells long n text → IsProperLong n
-  pub eight : (bytes text : List ℕ) → All (λ b. b < 256) text → Spells eight bytes text → (length bytes ≡ 8) × All (λ b. b < 256) bytes
-
 -- what is read of bytes is proper, but for the count of references to no span
 abbrev pub ReadsProper : Spelling → Type 0
-ReadsProper Spells = SpellsProper Spells → (batch : Batch) (text : List ℕ) → All (λ b. b < 256) text → IsBatchText Spells batch text
-    → IsProperBatch (all_counted batch)
+ReadsProper Spells = (batch : Batch) (text : List ℕ) → AreBytes text → IsBatchText Spells batch text → IsProperBatch (all_counted batch)

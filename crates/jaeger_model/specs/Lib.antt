@@ -1,6 +1,7 @@
 pub mod BatchSoFar
 pub mod Batches
 pub mod Canonical
+pub mod Counted
 pub mod FreeAtAnyDepth
 pub mod Growing
 pub mod Identifiers

@@ -7,6 +7,7 @@ use Rattle.thrift_core.specs.FieldValues.{EachStruct}
 use Rattle.thrift_core.specs.Messages.{FieldItem, structs, whole_struct}
 use Rattle.thrift_core.specs.Parts.{Spelling}
 use Rattle.thrift_core.specs.Trees.{structure, list_of, Fields, Trees, tree_count, ValueThen, ElementsThen}
+use Rattle.jaeger_model.specs.Counted.{IsCounted}
 use Rattle.jaeger_model.specs.InnerRows.{BadElement, ListOffends}
 use Rattle.jaeger_model.specs.Rows.{nothing_wrong}
 
@@ -33,9 +34,9 @@ ListValueOffends Spells left rules held place number = HereOrInside (BadElement 
 abbrev pub MeansOne : {B : Type 0} → (B → Fields → Type 0) → Fields × List ℕ → B → Type 0
 MeansOne Is held value = Is value held.0
 
--- the same of each struct of a list
+-- the same of each struct of a list, whose structs are counted
 abbrev pub MeansEach : {B : Type 0} → (B → Fields → Type 0) → Trees × List ℕ → List B → Type 0
-MeansEach Is held values = EachStruct Is held.0 values
+MeansEach Is held values = EachStruct Is held.0 values × IsCounted values
 
 -- how a struct offends in its row, of which earlier ones were seen
 abbrev pub StructRowOffends : Spelling → ℕ → Rules FieldItem → List (Fields × List ℕ) → Fields × List ℕ → ℕ → ℕ → Type 0

@@ -1,5 +1,5 @@
 -- Parts of a batch that are proper: each number lies in the range of its type, each text is UTF-8, and no identifier is zero.
-use Rattle.std.specs.Prelude.{◌≡◌, ℕ, ◌<◌, ◌^◌, length, All, Option, Some, None, IsUtf8, FitsSigned, ⊤}
+use Rattle.std.specs.Prelude.{◌≡◌, ◌<◌, ◌^◌, length, All, IsUtf8, FitsSigned, ⊤}
 use Rattle.std.specs.Int.{w32, w64}
 use Rattle.span_ids.specs.Proper.{IsProperTraceId, IsProperSpanId, IsProperParent}
 use Rattle.jaeger_model.specs.declared.batch.Batch.{Batch}

@@ -8,6 +8,7 @@ use Rattle.jaeger_model.specs.declared.references.References.{References}
 use Rattle.jaeger_model.specs.declared.span.SpanRef.{SpanRef}
 use Rattle.thrift_core.specs.Messages.{FieldItem}
 use Rattle.thrift_core.specs.Trees.{Trees}
+use Rattle.jaeger_model.specs.Counted.{IsCounted}
 use Rattle.jaeger_model.specs.Meanings.{Means, MeansEnum}
 use Rattle.jaeger_model.specs.References.{reference_table, reference_number}
 use Rattle.jaeger_model.specs.Spans.{kept_reference, MeansReferences}
@@ -22,10 +23,11 @@ pub record GatheredReference (rows : ReferenceRows) (given : Givens reference_ta
 abbrev pub GaveReference : ReferenceRows → List FieldItem → Type 0
 GaveReference rows items = GatheredReference rows (givens reference_table items)
 
--- of these references those that point to a span, and the number of the others
+-- of these references those that point to a span, which are counted, and the number of the others
 pub record KeepsOf (all : List (Option SpanRef)) (references : References) : Type 0 where
   pub kept : references.kept ≡ flat_map kept_reference all
   pub others : references.others ≡ count_by (λ r. is_none r) all
+  pub counted : IsCounted references.kept
 
 -- what is kept of a list of references, by the field that holds it
 abbrev pub KeepsReferences : Trees × List ℕ → References → Type 0

@@ -6,13 +6,15 @@ use Rattle.thrift_core.specs.Messages.{FieldItem}
 use Rattle.thrift_core.specs.FieldValues.{values_of, i32_in, i64_in, binary_in, list_in}
 use Rattle.thrift_core.specs.Parts.{Spelling}
 use Rattle.thrift_core.specs.Trees.{Fields}
+use Rattle.jaeger_model.specs.declared.span.JSpan.{JSpan}
 use Rattle.jaeger_model.specs.declared.span_rows.SpanRows.{SpanRows}
 use Rattle.jaeger_model.specs.declared.span_rows.SpanParts.{SpanParts}
+use Rattle.jaeger_model.specs.Counted.{IsCounted, IsCountedSpan}
 use Rattle.jaeger_model.specs.ListsSoFar.{MeansEach}
 use Rattle.jaeger_model.specs.Logs.{IsLog, MeansTags}
 use Rattle.jaeger_model.specs.Meanings.{Required, Means, MeansTime}
 use Rattle.jaeger_model.specs.ReferenceSoFar.{KeepsReferences}
-use Rattle.jaeger_model.specs.Spans.{jspan_table, HasReferences, MeansLogs}
+use Rattle.jaeger_model.specs.Spans.{IsJSpan, jspan_table, HasReferences, MeansLogs}
 use Rattle.jaeger_model.specs.Tags.{IsTag}
 
 pub record GatheredJSpan (Spells : Spelling) (left : ℕ) (rows : SpanRows) (given : Givens (jspan_table Spells left)) : Type 0 where
@@ -45,3 +47,13 @@ pub record HasParts (parts : SpanParts) (fields : Fields) : Type 0 where
   pub duration : Required MeansTime (values_of i64_in 9 fields) parts.duration
   pub tags : Singular MeansTags (λ list. list ≡ []) (values_of list_in 10 fields) parts.tags
   pub logs : Singular MeansLogs (λ list. list ≡ []) (values_of list_in 11 fields) parts.logs
+
+-- its logs and references are counted
+pub record HasCountedParts (parts : SpanParts) : Type 0 where
+  pub logs : IsCounted parts.logs
+  pub references : IsCounted parts.references.kept
+
+-- the fields are those of this span, whose logs and references are counted
+pub record IsReadJSpan (span : JSpan) (fields : Fields) : Type 0 where
+  pub is : IsJSpan span fields
+  pub counted : IsCountedSpan span

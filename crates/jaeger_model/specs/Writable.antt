@@ -1,6 +1,6 @@
 -- What may be written of batches: each text and list has at most 2147483647 members, times are whole microseconds, and no end is before
 -- its start.
-use Rattle.std.specs.Prelude.{◌≡◌, ◌≤◌, ℕ, List, length, All, ⊤}
+use Rattle.std.specs.Prelude.{◌≤◌, List, length, All, ⊤}
 use Rattle.span_ids.specs.Times.{IsWhole}
 use Rattle.thrift_core.specs.Protocols.{last_size}
 use Rattle.jaeger_model.specs.declared.batch.Batch.{Batch}

@@ -6,6 +6,7 @@ ghost use Rattle.thrift_core.specs.Messages.{FieldItem, fields_of};
 ghost use Rattle.thrift_core.specs.Trees.{Fields, StructText, outer_levels};
 ghost use Rattle.jaeger_model.specs.Batches.{IsBatch, IsBatchText, MeansNothing, batch_ends};
 ghost use Rattle.jaeger_model.specs.BatchSoFar.{GaveBatch};
+ghost use Rattle.jaeger_model.specs.Counted.{IsCountedBatch};
 ghost use Rattle.jaeger_model.specs.declared.batch.Batch.{Batch};
 ghost use Rattle.jaeger_model.specs.Laws.{BatchOffends};
 ghost use Rattle.jaeger_model.specs.Rows.{nothing_wrong};
@@ -50,7 +51,7 @@ impl BatchRows {
 }
 
 // Sets a row whose value means nothing.
-fn passed_row(row: &mut Option<()>) -> Result<(), Halt<Cause>>
+fn passed_row(row: &mut Option<()>) -> Result<(), Cause>
     ensures ok { (held : Fields) → OnOk result (Sets MeansNothing held row.old row.new) }
     ensures judged { (held : Fields) → JudgesField MeansNothing nothing_wrong row.old held result }
 {
@@ -79,10 +80,10 @@ impl<P: Protocol> Rows<P> for BatchRows {
         match (found.id, found.kind) {
             (1, TypeCode::Struct) => structure_row::<P, Process>(alloc, &mut self.process, c, left),
             (2, TypeCode::List) => structures_row::<P, JSpan>(alloc, &mut self.spans, c, left),
-            (3, TypeCode::I64) => number_row(&mut self.sequence, sure_long::<P>(c)),
+            (3, TypeCode::I64) => Ok(number_row(&mut self.sequence, sure_long::<P>(c))?),
             (4, TypeCode::Struct) => {
                 pass_over::<P>(c, found, left);
-                passed_row(&mut self.stats)
+                Ok(passed_row(&mut self.stats)?)
             }
             _ => {
                 pass_over::<P>(c, found, left);
@@ -96,6 +97,7 @@ impl<P: Protocol> Rows<P> for BatchRows {
 fn batch_of<P: Protocol>(rows: BatchRows) -> Result<Batch, Cause>
     ensures value { (left : ℕ) (items : List FieldItem) → GaveBatch P.spells left rows items
         → IfOk result (λ batch. IsBatch batch (fields_of items)) }
+    ensures counted { (left : ℕ) (items : List FieldItem) → GaveBatch P.spells left rows items → IfOk result IsCountedBatch }
     ensures ended { (left : ℕ) (items : List FieldItem) → GaveBatch P.spells left rows items
         → JudgesCause result (batch_ends items) }
 {
@@ -117,6 +119,7 @@ fn batch_of<P: Protocol>(rows: BatchRows) -> Result<Batch, Cause>
 fn read_rows_of<P: Protocol>(alloc: Global, unit: &[u8]) -> Result<Batch, Halt<Cause>>
     requires stands { (fields : Fields) × StructText P.spells outer_levels fields unit.now }
     ensures value { IfOk result (λ batch. IsBatchText P.spells batch unit.now) }
+    ensures counted { IfOk result IsCountedBatch }
     ensures judged { Judges result (BatchOffends P.spells unit.now) }
 {
     let mut c = Cursor::new(unit);
@@ -129,6 +132,9 @@ pub fn read_batch<P: Protocol>(alloc: Global, unit: &[u8]) -> Result<Batch, Halt
     requires stands { (fields : Fields) × StructText P.spells outer_levels fields unit.now }
     ensures value { IfOk result (λ batch. IsBatchText P.spells batch unit.now) }
     ensures judged { Judges result (BatchOffends P.spells unit.now) }
+
+    // Each list of a text has a size of 32 bits.
+    ensures counted { IfOk result IsCountedBatch }
 
     // A text of a batch is read as that batch; only memory may be wanted.
     ensures only { (batch : Batch) → IsBatchText P.spells batch unit.now → OnlyReads result batch }

@@ -49,8 +49,7 @@ pub fn reads_times<P: Protocol>()
     // The clause is the law.
 }
 
-/// What is read of bytes is proper, but for the count of references to no span, where the protocol
-/// spells numbers of the bits of their types.
+/// What is read of bytes is proper, but for the count of references to no span.
 pub fn reads_proper<P: Protocol>()
     ensures { ReadsProper P.spells }
 {

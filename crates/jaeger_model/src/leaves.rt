@@ -1,7 +1,7 @@
 //! Readers of parts that are known to stand at the cursor: they can't fail.
 ghost use Rattle.std.specs.Prelude.{◌≡◌, ◌≤◌, ℕ, ℤ, Bool, List, length};
 ghost use Rattle.thrift_core.specs.Parts.{Begins, truth, int, long, eight, list_head};
-ghost use Rattle.thrift_core.specs.Trees.{BinaryThen};
+ghost use Rattle.thrift_core.specs.Trees.{BinaryThen, outer_levels};
 ghost use Rattle.thrift_core.specs.Values.{BeginsValue};
 ghost use Rattle.thrift_core.specs.declared.field.ListHead.{ListHead};
 
@@ -63,6 +63,7 @@ pub fn sure_list<P: Protocol>(c: &mut Cursor<'_>, left: u8) -> ListHead
 
 /// Passes over the value of a field of this head.
 pub fn pass_over<P: Protocol>(c: &mut Cursor<'_>, found: Field, left: u8)
+    requires levels { left ≤ outer_levels }
     ensures stands { (rest : List ℕ) → BeginsValue P.spells left found.kind found.held c.old.rest rest → c.new.rest ≡ rest }
     ensures shorter { length c.new.rest ≤ length c.old.rest }
 {

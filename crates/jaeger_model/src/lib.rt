@@ -28,6 +28,3 @@ pub use proper::proper_batch;
 pub use span::{JSpan, Log, SpanRef};
 pub use tag::{Tag, TagValue};
 pub use writing::{has_sizes, write_batch};
-
-#[cfg(test)]
-mod tests;

@@ -7,7 +7,7 @@ ghost use Rattle.span_io.specs.declared.cause.Cause.TheVariants as causes;
 ghost use Rattle.thrift_core.specs.declared.type_code.TypeCode.TheVariants as kinds;
 ghost use Rattle.thrift_core.specs.FieldValues.{EachStruct};
 ghost use Rattle.thrift_core.specs.Messages.{FieldItem, structs, whole_struct};
-ghost use Rattle.thrift_core.specs.Trees.{Fields, Trees, StructText};
+ghost use Rattle.thrift_core.specs.Trees.{Fields, Trees, StructText, outer_levels};
 ghost use Rattle.jaeger_model.specs.InnerRows.{ElementsOffend};
 ghost use Rattle.jaeger_model.specs.ListsSoFar.{AreElements, ListRowOffends, ListValue, ListValueOffends, MeansEach, MeansOne, StructRowOffends, StructValue};
 
@@ -25,6 +25,7 @@ pub(crate) trait Element<P: Protocol>: Drop {
 
     /// Reads the element whose struct is known to stand at the cursor.
     fn read(alloc: Global, c: &mut Cursor<'_>, left: u8) -> Result<Self, Halt<Cause>>
+        requires levels { left ≤ outer_levels }
         ensures value { (text tail : List ℕ) (fields : Fields) → c.old.rest ≡ text ++ tail → StructText P.spells left fields text
             → IfOk result (λ element. (c.new.rest ≡ tail) × means element fields) }
         ensures judged { (text tail : List ℕ) (fields : Fields) → c.old.rest ≡ text ++ tail → StructText P.spells left fields text
@@ -42,6 +43,7 @@ fn read_elements<P: Protocol, E: Element<P>>(
     size: u32,
     left: u8,
 ) -> Result<Items<E>, Halt<Cause>>
+    requires levels { left ≤ outer_levels }
     requires lawful { RulesLaws (structs P.spells left) (E.rules left) }
     ensures value { (text tail : List ℕ) (trees : Trees) → c.old.rest ≡ text ++ tail → AreElements P.spells left size trees text
         → IfOk result (λ elements. (c.new.rest ≡ tail) × EachStruct E.means trees elements) }
@@ -77,6 +79,7 @@ pub(crate) fn read_list<P: Protocol, E: Element<P>>(
     c: &mut Cursor<'_>,
     left: u8,
 ) -> Result<Items<E>, Halt<Cause>>
+    requires levels { left ≤ outer_levels }
     requires lawful { RulesLaws (structs P.spells (left - 2)) (E.rules (left - 2)) }
     ensures value { (text tail : List ℕ) (trees : Trees) → c.old.rest ≡ text ++ tail → ListValue P.spells left trees text
         → IfOk result (λ elements. (c.new.rest ≡ tail) × EachStruct E.means trees elements) }
@@ -98,6 +101,7 @@ pub(crate) fn structures_row<P: Protocol, E: Element<P>>(
     c: &mut Cursor<'_>,
     left: u8,
 ) -> Result<(), Halt<Cause>>
+    requires levels { left ≤ outer_levels }
     requires lawful { RulesLaws (structs P.spells (left - 2)) (E.rules (left - 2)) }
     ensures ok { (text tail : List ℕ) (trees : Trees) → c.old.rest ≡ text ++ tail → ListValue P.spells left trees text
         → OnOk result ((c.new.rest ≡ tail) × Sets (MeansEach E.means) (trees, text) row.old row.new) }
@@ -118,6 +122,7 @@ pub(crate) fn structure_row<P: Protocol, E: Element<P>>(
     c: &mut Cursor<'_>,
     left: u8,
 ) -> Result<(), Halt<Cause>>
+    requires levels { left ≤ outer_levels }
     ensures ok { (text tail : List ℕ) (fields : Fields) → c.old.rest ≡ text ++ tail → StructValue P.spells left fields text
         → OnOk result ((c.new.rest ≡ tail) × Sets (MeansOne E.means) (fields, text) row.old row.new) }
     ensures judged { (text tail : List ℕ) (fields : Fields) → c.old.rest ≡ text ++ tail → StructValue P.spells left fields text

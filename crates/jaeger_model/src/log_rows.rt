@@ -5,7 +5,7 @@ ghost use Rattle.span_io.specs.RowsSoFar.{JudgesCause};
 ghost use Rattle.jaeger_model.specs.LogSoFar.{GaveLog};
 ghost use Rattle.jaeger_model.specs.Logs.{IsLog, log_ends, log_rules};
 ghost use Rattle.thrift_core.specs.Messages.{FieldItem, fields_of, structs, whole_struct};
-ghost use Rattle.thrift_core.specs.Trees.{Fields, StructText};
+ghost use Rattle.thrift_core.specs.Trees.{Fields, StructText, outer_levels};
 
 use crate::leaves::{pass_over, sure_long};
 use crate::lists::{Element, structures_row};
@@ -55,7 +55,7 @@ impl<P: Protocol> Rows<P> for LogRows {
         left: u8,
     ) -> Result<(), Halt<Cause>> {
         match (found.id, found.kind) {
-            (1, TypeCode::I64) => time_row(&mut self.time, sure_long::<P>(c)),
+            (1, TypeCode::I64) => Ok(time_row(&mut self.time, sure_long::<P>(c))?),
             (2, TypeCode::List) => structures_row::<P, Tag>(alloc, &mut self.fields, c, left),
             _ => {
                 pass_over::<P>(c, found, left);
@@ -88,6 +88,7 @@ pub(crate) fn read_log<P: Protocol>(
     c: &mut Cursor<'_>,
     left: u8,
 ) -> Result<Log, Halt<Cause>>
+    requires levels { left ≤ outer_levels }
     ensures value { (text tail : List ℕ) (fields : Fields) → c.old.rest ≡ text ++ tail → StructText P.spells left fields text
         → IfOk result (λ log. (c.new.rest ≡ tail) × IsLog log fields) }
     ensures judged { (text tail : List ℕ) (fields : Fields) → c.old.rest ≡ text ++ tail → StructText P.spells left fields text

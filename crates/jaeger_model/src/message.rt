@@ -5,7 +5,7 @@ ghost use Rattle.span_io.specs.OffenceLaws.{RulesLaws};
 ghost use Rattle.span_io.specs.Tables.{Row, rules_by};
 ghost use Rattle.span_io.specs.Gathering.{AddsItem, JudgesItem};
 ghost use Rattle.thrift_core.specs.Messages.{FieldItem, FieldStands, structs, whole_struct};
-ghost use Rattle.thrift_core.specs.Trees.{Fields, StructText};
+ghost use Rattle.thrift_core.specs.Trees.{Fields, StructText, outer_levels};
 ghost use Rattle.jaeger_model.specs.RowsSoFar.{GatheredStruct};
 
 use span_io::{Cause, Cursor, Halt};
@@ -29,6 +29,7 @@ pub trait Rows<P: Protocol>: Drop {
         found: Field,
         left: u8,
     ) -> Result<(), Halt<Cause>>
+        requires levels { left ≤ outer_levels }
         ensures ok { (item : FieldItem) (rest : List ℕ) → FieldStands P.spells left found item c.old.rest rest
             → OnOk result ((c.new.rest ≡ rest) × AddsItem (gathered left) item self.old self.new) }
         ensures judged { (item : FieldItem) (rest : List ℕ) → FieldStands P.spells left found item c.old.rest rest
@@ -43,6 +44,7 @@ pub fn read_rows<P: Protocol, R: Rows<P>>(
     c: &mut Cursor<'_>,
     left: u8,
 ) -> Result<R, Halt<Cause>>
+    requires levels { left ≤ outer_levels }
     requires none { R.gathered left first first [] }
     requires lawful { RulesLaws (structs P.spells left) (rules_by (R.table left) R.ends) }
     ensures all { (text tail : List ℕ) (fields : Fields) → c.old.rest ≡ text ++ tail → StructText P.spells left fields text

@@ -5,7 +5,7 @@ ghost use Rattle.span_io.specs.RowsSoFar.{JudgesCause};
 ghost use Rattle.jaeger_model.specs.ProcessSoFar.{GaveProcess};
 ghost use Rattle.jaeger_model.specs.Processes.{IsProcess, process_ends, process_rules};
 ghost use Rattle.thrift_core.specs.Messages.{FieldItem, fields_of, structs, whole_struct};
-ghost use Rattle.thrift_core.specs.Trees.{Fields, StructText};
+ghost use Rattle.thrift_core.specs.Trees.{Fields, StructText, outer_levels};
 
 use crate::leaves::{pass_over, sure_bytes};
 use crate::lists::{Element, structures_row};
@@ -86,6 +86,7 @@ pub(crate) fn read_process<P: Protocol>(
     c: &mut Cursor<'_>,
     left: u8,
 ) -> Result<Process, Halt<Cause>>
+    requires levels { left ≤ outer_levels }
     ensures value { (text tail : List ℕ) (fields : Fields) → c.old.rest ≡ text ++ tail → StructText P.spells left fields text
         → IfOk result (λ process. (c.new.rest ≡ tail) × IsProcess process fields) }
     ensures judged { (text tail : List ℕ) (fields : Fields) → c.old.rest ≡ text ++ tail → StructText P.spells left fields text

@@ -6,21 +6,14 @@ use crate::batch::Batch;
 use crate::span::{JSpan, Log, SpanRef};
 use crate::tag::{Tag, TagValue};
 use span_ids::{Nanos, proper_parent};
-use span_io::{Blob, Items};
+use span_io::Items;
+use span_io::laws::proper_bytes;
 
 fn proper_double(double: [u8; 8])
     ensures size { length double ≡ 8 }
     ensures bytes { All (λ b. b < 256) double }
 {
     // The type keeps it.
-}
-
-fn proper_bytes(bytes: &Blob)
-    ensures { All (λ b. b < 256) bytes.now }
-{
-    'bytes: for byte in bytes.as_slice() {
-        let _byte = *byte;
-    }
 }
 
 fn proper_value(value: &TagValue)
@@ -35,7 +28,7 @@ fn proper_value(value: &TagValue)
         TagValue::Number(number) => {
             let _number = *number;
         }
-        TagValue::Bytes(bytes) => proper_bytes(bytes),
+        TagValue::Bytes(bytes) => proper_bytes(bytes.as_slice()),
     }
 }
 

@@ -1,13 +1,13 @@
 //! `SpanRef` (jaeger.thrift).
 ghost use Rattle.std.specs.Prelude.{◌≡◌, ◌≤◌, ◌++◌, ℕ, [], Bool, List, length, IfOk, OnOk};
-ghost use Rattle.span_io.specs.Offences.{Offence, Judges, JudgesHere};
+ghost use Rattle.span_io.specs.Offences.{Offence, Judges};
 ghost use Rattle.span_io.specs.RowsSoFar.{Sets, JudgesCause};
 ghost use Rattle.jaeger_model.specs.Meanings.{MeansEnum};
 ghost use Rattle.jaeger_model.specs.ReferenceSoFar.{GaveReference};
 ghost use Rattle.jaeger_model.specs.References.{IsPointed, IsSpanRef, reference_ends, reference_number, reference_rules};
 ghost use Rattle.jaeger_model.specs.Identifiers.{span_id_of, trace_id_of};
 ghost use Rattle.thrift_core.specs.Messages.{FieldItem, fields_of, structs, whole_struct};
-ghost use Rattle.thrift_core.specs.Trees.{Fields, StructText};
+ghost use Rattle.thrift_core.specs.Trees.{Fields, StructText, outer_levels};
 ghost use Rattle.jaeger_model.specs.Rows.{BadEnum};
 ghost use Rattle.jaeger_model.specs.RowsSoFar.{JudgesField};
 
@@ -45,19 +45,19 @@ impl ReferenceRows {
 }
 
 // Whether a reference of this number's type is to a parent.
-fn child_of(held: i32) -> Result<bool, Halt<Cause>>
+fn child_of(held: i32) -> Result<bool, Cause>
     ensures value { IfOk result (λ is. MeansEnum reference_number held is) }
-    ensures judged { JudgesHere result (BadEnum 1 held) }
+    ensures judged { JudgesCause result (BadEnum 1 held) }
 {
     match held {
         0 => Ok(true),
         1 => Ok(false),
-        _ => Err(Halt::Why(Cause::BadEnum)),
+        _ => Err(Cause::BadEnum),
     }
 }
 
 // Sets the row of the type.
-fn reference_type_row(row: &mut Option<bool>, held: i32) -> Result<(), Halt<Cause>>
+fn reference_type_row(row: &mut Option<bool>, held: i32) -> Result<(), Cause>
     ensures ok { OnOk result (Sets (MeansEnum reference_number) held row.old row.new) }
     ensures judged { JudgesField (MeansEnum reference_number) (BadEnum 1) row.old held result }
 {
@@ -84,10 +84,10 @@ impl<P: Protocol> Rows<P> for ReferenceRows {
         left: u8,
     ) -> Result<(), Halt<Cause>> {
         match (found.id, found.kind) {
-            (1, TypeCode::I32) => reference_type_row(&mut self.child_of, sure_int::<P>(c)),
-            (2, TypeCode::I64) => number_row(&mut self.low, sure_long::<P>(c)),
-            (3, TypeCode::I64) => number_row(&mut self.high, sure_long::<P>(c)),
-            (4, TypeCode::I64) => number_row(&mut self.span, sure_long::<P>(c)),
+            (1, TypeCode::I32) => Ok(reference_type_row(&mut self.child_of, sure_int::<P>(c))?),
+            (2, TypeCode::I64) => Ok(number_row(&mut self.low, sure_long::<P>(c))?),
+            (3, TypeCode::I64) => Ok(number_row(&mut self.high, sure_long::<P>(c))?),
+            (4, TypeCode::I64) => Ok(number_row(&mut self.span, sure_long::<P>(c))?),
             _ => {
                 pass_over::<P>(c, found, left);
                 Ok(())
@@ -136,6 +136,7 @@ pub(crate) fn read_reference<P: Protocol>(
     c: &mut Cursor<'_>,
     left: u8,
 ) -> Result<Option<SpanRef>, Halt<Cause>>
+    requires levels { left ≤ outer_levels }
     ensures value { (text tail : List ℕ) (fields : Fields) → c.old.rest ≡ text ++ tail → StructText P.spells left fields text
         → IfOk result (λ reference. (c.new.rest ≡ tail) × IsSpanRef reference fields) }
     ensures judged { (text tail : List ℕ) (fields : Fields) → c.old.rest ≡ text ++ tail → StructText P.spells left fields text

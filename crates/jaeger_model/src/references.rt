@@ -2,7 +2,7 @@
 ghost use Rattle.std.specs.Prelude.{◌≡◌, ◌≤◌, ◌<◌, ◌^◌, ◌-◌, ◌++◌, ℕ, [], List, Option, None, length, is_none, IfOk, OnOk};
 ghost use Rattle.span_io.specs.Offences.{Judges};
 ghost use Rattle.span_io.specs.RowsSoFar.{Gave, Sets};
-ghost use Rattle.thrift_core.specs.Trees.{Trees};
+ghost use Rattle.thrift_core.specs.Trees.{Trees, outer_levels};
 ghost use Rattle.jaeger_model.specs.ListsSoFar.{ListRowOffends, ListValue};
 ghost use Rattle.jaeger_model.specs.References.{reference_rules};
 ghost use Rattle.std.specs.List.{flat_map, count_by};
@@ -58,6 +58,7 @@ pub(crate) fn references_row<P: Protocol>(
     c: &mut Cursor<'_>,
     left: u8,
 ) -> Result<(), Halt<Cause>>
+    requires levels { left ≤ outer_levels }
     ensures ok { (text tail : List ℕ) (trees : Trees) → c.old.rest ≡ text ++ tail → ListValue P.spells left trees text
         → OnOk result ((c.new.rest ≡ tail) × Sets KeepsReferences (trees, text) row.old row.new) }
     ensures judged { (text tail : List ℕ) (trees : Trees) → c.old.rest ≡ text ++ tail → ListValue P.spells left trees text

@@ -3,7 +3,7 @@ ghost use Rattle.std.specs.Prelude.{IfOk, OnOk};
 ghost use Rattle.span_io.specs.RowsSoFar.{Sets, JudgesCause};
 ghost use Rattle.jaeger_model.specs.Meanings.{Means, MeansTime};
 ghost use Rattle.jaeger_model.specs.Rows.{BadTime, nothing_wrong};
-ghost use Rattle.jaeger_model.specs.RowsSoFar.{JudgesField};
+ghost use Rattle.jaeger_model.specs.RowsSoFar.{JudgesBytes, JudgesField};
 
 use span_ids::Nanos;
 use span_io::{Blob, Cause, Halt, once};
@@ -12,7 +12,7 @@ use std::alloc::Global;
 /// Sets a row that holds bytes.
 pub fn bytes_row(alloc: Global, row: &mut Option<Blob>, held: &[u8]) -> Result<(), Halt<Cause>>
     ensures ok { OnOk result (Sets Means held.now row.old row.new) }
-    ensures judged { JudgesField Means nothing_wrong row.old held.now result }
+    ensures judged { JudgesBytes row.old held.now result }
 {
     once(row)?;
     let mut copy = Blob::new(alloc);
@@ -22,7 +22,7 @@ pub fn bytes_row(alloc: Global, row: &mut Option<Blob>, held: &[u8]) -> Result<(
 }
 
 /// Sets a row that holds a number.
-pub fn number_row(row: &mut Option<i64>, held: i64) -> Result<(), Halt<Cause>>
+pub fn number_row(row: &mut Option<i64>, held: i64) -> Result<(), Cause>
     ensures ok { OnOk result (Sets Means held row.old row.new) }
     ensures judged { JudgesField Means nothing_wrong row.old held result }
 {
@@ -32,7 +32,7 @@ pub fn number_row(row: &mut Option<i64>, held: i64) -> Result<(), Halt<Cause>>
 }
 
 /// Sets a row that holds a truth value.
-pub fn truth_row(row: &mut Option<bool>, held: bool) -> Result<(), Halt<Cause>>
+pub fn truth_row(row: &mut Option<bool>, held: bool) -> Result<(), Cause>
     ensures ok { OnOk result (Sets Means held row.old row.new) }
     ensures judged { JudgesField Means nothing_wrong row.old held result }
 {
@@ -42,7 +42,7 @@ pub fn truth_row(row: &mut Option<bool>, held: bool) -> Result<(), Halt<Cause>>
 }
 
 /// Sets a row that holds the eight bytes of a double.
-pub fn double_row(row: &mut Option<[u8; 8]>, held: [u8; 8]) -> Result<(), Halt<Cause>>
+pub fn double_row(row: &mut Option<[u8; 8]>, held: [u8; 8]) -> Result<(), Cause>
     ensures ok { OnOk result (Sets Means held row.old row.new) }
     ensures judged { JudgesField Means nothing_wrong row.old held result }
 {
@@ -52,7 +52,7 @@ pub fn double_row(row: &mut Option<[u8; 8]>, held: [u8; 8]) -> Result<(), Halt<C
 }
 
 /// Sets a row that holds a number of 32 bits.
-pub fn int_row(row: &mut Option<i32>, held: i32) -> Result<(), Halt<Cause>>
+pub fn int_row(row: &mut Option<i32>, held: i32) -> Result<(), Cause>
     ensures ok { OnOk result (Sets Means held row.old row.new) }
     ensures judged { JudgesField Means nothing_wrong row.old held result }
 {
@@ -73,7 +73,7 @@ fn time_of(held: i64) -> Result<Nanos, Cause>
 }
 
 /// Sets a row that holds a time.
-pub fn time_row(row: &mut Option<Nanos>, held: i64) -> Result<(), Halt<Cause>>
+pub fn time_row(row: &mut Option<Nanos>, held: i64) -> Result<(), Cause>
     ensures ok { OnOk result (Sets MeansTime held row.old row.new) }
     ensures judged { JudgesField MeansTime BadTime row.old held result }
 {

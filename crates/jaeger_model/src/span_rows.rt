@@ -4,10 +4,11 @@ ghost use Rattle.span_io.specs.Offences.{Judges, Offence};
 ghost use Rattle.span_io.specs.RowsSoFar.{JudgesCause};
 ghost use Rattle.span_io.specs.declared.cause.Cause.TheVariants as causes;
 ghost use Rattle.thrift_core.specs.Messages.{FieldItem, fields_of, structs, whole_struct};
-ghost use Rattle.thrift_core.specs.Trees.{Fields, StructText};
+ghost use Rattle.thrift_core.specs.Trees.{Fields, StructText, outer_levels};
+ghost use Rattle.jaeger_model.specs.Counted.{IsCountedSpan};
 ghost use Rattle.jaeger_model.specs.Rows.{SomeMissing};
 ghost use Rattle.jaeger_model.specs.Spans.{IsJSpan, jspan_ends, span_required, jspan_rules};
-ghost use Rattle.jaeger_model.specs.SpanSoFar.{GaveJSpan, HasParts};
+ghost use Rattle.jaeger_model.specs.SpanSoFar.{GaveJSpan, HasCountedParts, HasParts, IsReadJSpan};
 
 use crate::identifiers::{span_of, trace_of};
 use crate::leaves::{pass_over, sure_bytes, sure_int, sure_long};
@@ -93,15 +94,15 @@ impl<P: Protocol> Rows<P> for SpanRows {
         left: u8,
     ) -> Result<(), Halt<Cause>> {
         match (found.id, found.kind) {
-            (1, TypeCode::I64) => number_row(&mut self.low, sure_long::<P>(c)),
-            (2, TypeCode::I64) => number_row(&mut self.high, sure_long::<P>(c)),
-            (3, TypeCode::I64) => number_row(&mut self.id, sure_long::<P>(c)),
-            (4, TypeCode::I64) => number_row(&mut self.parent, sure_long::<P>(c)),
+            (1, TypeCode::I64) => Ok(number_row(&mut self.low, sure_long::<P>(c))?),
+            (2, TypeCode::I64) => Ok(number_row(&mut self.high, sure_long::<P>(c))?),
+            (3, TypeCode::I64) => Ok(number_row(&mut self.id, sure_long::<P>(c))?),
+            (4, TypeCode::I64) => Ok(number_row(&mut self.parent, sure_long::<P>(c))?),
             (5, TypeCode::Binary) => text_row(alloc, &mut self.name, sure_bytes::<P>(c)),
             (6, TypeCode::List) => references_row::<P>(alloc, &mut self.references, c, left),
-            (7, TypeCode::I32) => int_row(&mut self.flags, sure_int::<P>(c)),
-            (8, TypeCode::I64) => time_row(&mut self.start, sure_long::<P>(c)),
-            (9, TypeCode::I64) => time_row(&mut self.duration, sure_long::<P>(c)),
+            (7, TypeCode::I32) => Ok(int_row(&mut self.flags, sure_int::<P>(c))?),
+            (8, TypeCode::I64) => Ok(time_row(&mut self.start, sure_long::<P>(c))?),
+            (9, TypeCode::I64) => Ok(time_row(&mut self.duration, sure_long::<P>(c))?),
             (10, TypeCode::List) => structures_row::<P, Tag>(alloc, &mut self.tags, c, left),
             (11, TypeCode::List) => structures_row::<P, Log>(alloc, &mut self.logs, c, left),
             _ => {
@@ -116,6 +117,7 @@ impl<P: Protocol> Rows<P> for SpanRows {
 fn parts_of<P: Protocol>(alloc: Global, rows: SpanRows) -> Result<SpanParts, Cause>
     ensures value { (left : ℕ) (items : List FieldItem) → GaveJSpan P.spells left rows items
         → IfOk result (λ parts. HasParts parts (fields_of items)) }
+    ensures counted { (left : ℕ) (items : List FieldItem) → GaveJSpan P.spells left rows items → IfOk result HasCountedParts }
     ensures missing { (left : ℕ) (items : List FieldItem) → GaveJSpan P.spells left rows items
         → OnErr result ((result ≡ Err causes.Missing) × SomeMissing span_required items) }
 {
@@ -159,6 +161,7 @@ fn end_of(start: Nanos, duration: Nanos) -> Option<Nanos>
 // The span of the parts.
 fn span_of_parts(parts: SpanParts) -> Result<JSpan, Cause>
     ensures value { (fields : Fields) → HasParts parts fields → IfOk result (λ span. IsJSpan span fields) }
+    ensures counted { HasCountedParts parts → IfOk result IsCountedSpan }
     ensures ended { (items : List FieldItem) → HasParts parts (fields_of items) → JudgesCause result (jspan_ends items) }
 {
     let Some(trace) = trace_of(parts.high, parts.low) else {
@@ -189,7 +192,7 @@ fn span_of_parts(parts: SpanParts) -> Result<JSpan, Cause>
 // The span of the rows.
 fn span_of_rows<P: Protocol>(alloc: Global, rows: SpanRows) -> Result<JSpan, Cause>
     ensures value { (left : ℕ) (items : List FieldItem) → GaveJSpan P.spells left rows items
-        → IfOk result (λ span. IsJSpan span (fields_of items)) }
+        → IfOk result (λ span. IsReadJSpan span (fields_of items)) }
     ensures ended { (left : ℕ) (items : List FieldItem) → GaveJSpan P.spells left rows items
         → JudgesCause result (jspan_ends items) }
 {
@@ -205,8 +208,9 @@ pub(crate) fn read_span<P: Protocol>(
     c: &mut Cursor<'_>,
     left: u8,
 ) -> Result<JSpan, Halt<Cause>>
+    requires levels { left ≤ outer_levels }
     ensures value { (text tail : List ℕ) (fields : Fields) → c.old.rest ≡ text ++ tail → StructText P.spells left fields text
-        → IfOk result (λ span. (c.new.rest ≡ tail) × IsJSpan span fields) }
+        → IfOk result (λ span. (c.new.rest ≡ tail) × IsReadJSpan span fields) }
     ensures judged { (text tail : List ℕ) (fields : Fields) → c.old.rest ≡ text ++ tail → StructText P.spells left fields text
         → Judges result (Offence (structs P.spells left) (jspan_rules P.spells left) (whole_struct text)) }
     ensures shorter { length c.new.rest ≤ length c.old.rest }
@@ -216,9 +220,10 @@ pub(crate) fn read_span<P: Protocol>(
 }
 
 impl<P: Protocol> Element<P> for JSpan {
-    ghost use Rattle.jaeger_model.specs.Spans.{IsJSpan, jspan_rules};
+    ghost use Rattle.jaeger_model.specs.Spans.{jspan_rules};
+    ghost use Rattle.jaeger_model.specs.SpanSoFar.{IsReadJSpan};
 
-    ghost means = { IsJSpan };
+    ghost means = { IsReadJSpan };
 
     ghost rules = { λ left. jspan_rules P.spells left };
 

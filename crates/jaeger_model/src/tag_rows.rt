@@ -1,13 +1,13 @@
 //! `Tag` (jaeger.thrift).
 ghost use Rattle.std.specs.Prelude.{◌≡◌, ◌≤◌, ◌++◌, ℕ, [], List, length, IfOk, OnOk};
-ghost use Rattle.span_io.specs.Offences.{Offence, Judges, JudgesHere};
+ghost use Rattle.span_io.specs.Offences.{Offence, Judges};
 ghost use Rattle.span_io.specs.RowsSoFar.{Sets, JudgesCause};
 ghost use Rattle.jaeger_model.specs.Meanings.{MeansEnum};
 ghost use Rattle.jaeger_model.specs.Rows.{BadEnum};
 ghost use Rattle.jaeger_model.specs.RowsSoFar.{JudgesField};
 ghost use Rattle.jaeger_model.specs.Tags.{IsTag, IsNamed, type_of, tag_type_number, tag_ends, tag_rules};
 ghost use Rattle.thrift_core.specs.Messages.{FieldItem, fields_of, structs, whole_struct};
-ghost use Rattle.thrift_core.specs.Trees.{Fields, StructText};
+ghost use Rattle.thrift_core.specs.Trees.{Fields, StructText, outer_levels};
 ghost use Rattle.jaeger_model.specs.TagSoFar.{GaveTag};
 
 use crate::leaves::{pass_over, sure_bytes, sure_eight, sure_int, sure_long, sure_truth};
@@ -59,9 +59,9 @@ impl TagRows {
 }
 
 // The type of this number.
-fn tag_type_of(held: i32) -> Result<TagType, Halt<Cause>>
+fn tag_type_of(held: i32) -> Result<TagType, Cause>
     ensures value { IfOk result (λ kind. MeansEnum tag_type_number held kind) }
-    ensures judged { JudgesHere result (BadEnum 4 held) }
+    ensures judged { JudgesCause result (BadEnum 4 held) }
 {
     match held {
         0 => Ok(TagType::Text),
@@ -69,12 +69,12 @@ fn tag_type_of(held: i32) -> Result<TagType, Halt<Cause>>
         2 => Ok(TagType::Truth),
         3 => Ok(TagType::Long),
         4 => Ok(TagType::Bytes),
-        _ => Err(Halt::Why(Cause::BadEnum)),
+        _ => Err(Cause::BadEnum),
     }
 }
 
 // Sets the row of the type.
-fn tag_type_row(row: &mut Option<TagType>, held: i32) -> Result<(), Halt<Cause>>
+fn tag_type_row(row: &mut Option<TagType>, held: i32) -> Result<(), Cause>
     ensures ok { OnOk result (Sets (MeansEnum tag_type_number) held row.old row.new) }
     ensures judged { JudgesField (MeansEnum tag_type_number) (BadEnum 4) row.old held result }
 {
@@ -102,11 +102,13 @@ impl<P: Protocol> Rows<P> for TagRows {
     ) -> Result<(), Halt<Cause>> {
         match (found.id, found.kind) {
             (1, TypeCode::Binary) => text_row(alloc, &mut self.key, sure_bytes::<P>(c)),
-            (2, TypeCode::I32) => tag_type_row(&mut self.kind, sure_int::<P>(c)),
+            (2, TypeCode::I32) => Ok(tag_type_row(&mut self.kind, sure_int::<P>(c))?),
             (3, TypeCode::Binary) => text_row(alloc, &mut self.text, sure_bytes::<P>(c)),
-            (4, TypeCode::Eight) => double_row(&mut self.double, sure_eight::<P>(c)),
-            (5, TypeCode::Truth) => truth_row(&mut self.truth, sure_truth::<P>(c, found.held)),
-            (6, TypeCode::I64) => number_row(&mut self.number, sure_long::<P>(c)),
+            (4, TypeCode::Eight) => Ok(double_row(&mut self.double, sure_eight::<P>(c))?),
+            (5, TypeCode::Truth) => {
+                Ok(truth_row(&mut self.truth, sure_truth::<P>(c, found.held))?)
+            }
+            (6, TypeCode::I64) => Ok(number_row(&mut self.number, sure_long::<P>(c))?),
             (7, TypeCode::Binary) => bytes_row(alloc, &mut self.bytes, sure_bytes::<P>(c)),
             _ => {
                 pass_over::<P>(c, found, left);
@@ -174,6 +176,7 @@ pub(crate) fn read_tag<P: Protocol>(
     c: &mut Cursor<'_>,
     left: u8,
 ) -> Result<Tag, Halt<Cause>>
+    requires levels { left ≤ outer_levels }
     ensures value { (text tail : List ℕ) (fields : Fields) → c.old.rest ≡ text ++ tail → StructText P.spells left fields text
         → IfOk result (λ tag. (c.new.rest ≡ tail) × IsTag tag fields) }
     ensures judged { (text tail : List ℕ) (fields : Fields) → c.old.rest ≡ text ++ tail → StructText P.spells left fields text

@@ -1,3 +1,5 @@
+pub mod Agreement
+pub mod AgreementLaws
 pub mod Canonical
 pub mod ChoiceLaws
 pub mod DecisionLaws

@@ -32,4 +32,4 @@ document_faults Offends bytes path number = BadJson bytes path number ⊎ InValu
 -- what is answered of bytes that gave no value
 abbrev pub IsUnread : Error → Halt Refusal → Type 0
 IsUnread error (halts.Why refusal) = (¬ IsMemory error) × (refusal ≡ record { unit = 0; cause = causes.BadJson })
-IsUnread error halts.OutOfMemory = Unit {0}
+IsUnread error halts.OutOfMemory = IsMemory error

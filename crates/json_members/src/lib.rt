@@ -12,6 +12,3 @@ pub use writing::{
     open_object, own_text_member, parent_member, text_member, trace_member, true_member,
     truth_member, whole_count_member, whole_text_member,
 };
-
-#[cfg(test)]
-mod tests;

@@ -1,7 +1,7 @@
 //! Members of an object, and the texts and truth values that they hold.
 ghost use Rattle.std.specs.Prelude.{◌≡◌, [], IfOk, option_map};
 ghost use Rattle.serde_json.specs.View.{view};
-ghost use Rattle.span_io.specs.Paths.{optional, JudgesValue, Given};
+ghost use Rattle.span_io.specs.Paths.{optional, JudgesValue, JudgesByCause, Given};
 ghost use Rattle.json_members.specs.Members.{member, IsText, text_faults, IsTruth, truth_faults};
 
 use serde_json::Value;
@@ -57,12 +57,12 @@ pub fn text(alloc: Global, v: &Value, name: &str) -> Result<Text, Halt<Cause>>
 }
 
 /// The truth value that the value is.
-pub fn truth_of(v: &Value) -> Result<bool, Halt<Cause>>
+pub fn truth_of(v: &Value) -> Result<bool, Cause>
     ensures value { IfOk result (λ truth. IsTruth truth (view v.now)) }
-    ensures judged { JudgesValue result (truth_faults (view v.now)) }
+    ensures judged { JudgesByCause result (truth_faults (view v.now)) }
 {
     match v.as_bool() {
         Some(truth) => Ok(truth),
-        None => Err(Halt::Why(Cause::BadShape)),
+        None => Err(Cause::BadShape),
     }
 }

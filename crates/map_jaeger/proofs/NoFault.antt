@@ -1,5 +1,5 @@
 -- Where nothing in a group is a fault, none is found in its resource, nor in a span of it.
-use Rattle.std.proofs.Common.{◌≡◌, List, [], ◌∷◌, ◌++◌, map, Option, Some, None, All, refl, ℕ}
+use Rattle.std.proofs.Common.{◌≡◌, ◌↔◌, List, [], ◌∷◌, ◌++◌, map, Option, Some, None, All, refl, sym, subst, ◌∙◌, ℕ}
 use Rattle.std.specs.Option.{option_or}
 use Rattle.std.proofs.lemmas.List.Elements.{All-nil, All-cons}
 use Rattle.trace_model.specs.Soundness.{IsSoundGroup}
@@ -26,6 +26,10 @@ none_counts group (Some fault) (place, least) none = absurd (none _ least.0)
 
 pub none_found : (group : Group) → IsSoundGroup group → HasNoFault group → fault_of group ≡ None
 none_found group sound none = none_counts group (fault_of group) (fault_counts group sound) none
+
+pub none_exactly : (group : Group) → IsSoundGroup group → (found : Option Fault) → found ≡ fault_of group → (found ≡ None) ↔ HasNoFault group
+none_exactly group sound found is =
+    (λ none. subst (IsFaultOf group) (sym is ∙ none) (fault_counts group sound), λ plain. is ∙ none_found group sound plain)
 
 pub none_in_resource : (group : Group) → IsSoundGroup group → HasNoFault group → resource_fault group.resource ≡ None
 none_in_resource group sound none = none_first (resource_fault group.resource) (scopes_fault group.scopes) (none_found group sound none)

@@ -1,6 +1,8 @@
 -- Logs and spans, one after the other.
-use Rattle.std.proofs.Common.{◌≡◌, ℕ, ◌+◌, suc, List, [], ◌∷◌, ◌++◌, map, sym, ap, subst, ◌∙◌, append_assoc, arith}
+use Rattle.std.proofs.Common.{◌≡◌, ℕ, ◌+◌, ◌<◌, ◌^◌, suc, List, [], ◌∷◌, ◌++◌, length, map, All, sym, ap, subst, ◌∙◌, append_assoc, arith}
 use Rattle.std.proofs.lemmas.List.{append-nil}
+use Rattle.std.proofs.lemmas.List.Elements.{All-head, All-tail}
+use Rattle.jaeger_model.specs.Counted.{IsCountedSpan}
 use Rattle.jaeger_model.specs.declared.span.JSpan.{JSpan}
 use Rattle.jaeger_model.specs.declared.span.Log.{Log}
 use Rattle.trace_model.specs.declared.remark.Remark.{Remark}
@@ -25,12 +27,14 @@ noted_on Noted remarks xs rest i number x old new counted added so_far =
 
 -- so many logs are read, and these are left
 pub record EventsSoFar (span : ℕ) (logs : List Log) (i : ℕ) (rest : List Log) (read : ReadEvents) : Type 0 where
+  pub count : i + length rest ≡ length logs
   pub events : read.events ++ map event_of rest ≡ map event_of logs
   pub remarks : IsNumberedBy RepeatsOf (log_remarks span) i rest logs read.remarks
 
 pub events_begin : (span : ℕ) (logs rest : List Log) (read : ReadEvents) → rest ≡ logs → read.events ≡ [] → read.remarks ≡ []
     → EventsSoFar span logs 0 rest read
 events_begin span logs rest read all no_events no_remarks = subst (λ l. EventsSoFar span logs 0 l read) (sym all) (record {
+  count = omega arith;
   events = ap (λ l. l ++ map event_of logs) no_events;
   remarks = λ more its. subst (λ l. AreNumbered RepeatsOf (log_remarks span) 1 logs (l ++ more)) (sym no_remarks) its;
 })
@@ -39,12 +43,19 @@ pub events_more : (span : ℕ) (logs left rest : List Log) (i number : ℕ) (log
     → left ≡ log ∷ rest → number ≡ i + 1 → new.events ≡ old.events ++ event_of log ∷ [] → AddsNoted RepeatsOf (log_remarks span) number log old.remarks new.remarks
     → EventsSoFar span logs i left old → EventsSoFar span logs number rest new
 events_more span logs left rest i number log old new split counted event added before = record {
+  count = omega (arith, counted, so_far.count);
   events = ap (λ l. l ++ map event_of rest) event ∙ (append_assoc old.events (event_of log ∷ []) (map event_of rest) ∙ so_far.events);
   remarks = noted_on RepeatsOf (log_remarks span) logs rest i number log old.remarks new.remarks counted added so_far.remarks;
 }
   where
     so_far : EventsSoFar span logs i (log ∷ rest) old
     so_far = subst (λ l. EventsSoFar span logs i l old) split before
+
+-- one more has a number of 32 bits
+pub number_fits : {A : Type 0} (members left rest : List A) (i : ℕ) (x : A) → length members < 2 ^ 32 → left ≡ x ∷ rest → i + length left ≡ length members → i + 1 < 2 ^ 32
+number_fits members left rest i x counted split count =
+    let longer : length left ≡ suc (length rest) = ap length split in
+    omega (arith, counted, count, longer)
 
 pub events_end : (span : ℕ) (logs left : List Log) (i : ℕ) (read : ReadEvents) → left ≡ [] → EventsSoFar span logs i left read
     → (read.events ≡ map event_of logs) × AreNumbered RepeatsOf (log_remarks span) 1 logs read.remarks
@@ -58,12 +69,16 @@ events_end span logs left i read none before = (
 
 -- so many spans are read, and these are left
 pub record SpansSoFar (spans : List JSpan) (i : ℕ) (rest : List JSpan) (so_far : Runs) (found : List Remark) : Type 0 where
+  pub count : i + length rest ≡ length spans
+  pub each : All IsCountedSpan rest
   pub scopes : with_behind so_far (runs (map scoped_of rest)) ≡ runs (map scoped_of spans)
   pub remarks : IsNumberedBy RepeatsOfSpan jspan_remarks i rest spans found
 
-pub spans_begin : (spans rest : List JSpan) (so_far : Runs) (found : List Remark) → rest ≡ spans
+pub spans_begin : (spans rest : List JSpan) (so_far : Runs) (found : List Remark) → rest ≡ spans → All IsCountedSpan spans
     → ((scopes : List Scope) → with_behind so_far scopes ≡ scopes) → found ≡ [] → SpansSoFar spans 0 rest so_far found
-spans_begin spans rest so_far found all empty no_remarks = subst (λ l. SpansSoFar spans 0 l so_far found) (sym all) (record {
+spans_begin spans rest so_far found all each empty no_remarks = subst (λ l. SpansSoFar spans 0 l so_far found) (sym all) (record {
+  count = omega arith;
+  each = each;
   scopes = empty (runs (map scoped_of spans));
   remarks = λ more its. subst (λ l. AreNumbered RepeatsOfSpan jspan_remarks 1 spans (l ++ more)) (sym no_remarks) its;
 })
@@ -73,12 +88,17 @@ pub spans_more : (spans left rest : List JSpan) (i number : ℕ) (span : JSpan) 
     → ((scopes : List Scope) → with_behind new scopes ≡ with_behind old (in_front (one_of one) scopes))
     → AddsNoted RepeatsOfSpan jspan_remarks number span found more → SpansSoFar spans i left old found → SpansSoFar spans number rest new more
 spans_more spans left rest i number span one old new found more split counted is added noted before = record {
+  count = omega (arith, counted, so_far.count);
+  each = All-tail IsCountedSpan span rest so_far.each;
   scopes = added (runs (map scoped_of rest)) ∙ (ap (λ o. with_behind old (in_front o (runs (map scoped_of rest)))) is ∙ so_far.scopes);
   remarks = noted_on RepeatsOfSpan jspan_remarks spans rest i number span found more counted noted so_far.remarks;
 }
   where
     so_far : SpansSoFar spans i (span ∷ rest) old found
     so_far = subst (λ l. SpansSoFar spans i l old found) split before
+
+pub next_counted : (spans left rest : List JSpan) (i : ℕ) (span : JSpan) (so_far : Runs) (found : List Remark) → left ≡ span ∷ rest → SpansSoFar spans i left so_far found → IsCountedSpan span
+next_counted spans left rest i span so_far found split before = All-head IsCountedSpan span rest (subst (All IsCountedSpan) split before.each)
 
 pub spans_end : (spans left : List JSpan) (i : ℕ) (so_far : Runs) (found : List Remark) → left ≡ [] → SpansSoFar spans i left so_far found
     → (with_behind so_far [] ≡ runs (map scoped_of spans)) × AreNumbered RepeatsOfSpan jspan_remarks 1 spans found

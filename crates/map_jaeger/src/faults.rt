@@ -1,9 +1,11 @@
 //! What Jaeger can't hold of a group. The spans are gone over once, and nothing is copied but the
 //! key of the fault.
-ghost use Rattle.std.specs.Prelude.{◌≡◌, option_map, IfOk};
+ghost use Rattle.std.specs.Prelude.{◌≡◌, ◌↔◌, None, option_map, IfOk};
 ghost use Rattle.std.specs.List.{list_any};
+ghost use Rattle.trace_model.specs.Soundness.{IsSoundGroup};
 ghost use Rattle.span_tags.specs.Doubles as told;
 ghost use Rattle.span_tags.specs.LeastRows as least_rows;
+ghost use Rattle.map_jaeger.specs.Faults.{HasNoFault, IsFaultOf};
 ghost use Rattle.map_jaeger.specs.Keys as keys;
 ghost use Rattle.map_jaeger.specs.LeastFault as least;
 
@@ -248,12 +250,21 @@ fn scopes_fault(alloc: Global, scopes: &Items<Scope>) -> Result<Option<Fault>, O
     Ok(None)
 }
 
-// The fault of a group that counts, if there is any.
-pub(crate) fn fault_of_group(alloc: Global, group: &Group) -> Result<Option<Fault>, OutOfMemory>
+fn found_in_group(alloc: Global, group: &Group) -> Result<Option<Fault>, OutOfMemory>
     ensures { IfOk result (λ fault. fault ≡ least.fault_of group.now) }
 {
     if let Some(fault) = resource_fault(&group.resource) {
         return Ok(Some(fault));
     }
     scopes_fault(alloc, &group.scopes)
+}
+
+/// The fault of a group for which Jaeger can't hold it, if there is any. Only the key of a fault
+/// takes memory.
+pub fn fault_of_group(alloc: Global, group: &Group) -> Result<Option<Fault>, OutOfMemory>
+    requires sound { IsSoundGroup group.now }
+    ensures judged { IfOk result (λ fault. IsFaultOf group.now fault) }
+    ensures none { IfOk result (λ fault. (fault ≡ None) ↔ HasNoFault group.now) }
+{
+    found_in_group(alloc, group)
 }

@@ -9,8 +9,6 @@ mod writing;
 mod writing_columns;
 mod writing_flags;
 
+pub use faults::fault_of_group;
 pub use reading::group_of_batch;
 pub use writing::batch_of_group;
-
-#[cfg(test)]
-mod tests;

@@ -1,5 +1,6 @@
 //! Batches of Jaeger as groups of a trace.
 ghost use Rattle.std.specs.Prelude.{◌≡◌, IfOk};
+ghost use Rattle.jaeger_model.specs.Counted.{IsCountedBatch};
 ghost use Rattle.trace_model.specs.Soundness.{IsSoundGroup};
 ghost use Rattle.map_jaeger.specs.Reading.{group_of};
 ghost use Rattle.map_jaeger.specs.Remarks.{AreRemarks};
@@ -23,9 +24,9 @@ use tags::attributes_of;
 use trace_model::{Group, Place, Remark, remark_all, remark_keys};
 
 /// The group that a batch means (OpenTelemetry exporter page for Jaeger, read backwards), and the
-/// remarks on it. A batch of so many spans or logs that their numbers take more than 32 bits is
-/// answered as want of memory.
+/// remarks on it.
 pub fn group_of_batch(alloc: Global, batch: Batch) -> Result<(Group, Items<Remark>), OutOfMemory>
+    requires counted { IsCountedBatch batch }
     ensures value { IfOk result (λ parts. parts.0 ≡ group_of batch) }
     ensures remarks { IfOk result (λ parts. AreRemarks batch parts.1) }
     ensures sound { IfOk result (λ parts. IsSoundGroup parts.0) }

@@ -1,15 +1,27 @@
 -- One more span behind the last group.
-use Rattle.std.proofs.Common.{◌≡◌, ℕ, ◌<◌, ◌≤◌, Bool, true, false, ◌&&◌, List, [], ◌∷◌, ◌++◌, length, drop, refl, sym, ap, ◌∙◌, append_assoc, true≢false, drop-cons, nat_le, arith}
+use Rattle.std.proofs.Common.{◌≡◌, ℕ, suc, ◌+◌, ◌<◌, ◌≤◌, Bool, true, false, ◌&&◌, List, [], ◌∷◌, ◌++◌, length, map, All, take, drop, refl, sym, ap, ◌∙◌, append_assoc, true≢false, drop-cons, nat_le, arith}
 use Rattle.std.proofs.Math.ListN.{drop_of_length-le}
 use Rattle.std.proofs.lemmas.Bool.{le-leb, leb-true, leb-false}
+use Rattle.std.proofs.lemmas.List.{append-nil}
+use Rattle.std.proofs.lemmas.List.Elements.{All-nil, All-cons, All-head, All-tail}
 use Rattle.std.specs.Str.{bytes_eq}
 use Rattle.span_tags.specs.AttributeLaws.{same_key}
-use Rattle.span_tags.specs.Runs.{in_front}
+use Rattle.span_tags.specs.RunLaws.{in_front_spans}
+use Rattle.span_tags.specs.Runs.{Scoped, scoped, in_front}
 use Rattle.span_tags.specs.TagWords.{Pairs}
+use Rattle.trace_model.specs.OtlpParts.{NotedGroup}
+use Rattle.trace_model.specs.Remarks.{Keys, numbered}
+use Rattle.trace_model.specs.declared.place.Place.TheVariants as places
+use Rattle.trace_model.specs.declared.remark.Remark.{Remark}
+use Rattle.trace_model.specs.declared.remark.RemarkKind.TheVariants as kinds
+use Rattle.trace_model.specs.declared.span.Span.{Span}
 use Rattle.trace_model.specs.declared.trace.Group.{Group}
 use Rattle.trace_model.specs.declared.trace.Scope.{Scope}
 use Rattle.trace_model.specs.declared.value.Value.{Value, Text, Truth, Number, Eight, Bytes, List', Map', Nothing}
-use Rattle.map_zipkin.specs.ReadGroups.{groups_joined}
+use Rattle.map_zipkin.specs.NotedGroups.{noted_group, left_out_remarks, spans_in, with_left_out}
+use Rattle.map_zipkin.specs.ReadGroups.{groups_joined, last_alone, moved_to, IsAdded, IsAlone}
+use Rattle.map_zipkin.specs.declared.groups.Last.{Last}
+use Rattle.map_zipkin.proofs.ReadNormal.{map_append}
 use Rattle.map_zipkin.specs.Regrouped.{RunSpan, in_scope, same_text, same_resource, plain_group, before}
 
 -- ---- equal resources
@@ -46,67 +58,142 @@ resource_same (p ∷ a) (q ∷ b) e =
     let rest : a ≡ b = resource_same a b parts.1 in
     λ i. (same_key p.0 q.0 one.0 i, text_same p.1 q.1 one.1 i) ∷ rest i
 
+-- ---- remarks on one more span
+
+-- a group that has one more span in front has its keys in front
+taken_one : (one : Scoped Span) (scopes : List Scope) (keys : Keys) (left_out : List Keys)
+    → take (length (scoped (in_front one scopes))) (keys ∷ left_out) ≡ keys ∷ take (length (scoped scopes)) left_out
+taken_one one scopes keys left_out = ap (λ (l : List (Scoped Span)). take (length l) (keys ∷ left_out)) (in_front_spans one scopes)
+
+dropped_one : (one : Scoped Span) (scopes : List Scope) (keys : Keys) (left_out : List Keys)
+    → drop (length (scoped (in_front one scopes))) (keys ∷ left_out) ≡ drop (length (scoped scopes)) left_out
+dropped_one one scopes keys left_out = ap (λ (l : List (Scoped Span)). drop (length l) (keys ∷ left_out)) (in_front_spans one scopes)
+
+-- the remarks of a group behind that of its first span
+first_then : (keys : Keys) (left_out : List Keys) (remarks : List Remark) → remarks ≡ left_out_remarks 1 keys
+    → remarks ++ numbered left_out_remarks 2 left_out ≡ numbered left_out_remarks 1 (keys ∷ left_out)
+unfolding numbered
+first_then keys left_out remarks e = ap (λ l. l ++ numbered left_out_remarks 2 left_out) e
+
+first_alone : (keys : Keys) (remarks : List Remark) → remarks ≡ left_out_remarks 1 keys → remarks ≡ numbered left_out_remarks 1 (keys ∷ [])
+unfolding numbered
+first_alone keys remarks e = e ∙ sym (append-nil (left_out_remarks 1 keys))
+
+-- and behind that of one more span
+more_then : (keys : Keys) (left_out : List Keys) (old new : List Remark) (n : ℕ) → new ≡ old ++ left_out_remarks n keys
+    → new ++ numbered left_out_remarks (suc n) left_out ≡ old ++ numbered left_out_remarks n (keys ∷ left_out)
+unfolding numbered
+more_then keys left_out old new n e =
+    ap (λ l. l ++ numbered left_out_remarks (suc n) left_out) e ∙ append_assoc old (left_out_remarks n keys) (numbered left_out_remarks (suc n) left_out)
+
+more_alone : (keys : Keys) (old new : List Remark) (n : ℕ) → new ≡ old ++ left_out_remarks n keys → new ≡ old ++ numbered left_out_remarks n (keys ∷ [])
+unfolding numbered
+more_alone keys old new n e = e ∙ ap (λ l. old ++ l) (sym (append-nil (left_out_remarks n keys)))
+
 -- ---- one more span
 
--- a span in front is a run in front
-pub front_joins : (one : RunSpan) (resource : Pairs) (scopes : List Scope → List Scope) (groups : List Group) → resource ≡ one.0.resource
-    → ((l : List Scope) → scopes l ≡ in_front (in_scope one) l) → groups_joined resource scopes groups ≡ before one groups
-front_joins one resource scopes [] e same = λ i. plain_group (e i) (same [] i) ∷ []
-front_joins one resource scopes (group ∷ groups) e same = by (same_resource one.0.resource group.resource) refl
+-- a group of this resource, these scopes and remarks
+abbrev noted_plain : Pairs → List Scope → List Remark → NotedGroup
+noted_plain resource scopes remarks = record { means = plain_group resource scopes; notes = remarks }
+
+-- a span in front is a group in front
+pub front_joins : (one : RunSpan) (keys : Keys) (last : Last) (groups : List Group) (left_out : List Keys) → IsAlone one keys last
+    → groups_joined last groups left_out ≡ with_left_out (before one groups) (keys ∷ left_out)
+front_joins one keys last [] left_out alone = λ i. noted_plain (alone.resource i) (alone.scopes [] i) (first_alone keys last.remarks alone.remarks i) ∷ []
+front_joins one keys last (group ∷ groups) left_out alone = by (same_resource one.0.resource group.resource) refl
   where
-    by : (b : Bool) → same_resource one.0.resource group.resource ≡ b → groups_joined resource scopes (group ∷ groups) ≡ before one (group ∷ groups)
+    by : (b : Bool) → same_resource one.0.resource group.resource ≡ b
+        → groups_joined last (group ∷ groups) left_out ≡ with_left_out (before one (group ∷ groups)) (keys ∷ left_out)
     by true is =
         let its : one.0.resource ≡ group.resource = resource_same one.0.resource group.resource is in
-        let here : same_resource resource group.resource ≡ true = ap (λ r. same_resource r group.resource) e ∙ is in
-        rw (here, is) (λ i. plain_group ((e ∙ its) i) (same group.scopes i) ∷ groups)
+        let here : same_resource last.resource group.resource ≡ true = ap (λ r. same_resource r group.resource) alone.resource ∙ is in
+        let number : last.spans + 1 ≡ 2 = ap (λ n. n + 1) alone.spans in
+        let taken = sym (taken_one (in_scope one) group.scopes keys left_out) in
+        let notes = ap (λ n. last.remarks ++ numbered left_out_remarks n (take (spans_in group) left_out)) number
+        ∙ first_then keys (take (spans_in group) left_out) last.remarks alone.remarks
+        ∙ ap (numbered left_out_remarks 1) taken in
+        rw (here, is) (λ i. noted_plain ((alone.resource ∙ its) i) (alone.scopes group.scopes i) (notes i)
+        ∷ with_left_out groups (sym (dropped_one (in_scope one) group.scopes keys left_out) i))
     by false is =
-        let here : same_resource resource group.resource ≡ false = ap (λ r. same_resource r group.resource) e ∙ is in
-        rw (here, is) (λ i. plain_group (e i) (same [] i) ∷ group ∷ groups)
+        let here : same_resource last.resource group.resource ≡ false = ap (λ r. same_resource r group.resource) alone.resource ∙ is in
+        rw (here, is) (λ i. noted_plain (alone.resource i) (alone.scopes [] i) (first_alone keys last.remarks alone.remarks i) ∷ with_left_out (group ∷ groups) left_out)
 
 -- the span is of the last group
-pub joins_more : (one : RunSpan) (resource new_resource : Pairs) (scopes new_scopes : List Scope → List Scope) (groups : List Group)
-    → same_resource resource one.0.resource ≡ true → new_resource ≡ resource → ((l : List Scope) → new_scopes l ≡ scopes (in_front (in_scope one) l))
-    → groups_joined new_resource new_scopes groups ≡ groups_joined resource scopes (before one groups)
-joins_more one resource new_resource scopes new_scopes [] is e same = rw is (λ i. plain_group (e i) (same [] i) ∷ [])
-joins_more one resource new_resource scopes new_scopes (group ∷ groups) is e same = by (same_resource one.0.resource group.resource) refl
+pub joins_more : (one : RunSpan) (keys : Keys) (last more : Last) (groups : List Group) (left_out : List Keys)
+    → same_resource last.resource one.0.resource ≡ true → IsAdded one keys last more
+    → groups_joined more groups left_out ≡ groups_joined last (before one groups) (keys ∷ left_out)
+joins_more one keys last more [] left_out is added =
+    rw is (λ i. noted_plain (added.resource i) (added.scopes [] i) (more_alone keys last.remarks more.remarks (last.spans + 1) added.remarks i) ∷ [])
+joins_more one keys last more (group ∷ groups) left_out is added = by (same_resource one.0.resource group.resource) refl
   where
-    its : resource ≡ one.0.resource
-    its = resource_same resource one.0.resource is
+    its : last.resource ≡ one.0.resource
+    its = resource_same last.resource one.0.resource is
 
     by : (b : Bool) → same_resource one.0.resource group.resource ≡ b
-        → groups_joined new_resource new_scopes (group ∷ groups) ≡ groups_joined resource scopes (before one (group ∷ groups))
+        → groups_joined more (group ∷ groups) left_out ≡ groups_joined last (before one (group ∷ groups)) (keys ∷ left_out)
     by true with_first =
-        let old : same_resource resource group.resource ≡ true = ap (λ r. same_resource r group.resource) its ∙ with_first in
-        let new : same_resource new_resource group.resource ≡ true = ap (λ r. same_resource r group.resource) e ∙ old in
-        rw (with_first, new) (rw old (λ i. plain_group (e i) (same group.scopes i) ∷ groups))
+        let old : same_resource last.resource group.resource ≡ true = ap (λ r. same_resource r group.resource) its ∙ with_first in
+        let new : same_resource more.resource group.resource ≡ true = ap (λ r. same_resource r group.resource) added.resource ∙ old in
+        let number : more.spans + 1 ≡ suc (last.spans + 1) = omega (arith, added.spans) in
+        let taken = sym (taken_one (in_scope one) group.scopes keys left_out) in
+        let notes = ap (λ n. more.remarks ++ numbered left_out_remarks n (take (spans_in group) left_out)) number
+        ∙ more_then keys (take (spans_in group) left_out) last.remarks more.remarks (last.spans + 1) added.remarks
+        ∙ ap (λ l. last.remarks ++ numbered left_out_remarks (last.spans + 1) l) taken in
+        rw (with_first, new) (rw old (λ i. noted_plain (added.resource i) (added.scopes group.scopes i) (notes i)
+        ∷ with_left_out groups (sym (dropped_one (in_scope one) group.scopes keys left_out) i)))
     by false apart =
-        let old : same_resource resource group.resource ≡ false = ap (λ r. same_resource r group.resource) its ∙ apart in
-        let new : same_resource new_resource group.resource ≡ false = ap (λ r. same_resource r group.resource) e ∙ old in
-        rw (apart, new) (rw is (λ i. plain_group (e i) (same [] i) ∷ group ∷ groups))
+        let old : same_resource last.resource group.resource ≡ false = ap (λ r. same_resource r group.resource) its ∙ apart in
+        let new : same_resource more.resource group.resource ≡ false = ap (λ r. same_resource r group.resource) added.resource ∙ old in
+        let notes = more_alone keys last.remarks more.remarks (last.spans + 1) added.remarks in
+        rw (apart, new) (rw is (λ i. noted_plain (added.resource i) (added.scopes [] i) (notes i) ∷ with_left_out (group ∷ groups) left_out))
 
 -- the span is of another
-pub apart_more : (one : RunSpan) (resource : Pairs) (scopes : List Scope → List Scope) (groups : List Group) → same_resource resource one.0.resource ≡ false
-    → groups_joined resource scopes (before one groups) ≡ plain_group resource (scopes []) ∷ before one groups
-apart_more one resource scopes [] apart = rw apart refl
-apart_more one resource scopes (group ∷ groups) apart = by (same_resource one.0.resource group.resource) refl
+apart_more : (one : RunSpan) (last : Last) (groups : List Group) (left_out : List Keys) → same_resource last.resource one.0.resource ≡ false
+    → groups_joined last (before one groups) left_out ≡ last_alone last ∷ with_left_out (before one groups) left_out
+apart_more one last [] left_out apart = rw apart refl
+apart_more one last (group ∷ groups) left_out apart = by (same_resource one.0.resource group.resource) refl
   where
     by : (b : Bool) → same_resource one.0.resource group.resource ≡ b
-        → groups_joined resource scopes (before one (group ∷ groups)) ≡ plain_group resource (scopes []) ∷ before one (group ∷ groups)
+        → groups_joined last (before one (group ∷ groups)) left_out ≡ last_alone last ∷ with_left_out (before one (group ∷ groups)) left_out
     by true with_first =
-        let its : same_resource resource group.resource ≡ false =
-        ap (same_resource resource) (sym (resource_same one.0.resource group.resource with_first)) ∙ apart in
+        let its : same_resource last.resource group.resource ≡ false =
+        ap (same_resource last.resource) (sym (resource_same one.0.resource group.resource with_first)) ∙ apart in
         rw with_first (rw its refl)
     by false other = rw other (rw apart refl)
 
-pub added_behind : (one : RunSpan) (resource next_resource : Pairs) (scopes next_scopes : List Scope → List Scope) (done new_done groups : List Group)
-    → same_resource resource one.0.resource ≡ false → next_resource ≡ one.0.resource → ((l : List Scope) → next_scopes l ≡ in_front (in_scope one) l)
-    → new_done ≡ done ++ plain_group resource (scopes []) ∷ []
-    → new_done ++ groups_joined next_resource next_scopes groups ≡ done ++ groups_joined resource scopes (before one groups)
-added_behind one resource next_resource scopes next_scopes done new_done groups apart e same pushed =
-    ap (λ d. d ++ groups_joined next_resource next_scopes groups) pushed
-    ∙ append_assoc done (plain_group resource (scopes []) ∷ []) (groups_joined next_resource next_scopes groups)
-    ∙ ap (λ l. done ++ l) (ap (λ l. plain_group resource (scopes []) ∷ l) (front_joins one next_resource next_scopes groups e same)
-    ∙ sym (apart_more one resource scopes groups apart))
+-- one more behind what is done
+pub pushed : (done new_done : List (Group × List Remark)) (group : Group × List Remark) (noted : NotedGroup)
+    → new_done ≡ done ++ group ∷ [] → noted_group group ≡ noted → map noted_group new_done ≡ map noted_group done ++ noted ∷ []
+pushed done new_done group noted e is = ap (map noted_group) e ∙ map_append noted_group done (group ∷ []) ∙ ap (λ x. map noted_group done ++ x ∷ []) is
+
+pub added_behind : (one : RunSpan) (keys : Keys) (last next : Last) (done new_done : List NotedGroup) (groups : List Group) (left_out : List Keys)
+    → same_resource last.resource one.0.resource ≡ false → IsAlone one keys next → new_done ≡ done ++ last_alone last ∷ []
+    → new_done ++ groups_joined next groups left_out ≡ done ++ groups_joined last (before one groups) (keys ∷ left_out)
+added_behind one keys last next done new_done groups left_out apart alone more =
+    ap (λ d. d ++ groups_joined next groups left_out) more
+    ∙ append_assoc done (last_alone last ∷ []) (groups_joined next groups left_out)
+    ∙ ap (λ l. done ++ l) (ap (λ l. last_alone last ∷ l) (front_joins one keys next groups left_out alone)
+    ∙ sym (apart_more one last groups (keys ∷ left_out) apart))
+
+-- ---- the groups of what is answered, and remarks at another place
+
+pub noted_back : (groups : List (Group × List Remark)) → map (λ (g : NotedGroup). g.means) (map noted_group groups) ≡ map (λ (g : Group × List Remark). g.0) groups
+noted_back [] = refl
+noted_back (group ∷ groups) = ap (λ (l : List Group). group.0 ∷ l) (noted_back groups)
+
+pub all_first : (P : Group → Type 0) (groups : List (Group × List Remark)) → All P (map (λ (g : Group × List Remark). g.0) groups) → All (λ (g : Group × List Remark). P g.0) groups
+all_first P [] all = All-nil (λ (g : Group × List Remark). P g.0)
+all_first P (group ∷ groups) all =
+    let more = map (λ (g : Group × List Remark). g.0) groups in
+    All-cons (λ (g : Group × List Remark). P g.0) group groups (All-head P group.0 more all) (all_first P groups (All-tail P group.0 more all))
+
+pub groups_left : (groups : List Group) (left_out : List Keys) → map (λ (g : NotedGroup). g.means) (with_left_out groups left_out) ≡ groups
+groups_left [] left_out = refl
+groups_left (group ∷ groups) left_out = ap (λ (l : List Group). group ∷ l) (groups_left groups (drop (spans_in group) left_out))
+
+pub moved_tags : (n m : ℕ) (keys : Keys) → map (moved_to (places.Span n)) (left_out_remarks m keys) ≡ left_out_remarks n keys
+moved_tags n m [] = refl
+moved_tags n m (key ∷ keys) = ap (λ (l : List Remark). record { place = places.Span n; kind = kinds.TagDropped; key = key } ∷ l) (moved_tags n m keys)
 
 -- ---- equal resources, pair after pair
 

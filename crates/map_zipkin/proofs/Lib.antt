@@ -13,6 +13,7 @@ pub mod MergedRows
 pub mod NormalLaws
 pub mod NormalPairs
 pub mod NormalProper
+pub mod NotedLaws
 pub mod OwnForms
 pub mod PlainTags
 pub mod Ports

@@ -10,11 +10,14 @@ use Rattle.zipkin_json.specs.Proper.{IsProperZSpan, IsTimelyZSpan}
 use Rattle.zipkin_json.specs.declared.span.ZSpan.{ZSpan}
 use Rattle.map_zipkin.specs.Laws.{IsHeldByZipkin, SpansReadBack, WrittenIsWritable, ZipkinNormalForms}
 use Rattle.map_zipkin.specs.Normal.{normal_spans, zipkin_normal}
+use Rattle.map_zipkin.specs.NotedGroups.{plain_noted, noted_groups_of}
 use Rattle.map_zipkin.specs.Reading.{run_span_of, groups_of}
+use Rattle.map_zipkin.specs.Remarks.{zipkin_left_out}
 use Rattle.map_zipkin.specs.Regrouped.{regrouped}
 use Rattle.map_zipkin.specs.Writing.{spans_of_group}
 use Rattle.map_zipkin.proofs.EventFacts.{EventsRead, SameEventText}
 use Rattle.map_zipkin.proofs.GroupsHeld.{read_sound, read_without_fault}
+use Rattle.map_zipkin.proofs.NotedLaws.{groups_noted}
 use Rattle.map_zipkin.proofs.ReadNormal.{map_append, read_itself}
 use Rattle.map_zipkin.proofs.SameSpans.{same_spans}
 use Rattle.map_zipkin.proofs.NormalProper.{TextsAreUtf8, TextsAreProper, normal_proper}
@@ -37,6 +40,12 @@ module _ (facts : EventsRead) (texts : SameEventText) (utf8 : TextsAreUtf8) (byt
   -- what is written is read as the normal form
   groups_back : (groups : List Group) → All IsHeldByZipkin groups → groups_of (written_of groups) ≡ zipkin_normal groups
   groups_back groups held = ap regrouped (runs_back groups held)
+
+  -- on which there is no remark
+  noted_back : (groups : List Group) → All IsHeldByZipkin groups → noted_groups_of (written_of groups) ≡ map plain_noted (zipkin_normal groups)
+  noted_back groups held =
+      (groups_noted.plainly (written_of groups)).1 (flat_all IsHeldByZipkin (λ span. zipkin_left_out span ≡ []) spans_of_group back.plainly groups held)
+      ∙ ap (map plain_noted) (groups_back groups held)
 
   all_proper : (groups : List Group) → All IsHeldByZipkin groups → All IsProperZSpan (written_of groups)
   all_proper groups held = flat_all IsHeldByZipkin IsProperZSpan spans_of_group written.proper groups held
@@ -61,4 +70,4 @@ module _ (facts : EventsRead) (texts : SameEventText) (utf8 : TextsAreUtf8) (byt
   )
 
   pub normal_forms : ZipkinNormalForms
-  normal_forms = record { held = normal_held; itself = normal_again; same_spans = same_spans texts; equal = normal_equal }
+  normal_forms = record { held = normal_held; itself = normal_again; same_spans = same_spans texts; read_back = noted_back; equal = normal_equal }

@@ -9,6 +9,7 @@ use Rattle.trace_model.specs.declared.trace.Group.{Group}
 use Rattle.zipkin_json.specs.Proper.{IsProperZSpan, IsTimelyZSpan}
 use Rattle.zipkin_json.specs.declared.span.ZSpan.{ZSpan}
 use Rattle.map_zipkin.specs.Faults.{HasNoZipkinFault, IsZipkinFaultOf}
+use Rattle.map_zipkin.specs.NotedGroups.{plain_noted, noted_groups_of}
 use Rattle.map_zipkin.specs.Normal.{normal_spans, zipkin_normal}
 use Rattle.map_zipkin.specs.Reading.{run_span_of, groups_of}
 use Rattle.map_zipkin.specs.Regrouped.{RunSpan, runs_of, regrouped}
@@ -28,6 +29,11 @@ pub record Regroupings : Type 0 where
   pub plain : (l : List RunSpan) → All IsPlainGroup (regrouped l)
   pub again : (l : List RunSpan) → regrouped (flat_map runs_of (regrouped l)) ≡ regrouped l
 
+-- The groups of spans with the remarks on them are the groups of spans; and there is no remark on any of them exactly where no tag is left out.
+pub record GroupsNoted : Type 0 where
+  pub groups : (spans : List ZSpan) → map (λ noted. noted.means) (noted_groups_of spans) ≡ groups_of spans
+  pub plainly : (spans : List ZSpan) → (noted_groups_of spans ≡ map plain_noted (groups_of spans)) ↔ All (λ span. zipkin_left_out span ≡ []) spans
+
 -- a group that Zipkin can hold
 pub record IsHeldByZipkin (group : Group) : Type 0 where
   pub sound : IsSoundGroup group
@@ -39,13 +45,15 @@ pub record SpansReadBack : Type 0 where
   pub means : (group : Group) → IsHeldByZipkin group → map run_span_of (spans_of_group group) ≡ normal_spans group
   pub plainly : (group : Group) → IsHeldByZipkin group → All (λ span. zipkin_left_out span ≡ []) (spans_of_group group)
 
--- the normal form is its own, Zipkin can hold it, and it has the same spans; traces have equal spans where they have equal normal forms, and
--- only there
+-- the normal form is its own, Zipkin can hold it, and it has the same spans, which are read as the normal form without remarks; traces have
+-- equal spans where they have equal normal forms, and only there
 pub record ZipkinNormalForms : Type 0 where
   pub held : (groups : List Group) → All IsHeldByZipkin groups → All IsHeldByZipkin (zipkin_normal groups)
   pub itself : (groups : List Group) → All IsHeldByZipkin groups → zipkin_normal (zipkin_normal groups) ≡ zipkin_normal groups
   pub same_spans : (groups : List Group) → All IsHeldByZipkin groups
       → flat_map spans_of_group (zipkin_normal groups) ≡ flat_map spans_of_group groups
+  pub read_back : (groups : List Group) → All IsHeldByZipkin groups
+      → noted_groups_of (flat_map spans_of_group groups) ≡ map plain_noted (zipkin_normal groups)
   pub equal : (a b : List Group) → All IsHeldByZipkin a → All IsHeldByZipkin b
       → (flat_map spans_of_group a ≡ flat_map spans_of_group b) ↔ (zipkin_normal a ≡ zipkin_normal b)
 

@@ -7,6 +7,7 @@ pub mod Normal
 pub mod Faults
 pub mod LeastZipkinFault
 pub mod Remarks
+pub mod NotedGroups
 pub mod Laws
 pub mod Unfit
 pub mod WritingSoFar

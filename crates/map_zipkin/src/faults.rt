@@ -296,8 +296,9 @@ fn found_in_group(alloc: Global, group: &Group) -> Result<Option<Fault>, OutOfMe
     scopes_fault(alloc, &group.scopes)
 }
 
-/// The fault of a group that counts, if there is any.
-pub(crate) fn fault_of_group(alloc: Global, group: &Group) -> Result<Option<Fault>, OutOfMemory>
+/// The fault of a group that counts, or none where Zipkin can hold the group (OpenTelemetry exporter page
+/// for Zipkin).
+pub fn fault_of_group(alloc: Global, group: &Group) -> Result<Option<Fault>, OutOfMemory>
     requires sound { IsSoundGroup group.now }
     ensures { IfOk result (λ fault. IsZipkinFaultOf group.now fault) }
 {

@@ -1,13 +1,14 @@
-//! The groups of spans: runs of equal resource, and in them runs of equal name and version.
-ghost use Rattle.std.specs.Prelude.{◌≡◌, [], ◌∷◌, ◌++◌, ◌&&◌, List, All, IfOk};
+//! The groups of spans: runs of equal resource, and in them runs of equal name and version; and the
+//! remarks on them.
+ghost use Rattle.std.specs.Prelude.{◌≡◌, [], ◌∷◌, ◌++◌, ◌&&◌, List, map, All, IfOk, OnOk};
 ghost use Rattle.std.specs.Str.{bytes_eq};
+ghost use Rattle.trace_model.specs.Remarks.{Keys};
 ghost use Rattle.trace_model.specs.Soundness.{IsSoundGroup};
+ghost use Rattle.trace_model.specs.declared.place.Place.TheVariants as places;
 ghost use Rattle.trace_model.specs.declared.trace.Group as model;
-ghost use Rattle.trace_model.specs.declared.trace.Scope as scopes;
 ghost use Rattle.trace_model.specs.declared.value.Value.TheVariants as values;
-ghost use Rattle.span_tags.specs.ReadRuns.{with_behind};
-ghost use Rattle.span_tags.specs.Runs.{in_front};
-ghost use Rattle.map_zipkin.specs.ReadGroups.{groups_joined, with_groups};
+ghost use Rattle.map_zipkin.specs.NotedGroups.{left_out_remarks, noted_group, noted_groups_of, with_left_out};
+ghost use Rattle.map_zipkin.specs.ReadGroups.{groups_joined, last_alone, moved_to, with_groups, IsAdded, IsAlone};
 ghost use Rattle.map_zipkin.specs.Reading.{groups_of};
 ghost use Rattle.map_zipkin.specs.Regrouped as told;
 
@@ -16,7 +17,7 @@ use crate::run::Run;
 use span_io::{Items, OutOfMemory, Text};
 use span_tags::{ReadSpan, Runs};
 use std::alloc::Global;
-use trace_model::{Attrs, Group, Span, Value};
+use trace_model::{Attrs, Group, Place, Remark, Span, Value, number_behind};
 use zipkin_json::ZSpan;
 
 // ---- equal resources
@@ -62,73 +63,107 @@ fn same_resource(resource: &Attrs, other: &Attrs) -> bool
 
 // ---- groups
 
-// Spans of one resource, in their scopes.
+// Adds remarks at the end, each at this place.
+fn remark_at(
+    remarks: &mut Items<Remark>,
+    place: Place,
+    more: Items<Remark>,
+) -> Result<(), OutOfMemory>
+    ensures { OnOk result (remarks.new ≡ remarks.old ++ map (moved_to place) more) }
+{
+    'remarks: for remark in more.into_vec() {
+        let Remark { kind, key, .. } = remark;
+        remarks.push(Remark { place, kind, key })?;
+    }
+    Ok(())
+}
+
+// A span that was read: its run, and the remarks on it, which stand at the place of the first span.
+#[derive(Debug, Drop)]
+struct NotedSpan {
+    run: Run,
+    span: Span,
+    remarks: Items<Remark>,
+}
+
+// Spans of one resource, in their scopes: how many there are, and the remarks on them.
 #[derive(Debug, Drop)]
 struct Last {
     resource: Attrs,
     scopes: Runs,
+    spans: u32,
+    remarks: Items<Remark>,
 }
 
 impl Last {
-    fn of(alloc: Global, run: Run, span: Span) -> Result<Last, OutOfMemory>
-        ensures resource { IfOk result (λ last. last.resource ≡ run.resource) }
-        ensures scopes { IfOk result (λ last. (scopes : List scopes.Scope)
-            → with_behind last.scopes scopes ≡ in_front (told.in_scope (run, span)) scopes) }
+    fn of(alloc: Global, one: NotedSpan) -> Result<Last, OutOfMemory>
+        ensures { IfOk result (λ last. (keys : Keys) → one.remarks ≡ left_out_remarks 1 keys
+            → IsAlone (one.run, one.span) keys last) }
     {
-        let one = ReadSpan {
+        let NotedSpan { run, span, remarks } = one;
+        let first = ReadSpan {
             name: run.name,
             version: run.version,
             span,
         };
-        let scopes = Runs::none(alloc).add(alloc, one)?;
+        let scopes = Runs::none(alloc).add(alloc, first)?;
         Ok(Last {
             resource: run.resource,
             scopes,
+            spans: 1,
+            remarks,
         })
     }
 
     // With one more span of the resource.
-    fn with(self, alloc: Global, run: Run, span: Span) -> Result<Last, OutOfMemory>
-        ensures resource { IfOk result (λ last. last.resource ≡ self.resource) }
-        ensures scopes { IfOk result (λ last. (scopes : List scopes.Scope)
-            → with_behind last.scopes scopes ≡ with_behind self.scopes (in_front (told.in_scope (run, span)) scopes)) }
+    fn with(self, alloc: Global, one: NotedSpan) -> Result<Last, OutOfMemory>
+        ensures { IfOk result (λ more. (keys : Keys) → one.remarks ≡ left_out_remarks 1 keys
+            → IsAdded (one.run, one.span) keys self more) }
     {
-        let one = ReadSpan {
+        let NotedSpan { run, span, remarks } = one;
+        let next = ReadSpan {
             name: run.name,
             version: run.version,
             span,
         };
-        let scopes = self.scopes.add(alloc, one)?;
+        let scopes = self.scopes.add(alloc, next)?;
+        let spans = number_behind(self.spans, 1)?;
+        let mut all = self.remarks;
+        remark_at(&mut all, Place::Span(spans), remarks)?;
         Ok(Last {
             resource: self.resource,
             scopes,
+            spans,
+            remarks: all,
         })
     }
 
-    fn group(self, alloc: Global) -> Result<Group, OutOfMemory>
-        ensures { IfOk result (λ group. group ≡ told.plain_group self.resource (with_behind self.scopes [])) }
+    fn group(self, alloc: Global) -> Result<(Group, Items<Remark>), OutOfMemory>
+        ensures { IfOk result (λ group. noted_group group ≡ last_alone self) }
     {
         let scopes = self.scopes.finish(alloc)?;
-        Ok(Group {
+        let group = Group {
             resource: self.resource,
             dropped: 0,
             schema_url: Text::new(alloc),
             scopes,
-        })
+        };
+        Ok((group, self.remarks))
     }
 }
 
-/// The groups of the spans so far.
+// The groups of the spans so far.
 #[derive(Debug, Drop)]
-pub struct Groups {
-    done: Items<Group>,
+struct Groups {
+    done: Items<(Group, Items<Remark>)>,
     last: Option<Last>,
 }
 
 impl Groups {
-    /// Those of no spans.
-    pub fn none(alloc: Global) -> Groups
-        ensures { (groups : List model.Group) → with_groups result groups ≡ groups }
+    // Those of no spans.
+    fn none(alloc: Global) -> Groups
+        ensures { (groups : List model.Group) (left_out : List Keys)
+            → with_groups result groups left_out ≡ with_left_out groups left_out }
     {
         Groups {
             done: Items::new(alloc),
@@ -136,21 +171,22 @@ impl Groups {
         }
     }
 
-    /// The groups with one more span.
-    pub fn add(self, alloc: Global, run: Run, span: Span) -> Result<Groups, OutOfMemory>
-        ensures { IfOk result (λ more. (groups : List model.Group)
-            → with_groups more groups ≡ with_groups self (told.before (run, span) groups)) }
+    // The groups with one more span.
+    fn add(self, alloc: Global, one: NotedSpan) -> Result<Groups, OutOfMemory>
+        ensures { IfOk result (λ more. (keys : Keys) (groups : List model.Group) (left_out : List Keys)
+            → one.remarks ≡ left_out_remarks 1 keys
+            → with_groups more groups left_out ≡ with_groups self (told.before (one.run, one.span) groups) (keys ∷ left_out)) }
     {
         let Groups { done, last } = self;
         match last {
-            None => begin(alloc, done, run, span),
-            Some(last) => behind(alloc, done, last, run, span),
+            None => begin(alloc, done, one),
+            Some(last) => behind(alloc, done, last, one),
         }
     }
 
-    /// All groups.
-    pub fn finish(self, alloc: Global) -> Result<Items<Group>, OutOfMemory>
-        ensures { IfOk result (λ groups. groups ≡ with_groups self []) }
+    // All groups.
+    fn finish(self, alloc: Global) -> Result<Items<(Group, Items<Remark>)>, OutOfMemory>
+        ensures { IfOk result (λ groups. map noted_group groups ≡ with_groups self [] []) }
     {
         let mut done = self.done;
         if let Some(last) = self.last {
@@ -161,11 +197,16 @@ impl Groups {
 }
 
 // A group of one span, behind these groups.
-fn begin(alloc: Global, done: Items<Group>, run: Run, span: Span) -> Result<Groups, OutOfMemory>
-    ensures { IfOk result (λ more. (groups : List model.Group)
-        → with_groups more groups ≡ done ++ told.before (run, span) groups) }
+fn begin(
+    alloc: Global,
+    done: Items<(Group, Items<Remark>)>,
+    one: NotedSpan,
+) -> Result<Groups, OutOfMemory>
+    ensures { IfOk result (λ more. (keys : Keys) (groups : List model.Group) (left_out : List Keys)
+        → one.remarks ≡ left_out_remarks 1 keys → with_groups more groups left_out
+        ≡ map noted_group done ++ with_left_out (told.before (one.run, one.span) groups) (keys ∷ left_out)) }
 {
-    let first = Last::of(alloc, run, span)?;
+    let first = Last::of(alloc, one)?;
     Ok(Groups {
         done,
         last: Some(first),
@@ -175,25 +216,24 @@ fn begin(alloc: Global, done: Items<Group>, run: Run, span: Span) -> Result<Grou
 // One more span, behind these groups and that last one.
 fn behind(
     alloc: Global,
-    done: Items<Group>,
+    done: Items<(Group, Items<Remark>)>,
     last: Last,
-    run: Run,
-    span: Span,
+    one: NotedSpan,
 ) -> Result<Groups, OutOfMemory>
-    ensures { IfOk result (λ more. (groups : List model.Group)
-        → with_groups more groups
-        ≡ done ++ groups_joined last.resource (with_behind last.scopes) (told.before (run, span) groups)) }
+    ensures { IfOk result (λ more. (keys : Keys) (groups : List model.Group) (left_out : List Keys)
+        → one.remarks ≡ left_out_remarks 1 keys → with_groups more groups left_out
+        ≡ map noted_group done ++ groups_joined last (told.before (one.run, one.span) groups) (keys ∷ left_out)) }
 {
     let mut done = done;
-    if same_resource(&last.resource, &run.resource) {
-        let more = last.with(alloc, run, span)?;
+    if same_resource(&last.resource, &one.run.resource) {
+        let more = last.with(alloc, one)?;
         return Ok(Groups {
             done,
             last: Some(more),
         });
     }
     done.push(last.group(alloc)?)?;
-    let next = Last::of(alloc, run, span)?;
+    let next = Last::of(alloc, one)?;
     Ok(Groups {
         done,
         last: Some(next),
@@ -201,22 +241,37 @@ fn behind(
 }
 
 // The groups of spans, one span after the other.
-fn gathered(alloc: Global, spans: Items<ZSpan>) -> Result<Items<Group>, OutOfMemory>
-    ensures { IfOk result (λ groups. groups ≡ groups_of spans) }
+fn gathered(
+    alloc: Global,
+    spans: Items<ZSpan>,
+) -> Result<Items<(Group, Items<Remark>)>, OutOfMemory>
+    ensures { IfOk result (λ groups. map noted_group groups ≡ noted_groups_of spans) }
 {
     let mut so_far = Groups::none(alloc);
     'spans: for span in spans.into_vec() {
-        let (run, read, _) = triple_of_span(alloc, span)?;
-        so_far = so_far.add(alloc, run, read)?;
+        let (run, read, remarks) = triple_of_span(alloc, span)?;
+        so_far = so_far.add(
+            alloc,
+            NotedSpan {
+                run,
+                span: read,
+                remarks,
+            },
+        )?;
     }
     so_far.finish(alloc)
 }
 
-/// The groups that spans of Zipkin are: maximal runs of equal resource, and in them scopes, which are
-/// those of equal name and version.
-pub fn groups_of_spans(alloc: Global, spans: Items<ZSpan>) -> Result<Items<Group>, OutOfMemory>
-    ensures value { IfOk result (λ groups. groups ≡ groups_of spans) }
-    ensures sound { IfOk result (λ groups. All IsSoundGroup groups) }
+/// The groups that spans of Zipkin are, with the remarks on each: maximal runs of equal resource, and
+/// in them scopes, which are those of equal name and version. A group of more spans than 32 bits
+/// number is answered as want of memory.
+pub fn groups_of_spans(
+    alloc: Global,
+    spans: Items<ZSpan>,
+) -> Result<Items<(Group, Items<Remark>)>, OutOfMemory>
+    ensures value { IfOk result (λ groups. map (λ group. group.0) groups ≡ groups_of spans) }
+    ensures remarks { IfOk result (λ groups. map noted_group groups ≡ noted_groups_of spans) }
+    ensures sound { IfOk result (All (λ group. IsSoundGroup group.0)) }
 {
     trace_model::laws::event_texts_exact();
     trace_model::laws::event_texts_once();

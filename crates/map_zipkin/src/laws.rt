@@ -1,10 +1,18 @@
 //! Laws of the table, as contracts of functions that do nothing.
-ghost use Rattle.map_zipkin.specs.Laws.{Regroupings, SpansReadBack, WrittenIsWritable, ReadIsHeld, ReadIsZipkinNormal, ZipkinNormalForms, ZipkinFaultsFound};
+ghost use Rattle.map_zipkin.specs.Laws.{GroupsNoted, Regroupings, SpansReadBack, WrittenIsWritable, ReadIsHeld, ReadIsZipkinNormal, ZipkinNormalForms, ZipkinFaultsFound};
 
 /// Spans that are regrouped are the same spans, in order, in plain groups; and they are regrouped as
 /// before.
 pub fn regroupings()
     ensures { Regroupings }
+{
+    // The clause is the law.
+}
+
+/// The groups of spans with the remarks on them are the groups of spans. There is no remark exactly
+/// where no tag is left out.
+pub fn groups_noted()
+    ensures { GroupsNoted }
 {
     // The clause is the law.
 }
@@ -44,8 +52,9 @@ pub fn read_is_zipkin_normal()
     trace_model::laws::event_texts_once();
 }
 
-/// The normal form is its own, Zipkin can hold it, and it has the same spans. Traces have equal spans
-/// where they have equal normal forms, and only there.
+/// The normal form is its own, Zipkin can hold it, and it has the same spans, which are read as the
+/// normal form without remarks. Traces have equal spans where they have equal normal forms, and only
+/// there.
 pub fn zipkin_normal_forms()
     ensures { ZipkinNormalForms }
 {

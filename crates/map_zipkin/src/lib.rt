@@ -10,10 +10,8 @@ mod reading;
 mod run;
 mod writing;
 
-pub use groups::{Groups, groups_of_spans};
+pub use faults::fault_of_group;
+pub use groups::groups_of_spans;
 pub use reading::triple_of_span;
 pub use run::Run;
 pub use writing::spans_of_group;
-
-#[cfg(test)]
-mod tests;

@@ -16,6 +16,8 @@ pub mod SettledGroups
 pub mod HeldValues
 pub mod HeldParts
 pub mod ScopeLemmas
+pub mod FreeValues
+pub mod FreeMembers
 pub mod GroupLemmas
 pub mod ReadingLemmas
 pub mod SoundGroups

@@ -7,6 +7,7 @@ use Rattle.span_io.specs.Paths.{NothingOffends, Counts}
 use Rattle.trace_model.specs.declared.trace.Group.{Group}
 use Rattle.otlp_json.specs.Canonical.{group_data, groups_data, json_groups_text}
 use Rattle.otlp_json.specs.Group.{RemarkedGroup, AreJsonGroups, IsJsonGroup, json_groups_faults}
+use Rattle.otlp_json.specs.Known.{groups_agree}
 use Rattle.otlp_json.specs.Held.{IsHeldByJson}
 use Rattle.otlp_json.specs.Texts.{AreGroupsText, unremarked}
 
@@ -32,3 +33,8 @@ EqualGroupsTexts = (a b : List Group) → All IsHeldByJson a → All IsHeldByJso
 -- what is read of a text can be written again
 abbrev pub ReadsHeldGroups : Type 0
 ReadsHeldGroups = (groups : List RemarkedGroup) (bytes : List ℕ) → AreGroupsText groups bytes → All (λ g. IsHeldByJson g.0) groups
+
+-- unknown members change nothing: values whose known members agree stand for the same groups, and the same offends in them
+pub record FreeGroupMembers : Type 0 where
+  pub means : (v w : Data) → groups_agree v w → (groups : List RemarkedGroup) → AreJsonGroups groups v ↔ AreJsonGroups groups w
+  pub offends : (v w : Data) → groups_agree v w → (path : List ℕ) (number : ℕ) → json_groups_faults v path number ↔ json_groups_faults w path number

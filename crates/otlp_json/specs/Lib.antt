@@ -10,4 +10,5 @@ pub mod Writing
 pub mod Doubles
 pub mod Held
 pub mod Texts
+pub mod Known
 pub mod Laws

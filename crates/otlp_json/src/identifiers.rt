@@ -1,7 +1,7 @@
 //! Identifiers, and the bytes of values, which are texts.
 ghost use Rattle.std.specs.Prelude.{◌≡◌, ◌↔◌, ℕ, List, Option, None, IfOk, OnErr, IsTrue};
 ghost use Rattle.serde_json.specs.View.{view};
-ghost use Rattle.span_io.specs.Paths.{optional, JudgesValue, Given, Never};
+ghost use Rattle.span_io.specs.Paths.{optional, JudgesValue, JudgesByCause, Given, Never};
 ghost use Rattle.json_members.specs.Members.{member, Spelled};
 ghost use Rattle.trace_model.specs.OtlpParts.{IsNoIdentifier};
 ghost use Rattle.otlp_json.specs.Identifiers.{SpellsJsonTrace, SpellsJsonSpan, SpellsTraceOrNone, SpellsSpanOrNone, json_trace_faults, json_span_faults, trace_or_none_faults, span_or_none_faults, identified};
@@ -66,87 +66,87 @@ fn span_or_none(text: &str) -> Result<Option<SpanId>, BadId>
     }
 }
 
-fn trace_in(v: &Value) -> Result<TraceId, Halt<Cause>>
+fn trace_in(v: &Value) -> Result<TraceId, Cause>
     ensures value { IfOk result (λ id. Spelled SpellsJsonTrace id (view v.now)) }
-    ensures judged { JudgesValue result (json_trace_faults (view v.now)) }
+    ensures judged { JudgesByCause result (json_trace_faults (view v.now)) }
 {
     let Some(text) = v.as_str() else {
-        return Err(Halt::Why(Cause::BadShape));
+        return Err(Cause::BadShape);
     };
     match trace_of(text) {
         Ok(id) => Ok(id),
-        Err(_) => Err(Halt::Why(Cause::BadId)),
+        Err(_) => Err(Cause::BadId),
     }
 }
 
-fn span_in(v: &Value) -> Result<SpanId, Halt<Cause>>
+fn span_in(v: &Value) -> Result<SpanId, Cause>
     ensures value { IfOk result (λ id. Spelled SpellsJsonSpan id (view v.now)) }
-    ensures judged { JudgesValue result (json_span_faults (view v.now)) }
+    ensures judged { JudgesByCause result (json_span_faults (view v.now)) }
 {
     let Some(text) = v.as_str() else {
-        return Err(Halt::Why(Cause::BadShape));
+        return Err(Cause::BadShape);
     };
     match span_of(text) {
         Ok(id) => Ok(id),
-        Err(_) => Err(Halt::Why(Cause::BadId)),
+        Err(_) => Err(Cause::BadId),
     }
 }
 
-fn trace_or_none_in(v: &Value) -> Result<Option<TraceId>, Halt<Cause>>
+fn trace_or_none_in(v: &Value) -> Result<Option<TraceId>, Cause>
     ensures value { IfOk result (λ id. Spelled SpellsTraceOrNone id (view v.now)) }
-    ensures judged { JudgesValue result (trace_or_none_faults (view v.now)) }
+    ensures judged { JudgesByCause result (trace_or_none_faults (view v.now)) }
 {
     let Some(text) = v.as_str() else {
-        return Err(Halt::Why(Cause::BadShape));
+        return Err(Cause::BadShape);
     };
     match trace_or_none(text) {
         Ok(id) => Ok(id),
-        Err(_) => Err(Halt::Why(Cause::BadId)),
+        Err(_) => Err(Cause::BadId),
     }
 }
 
-fn span_or_none_in(v: &Value) -> Result<Option<SpanId>, Halt<Cause>>
+fn span_or_none_in(v: &Value) -> Result<Option<SpanId>, Cause>
     ensures value { IfOk result (λ id. Spelled SpellsSpanOrNone id (view v.now)) }
-    ensures judged { JudgesValue result (span_or_none_faults (view v.now)) }
+    ensures judged { JudgesByCause result (span_or_none_faults (view v.now)) }
 {
     let Some(text) = v.as_str() else {
-        return Err(Halt::Why(Cause::BadShape));
+        return Err(Cause::BadShape);
     };
     match span_or_none(text) {
         Ok(id) => Ok(id),
-        Err(_) => Err(Halt::Why(Cause::BadId)),
+        Err(_) => Err(Cause::BadId),
     }
 }
 
 // A trace identifier that must be there.
-pub fn identified_trace(v: &Value, name: &str) -> Result<TraceId, Halt<Cause>>
+pub fn identified_trace(v: &Value, name: &str) -> Result<TraceId, Cause>
     ensures value { IfOk result (λ id. Given (Spelled SpellsJsonTrace) Never id
         (member name.now (view v.now))) }
-    ensures judged { JudgesValue result (identified json_trace_faults (member name.now (view v.now))) }
+    ensures judged { JudgesByCause result (identified json_trace_faults (member name.now (view v.now))) }
 {
     match member_of(v, name) {
-        None => Err(Halt::Why(Cause::BadId)),
+        None => Err(Cause::BadId),
         Some(found) => trace_in(found),
     }
 }
 
 // A span identifier that must be there.
-pub fn identified_span(v: &Value, name: &str) -> Result<SpanId, Halt<Cause>>
+pub fn identified_span(v: &Value, name: &str) -> Result<SpanId, Cause>
     ensures value { IfOk result (λ id. Given (Spelled SpellsJsonSpan) Never id
         (member name.now (view v.now))) }
-    ensures judged { JudgesValue result (identified json_span_faults (member name.now (view v.now))) }
+    ensures judged { JudgesByCause result (identified json_span_faults (member name.now (view v.now))) }
 {
     match member_of(v, name) {
-        None => Err(Halt::Why(Cause::BadId)),
+        None => Err(Cause::BadId),
         Some(found) => span_in(found),
     }
 }
 
 // A trace identifier that may be absent.
-pub fn optional_trace(v: &Value, name: &str) -> Result<Option<TraceId>, Halt<Cause>>
+pub fn optional_trace(v: &Value, name: &str) -> Result<Option<TraceId>, Cause>
     ensures value { IfOk result (λ id. Given (Spelled SpellsTraceOrNone) (λ i. i ≡ None) id
         (member name.now (view v.now))) }
-    ensures judged { JudgesValue result
+    ensures judged { JudgesByCause result
         (optional trace_or_none_faults (member name.now (view v.now))) }
 {
     match member_of(v, name) {
@@ -156,10 +156,10 @@ pub fn optional_trace(v: &Value, name: &str) -> Result<Option<TraceId>, Halt<Cau
 }
 
 // A span identifier that may be absent.
-pub fn optional_span(v: &Value, name: &str) -> Result<Option<SpanId>, Halt<Cause>>
+pub fn optional_span(v: &Value, name: &str) -> Result<Option<SpanId>, Cause>
     ensures value { IfOk result (λ id. Given (Spelled SpellsSpanOrNone) (λ i. i ≡ None) id
         (member name.now (view v.now))) }
-    ensures judged { JudgesValue result
+    ensures judged { JudgesByCause result
         (optional span_or_none_faults (member name.now (view v.now))) }
 {
     match member_of(v, name) {

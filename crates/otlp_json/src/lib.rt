@@ -25,7 +25,4 @@ mod values;
 mod writing;
 
 pub use reading::{read_groups, read_text};
-pub use writing::write_group;
-
-#[cfg(test)]
-mod tests;
+pub use writing::{fault_of_group, write_group};

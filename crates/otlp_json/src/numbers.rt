@@ -2,7 +2,7 @@
 ghost use Rattle.std.specs.Prelude.{◌≡◌, ◌≤◌, ◌^◌, ℤ, Some, IfOk, IfSome, IfNone, FitsSigned};
 ghost use Rattle.std.specs.Int.{w128};
 ghost use Rattle.serde_json.specs.View.{view};
-ghost use Rattle.span_io.specs.Paths.{optional, JudgesValue, Given};
+ghost use Rattle.span_io.specs.Paths.{optional, JudgesByCause, Given};
 ghost use Rattle.trace_model.specs.declared.span.Code.TheVariants as statuses;
 ghost use Rattle.trace_model.specs.declared.span.Kind.TheVariants as kinds;
 ghost use Rattle.json_members.specs.Members.{member, IsCount};
@@ -11,7 +11,7 @@ ghost use Rattle.otlp_json.specs.Numbers.{integer_in_text, integer_in, unsigned_
 use json_members::member_of;
 use serde_json::Value;
 use span_ids::Nanos;
-use span_io::{Cause, Halt};
+use span_io::Cause;
 use trace_model::{Code, Kind};
 
 // An optional minus and one or more digits, where they have 128 bits at most.
@@ -76,31 +76,31 @@ fn signed_64(v: &Value) -> Option<i64>
     i64::try_from(integer).ok()
 }
 
-pub fn signed_of(v: &Value) -> Result<i64, Halt<Cause>>
+pub fn signed_of(v: &Value) -> Result<i64, Cause>
     ensures value { IfOk result (λ z. IsJsonSigned z (view v.now)) }
-    ensures judged { JudgesValue result (signed_faults (view v.now)) }
+    ensures judged { JudgesByCause result (signed_faults (view v.now)) }
 {
     match signed_64(v) {
         Some(integer) => Ok(integer),
-        None => Err(Halt::Why(Cause::BadShape)),
+        None => Err(Cause::BadShape),
     }
 }
 
-fn count_of(v: &Value) -> Result<u32, Halt<Cause>>
+fn count_of(v: &Value) -> Result<u32, Cause>
     ensures value { IfOk result (λ n. IsJsonCount n (view v.now)) }
-    ensures judged { JudgesValue result (json_count_faults (view v.now)) }
+    ensures judged { JudgesByCause result (json_count_faults (view v.now)) }
 {
     match unsigned_32(v) {
         Some(count) => Ok(count),
-        None => Err(Halt::Why(Cause::BadShape)),
+        None => Err(Cause::BadShape),
     }
 }
 
 // A count or flags that may be absent, which are 0 then.
-pub fn count(v: &Value, name: &str) -> Result<u32, Halt<Cause>>
+pub fn count(v: &Value, name: &str) -> Result<u32, Cause>
     ensures value { IfOk result (λ n. Given IsJsonCount (λ c. c ≡ 0) n
         (member name.now (view v.now))) }
-    ensures judged { JudgesValue result (optional json_count_faults (member name.now (view v.now))) }
+    ensures judged { JudgesByCause result (optional json_count_faults (member name.now (view v.now))) }
 {
     match member_of(v, name) {
         None => Ok(0),
@@ -108,21 +108,21 @@ pub fn count(v: &Value, name: &str) -> Result<u32, Halt<Cause>>
     }
 }
 
-fn time_of(v: &Value) -> Result<Nanos, Halt<Cause>>
+fn time_of(v: &Value) -> Result<Nanos, Cause>
     ensures value { IfOk result (λ n. IsJsonTime n (view v.now)) }
-    ensures judged { JudgesValue result (json_time_faults (view v.now)) }
+    ensures judged { JudgesByCause result (json_time_faults (view v.now)) }
 {
     match unsigned_64(v) {
         Some(count) => Ok(Nanos(count)),
-        None => Err(Halt::Why(Cause::BadShape)),
+        None => Err(Cause::BadShape),
     }
 }
 
 // A time that may be absent, which is 0 then.
-pub fn time(v: &Value, name: &str) -> Result<Nanos, Halt<Cause>>
+pub fn time(v: &Value, name: &str) -> Result<Nanos, Cause>
     ensures value { IfOk result (λ n. Given IsJsonTime (λ t. t ≡ 0) n
         (member name.now (view v.now))) }
-    ensures judged { JudgesValue result (optional json_time_faults (member name.now (view v.now))) }
+    ensures judged { JudgesByCause result (optional json_time_faults (member name.now (view v.now))) }
 {
     match member_of(v, name) {
         None => Ok(Nanos(0)),
@@ -132,25 +132,25 @@ pub fn time(v: &Value, name: &str) -> Result<Nanos, Halt<Cause>>
 
 // The number of an enum, of which the last has this number.
 #[tactic(auto, using(crate::proofs::NumberLemmas::enums))]
-fn enum_number(v: &Value, last: u64) -> Result<u64, Halt<Cause>>
+fn enum_number(v: &Value, last: u64) -> Result<u64, Cause>
     ensures value { IfOk result (λ n. IsCount n (view v.now) × (n ≤ last)) }
-    ensures judged { JudgesValue result (enum_faults last (view v.now)) }
+    ensures judged { JudgesByCause result (enum_faults last (view v.now)) }
 {
     let Some(number) = v.as_u64() else {
         if v.is_i64() {
-            return Err(Halt::Why(Cause::BadEnum));
+            return Err(Cause::BadEnum);
         }
-        return Err(Halt::Why(Cause::BadShape));
+        return Err(Cause::BadShape);
     };
     if number > last {
-        return Err(Halt::Why(Cause::BadEnum));
+        return Err(Cause::BadEnum);
     }
     Ok(number)
 }
 
-fn kind_of(v: &Value) -> Result<Kind, Halt<Cause>>
+fn kind_of(v: &Value) -> Result<Kind, Cause>
     ensures value { IfOk result (λ kind. IsJsonKind kind (view v.now)) }
-    ensures judged { JudgesValue result (enum_faults 5 (view v.now)) }
+    ensures judged { JudgesByCause result (enum_faults 5 (view v.now)) }
 {
     let kind = match enum_number(v, 5)? {
         0 => Kind::Unspecified,
@@ -164,10 +164,10 @@ fn kind_of(v: &Value) -> Result<Kind, Halt<Cause>>
 }
 
 // A kind that may be absent.
-pub fn kind(v: &Value, name: &str) -> Result<Kind, Halt<Cause>>
+pub fn kind(v: &Value, name: &str) -> Result<Kind, Cause>
     ensures value { IfOk result (λ kind. Given IsJsonKind (λ k. k ≡ kinds.Unspecified) kind
         (member name.now (view v.now))) }
-    ensures judged { JudgesValue result (optional (enum_faults 5) (member name.now (view v.now))) }
+    ensures judged { JudgesByCause result (optional (enum_faults 5) (member name.now (view v.now))) }
 {
     match member_of(v, name) {
         None => Ok(Kind::Unspecified),
@@ -175,9 +175,9 @@ pub fn kind(v: &Value, name: &str) -> Result<Kind, Halt<Cause>>
     }
 }
 
-fn code_of(v: &Value) -> Result<Code, Halt<Cause>>
+fn code_of(v: &Value) -> Result<Code, Cause>
     ensures value { IfOk result (λ code. IsJsonCode code (view v.now)) }
-    ensures judged { JudgesValue result (enum_faults 2 (view v.now)) }
+    ensures judged { JudgesByCause result (enum_faults 2 (view v.now)) }
 {
     let code = match enum_number(v, 2)? {
         0 => Code::Unset,
@@ -188,10 +188,10 @@ fn code_of(v: &Value) -> Result<Code, Halt<Cause>>
 }
 
 // A code that may be absent.
-pub fn code(v: &Value, name: &str) -> Result<Code, Halt<Cause>>
+pub fn code(v: &Value, name: &str) -> Result<Code, Cause>
     ensures value { IfOk result (λ code. Given IsJsonCode (λ c. c ≡ statuses.Unset) code
         (member name.now (view v.now))) }
-    ensures judged { JudgesValue result (optional (enum_faults 2) (member name.now (view v.now))) }
+    ensures judged { JudgesByCause result (optional (enum_faults 2) (member name.now (view v.now))) }
 {
     match member_of(v, name) {
         None => Ok(Code::Unset),

@@ -1,7 +1,8 @@
 //! Reading values: `AnyValue`, `ArrayValue`, `KeyValueList` and `KeyValue` (OTLP common.proto).
 ghost use Rattle.std.specs.Prelude.{◌≡◌, ◌++◌, ◌∷◌, [], ℕ, List, map, IfOk, OnOk, Some, Bool, ℤ};
 ghost use Rattle.serde_json.specs.View.{view};
-ghost use Rattle.span_io.specs.Paths.{here, optional, Given, Halts, JudgesValue};
+ghost use Rattle.span_io.specs.Causes.{cause_number};
+ghost use Rattle.span_io.specs.Paths.{here, optional, Counts, Given, JudgesValue};
 ghost use Rattle.trace_model.specs.OtlpParts.{leaf, entry, IsNotedMap};
 ghost use Rattle.json_members.specs.Members.{member, IsText, text_faults, IsTruth, truth_faults, Spelled};
 ghost use Rattle.otlp_json.specs.Found.{value_found, pair_found, part_member, AreValuesFound, ArePairsFound, AreValuesGiven, ArePairsGiven};
@@ -73,10 +74,10 @@ fn bytes_value(alloc: Global, v: &Json) -> Result<FoundValue, Halt<Cause>>
 }
 
 // What is answered of a double.
-fn double_value() -> Halt<Cause>
-    ensures { Halts result (here (λ number. number ≡ 15)) }
+fn double_value() -> Cause
+    ensures { Counts (here (λ number. number ≡ 15)) (cause_number result) }
 {
-    Halt::Why(Cause::DoubleInJson)
+    Cause::DoubleInJson
 }
 
 /// Adds keys at the end.
@@ -123,7 +124,7 @@ fn read_part(alloc: Global, left: u8, part: Part, v: &Json) -> Result<FoundValue
         Part::Text => text_value(alloc, v),
         Part::Truth => truth_value(alloc, v),
         Part::Number => number_value(alloc, v),
-        Part::Double => Err(double_value()),
+        Part::Double => Err(Halt::Why(double_value())),
         Part::List => read_list(alloc, left, v),
         Part::Map => read_map(alloc, left, v),
         Part::Bytes => bytes_value(alloc, v),

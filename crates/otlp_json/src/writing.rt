@@ -7,7 +7,5 @@ mod parts;
 mod spans;
 mod values;
 
+pub use doubles::fault_of_group;
 pub use groups::write_group;
-
-#[cfg(test)]
-mod tests;

@@ -24,6 +24,3 @@ pub use noted::{
     ReadValue,
 };
 pub use writing::write_group;
-
-#[cfg(test)]
-mod tests;

@@ -8,6 +8,3 @@ mod spans;
 mod values;
 
 pub use groups::write_group;
-
-#[cfg(test)]
-mod tests;

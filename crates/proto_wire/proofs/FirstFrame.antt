@@ -15,8 +15,8 @@ use Rattle.proto_wire.specs.Wire.{SpellsRecord, BeginsRecord, IsOpenRecord, Hold
 use Rattle.proto_wire.specs.Reading.{record_at}
 use Rattle.proto_wire.specs.FirstFrames.{step_of, IsFirst}
 use Rattle.proto_wire.proofs.Payloads.{wire_cases}
-use Rattle.proto_wire.proofs.Spellings.{field_is, spelled_some, append_some, spelled_read, inside_read, overlong_read, bad_key_read}
-use Rattle.proto_wire.proofs.Refusals.{empty_proper, no_key, RecordIs, record_is, told, overlong_has, bad_key_has}
+use Rattle.proto_wire.proofs.Spellings.{field_is, spelled_some, append_some, inside_read, overlong_read, bad_key_read}
+use Rattle.proto_wire.proofs.Refusals.{empty_proper, no_key, RecordIs, record_is, told, whole_read, record_fronts, overlong_has, bad_key_has}
 use Rattle.proto_wire.proofs.Messages.{one_record}
 use Rattle.proto_wire.proofs.LengthsPast.{past_more, past_read, tells_past}
 
@@ -43,12 +43,9 @@ first_of_all limit bytes piece looked (Ok (Some frame)) h = record {
 first_of_all limit bytes piece looked (Err cause) h = tt
 
 module _ (L : VarintLaws) where
-  whole_read : (text : List ℕ) (h : records.Whole text) → record_at text ≡ Ok (Some h.0, [])
-  whole_read text h = ap record_at (sym (append-nil text)) ∙ spelled_read L text [] h.0 h.1
-
   not_inside : (text : List ℕ) → records.Whole text → EndsInVarint records text → ⊥
   not_inside text h e =
-      let whole : record_at text ≡ Ok (Some h.0, []) = whole_read text h in
+      let whole : record_at text ≡ Ok (Some h.0, []) = whole_read L text h in
       let short : record_at text ≡ Err causes.Truncated = inside_read L text e in
       cc
 
@@ -89,6 +86,7 @@ module _ (L : VarintLaws) where
     some = record_some;
     one_item = λ text longer more h g e. (one_record L text longer more h.0 g.0 h.1 g.1 e).0;
     ended = not_inside;
+    fronts = record_fronts L;
     stays = past_more;
     until_then = λ limit text past within. (told L text (Err causes.Truncated) (past_read L limit text past within)).1;
     tells = tells_past L;

@@ -2,9 +2,11 @@
 use Rattle.std.proofs.Common.{◌≡◌, ◌≢◌, ◌≤◌, ◌<◌, ◌-◌, ◌++◌, ◌∷◌, ◌⊎◌, inl, inr, ℕ, zero, suc, List, [], length, take, drop, replicate, Result, Ok, Err, refl, ap, sym, ◌∙◌, subst, cond, Bool, true, false, ltb, arith}
 use Rattle.std.proofs.lemmas.Bool.{le-ltb, ne_eqb, ltb-true, ltb-false}
 use Rattle.std.proofs.lemmas.List.{length-append, length-take, length-replicate, take-append-drop, take_at, drop_at, append_assoc}
+use Rattle.std.proofs.lemmas.List.Elements.{All-replicate}
 use Rattle.std.specs.Int.{w32, w64, from_le_bytes}
 use Rattle.span_io.specs.declared.cause.Cause.{Cause}
 use Rattle.span_io.specs.declared.cause.Cause.TheVariants as causes
+use Rattle.span_io.specs.Frames.{AreBytes}
 use Rattle.span_io.specs.Varint.{SpellsVarint, SpellsWithin, BeginsVarint, IsInsideVarint, BeginsOverlong}
 use Rattle.proto_wire.specs.Records.{Held, varint, fixed64, bytes, fixed32, wire_type}
 use Rattle.proto_wire.specs.Wire.{SpellsHeld}
@@ -99,9 +101,10 @@ pub record HeldFound (wire : ℕ) (text : List ℕ) (held : Held) (rest : List �
   pub spelled : SpellsHeld payload held
   pub parts : text ≡ payload ++ rest
 
--- some bytes can follow that make a payload of the text
+-- more bytes can follow that make a payload of the text
 pub record HeldFront (wire : ℕ) (text : List ℕ) : Type 0 where
   pub more : List ℕ
+  pub are_bytes : AreBytes more
   pub held : Held
   pub some : more ≢ []
   pub wire_is : wire_type held ≡ wire
@@ -134,6 +137,9 @@ zeros n = replicate n 0
 pub length-zeros : (n : ℕ) → length (zeros n) ≡ n
 length-zeros n = length-replicate {A = ℕ} n 0
 
+pub zeros_are_bytes : (n : ℕ) → AreBytes (zeros n)
+zeros_are_bytes n = All-replicate (λ b. b < 256) n 0 (omega arith)
+
 pub some_zeros : (n : ℕ) → 0 < n → zeros n ≢ []
 some_zeros n positive e = absurd (omega (arith, ap length e, length-zeros n))
 
@@ -141,7 +147,7 @@ filled : (size : ℕ) (text : List ℕ) → length text < size → length (text 
 filled size text less = omega (arith, length-append text (zeros (size - length text)), length-zeros (size - length text))
 
 varint_unended : (text : List ℕ) → IsInsideVarint text → HeldFront 0 text ⊎ HeldInside 0 text
-varint_unended [] h = inl (record { more = 0 ∷ []; held = varint 0; some = λ e. cc; wire_is = refl; spelled = zero_spelled })
+varint_unended [] h = inl (record { more = 0 ∷ []; are_bytes = zeros_are_bytes 1; held = varint 0; some = λ e. cc; wire_is = refl; spelled = zero_spelled })
 varint_unended (b ∷ text) h = inr (record { with_varint = inl refl; inside = h; some = omega arith })
 
 varint_is : (text : List ℕ) (r : Result (ℕ × List ℕ) Cause) → NumberIs text r → HeldIs 0 text (r >>= λ n. Ok (varint n.0, n.1))
@@ -154,14 +160,14 @@ fixed64_is : (text : List ℕ) (r : Result (List ℕ × List ℕ) Cause) → Byt
 fixed64_is text (Ok x) h = record { payload = x.0; wire_is = refl; spelled = (h.0, refl); parts = h.1 }
 fixed64_is text (Err causes.Truncated) h =
     let more : List ℕ = zeros (8 - length text) in
-    inl (record { more = more; held = fixed64 (from_le_bytes w64 (text ++ more)); some = some_zeros (8 - length text) (omega arith); wire_is = refl; spelled = (filled 8 text h, refl) })
+    inl (record { more = more; are_bytes = zeros_are_bytes (8 - length text); held = fixed64 (from_le_bytes w64 (text ++ more)); some = some_zeros (8 - length text) (omega arith); wire_is = refl; spelled = (filled 8 text h, refl) })
 fixed64_is text (Err other) h = absurd h
 
 fixed32_is : (text : List ℕ) (r : Result (List ℕ × List ℕ) Cause) → BytesAre 4 text r → HeldIs 5 text (r >>= λ b. Ok (fixed32 (from_le_bytes w32 b.0), b.1))
 fixed32_is text (Ok x) h = record { payload = x.0; wire_is = refl; spelled = (h.0, refl); parts = h.1 }
 fixed32_is text (Err causes.Truncated) h =
     let more : List ℕ = zeros (4 - length text) in
-    inl (record { more = more; held = fixed32 (from_le_bytes w32 (text ++ more)); some = some_zeros (4 - length text) (omega arith); wire_is = refl; spelled = (filled 4 text h, refl) })
+    inl (record { more = more; are_bytes = zeros_are_bytes (4 - length text); held = fixed32 (from_le_bytes w32 (text ++ more)); some = some_zeros (4 - length text) (omega arith); wire_is = refl; spelled = (filled 4 text h, refl) })
 fixed32_is text (Err other) h = absurd h
 
 sized_is : (text rest : List ℕ) (size : ℕ) (h : BeginsVarint size text rest) (r : Result (List ℕ × List ℕ) Cause) → BytesAre size rest r → HeldIs 2 text (r >>= λ b. Ok (bytes b.0, b.1))
@@ -175,6 +181,7 @@ sized_is text rest size h (Err causes.Truncated) b =
     let more : List ℕ = zeros (size - length rest) in
     inl (record {
       more = more;
+      are_bytes = zeros_are_bytes (size - length rest);
       held = bytes (rest ++ more);
       some = some_zeros (size - length rest) (omega arith);
       wire_is = refl;
@@ -183,7 +190,7 @@ sized_is text rest size h (Err causes.Truncated) b =
 sized_is text rest size h (Err other) b = absurd b
 
 size_unended : (text : List ℕ) → IsInsideVarint text → HeldFront 2 text ⊎ HeldInside 2 text
-size_unended [] h = inl (record { more = 0 ∷ []; held = bytes []; some = λ e. cc; wire_is = refl; spelled = (0 ∷ [], zero_spelled, refl) })
+size_unended [] h = inl (record { more = 0 ∷ []; are_bytes = zeros_are_bytes 1; held = bytes []; some = λ e. cc; wire_is = refl; spelled = (0 ∷ [], zero_spelled, refl) })
 size_unended (b ∷ text) h = inr (record { with_varint = inr refl; inside = h; some = omega arith })
 
 bytes_held : (text : List ℕ) (r : Result (ℕ × List ℕ) Cause) → NumberIs text r → HeldIs 2 text (r >>= λ n. held_bytes_at n.0 n.1 >>= λ b. Ok (bytes b.0, b.1))

@@ -1,20 +1,21 @@
 -- Where no record begins: what reading answers, and the shortest front that is refused.
-use Rattle.std.proofs.Common.{◌≡◌, ◌≢◌, ◌≤◌, ◌+◌, ◌*◌, ◌/◌, ◌%◌, ◌++◌, ◌∷◌, ◌⊎◌, inl, inr, ℕ, List, [], length, Option, Some, None, Result, Ok, Err, refl, ap, sym, ◌∙◌, subst, arith}
+use Rattle.std.proofs.Common.{◌≡◌, ◌≢◌, ◌≤◌, ◌<◌, ◌+◌, ◌*◌, ◌/◌, ◌%◌, ◌++◌, ◌∷◌, ◌⊎◌, inl, inr, ℕ, List, [], length, Option, Some, None, Result, Ok, Err, refl, ap, sym, ◌∙◌, subst, arith}
 use Rattle.std.proofs.lemmas.List.{length-append, append_assoc, append-nil}
+use Rattle.std.proofs.lemmas.List.Elements.{All-cons}
 use Rattle.std.specs.Int.{w32, w64, from_le_bytes}
 use Rattle.std.specs.List.{AllByRecursion}
 use Rattle.span_io.specs.declared.cause.Cause.{Cause}
 use Rattle.span_io.specs.declared.cause.Cause.TheVariants as causes
-use Rattle.span_io.specs.Frames.{IsProperFront, IsRefused}
+use Rattle.span_io.specs.Frames.{AreBytes, IsProperFront, IsRefused}
 use Rattle.span_io.specs.Varint.{SpellsVarint, SpellsWithin, IsInsideVarint, IsOverlong}
 use Rattle.proto_wire.specs.Records.{Held, varint, fixed64, bytes, fixed32, Record, wire_type, IsFieldNumber}
 use Rattle.proto_wire.specs.Wire.{SpellsHeld, BeginsRecord, IsKeyThenVarint, IsOpenRecord, records, HasOverlong, HasBadKey}
 use Rattle.proto_wire.specs.Reading.{number_at, held_at, record_at, ◌>>=◌}
 use Rattle.span_io.specs.Cuts.{two_cuts, append_empty_right, all_front}
-use Rattle.span_io.specs.FramingLaws.{proper_front}
+use Rattle.span_io.specs.FramingLaws.{FrontsAreOpen, open_front}
 use Rattle.span_io.specs.VarintLaws.{VarintLaws}
 use Rattle.proto_wire.proofs.Varints.{NumberIs, number_is}
-use Rattle.proto_wire.proofs.Payloads.{WireIs, is_0, is_1, is_2, is_5, IsNoWire, wire_cases, HeldFront, HeldInside, WithVarint, HeldIs, held_is, zero_spelled, zeros, length-zeros}
+use Rattle.proto_wire.proofs.Payloads.{WireIs, is_0, is_1, is_2, is_5, IsNoWire, wire_cases, HeldFront, HeldInside, WithVarint, HeldIs, held_is, zero_spelled, zeros, length-zeros, zeros_are_bytes}
 use Rattle.proto_wire.proofs.Spellings.{with_number, after_number, after_key, record_none, record_some, FieldIs, field_good, field_refused, field_is, field_in, KeyAt, key_some, IsNoKey, BadKeyAt, OverlongAt, key_parts, spelled_read, begins_read, bad_key_read, overlong_read, inside_read}
 
 -- ---- fronts of open bytes
@@ -23,20 +24,22 @@ use Rattle.proto_wire.proofs.Spellings.{with_number, after_number, after_key, re
 record Sample (wire : ℕ) : Type 0 where
   held : Held
   payload : List ℕ
+  are_bytes : AreBytes payload
   some : payload ≢ []
   wire_is : wire_type held ≡ wire
   spelled : SpellsHeld payload held
 
 sample : (wire : ℕ) → WireIs wire → Sample wire
-sample wire is_0 = record { held = varint 0; payload = 0 ∷ []; some = λ e. cc; wire_is = refl; spelled = zero_spelled }
-sample wire is_1 = record { held = fixed64 (from_le_bytes w64 (zeros 8)); payload = zeros 8; some = λ e. omega (arith, ap length e, length-zeros 8); wire_is = refl; spelled = (length-zeros 8, refl) }
-sample wire is_2 = record { held = bytes []; payload = 0 ∷ []; some = λ e. cc; wire_is = refl; spelled = (0 ∷ [], zero_spelled, refl) }
-sample wire is_5 = record { held = fixed32 (from_le_bytes w32 (zeros 4)); payload = zeros 4; some = λ e. omega (arith, ap length e, length-zeros 4); wire_is = refl; spelled = (length-zeros 4, refl) }
+sample wire is_0 = record { held = varint 0; payload = 0 ∷ []; are_bytes = zeros_are_bytes 1; some = λ e. cc; wire_is = refl; spelled = zero_spelled }
+sample wire is_1 = record { held = fixed64 (from_le_bytes w64 (zeros 8)); payload = zeros 8; are_bytes = zeros_are_bytes 8; some = λ e. omega (arith, ap length e, length-zeros 8); wire_is = refl; spelled = (length-zeros 8, refl) }
+sample wire is_2 = record { held = bytes []; payload = 0 ∷ []; are_bytes = zeros_are_bytes 1; some = λ e. cc; wire_is = refl; spelled = (0 ∷ [], zero_spelled, refl) }
+sample wire is_5 = record { held = fixed32 (from_le_bytes w32 (zeros 4)); payload = zeros 4; are_bytes = zeros_are_bytes 4; some = λ e. omega (arith, ap length e, length-zeros 4); wire_is = refl; spelled = (length-zeros 4, refl) }
 
 -- the key of a record is a proper front
 parted_proper : (key : List ℕ) (number wire : ℕ) → IsFieldNumber number → SpellsVarint key (number * 8 + wire) → Sample wire → IsProperFront records key
 parted_proper key number wire good spelled s = record {
   more = s.payload;
+  are_bytes = s.are_bytes;
   some = s.some;
   whole = (
     record { number = number; held = s.held },
@@ -63,7 +66,9 @@ unfolding SpellsVarint SpellsWithin
 eight_spelled = (omega arith, refl)
 
 pub empty_proper : IsProperFront records []
-empty_proper = proper_front records [] (8 ∷ []) (parted_proper (8 ∷ []) 1 0 (omega arith, omega arith) eight_spelled (sample 0 is_0))
+empty_proper =
+    let p : IsProperFront records (8 ∷ []) = parted_proper (8 ∷ []) 1 0 (omega arith, omega arith) eight_spelled (sample 0 is_0) in
+    record { more = 8 ∷ p.more; are_bytes = All-cons (λ b. b < 256) 8 p.more (omega arith) p.are_bytes; some = λ e. cc; whole = p.whole }
 
 -- what stands before a varint
 abbrev pub ThenVarint : List ℕ → Type 0
@@ -115,6 +120,7 @@ key_before key n spelled good before = record { number = n / 8; wire_type = n % 
 held_front_open : (text : List ℕ) (n : ℕ) (rest : List ℕ) → KeyAt text n rest → IsFieldNumber (n / 8) → HeldFront (n % 8) rest → IsProperFront records text
 held_front_open text n rest h good f = record {
   more = f.more;
+  are_bytes = f.are_bytes;
   some = f.some;
   whole = (
     record { number = n / 8; held = f.held },
@@ -193,42 +199,48 @@ module _ (L : VarintLaws) where
 
   -- ---- open bytes are answered Truncated
 
-  proper_read : (text : List ℕ) → text ≢ [] → (p : IsProperFront records text) → (r : Result (Option Record × List ℕ) Cause) → record_at text ≡ r → RecordIs text r → r ≡ Err causes.Truncated
-  proper_read text some p (Ok x) e h = absurd (proper_not_next text some p x.0 x.1 h)
-    where
-      proper_not_next : (text : List ℕ) → text ≢ [] → IsProperFront records text → (o : Option Record) (rest : List ℕ) → NextIs text o rest → ⊥
-      proper_not_next text some p None rest h = some h.0
-      proper_not_next text some p (Some r) rest h =
-          let longer : record_at (text ++ p.more) ≡ Ok (Some r, rest ++ p.more) = begins_read L (text ++ p.more) (rest ++ p.more) r (record { text = h.text; spelled = h.spelled; parts = ap (λ l. l ++ p.more) h.parts ∙ append_assoc h.text rest p.more }) in
-          let whole : record_at (text ++ p.more) ≡ Ok (Some p.whole.0, []) = ap record_at (sym (append-nil (text ++ p.more))) ∙ spelled_read L (text ++ p.more) [] p.whole.0 p.whole.1 in
-          let none : rest ++ p.more ≡ [] = same_rest (Some r, rest ++ p.more) (Some p.whole.0, []) (sym longer ∙ whole) in
-          p.some (append_empty_right rest p.more none)
-  proper_read text some p (Err causes.Truncated) e h = refl
-  proper_read text some p (Err causes.BadVarint) e h =
-      let longer : record_at (text ++ p.more) ≡ Err causes.BadVarint = overlong_read L (text ++ p.more) (record {
+  pub whole_read : (text : List ℕ) (h : records.Whole text) → record_at text ≡ Ok (Some h.0, [])
+  whole_read text h = ap record_at (sym (append-nil text)) ∙ spelled_read L text [] h.0 h.1
+
+  -- more numbers make a record of the text
+  front_read : (text more : List ℕ) → text ≢ [] → more ≢ [] → (whole : records.Whole (text ++ more)) → (r : Result (Option Record × List ℕ) Cause) → record_at text ≡ r → RecordIs text r → r ≡ Err causes.Truncated
+  front_read text more some on whole (Ok (None, rest)) e h = absurd (some h.0)
+  front_read text more some on whole (Ok (Some r, rest)) e h =
+      let longer : record_at (text ++ more) ≡ Ok (Some r, rest ++ more) = begins_read L (text ++ more) (rest ++ more) r (record { text = h.text; spelled = h.spelled; parts = ap (λ l. l ++ more) h.parts ∙ append_assoc h.text rest more }) in
+      let none : rest ++ more ≡ [] = same_rest (Some r, rest ++ more) (Some whole.0, []) (sym longer ∙ whole_read (text ++ more) whole) in
+      absurd (on (append_empty_right rest more none))
+  front_read text more some on whole (Err causes.Truncated) e h = refl
+  front_read text more some on whole (Err causes.BadVarint) e h =
+      let longer : record_at (text ++ more) ≡ Err causes.BadVarint = overlong_read L (text ++ more) (record {
         front = h.front;
         varint = h.varint;
-        others = h.others ++ p.more;
+        others = h.others ++ more;
         then_varint = h.then_varint;
         overlong = h.overlong;
-        parts = ap (λ l. l ++ p.more) h.parts ∙ append_assoc h.front (h.varint ++ h.others) p.more ∙ ap (λ l. h.front ++ l) (append_assoc h.varint h.others p.more);
+        parts = ap (λ l. l ++ more) h.parts ∙ append_assoc h.front (h.varint ++ h.others) more ∙ ap (λ l. h.front ++ l) (append_assoc h.varint h.others more);
       }) in
-      let whole : record_at (text ++ p.more) ≡ Ok (Some p.whole.0, []) = ap record_at (sym (append-nil (text ++ p.more))) ∙ spelled_read L (text ++ p.more) [] p.whole.0 p.whole.1 in
+      let read : record_at (text ++ more) ≡ Ok (Some whole.0, []) = whole_read (text ++ more) whole in
       cc
-  proper_read text some p (Err causes.BadWire) e h =
-      let longer : record_at (text ++ p.more) ≡ Err causes.BadWire = bad_key_read L (text ++ p.more) (record {
+  front_read text more some on whole (Err causes.BadWire) e h =
+      let longer : record_at (text ++ more) ≡ Err causes.BadWire = bad_key_read L (text ++ more) (record {
         number = h.number;
-        rest = h.rest ++ p.more;
+        rest = h.rest ++ more;
         none = h.none;
-        key = record { key = h.key.key; spelled = h.key.spelled; parts = ap (λ l. l ++ p.more) h.key.parts ∙ append_assoc h.key.key h.rest p.more };
+        key = record { key = h.key.key; spelled = h.key.spelled; parts = ap (λ l. l ++ more) h.key.parts ∙ append_assoc h.key.key h.rest more };
       }) in
-      let whole : record_at (text ++ p.more) ≡ Ok (Some p.whole.0, []) = ap record_at (sym (append-nil (text ++ p.more))) ∙ spelled_read L (text ++ p.more) [] p.whole.0 p.whole.1 in
+      let read : record_at (text ++ more) ≡ Ok (Some whole.0, []) = whole_read (text ++ more) whole in
       cc
-  proper_read text some p (Err other) e h = absurd h
+  front_read text more some on whole (Err other) e h = absurd h
 
   pub open_read : (text : List ℕ) → text ≢ [] → IsOpenRecord text → record_at text ≡ Err causes.Truncated
-  open_read text some (inl p) = proper_read text some p (record_at text) refl (record_is text)
+  open_read text some (inl p) = front_read text p.more some p.some p.whole (record_at text) refl (record_is text)
   open_read text some (inr h) = inside_read L text h
+
+  -- a proper front of a record is open
+  pub record_fronts : FrontsAreOpen records
+  record_fronts [] more whole on = inl empty_proper
+  record_fronts (b ∷ front) more whole on =
+      (told (b ∷ front) (Err causes.Truncated) (front_read (b ∷ front) more (λ e. cc) on whole (record_at (b ∷ front)) refl (record_is (b ∷ front)))).1
 
   -- ---- the shortest front that is refused
 
@@ -242,7 +254,7 @@ module _ (L : VarintLaws) where
   pub overlong_least : (front text : List ℕ) → ThenVarint front → IsOverlong text → (shorter more : List ℕ) → front ++ text ≡ shorter ++ more → more ≢ [] → IsOpenRecord shorter
   overlong_least front text before h shorter more e some = elim (two_cuts front text shorter more e) [
     | inl w ↦ subst (λ l. IsOpenRecord l) (sym w.front) (open_inside front w.between before (overlong_inside text w.between more h w.rest some))
-    | inr w ↦ inl (proper_front records shorter w.between (subst (λ l. IsProperFront records l) w.front (then_varint_proper front before)))
+    | inr w ↦ open_front records record_fronts shorter w.between (subst (λ l. IsOpenRecord l) w.front (inl (then_varint_proper front before)))
   ]
 
   pub overlong_has : (text : List ℕ) → OverlongAt text → HasOverlong text

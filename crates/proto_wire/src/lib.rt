@@ -11,6 +11,3 @@ pub use frame::{first_frame, first_record};
 pub use reading::next_record;
 pub use record::{Frame, Payload, WireRecord};
 pub use writing::{close_record, open_record, opening_size, record_size, write_record};
-
-#[cfg(test)]
-mod tests;

@@ -10,7 +10,7 @@ use Rattle.span_io.specs.declared.form.Form.TheVariants as forms
 use Rattle.span_io.specs.declared.limits.Limits.{Limits}
 use Rattle.span_io.specs.declared.refusal.Refusal.{Refusal}
 use Rattle.proto_wire.specs.Wire.{records}
-use Rattle.trace_model.specs.declared.trace.Group.{Group}
+use Rattle.trace_model.specs.OtlpParts.{NotedGroup}
 use Rattle.span_convert.specs.BatchFiles.{ProtocolWords, binary, compact, batches}
 use Rattle.span_convert.specs.Documents.{DocumentForm, DocumentRefused}
 use Rattle.span_convert.specs.FramedForms.{FramedForm, RestCause, UnitsThen, UnitsRefused}
@@ -23,16 +23,16 @@ use Rattle.span_convert.specs.declared.stop.Stop.TheVariants as stops
 
 -- what a form says of the one input short of all of it, it says of the other
 record SaysOfBoth (from : InputForm) (limits : Limits) (bytes others : List ℕ) : Type 0 where
-  begins : (groups : List Group) → from.Begins limits bytes groups → from.Begins limits others groups
-  refuses : (groups : List Group) (refusal : Refusal) → from.Refuses limits bytes groups refusal → from.Refuses limits others groups refusal
-  never_whole : (groups : List Group) → from.IsWhole limits bytes groups → ⊥
+  begins : (noted : List NotedGroup) → from.Begins limits bytes noted → from.Begins limits others noted
+  refuses : (noted : List NotedGroup) (refusal : Refusal) → from.Refuses limits bytes noted refusal → from.Refuses limits others noted refusal
+  never_whole : (noted : List NotedGroup) → from.IsWhole limits bytes noted → ⊥
 
 same_verdict : (from : InputForm) (to : Form) (limits : Limits) (bytes others : List ℕ) → SaysOfBoth from limits bytes others → (verdict : Verdict) → IsVerdictOn from to limits bytes verdict → IsVerdictOn from to limits others verdict
-same_verdict from to limits bytes others both (good text tally) is = absurd (both.never_whole is.groups is.whole)
-same_verdict from to limits bytes others both (refused refusal text) is = record { groups = is.groups; refuses = both.refuses is.groups refusal is.refuses; held = is.held; is_text = is.is_text }
+same_verdict from to limits bytes others both (good text tally) is = absurd (both.never_whole is.noted is.whole)
+same_verdict from to limits bytes others both (refused refusal text) is = record { noted = is.noted; refuses = both.refuses is.noted refusal is.refuses; held = is.held; is_text = is.is_text }
 same_verdict from to limits bytes others both (faulted found text) is = record {
-  groups = is.groups;
-  group = is.group;
+  noted = is.noted;
+  next = is.next;
   begins = both.begins _ is.begins;
   held = is.held;
   fault = is.fault;
@@ -50,23 +50,23 @@ same_cause from limits size other rest cause long longer (inr (needs, inr (is, w
 
 module _ (limits : Limits) (bytes others : List ℕ) (long : limits.binary < length bytes) (longer : limits.binary < length others) where
   module _ (from : FramedForm) (same_units : (units : List (List ℕ)) (rest : List ℕ) → from.HoldsUnits limits bytes units rest → from.HoldsUnits limits others units rest) where
-    same_then : (groups : List Group) (rest : List ℕ) → UnitsThen from limits bytes groups rest → UnitsThen from limits others groups rest
-    same_then groups rest h = record { units = h.units; held = same_units h.units rest h.held; are_groups = h.are_groups }
+    same_then : (noted : List NotedGroup) (rest : List ℕ) → UnitsThen from limits bytes noted rest → UnitsThen from limits others noted rest
+    same_then noted rest h = record { units = h.units; held = same_units h.units rest h.held; are_groups = h.are_groups }
 
-    same_refused : (groups : List Group) (refusal : Refusal) → UnitsRefused from limits bytes groups refusal → UnitsRefused from limits others groups refusal
-    same_refused groups refusal h = record {
+    same_refused : (noted : List NotedGroup) (refusal : Refusal) → UnitsRefused from limits bytes noted refusal → UnitsRefused from limits others noted refusal
+    same_refused noted refusal h = record {
       why = elim h.why [
         | inl w ↦ inl (record { before = w.before; unit = w.unit; rest = w.rest; held = same_units _ w.rest w.held; are_groups = w.are_groups; least = w.least })
-        | inr w ↦ inr (record { rest = w.rest; units_then = same_then groups w.rest w.units_then; why = same_cause from limits (length bytes) (length others) w.rest refusal.cause long longer w.why })
+        | inr w ↦ inr (record { rest = w.rest; units_then = same_then noted w.rest w.units_then; why = same_cause from limits (length bytes) (length others) w.rest refusal.cause long longer w.why })
       ];
       number = h.number;
     }
 
     framed_both : SaysOfBoth (framed_input from) limits bytes others
     framed_both = record {
-      begins = λ groups h. record { rest = h.rest; units_then = same_then groups h.rest h.units_then };
+      begins = λ noted h. record { rest = h.rest; units_then = same_then noted h.rest h.units_then };
       refuses = same_refused;
-      never_whole = λ groups h. let within = h.within in omega (arith, long, within);
+      never_whole = λ noted h. let within = h.within in omega (arith, long, within);
     }
 
   module _ (same : take limits.binary bytes ≡ take limits.binary others) where
@@ -83,8 +83,8 @@ module _ (limits : Limits) (bytes others : List ℕ) (long : limits.binary < len
 -- ---- documents, of which nothing is read beyond the limit
 
 module _ (from : DocumentForm) (limits : Limits) (bytes others : List ℕ) (long : limits.json < length bytes) (longer : limits.json < length others) where
-  too_long_both : (groups : List Group) (refusal : Refusal) → DocumentRefused from limits bytes groups refusal → DocumentRefused from limits others groups refusal
-  too_long_both groups refusal h = record {
+  too_long_both : (noted : List NotedGroup) (refusal : Refusal) → DocumentRefused from limits bytes noted refusal → DocumentRefused from limits others noted refusal
+  too_long_both noted refusal h = record {
     none = h.none;
     why = elim h.why [
       | inl w ↦ inl (longer, w.1)
@@ -94,9 +94,9 @@ module _ (from : DocumentForm) (limits : Limits) (bytes others : List ℕ) (long
 
   documents_both : SaysOfBoth (document_input from) limits bytes others
   documents_both = record {
-    begins = λ groups h. absurd (let within = h.document.within in omega (arith, long, within));
+    begins = λ noted h. absurd (let within = h.document.within in omega (arith, long, within));
     refuses = too_long_both;
-    never_whole = λ groups h. let within = h.within in omega (arith, long, within);
+    never_whole = λ noted h. let within = h.within in omega (arith, long, within);
   }
 
 -- ---- each form

@@ -1,9 +1,13 @@
 -- Bytes that a source gave, piece by piece.
-use Rattle.std.proofs.Common.{◌≡◌, ◌≤◌, ℕ, List, [], ◌++◌, length, Option, Some, None, refl, sym, ap, subst, ◌∙◌, append_assoc, append-nil, arith, length-append}
+use Rattle.std.proofs.Common.{◌≡◌, ◌≢◌, ◌≤◌, ℕ, Bool, true, false, List, [], ◌++◌, length, Option, Some, None, Result, Ok, refl, sym, ap, subst, ◌∙◌, append_assoc, append-nil, arith, length-append}
 use Rattle.std.specs.Io.KnownBytes.{Consumes, IsAtEnd}
 use Rattle.std.specs.Prelude.{IfSome}
+use Rattle.std.proofs.lemmas.Bool.{ne_eqb}
+use Rattle.span_io.specs.Courses.{course_of_reads, read_next, is_last}
 use Rattle.span_io.specs.Limits.{shipped_limits}
-use Rattle.span_io.specs.Outside.{Inlet}
+use Rattle.span_io.specs.Outside.{Inlet, NoReadInVain}
+use Rattle.span_io.specs.declared.course.ReadCourse.{ReadCourse}
+use Rattle.span_io.specs.declared.course.ReadCourse.TheVariants as reads
 use Rattle.span_io.specs.declared.form.Form.{Form}
 use Rattle.span_io.specs.declared.limits.Limits.{Limits}
 use Rattle.span_convert.specs.Converters.{Fed, HasForms}
@@ -21,6 +25,19 @@ Consumes-then (Some xs) None c x y p q = absurd p
 Consumes-then (Some xs) (Some ys) None x y p q = absurd q
 Consumes-then (Some xs) (Some ys) (Some zs) x y p q = p ∙ ap (λ (l : List ℕ). x ++ l) q ∙ sym (append_assoc x y zs)
 
+-- a read that gave bytes isn't the last
+pub goes_on : (E : Type 0) (now after : Option ReadCourse) (n : ℕ) → n ≢ 0 → after ≡ course_of_reads {E = E} now (Ok n) → now ≡ Some reads.Going → after ≡ Some reads.Going
+goes_on E now after n some is going = is ∙ ap (λ (o : Option ReadCourse). course_of_reads {E = E} o (Ok n)) going ∙ ap (λ (b : Bool). Some (read_next reads.Going b)) (ne_eqb n 0 some)
+
+never_in_vain : (last : Bool) → ◌≡◌ {A = Option ReadCourse} (Some (read_next reads.Going last)) (Some reads.InVain) → ⊥
+never_in_vain true e = absurd (cc)
+never_in_vain false e = absurd (cc)
+
+-- whatever a read behind it answers, it wasn't in vain
+pub not_in_vain : (E : Type 0) (before now after : Option ReadCourse) (result : Result ℕ E) → (before ≡ Some reads.Going → now ≡ Some reads.Going) → after ≡ course_of_reads now result → before ≡ Some reads.Going → after ≢ Some reads.InVain
+not_in_vain E before now after result goes is going vain =
+    never_in_vain (is_last result) (sym (is ∙ ap (λ (o : Option ReadCourse). course_of_reads o result) (goes going)) ∙ vain)
+
 -- nothing was read
 pub reads_nothing : (from : Form) (now : Inlet) → ReadsInput from now now
 reads_nothing from now = record { given = []; gave = Consumes-nothing now.left; within = omega arith }
@@ -35,21 +52,23 @@ pub record Feeding (from to : Form) (before now : Inlet) (c : Converter) : Type 
   pub gave : GaveInput before now given
   pub quiet : now.faults ≡ before.faults
   pub steady : now.steady ≡ before.steady
+  pub goes : before.course ≡ Some reads.Going → now.course ≡ Some reads.Going
   pub fed : Fed c given
   pub forms : HasForms c from to
   pub limits : c.limits ≡ shipped_limits
 
 module _ (from to : Form) where
   pub Feeding-start : (now : Inlet) (c : Converter) → Fed c [] → HasForms c from to → c.limits ≡ shipped_limits → Feeding from to now now c
-  Feeding-start now c fresh forms limits = record { given = []; gave = Consumes-nothing now.left; quiet = refl; steady = refl; fed = fresh; forms = forms; limits = limits }
+  Feeding-start now c fresh forms limits = record { given = []; gave = Consumes-nothing now.left; quiet = refl; steady = refl; goes = λ going. going; fed = fresh; forms = forms; limits = limits }
 
-  pub Feeding-step : (before now after : Inlet) (old new : Converter) (more : List ℕ) (feeding : Feeding from to before now old) → Consumes now.left after.left more → after.faults ≡ now.faults → after.steady ≡ now.steady
+  pub Feeding-step : (before now after : Inlet) (old new : Converter) (more : List ℕ) (feeding : Feeding from to before now old) → Consumes now.left after.left more → after.faults ≡ now.faults → after.steady ≡ now.steady → (now.course ≡ Some reads.Going → after.course ≡ Some reads.Going)
       → Fed new (feeding.given ++ more) → HasForms new old.from old.to → new.limits ≡ old.limits → Feeding from to before after new
-  Feeding-step before now after old new more feeding here quiet steady fed forms limits = record {
+  Feeding-step before now after old new more feeding here quiet steady goes fed forms limits = record {
     given = feeding.given ++ more;
     gave = Consumes-then before.left now.left after.left feeding.given more feeding.gave here;
     quiet = quiet ∙ feeding.quiet;
     steady = steady ∙ feeding.steady;
+    goes = λ going. goes (feeding.goes going);
     fed = fed;
     forms = (forms.0 ∙ feeding.forms.0, forms.1 ∙ feeding.forms.1);
     limits = limits ∙ feeding.limits;
@@ -70,14 +89,15 @@ module _ (from to : Form) where
   Feeding-told (Some xs) None given gave ended = absurd gave
   Feeding-told (Some xs) (Some ys) given gave ended = ap (λ (l : List ℕ). Some l) ended
 
-  pub Feeding-end : (before now after : Inlet) (c : Converter) → Feeding from to before now c → Consumes now.left after.left [] → after.faults ≡ now.faults → IsAtEnd after.left → IsFed from to before after c
-  Feeding-end before now after c feeding here quiet ended =
+  pub Feeding-end : (before now after : Inlet) (c : Converter) → Feeding from to before now c → Consumes now.left after.left [] → after.faults ≡ now.faults → NoReadInVain before after → IsAtEnd after.left → IsFed from to before after c
+  Feeding-end before now after c feeding here quiet in_vain ended =
       let all = Consumes-then before.left now.left after.left feeding.given [] feeding.gave here in
       record {
         given = feeding.given;
         gave = subst (λ (l : List ℕ). GaveInput before after l) (append-nil feeding.given) all;
         all_read = record { ended = ended; told = Feeding-told before.left after.left (feeding.given ++ []) all ended };
         quiet = quiet ∙ feeding.quiet;
+        in_vain = in_vain;
         fed = feeding.fed;
         forms = feeding.forms;
         limits = feeding.limits;

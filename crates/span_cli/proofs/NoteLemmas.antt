@@ -1,35 +1,36 @@
--- The line of a refusal, written in pieces.
-use Rattle.std.proofs.Common.{◌≡◌, ℕ, List, [], ◌∷◌, ◌++◌, Result, Ok, Err, ap, subst, ◌∙◌, append_assoc}
-use Rattle.std.specs.Prelude.{OnErr, codes}
-use Rattle.span_io.specs.Outside.{Outlet, GainsFront}
+-- A line, written in pieces.
+use Rattle.std.proofs.Common.{◌≡◌, ℕ, ◌+◌, ◌<◌, List, [], ◌∷◌, ◌++◌, length, get_or, take, drop, sym, ap, subst, ◌∙◌, append_assoc, take-append-drop}
+use Rattle.std.proofs.lemmas.List.{append-nil, take_more}
+use Rattle.std.proofs.lemmas.List.Concat.{flat_map-append, flat_map-cons}
+use Rattle.std.specs.Borrow.{Bor}
+use Rattle.span_io.specs.Outside.{Outlet, FailsAt}
+use Rattle.span_cli.specs.Verdicts.{joined}
 
-abbrev pub line : List ℕ → List ℕ → List ℕ → List ℕ
-line unit number name = codes "unit " ++ unit ++ codes ": cause " ++ number ++ codes " " ++ name ++ codes "\n"
+-- with the next piece
+pub joined_more : (pieces : List (Bor (List ℕ))) (i : ℕ) (none : Bor (List ℕ)) → i < length pieces → joined (take (i + 1) pieces) ≡ joined (take i pieces) ++ (get_or pieces i none).now
+joined_more pieces i none lt =
+    ap joined (take_more pieces i none lt)
+    ∙ flat_map-append (λ (p : Bor (List ℕ)). p.now) (take i pieces) (get_or pieces i none ∷ [])
+    ∙ ap (λ (l : List ℕ). joined (take i pieces) ++ l) (flat_map-cons (λ (p : Bor (List ℕ)). p.now) (get_or pieces i none) [] ∙ append-nil (get_or pieces i none).now)
 
--- the same line of equal pieces
-pub same_line : (P : List ℕ → Type 0) (unit unit' number number' name name' : List ℕ) → unit ≡ unit' → number ≡ number' → name ≡ name' → P (line unit number name) → P (line unit' number' name')
-same_line P unit unit' number number' name name' u n m holds =
-    subst (λ (x : List ℕ). P (line unit' number' x)) m
-    (subst (λ (x : List ℕ). P (line unit' x name)) n (subst (λ (x : List ℕ). P (line x number name)) u holds))
+-- the first pieces, and the others
+joined_parts : (pieces : List (Bor (List ℕ))) (i : ℕ) → joined (take i pieces) ++ joined (drop i pieces) ≡ joined pieces
+joined_parts pieces i = sym (flat_map-append (λ (p : Bor (List ℕ)). p.now) (take i pieces) (drop i pieces)) ∙ ap joined (take-append-drop i pieces)
 
-front_of_more : (before now : Outlet) (piece more : List ℕ) → GainsFront before now piece → GainsFront before now (piece ++ more)
-front_of_more before now piece more p = record {
-  front = p.front;
-  is_front = (p.is_front.0 ++ more, ap (λ l. l ++ more) p.is_front.1 ∙ append_assoc p.front p.is_front.0 more);
-  gains = p.gains;
+fails_before : (before now : Outlet) (line more : List ℕ) → FailsAt before now line → FailsAt before now (line ++ more)
+fails_before before now line more at = record {
+  front = at.front;
+  byte = at.byte;
+  others = at.others ++ more;
+  parts = ap (λ (l : List ℕ). l ++ more) at.parts ∙ append_assoc at.front (at.byte ∷ at.others) more;
+  gains = at.gains;
+  rose = at.rose;
+  stops = at.stops;
 }
 
--- the pieces behind what is there
-abbrev pub joined : List ℕ → List (List ℕ) → List ℕ
-joined done [] = done
-joined done (piece ∷ pieces) = joined (done ++ piece) pieces
-
--- a front of the first pieces is one of the line that goes on behind them
-pub behind : (before now : Outlet) (done : List ℕ) (pieces : List (List ℕ)) → GainsFront before now done → GainsFront before now (joined done pieces)
-behind before now done [] p = p
-behind before now done (piece ∷ pieces) p = behind before now (done ++ piece) pieces (front_of_more before now done piece p)
-
--- what is said of a failure holds whatever is answered
-pub on_err : {T E : Type 0} (result : Result T E) {P : Type 0} → P → OnErr result P
-on_err (Ok x) p = tt
-on_err (Err e) p = p
+-- a failure within the first pieces is one within all
+pub fails_within_pieces : (before now : Outlet) (pieces : List (Bor (List ℕ))) (i : ℕ) (none : Bor (List ℕ)) → i < length pieces
+    → FailsAt before now (joined (take i pieces) ++ (get_or pieces i none).now) → FailsAt before now (joined pieces)
+fails_within_pieces before now pieces i none lt at =
+    subst (λ (l : List ℕ). FailsAt before now l) (joined_parts pieces (i + 1))
+    (fails_before before now (joined (take (i + 1) pieces)) (joined (drop (i + 1) pieces)) (subst (λ (l : List ℕ). FailsAt before now l) (sym (joined_more pieces i none lt)) at))

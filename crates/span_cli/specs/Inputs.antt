@@ -2,7 +2,7 @@
 use Rattle.std.specs.Prelude.{◌≡◌, ℕ, ◌+◌, ◌≤◌, List, [], length, Some, IfSome}
 use Rattle.std.specs.Io.KnownBytes.{Consumes, IsAtEnd}
 use Rattle.span_io.specs.Limits.{shipped_limits}
-use Rattle.span_io.specs.Outside.{Inlet}
+use Rattle.span_io.specs.Outside.{Inlet, NoReadInVain}
 use Rattle.span_io.specs.declared.form.Form.{Form}
 use Rattle.span_convert.specs.Converters.{Fed, HasForms}
 use Rattle.span_convert.specs.Units.{input_limit}
@@ -27,12 +27,13 @@ pub record IsAllRead (before now : Inlet) : Type 0 where
   pub ended : IsAtEnd now.left
   pub told : IfSome before.left (λ bytes. now.left ≡ Some [])
 
--- the source gave all its bytes without a fault, and the converter between these forms was fed them
+-- the source gave all its bytes without a fault and without a read in vain, and the converter between these forms was fed them
 pub record IsFed (from to : Form) (before now : Inlet) (c : Converter) : Type 0 where
   pub given : List ℕ
   pub gave : GaveInput before now given
   pub all_read : IsAllRead before now
   pub quiet : now.faults ≡ before.faults
+  pub in_vain : NoReadInVain before now
   pub fed : Fed c given
   pub forms : HasForms c from to
   pub limits : c.limits ≡ shipped_limits

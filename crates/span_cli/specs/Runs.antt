@@ -1,7 +1,7 @@
 -- How a conversion ends, and what it does to its input and output.
 use Rattle.std.specs.Prelude.{◌≡◌, ◌≢◌, ◌⊎◌, ℕ, List, IfSome, IsTrue, Result, Ok, Err}
 use Rattle.span_io.specs.Limits.{shipped_limits}
-use Rattle.span_io.specs.Outside.{Inlet, Outlet, InputFails, OutputFails}
+use Rattle.span_io.specs.Outside.{Inlet, Outlet, InputFails, NoReadInVain, OutputFails, OutputHolds}
 use Rattle.span_io.specs.declared.form.Form.{Form}
 use Rattle.span_convert.specs.Verdicts.{WritesFront, verdict_text}
 use Rattle.span_convert.specs.declared.converter.State.{State}
@@ -10,39 +10,48 @@ use Rattle.span_convert.specs.declared.stop.Stop.{Stop}
 use Rattle.span_convert.specs.declared.stop.Stop.TheVariants as stops
 use Rattle.span_convert.specs.declared.target_fault.TargetFault.{TargetFault}
 use Rattle.span_cli.specs.Inputs.{GaveInput, ReadsInput, IsAllRead}
-use Rattle.span_cli.specs.Verdicts.{OnVerdict, IsJudgedAt, AgreesWith, Writes, stage_of, status_of, line_of, fault_line, ending_line}
+use Rattle.span_cli.specs.Verdicts.{OnVerdict, IsJudgedAt, AgreesWith, Writes, HasKey, stage_of, status_of, line_of, fault_line, noted_line, ending_line}
 use Rattle.span_cli.specs.declared.ending.Ending.{Ending}
 use Rattle.span_cli.specs.declared.ending.Ending.TheVariants as endings
+use Rattle.span_cli.specs.declared.noted_fault.NotedFault.{NotedFault}
 
--- the line says the fault that the converter keeps
-pub record IsFaultAt (line : List ℕ) (stop : Stop) (state : State) : Type 0 where
+-- what is noted says the fault that the converter keeps
+pub record IsFaultAt (noted : NotedFault) (stop : Stop) (state : State) : Type 0 where
   pub found : TargetFault
   pub stopped : stop ≡ stops.Faulted
   pub kept : state ≡ states.Faulted found
-  pub says : line ≡ fault_line found
+  pub says : noted_line noted ≡ fault_line found
 
--- The ending says the stop, and the refusal or fault that the converter keeps. The line of a fault takes memory.
+-- the fault that the converter keeps has a key
+pub record IsKeyAt (stop : Stop) (state : State) : Type 0 where
+  pub found : TargetFault
+  pub stopped : stop ≡ stops.Faulted
+  pub kept : state ≡ states.Faulted found
+  pub key : HasKey found.fault
+
+-- The ending says the stop, and the refusal or fault that the converter keeps. A key takes memory.
 abbrev pub IsEndingAt : Ending → Stop → State → Type 0
 IsEndingAt endings.Whole stop state = ⊥
 IsEndingAt (endings.Refused refusal) stop state = (stop ≡ stops.Refused) × (state ≡ states.Refused refusal)
-IsEndingAt (endings.Faulted line) stop state = IsFaultAt line stop state
+IsEndingAt (endings.Faulted noted) stop state = IsFaultAt noted stop state
 IsEndingAt endings.InputFailed stop state = ⊥
 IsEndingAt endings.OutputFailed stop state = stop ≡ stops.Write
-IsEndingAt endings.NoMemory stop state = (stop ≡ stops.OutOfMemory) ⊎ (stop ≡ stops.Faulted)
+IsEndingAt endings.NoMemory stop state = (stop ≡ stops.OutOfMemory) ⊎ IsKeyAt stop state
 
--- What a run that ends with this status did to its input. The input failed where its count rose, and only there.
+-- What a run that ends with this status did to its input. The input failed where its count rose, and only there, and no read
+-- was in vain.
 pub record EndsInput (from : Form) (status : ℕ) (before now : Inlet) : Type 0 where
   pub fails : status ≡ 5 → InputFails before now
   pub quiet : status ≢ 5 → now.faults ≡ before.faults
   pub answers : IsTrue before.steady → status ≢ 5
+  pub in_vain : NoReadInVain before now
   pub reads : ReadsInput from before now
   pub all_read : status ≡ 0 → IsAllRead before now
 
 -- The same of its output, which a failure of the input leaves as it was.
 pub record EndsOutput {K : Type 0} (outlet : K → Outlet) (status : ℕ) (before now : K) : Type 0 where
   pub fails : status ≡ 6 → OutputFails (outlet before) (outlet now)
-  pub quiet : status ≢ 6 → (outlet now).faults ≡ (outlet before).faults
-  pub answers : IsTrue (outlet before).steady → status ≢ 6
+  pub holds : status ≢ 6 → OutputHolds (outlet before) (outlet now)
   pub unwritten : status ≡ 5 → now ≡ before
 
 -- what was written is a front of the canonical text of the first units of what was read

@@ -1,9 +1,10 @@
 -- What is said of the verdict on an input: the status, what is written, and the line that is noted.
-use Rattle.std.specs.Prelude.{◌≡◌, ℕ, ◌⊎◌, ◌==◌, if◌then◌else◌, List, [], ◌∷◌, ◌++◌, Option, Some, IfSome, IsTrue, codes, decimal}
-use Rattle.std.specs.List.{list_any}
+use Rattle.std.specs.Prelude.{◌≡◌, ℕ, ◌⊎◌, ◌==◌, if◌then◌else◌, List, [], ◌∷◌, ◌++◌, Option, Some, None, IfSome, IsTrue, codes, decimal}
+use Rattle.std.specs.Borrow.{Bor}
+use Rattle.std.specs.List.{list_any, flat_map}
 use Rattle.span_io.specs.Causes.{cause_number, cause_name}
 use Rattle.span_io.specs.Limits.{shipped_limits}
-use Rattle.span_io.specs.Outside.{Outlet, Gains, GainsFront, Rose}
+use Rattle.span_io.specs.Outside.{Outlet, Gains, GainsFront, OutputHolds, FailsWithin, FailsAt}
 use Rattle.span_io.specs.declared.form.Form.{Form}
 use Rattle.span_io.specs.declared.refusal.Refusal.{Refusal}
 use Rattle.json.specs.Print.{print}
@@ -16,6 +17,7 @@ use Rattle.span_convert.specs.Verdicts.{Verdict, good, refused, faulted, IsVerdi
 use Rattle.span_convert.specs.declared.target_fault.TargetFault.{TargetFault}
 use Rattle.span_cli.specs.declared.ending.Ending.{Ending}
 use Rattle.span_cli.specs.declared.ending.Ending.TheVariants as endings
+use Rattle.span_cli.specs.declared.noted_fault.NotedFault.{NotedFault}
 
 -- Where the bytes of the input are told, the fact holds of each verdict on them by the forms of the conversion.
 abbrev pub OnVerdict : Form → Form → Option (List ℕ) → (Verdict → Type 0) → Type 0
@@ -31,7 +33,7 @@ OnSameBatches from to left P = IfSome left (λ bytes.
 abbrev pub status_of : Ending → ℕ
 status_of endings.Whole = 0
 status_of (endings.Refused refusal) = 3
-status_of (endings.Faulted line) = 4
+status_of (endings.Faulted noted) = 4
 status_of endings.InputFailed = 5
 status_of endings.OutputFailed = 6
 status_of endings.NoMemory = 7
@@ -76,13 +78,13 @@ AgreesWith input_failed status verdict = Unit {0}
 AgreesWith output_failed status verdict = Unit {0}
 AgreesWith no_memory status verdict = Unit {0}
 
--- What the output gains: the text of the verdict where it was carried out, a front of it where the output failed or memory was
--- wanted, and nothing before.
+-- What the output gains: the text of the verdict where it was carried out, a front of it where the output failed within it or
+-- memory was wanted, and nothing before.
 abbrev pub Writes : Stage → List ℕ → Outlet → Outlet → Type 0
 Writes usage text before now = Gains before now []
 Writes said text before now = Gains before now text
 Writes input_failed text before now = Gains before now []
-Writes output_failed text before now = GainsFront before now text
+Writes output_failed text before now = FailsWithin before now text
 Writes no_memory text before now = GainsFront before now text
 
 -- ---- notes; each line ends with a line feed
@@ -104,10 +106,29 @@ key_part faults.EventText = []
 key_part faults.ChildOfLink = []
 key_part faults.DoubleInText = []
 
+-- the faults that tell one
+abbrev pub HasKey : Fault → Type 0
+HasKey (faults.Reserved key) = Unit {0}
+HasKey (faults.OwnKey key) = Unit {0}
+HasKey faults.EndBeforeStart = ⊥
+HasKey faults.EventText = ⊥
+HasKey faults.ChildOfLink = ⊥
+HasKey faults.DoubleInText = ⊥
+
 abbrev pub fault_line : TargetFault → List ℕ
 fault_line found =
     codes "unit " ++ decimal found.unit ++ codes ": fault " ++ decimal (fault_number found.fault)
     ++ codes " " ++ fault_name found.fault ++ key_part found.fault ++ codes "\n"
+
+-- the same line of what is kept of a fault
+abbrev pub noted_key : Option (List ℕ) → List ℕ
+noted_key None = []
+noted_key (Some key) = key
+
+abbrev pub noted_line : NotedFault → List ℕ
+noted_line noted =
+    codes "unit " ++ decimal noted.unit ++ codes ": fault " ++ decimal noted.number
+    ++ codes " " ++ noted.name.now ++ noted_key noted.key ++ codes "\n"
 
 -- the line of a stage, none where a verdict was carried out
 abbrev pub stage_line : Stage → List ℕ
@@ -130,16 +151,18 @@ line_of no_memory verdict = stage_line no_memory
 abbrev pub ending_line : Ending → List ℕ
 ending_line endings.Whole = []
 ending_line (endings.Refused refusal) = refusal_line refusal
-ending_line (endings.Faulted line) = line
+ending_line (endings.Faulted noted) = noted_line noted
 ending_line endings.InputFailed = codes "input failed\n"
 ending_line endings.OutputFailed = codes "output failed\n"
 ending_line endings.NoMemory = codes "out of memory\n"
 
--- the notes gained the line without a fault, or their count rose, and they gained a front of it
+-- the notes gained the line without a fault, or failed at a byte of it
 abbrev pub Notes : Outlet → Outlet → List ℕ → Type 0
-Notes before now line =
-    Gains before now line × (now.faults ≡ before.faults)
-    ⊎ GainsFront before now line × Rose before.faults now.faults
+Notes before now line = Gains before now line × OutputHolds before now ⊎ FailsAt before now line
+
+-- pieces, one after the other
+abbrev pub joined : List (Bor (List ℕ)) → List ℕ
+joined pieces = flat_map (λ (piece : Bor (List ℕ)). piece.now) pieces
 
 -- The run that ended with this status did what the verdict asks for, as far as its stage says: its status tells it, the output
 -- gained its text, and the notes its line.

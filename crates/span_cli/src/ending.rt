@@ -4,9 +4,9 @@ ghost use Rattle.span_convert.specs.Converters.{stop_in};
 ghost use Rattle.span_cli.specs.Verdicts.{status_of};
 ghost use Rattle.span_cli.specs.Runs.{IsEndingAt};
 
-use crate::fault_line::line_of_fault;
+use crate::noted_fault::NotedFault;
 use span_convert::{Converter, Stop, Why};
-use span_io::{Blob, OutOfMemory, Refusal};
+use span_io::{OutOfMemory, Refusal};
 use std::alloc::Global;
 
 /// How a run of `convert` ends.
@@ -15,8 +15,8 @@ pub enum Ending {
     /// The whole text was written.
     Whole,
     Refused(Refusal),
-    /// The target can't hold a unit. It holds the line that is noted.
-    Faulted(Blob),
+    /// The target can't hold a unit.
+    Faulted(NotedFault),
     InputFailed,
     OutputFailed,
     NoMemory,
@@ -30,13 +30,14 @@ impl Ending {
     {
         match converter.why() {
             Why::Refusal(refusal) => Ending::Refused(*refusal),
-            Why::Fault(found) => match line_of_fault(alloc, found) {
-                Ok(line) => Ending::Faulted(line),
+            Why::Fault(found) => match NotedFault::of(alloc, found) {
+                Ok(noted) => Ending::Faulted(noted),
                 Err(OutOfMemory) => Ending::NoMemory,
             },
             Why::Nothing => match stop {
                 Stop::Write => Ending::OutputFailed,
-                Stop::Refused | Stop::Faulted | Stop::OutOfMemory => Ending::NoMemory,
+                Stop::OutOfMemory => Ending::NoMemory,
+                Stop::Refused | Stop::Faulted => unreachable!(),
             },
         }
     }

@@ -3,13 +3,10 @@
 
 mod command;
 mod ending;
-mod fault_line;
 mod input;
 mod note;
+mod noted_fault;
 mod top;
 
 pub use command::{Command, read_words};
 pub use top::run;
-
-#[cfg(test)]
-mod tests;

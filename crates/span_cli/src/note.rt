@@ -1,9 +1,9 @@
 //! The line that tells on the notes how a run ended.
-ghost use Rattle.std.specs.Prelude.{◌≡◌, [], OnOk, OnErr};
-ghost use Rattle.span_io.specs.Outside.{Gains, GainsFront, OutputFails};
-ghost use Rattle.span_cli.specs.Verdicts.{Notes, ending_line, refusal_line, usage_line};
+ghost use Rattle.std.specs.Prelude.{◌≡◌, ◌++◌, [], codes};
+ghost use Rattle.span_cli.specs.Verdicts.{Notes, ending_line, joined, noted_line, refusal_line, usage_line};
 
 use crate::ending::Ending;
+use crate::noted_fault::NotedFault;
 use itoa::Buffer;
 use span_io::laws::gains_then;
 use span_io::{Failed, Refusal, Sink, write_all};
@@ -25,10 +25,8 @@ pub fn note_ending<N: Sink>(notes: &mut N, ending: &Ending)
 {
     match ending {
         Ending::Whole => note_line(notes, b""),
-        Ending::Refused(refusal) => {
-            let _ = write_refusal(notes, *refusal);
-        }
-        Ending::Faulted(line) => note_line(notes, line.as_slice()),
+        Ending::Refused(refusal) => note_refusal(notes, *refusal),
+        Ending::Faulted(noted) => note_fault(notes, noted),
         Ending::InputFailed => note_line(notes, b"input failed\n"),
         Ending::OutputFailed => note_line(notes, b"output failed\n"),
         Ending::NoMemory => note_line(notes, b"out of memory\n"),
@@ -42,20 +40,75 @@ fn note_line<N: Sink>(notes: &mut N, line: &[u8])
     let _ = write_all(notes, line);
 }
 
-// Writes the unit and the cause of a refusal.
-fn write_refusal<N: Sink>(notes: &mut N, refusal: Refusal) -> Result<(), Failed>
-    ensures ok { OnOk result (Gains (N.outlet notes.old) (N.outlet notes.new) (refusal_line refusal)) }
-    ensures quiet { OnOk result ((N.outlet notes.new).faults ≡ (N.outlet notes.old).faults) }
-    ensures failed { OnErr result (OutputFails (N.outlet notes.old) (N.outlet notes.new)) }
-    ensures front { OnErr result (GainsFront (N.outlet notes.old) (N.outlet notes.new) (refusal_line refusal)) }
+// Notes the unit and the cause of a refusal.
+fn note_refusal<N: Sink>(notes: &mut N, refusal: Refusal)
+    ensures { Notes (N.outlet notes.old) (N.outlet notes.new) (refusal_line refusal) }
+{
+    let mut unit = Buffer::new();
+    let mut number = Buffer::new();
+    note_pieces(
+        notes,
+        &[
+            b"unit ".as_slice(),
+            unit.format(refusal.unit).as_bytes(),
+            b": cause ".as_slice(),
+            number.format(refusal.cause.number()).as_bytes(),
+            b" ".as_slice(),
+            refusal.cause.name().as_bytes(),
+            b"\n".as_slice(),
+        ],
+    );
+}
+
+// Notes the unit, the fault, and its key, where it has one.
+fn note_fault<N: Sink>(notes: &mut N, noted: &NotedFault)
+    ensures { Notes (N.outlet notes.old) (N.outlet notes.new) (noted_line noted.now) }
+{
+    let mut unit = Buffer::new();
+    let mut number = Buffer::new();
+    note_fault_in(
+        notes,
+        unit.format(noted.unit).as_bytes(),
+        number.format(noted.number).as_bytes(),
+        noted.name.as_bytes(),
+        noted.key(),
+    );
+}
+
+// The same of its parts.
+fn note_fault_in<'a, N: Sink>(
+    notes: &mut N,
+    unit: &'a [u8],
+    number: &'a [u8],
+    name: &'a [u8],
+    key: &'a [u8],
+)
+    ensures { Notes (N.outlet notes.old) (N.outlet notes.new)
+        (codes "unit " ++ unit.now ++ codes ": fault " ++ number.now ++ codes " " ++ name.now ++ key.now ++ codes "\n") }
+{
+    note_pieces(
+        notes,
+        &[
+            b"unit ".as_slice(),
+            unit,
+            b": fault ".as_slice(),
+            number,
+            b" ".as_slice(),
+            name,
+            key,
+            b"\n".as_slice(),
+        ],
+    );
+}
+
+// Notes pieces one after the other, up to the first that fails.
+fn note_pieces<N: Sink>(notes: &mut N, pieces: &[&[u8]])
+    ensures { Notes (N.outlet notes.old) (N.outlet notes.new) (joined pieces.now) }
 {
     gains_then();
-    let mut digits = Buffer::new();
-    write_all(notes, b"unit ")?;
-    write_all(notes, digits.format(refusal.unit).as_bytes())?;
-    write_all(notes, b": cause ")?;
-    write_all(notes, digits.format(refusal.cause.number()).as_bytes())?;
-    write_all(notes, b" ")?;
-    write_all(notes, refusal.cause.name().as_bytes())?;
-    write_all(notes, b"\n")
+    'pieces: for piece in pieces {
+        if let Err(Failed) = write_all(notes, piece) {
+            return;
+        }
+    }
 }

@@ -1,6 +1,6 @@
 //! The top call.
-ghost use Rattle.std.specs.Prelude.{◌≡◌, ◌≢◌, ◌↔◌, IfSome, IsTrue};
-ghost use Rattle.span_io.specs.Outside.{InputFails, OutputFails};
+ghost use Rattle.std.specs.Prelude.{◌≡◌, ◌≢◌, ◌↔◌, IfSome, IsTrue, length};
+ghost use Rattle.span_io.specs.Outside.{InputFails, NoReadInVain, NoWriteInVain, OutputFails, OutputHolds, Takes, any_number};
 ghost use Rattle.span_cli.specs.Commands.{texts, Spells, OnConversion};
 ghost use Rattle.span_convert.specs.Verdicts.{verdict_text};
 ghost use Rattle.span_cli.specs.Inputs.{ReadsInput, IsAllRead};
@@ -34,14 +34,19 @@ pub fn run<S: Source, K: Sink, N: Sink>(
     ensures untouched { result ≡ 2 → (input.new ≡ input.old) × (output.new ≡ output.old) }
     ensures statuses { IsRunStatus result }
 
-    // A device is at fault where its count rose, and only there; one that is steady never is.
+    // A device is at fault where its count rose, and only there; one that never fails never is.
     ensures input_fails { result ≡ 5 → InputFails (S.inlet input.old) (S.inlet input.new) }
     ensures input_quiet { result ≢ 5 → (S.inlet input.new).faults ≡ (S.inlet input.old).faults }
     ensures input_answers { IsTrue (S.inlet input.old).steady → result ≢ 5 }
     ensures unwritten { result ≡ 5 → output.new ≡ output.old }
     ensures output_fails { result ≡ 6 → OutputFails (K.outlet output.old) (K.outlet output.new) }
-    ensures output_quiet { result ≢ 6 → (K.outlet output.new).faults ≡ (K.outlet output.old).faults }
-    ensures output_answers { IsTrue (K.outlet output.old).steady → result ≢ 6 }
+    ensures output_holds { result ≢ 6 → OutputHolds (K.outlet output.old) (K.outlet output.new) }
+    ensures output_answers { (K.outlet output.old).sure ≡ any_number → result ≢ 6 }
+
+    // No read comes behind a failed one, or behind the end. No write is of nothing, or comes behind a failed one.
+    ensures input_in_vain { NoReadInVain (S.inlet input.old) (S.inlet input.new) }
+    ensures output_in_vain { NoWriteInVain (K.outlet output.old) (K.outlet output.new) }
+    ensures notes_in_vain { NoWriteInVain (N.outlet notes.old) (N.outlet notes.new) }
 
     // Reading stops at the first stop. After the whole text nothing of the input is left.
     ensures reads { OnConversion (texts words.now) (λ from to. ReadsInput from (S.inlet input.old) (S.inlet input.new)) }
@@ -58,6 +63,8 @@ pub fn run<S: Source, K: Sink, N: Sink>(
         (λ from to. OnVerdict from to (S.inlet input.old).left (AgreesWith (stage_of result) result)) }
     ensures output { OnConversion (texts words.now) (λ from to. OnVerdict from to (S.inlet input.old).left
         (λ verdict. Writes (stage_of result) (verdict_text verdict) (K.outlet output.old) (K.outlet output.new))) }
+    ensures output_takes { OnConversion (texts words.now) (λ from to. OnVerdict from to (S.inlet input.old).left
+        (λ verdict. Takes (K.outlet output.old).sure (length (verdict_text verdict)) → result ≢ 6)) }
     ensures notes { OnConversion (texts words.now) (λ from to. OnVerdict from to (S.inlet input.old).left
         (λ verdict. Notes (N.outlet notes.old) (N.outlet notes.new) (line_of (stage_of result) verdict))) }
 

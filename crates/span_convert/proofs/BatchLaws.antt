@@ -9,15 +9,17 @@ use Rattle.span_io.specs.Offences.{Least}
 use Rattle.span_io.specs.RowLaws.{all_zip_once}
 use Rattle.span_io.specs.declared.cause.Cause.{Cause}
 use Rattle.span_io.specs.declared.limits.Limits.{Limits}
-use Rattle.trace_model.specs.declared.trace.Group.{Group}
+use Rattle.trace_model.specs.OtlpParts.{NotedGroup}
 use Rattle.jaeger_model.specs.Batches.{IsBatchText}
 use Rattle.jaeger_model.specs.Laws.{BatchOffends}
 use Rattle.jaeger_model.specs.declared.batch.Batch.{Batch}
 use Rattle.map_jaeger.specs.Reading.{group_of}
+use Rattle.map_jaeger.specs.Remarks.{AreRemarks}
 use Rattle.span_convert.specs.BatchFiles.{ProtocolWords, batches, RefusedBatch, HoldsBatches, IsBatchUnit, ReadsBatches}
 use Rattle.span_convert.specs.FramedForms.{FramedForm}
 use Rattle.span_convert.specs.InputLaws.{BatchLaws}
 use Rattle.span_convert.specs.Units.{batch_form}
+use Rattle.span_convert.proofs.BatchRemarks.{remarks_once, some_remarks}
 use Rattle.span_convert.proofs.FrameLemmas.{no_items, FirstItems, first_items, nothing_begins, stops_ends, one_stop, end_fine, behind_all, same_items}
 use Rattle.span_convert.proofs.SourceLaws.{SourceLaws, HeldBy, GoOn, AllUnits, IsDecidedUnit}
 
@@ -25,11 +27,15 @@ module _ (protocol : ProtocolWords) (L : BatchLaws protocol) where
   abbrev from : FramedForm
   from = batch_form protocol
 
-  abbrev IsUnit : List ℕ → Group → Type 0
+  abbrev IsUnit : List ℕ → NotedGroup → Type 0
   IsUnit = IsBatchUnit protocol.spells
 
-  pub one_group : (unit : List ℕ) (g h : Group) → IsUnit unit g → IsUnit unit h → g ≡ h
-  one_group unit g h a b = a.means ∙ ap group_of (L.batch.once unit a.batch b.batch a.text b.text) ∙ sym b.means
+  pub one_group : (unit : List ℕ) (g h : NotedGroup) → IsUnit unit g → IsUnit unit h → g ≡ h
+  one_group unit g h a b =
+      let batch : a.batch ≡ b.batch = L.batch.once unit a.batch b.batch a.text b.text in
+      let means : g.means ≡ h.means = a.means ∙ ap group_of batch ∙ sym b.means in
+      let notes : g.notes ≡ h.notes = remarks_once L.once b.batch g.notes h.notes (subst (λ (x : Batch). AreRemarks x g.notes) batch a.remarks) b.remarks in
+      λ i. record { means = means i; notes = notes i }
 
   -- ---- all batches of a file
 
@@ -87,7 +93,7 @@ module _ (protocol : ProtocolWords) (L : BatchLaws protocol) where
 
   -- ---- a file is read as one trace
 
-  pub one_file : (text : List ℕ) (a b : List Group) → ReadsBatches protocol text a → ReadsBatches protocol text b → a ≡ b
+  pub one_file : (text : List ℕ) (a b : List NotedGroup) → ReadsBatches protocol text a → ReadsBatches protocol text b → a ≡ b
   one_file text a b h g =
       let units : h.units ≡ g.units = same_items (batches protocol) (RefusedBatch protocol) L.step L.framing (length text) text h.units g.units h.framed g.framed in
       all_zip_once IsUnit one_group g.units a b (subst (λ (l : List (List ℕ)). AllZip IsUnit l a) units h.are_groups) g.are_groups
@@ -98,5 +104,7 @@ module _ (protocol : ProtocolWords) (L : BatchLaws protocol) where
   decided_batch unit whole = of (L.some whole.0 unit whole.1)
     where
       of : ((batch : Batch) × IsBatchText protocol.spells batch unit) ⊎ ((cause : Cause) × Least (BatchOffends protocol.spells unit) (cause_number cause)) → IsDecidedUnit from unit
-      of (inl (batch, text)) = inl (group_of batch, record { batch = batch; text = text; means = refl })
+      of (inl (batch, text)) =
+          let noted = some_remarks L.exist batch in
+          inl (record { means = group_of batch; notes = noted.0 }, record { batch = batch; text = text; means = refl; remarks = noted.1 })
       of (inr least) = inr least

@@ -1,16 +1,11 @@
--- What is read of a batch of bytes is proper, over any protocol that spells numbers of the bits of their types, as the binary one does.
-use Rattle.std.proofs.Common.{◌≡◌, ℕ, ◌<◌, ◌^◌, zero, suc, List, [], ◌∷◌, length, map, get_or, refl, sym, ◌∙◌, ap, subst, arith}
-use Rattle.std.specs.Prelude.{FitsSigned}
-use Rattle.std.specs.Int.{w32, w64, from_be_bytes, cast_signed}
-use Rattle.std.proofs.Math.Facts.{sfits_to_z, of_z-to_z}
-use Rattle.std.proofs.lemmas.List.Elements.{All-head, All-tail}
+-- What is read of a batch of bytes is proper.
+use Rattle.std.proofs.Common.{◌≡◌, ℕ, List, [], ◌∷◌, map, refl, sym, ◌∙◌, ap, subst}
 use Rattle.thrift_core.specs.Parts.{Spelling}
-use Rattle.thrift_binary.specs.Spelling.{binary_spells}
 use Rattle.trace_model.specs.Proper.{IsProperGroup}
 use Rattle.trace_model.specs.declared.span.Span.{Span}
-use Rattle.trace_model.specs.declared.trace.Group.{Group}
+use Rattle.trace_model.specs.OtlpParts.{NotedGroup}
 use Rattle.trace_model.specs.declared.trace.Scope.{Scope}
-use Rattle.jaeger_model.specs.Laws.{IsProperLong, SpellsProper, ReadsProper}
+use Rattle.jaeger_model.specs.Laws.{ReadsProper}
 use Rattle.jaeger_model.specs.WrittenAgain.{all_kept, all_counted}
 use Rattle.jaeger_model.specs.declared.batch.Batch.{Batch}
 use Rattle.jaeger_model.specs.declared.span.JSpan.{JSpan}
@@ -19,46 +14,6 @@ use Rattle.map_jaeger.specs.Laws.{ReadIsProper}
 use Rattle.map_jaeger.specs.Reading.{scoped_of, resource_of, group_of}
 use Rattle.span_convert.specs.BatchFiles.{IsBatchUnit}
 use Rattle.span_convert.proofs.SourceLaws.{AreBytes}
-
--- ---- numbers
-
-byte_at : (text : List ℕ) → AreBytes text → (i : ℕ) → get_or text i 0 < 256
-byte_at [] all i = omega arith
-byte_at (x ∷ text) all zero = All-head (λ b. b < 256) x text all
-byte_at (x ∷ text) all (suc i) = byte_at text (All-tail (λ b. b < 256) x text all) i
-
-low_4 : (text : List ℕ) → AreBytes text → from_be_bytes w32 text < 2 ^ 32
-low_4 text all =
-    let b0 = byte_at text all 0 in
-    let b1 = byte_at text all 1 in
-    let b2 = byte_at text all 2 in
-    let b3 = byte_at text all 3 in
-    omega (arith, b0, b1, b2, b3)
-
-low_8 : (text : List ℕ) → AreBytes text → from_be_bytes w64 text < 2 ^ 64
-low_8 text all =
-    let b0 = byte_at text all 0 in
-    let b1 = byte_at text all 1 in
-    let b2 = byte_at text all 2 in
-    let b3 = byte_at text all 3 in
-    let b4 = byte_at text all 4 in
-    let b5 = byte_at text all 5 in
-    let b6 = byte_at text all 6 in
-    let b7 = byte_at text all 7 in
-    omega (arith, b0, b1, b2, b3, b4, b5, b6, b7)
-
-int_fits : (m : ℕ) → m < 2 ^ 32 → FitsSigned w32 (cast_signed w32 m)
-int_fits m lt = sfits_to_z {w = w32} {n = m} (record { fits = lt })
-
-long_fits : (m : ℕ) → m < 2 ^ 64 → IsProperLong (cast_signed w64 m)
-long_fits m lt = (sfits_to_z {w = w64} {n = m} (record { fits = lt }), subst (λ n. n < 2 ^ 64) (sym (of_z-to_z {w = w64} {n = m} (record { fits = lt }))) lt)
-
-pub binary_proper : SpellsProper binary_spells
-binary_proper = record {
-  int = λ n text all h. subst (FitsSigned w32) (sym h.1) (int_fits (from_be_bytes w32 text) (low_4 text all));
-  long = λ n text all h. subst IsProperLong (sym h.1) (long_fits (from_be_bytes w64 text) (low_8 text all));
-  eight = λ bytes text all h. (subst (λ (l : List ℕ). length l ≡ 8) (sym h.1) h.0, subst AreBytes (sym h.1) all);
-}
 
 -- ---- the count of references to no span says nothing
 
@@ -69,6 +24,6 @@ same_spans (span ∷ spans) = ap (λ (l : List (Scoped Span)). scoped_of span �
 same_group : (batch : Batch) → group_of (all_counted batch) ≡ group_of batch
 same_group batch = ap (λ (scopes : List Scope). record { resource = resource_of batch; dropped = 0; schema_url = []; scopes = scopes }) (ap runs (same_spans batch.spans))
 
-pub batch_unit_proper : (Spells : Spelling) → SpellsProper Spells → ReadsProper Spells → ReadIsProper → (unit : List ℕ) (group : Group) → AreBytes unit → IsBatchUnit Spells unit group → IsProperGroup group
-batch_unit_proper Spells spelled reads proper unit group all is =
-    subst IsProperGroup (same_group is.batch ∙ sym is.means) (proper (all_counted is.batch) (reads spelled is.batch unit all is.text))
+pub batch_unit_proper : (Spells : Spelling) → ReadsProper Spells → ReadIsProper → (unit : List ℕ) (group : NotedGroup) → AreBytes unit → IsBatchUnit Spells unit group → IsProperGroup group.means
+batch_unit_proper Spells reads proper unit group all is =
+    subst IsProperGroup (same_group is.batch ∙ sym is.means) (proper (all_counted is.batch) (reads is.batch unit all is.text))

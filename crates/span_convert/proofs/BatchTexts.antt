@@ -1,16 +1,16 @@
 -- Batches are read back as the normal forms of the groups that they were written for, and what is read is its own normal form.
 use Rattle.std.proofs.Common.{◌≡◌, ℕ, ◌+◌, ◌≤◌, ◌++◌, ◌∷◌, List, [], length, map, All, refl, ap, sym, ◌∙◌, subst, arith}
 use Rattle.std.proofs.lemmas.Grind.{flat_map-append}
-use Rattle.std.proofs.lemmas.List.{length-append, length-map, take_all}
+use Rattle.std.proofs.lemmas.List.{length-append, length-map}
 use Rattle.std.proofs.lemmas.List.Elements.{All-nil, All-cons, All-head, All-tail, All-map, All-weaker}
 use Rattle.std.specs.List.{AllZip, flat_map}
 use Rattle.span_io.specs.Frames.{ItemsThen}
 use Rattle.span_io.specs.declared.form.Form.{Form}
-use Rattle.span_io.specs.declared.limits.Limits.{Limits}
 use Rattle.trace_model.specs.Flat.{flat}
 use Rattle.trace_model.specs.Proper.{IsProperGroup}
 use Rattle.trace_model.specs.Soundness.{IsSoundGroup, IsSoundTrace}
 use Rattle.trace_model.specs.declared.span.Span.{Span}
+use Rattle.trace_model.specs.OtlpParts.{NotedGroup}
 use Rattle.trace_model.specs.declared.trace.Group.{Group}
 use Rattle.trace_model.specs.declared.trace.Scope.{Scope}
 use Rattle.jaeger_model.specs.Batches.{IsBatchText}
@@ -23,11 +23,11 @@ use Rattle.map_jaeger.specs.Faults.{HasNoFault}
 use Rattle.map_jaeger.specs.Laws.{IsHeld, NormalForms, IsTimely, ReadIsNormal}
 use Rattle.map_jaeger.specs.Normal.{normal, normal_group, normal_scoped}
 use Rattle.map_jaeger.specs.Writing.{jaeger_span, batch_of}
-use Rattle.span_convert.specs.BatchFiles.{ProtocolWords, batches, group_batch, batches_text, IsBatchUnit, IsPlainBatchUnit, ReadsBatches, ReadsBatchesPlainly, AreBatchesWithin}
+use Rattle.map_zipkin.specs.NotedGroups.{plain_noted}
+use Rattle.span_convert.specs.BatchFiles.{ProtocolWords, batches, group_batch, batches_text, IsBatchUnit, ReadsBatches}
 use Rattle.span_convert.specs.Canonical.{IsHeldBy}
-use Rattle.span_convert.specs.FramedForms.{AreAllUnits}
 use Rattle.span_convert.specs.InputLaws.{BatchLaws, TextLaws}
-use Rattle.span_convert.specs.Units.{batch_form, CanHold, IsSizedGroup, span_count}
+use Rattle.span_convert.specs.Units.{groups_in, CanHold, IsSizedGroup, span_count}
 use Rattle.span_convert.specs.Verdicts.{IsProperTrace}
 use Rattle.span_convert.proofs.BatchTimes.{all_timely}
 
@@ -77,18 +77,6 @@ normal_held_by to can sized groups all = record {
   sized = All-weaker IsNormal (IsSizedGroup to) (λ g n. sized g n.sized) groups all;
 }
 
--- ---- without remarks
-
-module _ (protocol : ProtocolWords) where
-  plainly_units : (units : List (List ℕ)) (groups : List Group) → AllZip (IsPlainBatchUnit protocol.spells) units groups → AllZip (IsBatchUnit protocol.spells) units groups
-  plainly_units [] [] h = tt
-  plainly_units [] (g ∷ groups) h = absurd h
-  plainly_units (unit ∷ units) [] h = absurd h
-  plainly_units (unit ∷ units) (g ∷ groups) h = (record { batch = h.0.batch; text = h.0.text; means = h.0.means }, plainly_units units groups h.1)
-
-  pub batches_plainly : (text : List ℕ) (groups : List Group) → ReadsBatchesPlainly protocol text groups → ReadsBatches protocol text groups
-  batches_plainly text groups h = record { units = h.units; framed = h.framed; are_groups = plainly_units h.units groups h.are_groups }
-
 -- ---- the units of their text
 
 module _ (protocol : ProtocolWords) where
@@ -110,11 +98,12 @@ module _ (protocol : ProtocolWords) where
     its_text : (g : Group) → IsNormal g → IsBatchText protocol.spells (batch_of g) (its_batch g)
     its_text g n = B.again.whole (batch_of g) n.sized (L.proper g n.held.proper) (All-map HasAllKept jaeger_span (scoped g.scopes) (λ k d lt. refl))
 
-    pub plain_units : (groups : List Group) → All IsNormal groups → AllZip (IsPlainBatchUnit protocol.spells) (map its_batch groups) groups
+    -- and no remark arises
+    plain_units : (groups : List Group) → All IsNormal groups → AllZip (IsBatchUnit protocol.spells) (map its_batch groups) (map plain_noted groups)
     plain_units [] all = tt
     plain_units (g ∷ groups) all =
         let n : IsNormal g = All-head IsNormal g groups all in
-        (record { batch = batch_of g; text = its_text g n; means = sym (L.back.means g n.held ∙ n.itself); plain = L.back.plainly g n.held }, plain_units groups (All-tail IsNormal g groups all))
+        (record { batch = batch_of g; text = its_text g n; means = sym (L.back.means g n.held ∙ n.itself); remarks = L.back.plainly g n.held }, plain_units groups (All-tail IsNormal g groups all))
 
     frames : (limit : ℕ) (groups : List Group) → All IsNormal groups → All (λ g. length (its_batch g) ≤ limit) groups → ItemsThen (batches protocol) limit (map its_batch groups) [] (text groups)
     unfolding ItemsThen
@@ -128,22 +117,11 @@ module _ (protocol : ProtocolWords) where
           frames limit groups (All-tail IsNormal g groups all) (All-tail (λ g. length (its_batch g) ≤ limit) g groups within),
         )
 
-    pub batches_back : (groups : List Group) → All IsNormal groups → ReadsBatchesPlainly protocol (text groups) groups
+    pub batches_back : (groups : List Group) → All IsNormal groups → ReadsBatches protocol (text groups) (map plain_noted groups)
     batches_back groups all = record {
       units = map its_batch groups;
       framed = frames (length (text groups)) groups all (batches_within (length (text groups)) groups (omega arith));
       are_groups = plain_units groups all;
-    }
-
-    -- their text is their batches, and nothing else
-    pub batches_whole : (limits : Limits) (groups : List Group) → All IsNormal groups → AreBatchesWithin protocol limits groups → AreAllUnits (batch_form protocol) limits (text groups) groups
-    batches_whole limits groups all within = record {
-      units_then = record {
-        units = map its_batch groups;
-        held = subst (λ (l : List ℕ). ItemsThen (batches protocol) limits.unit (map its_batch groups) [] l) (sym (take_all limits.binary (text groups) within.text)) (frames limits.unit groups all within.units);
-        are_groups = plainly_units protocol (map its_batch groups) groups (plain_units groups all);
-      };
-      within = within.text;
     }
 
 -- ---- spans
@@ -180,28 +158,28 @@ batches_spans (g ∷ groups) =
 -- ---- what is read
 
 module _ (protocol : ProtocolWords) (N : ReadIsNormal) (B : BatchLaws protocol) where
-  abbrev AreUnits : List (List ℕ) → List Group → Type 0
+  abbrev AreUnits : List (List ℕ) → List NotedGroup → Type 0
   AreUnits units groups = AllZip (IsBatchUnit protocol.spells) units groups
 
   times : (batch : Batch) (unit : List ℕ) → IsBatchText protocol.spells batch unit → All IsTimely batch.spans
   times batch unit is = all_timely batch.spans (B.times batch unit is)
 
-  read_fine : (units : List (List ℕ)) (groups : List Group) → AreUnits units groups → All HasNoFault groups
+  read_fine : (units : List (List ℕ)) (groups : List NotedGroup) → AreUnits units groups → All HasNoFault (groups_in groups)
   read_fine [] [] h = All-nil HasNoFault
   read_fine [] (g ∷ groups) h = absurd h
   read_fine (unit ∷ units) [] h = absurd h
-  read_fine (unit ∷ units) (g ∷ groups) h = All-cons HasNoFault g groups (subst HasNoFault (sym h.0.means) (N.no_fault h.0.batch (times h.0.batch unit h.0.text))) (read_fine units groups h.1)
+  read_fine (unit ∷ units) (g ∷ groups) h = All-cons HasNoFault g.means (groups_in groups) (subst HasNoFault (sym h.0.means) (N.no_fault h.0.batch (times h.0.batch unit h.0.text))) (read_fine units groups h.1)
 
-  read_itself : (units : List (List ℕ)) (groups : List Group) → AreUnits units groups → normal groups ≡ groups
+  read_itself : (units : List (List ℕ)) (groups : List NotedGroup) → AreUnits units groups → normal (groups_in groups) ≡ groups_in groups
   read_itself [] [] h = refl
   read_itself [] (g ∷ groups) h = absurd h
   read_itself (unit ∷ units) [] h = absurd h
   read_itself (unit ∷ units) (g ∷ groups) h =
-      let same : normal_group g ≡ g = subst (λ (n : Group). normal_group n ≡ n) (sym h.0.means) (N.itself h.0.batch (times h.0.batch unit h.0.text)) in
-      ap (λ (n : Group). n ∷ normal groups) same ∙ ap (λ (l : List Group). g ∷ l) (read_itself units groups h.1)
+      let same : normal_group g.means ≡ g.means = subst (λ (n : Group). normal_group n ≡ n) (sym h.0.means) (N.itself h.0.batch (times h.0.batch unit h.0.text)) in
+      ap (λ (n : Group). n ∷ normal (groups_in groups)) same ∙ ap (λ (l : List Group). g.means ∷ l) (read_itself units groups h.1)
 
-  pub batches_faultless : (text : List ℕ) (groups : List Group) → ReadsBatches protocol text groups → All HasNoFault groups
+  pub batches_faultless : (text : List ℕ) (groups : List NotedGroup) → ReadsBatches protocol text groups → All HasNoFault (groups_in groups)
   batches_faultless text groups h = read_fine h.units groups h.are_groups
 
-  pub batches_normal : (text : List ℕ) (groups : List Group) → ReadsBatches protocol text groups → normal groups ≡ groups
+  pub batches_normal : (text : List ℕ) (groups : List NotedGroup) → ReadsBatches protocol text groups → normal (groups_in groups) ≡ groups_in groups
   batches_normal text groups h = read_itself h.units groups h.are_groups

@@ -1,15 +1,15 @@
 -- What a walk wrote carries out each verdict on the input.
-use Rattle.std.proofs.Common.{◌≡◌, ℕ, ◌+◌, ◌-◌, ◌<◌, ◌≤◌, true, List, [], ◌++◌, length, take, Result, Ok, Err, refl, sym, ap, subst, ◌∙◌, append_assoc, arith}
+use Rattle.std.proofs.Common.{◌≡◌, ℕ, ◌+◌, ◌-◌, ◌<◌, ◌≤◌, true, List, [], ◌++◌, length, take, length-append, Result, Ok, Err, refl, sym, ap, subst, ◌∙◌, append_assoc, arith}
 use Rattle.std.proofs.lemmas.List.{append-nil}
 use Rattle.std.proofs.Math.Seq.{take-append-add}
 use Rattle.span_io.specs.Limits.{AreLimits}
-use Rattle.span_io.specs.Outside.{Outlet, Gains, GainsFront, OutputFails, IsFront}
+use Rattle.span_io.specs.Outside.{Outlet, Sure, so_many, any_number, Takes, Gains, GainsFront, FailsWithin, IsFront}
 use Rattle.span_io.specs.declared.form.Form.{Form}
 use Rattle.span_io.specs.declared.limits.Limits.{Limits}
 use Rattle.span_io.specs.declared.refusal.Refusal.{Refusal}
 use Rattle.span_convert.specs.Converters.{KeepsWhy, Stopped}
 use Rattle.span_convert.specs.Units.{input_form}
-use Rattle.span_convert.specs.Verdicts.{Verdict, good, refused, faulted, IsVerdict, IsTextSoFar, none, all, verdict_text, WritesFront, Stops, Ends, Answers}
+use Rattle.span_convert.specs.Verdicts.{Verdict, good, refused, faulted, IsVerdict, IsTextSoFar, none, all, verdict_text, WritesFront, FailsFrontOn, Stops, Ends, Answers}
 use Rattle.span_convert.specs.Walks.{IsLookedAt, WritesRefused, WritesFaulted, WritesWhole, EndsWalk}
 use Rattle.span_convert.specs.declared.bad.Bad.TheVariants as bads
 use Rattle.span_convert.specs.declared.converter.State.{State}
@@ -31,10 +31,10 @@ looked_front limit bound held bytes piece size room bounds same measured e withi
 
 -- ---- what is written
 
-stops_write : (before now : Outlet) (v : Verdict) → OutputFails before now → GainsFront before now (verdict_text v) → Stops v stops.Write before now × KeepsWhy v states.Write
-stops_write before now (good text tally) fails front = ((fails, front), tt)
-stops_write before now (refused refusal text) fails front = ((fails, front), tt)
-stops_write before now (faulted found text) fails front = ((fails, front), tt)
+stops_write : (before now : Outlet) (v : Verdict) → FailsWithin before now (verdict_text v) → Stops v stops.Write before now × KeepsWhy v states.Write
+stops_write before now (good text tally) fails = (fails, tt)
+stops_write before now (refused refusal text) fails = (fails, tt)
+stops_write before now (faulted found text) fails = (fails, tt)
 
 stops_memory : (before now : Outlet) (v : Verdict) → GainsFront before now (verdict_text v) → Stops v stops.OutOfMemory before now × KeepsWhy v states.OutOfMemory
 stops_memory before now (good text tally) front = (front, tt)
@@ -59,6 +59,15 @@ gains_all before now text gains = record { front = text; is_front = ([], sym (ap
 pub writes_none : (from to : Form) (limits : Limits) (bytes : List ℕ) (now : Outlet) → WritesFront from to limits bytes now now
 writes_none from to limits bytes now = record { text = []; so_far = none refl; gains = record { front = []; is_front = ([], refl); gains = gains_none now } }
 
+-- the sink failed within it
+fails_front : (from to : Form) (limits : Limits) (whole : List ℕ) (before now : Outlet) → FailsFrontOn (input_form from) to limits whole before now → WritesFront from to limits whole before now
+fails_front from to limits whole before now w = record { text = w.text; so_far = w.so_far; gains = w.fails.front }
+
+-- a sink that takes more bytes takes fewer
+takes_fewer : (sure : Sure) (m n : ℕ) → m ≤ n → Takes sure n → Takes sure m
+takes_fewer (so_many most) m n fewer takes = omega arith
+takes_fewer any_number m n fewer takes = tt
+
 -- whatever the walk came to
 pub ends_front : (from to : Form) (limits : Limits) (whole : List ℕ) (result : Result Tally WalkStop) (before now : Outlet) → EndsWalk (input_form from) to limits whole result before now → WritesFront from to limits whole before now
 ends_front from to limits whole (Ok tally) before now w = record {
@@ -68,7 +77,7 @@ ends_front from to limits whole (Ok tally) before now w = record {
 }
 ends_front from to limits whole (Err (walk_stops.Refused refusal)) before now w = record { text = w.text; so_far = w.so_far; gains = gains_all before now w.text w.gains }
 ends_front from to limits whole (Err (walk_stops.Faulted found)) before now w = record { text = w.text; so_far = w.so_far; gains = gains_all before now w.text w.gains }
-ends_front from to limits whole (Err walk_stops.Write) before now w = w.1
+ends_front from to limits whole (Err walk_stops.Write) before now w = fails_front from to limits whole before now w
 ends_front from to limits whole (Err walk_stops.OutOfMemory) before now w = w
 
 -- ---- each verdict
@@ -121,8 +130,15 @@ module _ (from to : Form) (limits : Limits) (whole : List ℕ) (valid : AreLimit
           gains = w.gains.gains;
         }
 
-    pub carries_write : (before now : Outlet) → OutputFails before now → WritesFront from to limits whole before now → Stops v stops.Write before now × KeepsWhy v states.Write
-    carries_write before now fails w = stops_write before now v fails (front_of before now w)
+    pub carries_write : (before now : Outlet) → FailsFrontOn (input_form from) to limits whole before now → Stops v stops.Write before now × KeepsWhy v states.Write
+    carries_write before now w =
+        let more = texts from to limits whole w.text v valid w.so_far is_verdict in
+        let fewer : length w.text ≤ length (verdict_text v) = omega (arith, ap length more.1, length-append w.text more.0) in
+        stops_write before now v (record {
+          rose = w.fails.rose;
+          front = front_of before now (fails_front from to limits whole before now w);
+          unsure = λ takes. w.fails.unsure (takes_fewer before.sure (length w.text) (length (verdict_text v)) fewer takes);
+        })
 
     pub carries_memory : (before now : Outlet) → WritesFront from to limits whole before now → Stops v stops.OutOfMemory before now × KeepsWhy v states.OutOfMemory
     carries_memory before now w = stops_memory before now v (front_of before now w)

@@ -6,7 +6,7 @@ use Rattle.span_io.specs.declared.form.Form.{Form}
 use Rattle.span_io.specs.declared.form.Form.TheVariants as forms
 use Rattle.span_io.specs.declared.limits.Limits.{Limits}
 use Rattle.span_io.specs.declared.refusal.Refusal.{Refusal}
-use Rattle.trace_model.specs.declared.trace.Group.{Group}
+use Rattle.trace_model.specs.OtlpParts.{NotedGroup}
 use Rattle.span_convert.specs.BatchFiles.{ProtocolWords, binary, compact}
 use Rattle.span_convert.specs.CutBatches.{EndsInBatch, IfJaeger}
 use Rattle.span_convert.specs.FramedForms.{FramedForm, RestCause, UnitOffends, RestStops}
@@ -19,7 +19,7 @@ use Rattle.span_convert.proofs.CutOffences.{batch_not_cut}
 abbrev pub cut_at : ℕ → Refusal
 cut_at number = record { unit = number; cause = causes.Truncated }
 
-module _ (protocol : ProtocolWords) (L : BatchLaws protocol) (never : RefusesNoCut protocol) (limits : Limits) (bytes : List ℕ) (number : ℕ) (groups : List Group) (e : number ≡ length groups + 1) where
+module _ (protocol : ProtocolWords) (L : BatchLaws protocol) (never : RefusesNoCut protocol) (limits : Limits) (bytes : List ℕ) (number : ℕ) (groups : List NotedGroup) (e : number ≡ length groups + 1) where
   abbrev from : FramedForm
   from = batch_form protocol
 
@@ -44,6 +44,6 @@ module _ (L : InputLaws) (to : Form) (limits : Limits) (bytes text : List ℕ) (
   pub cut_short : (from : Form) → IsVerdict from to limits bytes (refused (cut_at number) text) → IfJaeger from (λ protocol. EndsInBatch protocol limits bytes number)
   cut_short forms.OtlpProto h = tt
   cut_short forms.OtlpJson h = tt
-  cut_short forms.JaegerBinary h = ends_in_batch binary L.binary binary_cut limits bytes number h.groups h.refuses.number h.refuses.why
-  cut_short forms.JaegerCompact h = ends_in_batch compact L.compact compact_cut limits bytes number h.groups h.refuses.number h.refuses.why
+  cut_short forms.JaegerBinary h = ends_in_batch binary L.binary binary_cut limits bytes number h.noted h.refuses.number h.refuses.why
+  cut_short forms.JaegerCompact h = ends_in_batch compact L.compact compact_cut limits bytes number h.noted h.refuses.number h.refuses.why
   cut_short forms.ZipkinJson h = tt

@@ -1,6 +1,7 @@
 -- What an input is that is a document: one list of groups, or one refusal.
 use Rattle.std.proofs.Common.{◌≡◌, ◌<◌, ◌≤◌, ◌++◌, ◌∷◌, ◌⊎◌, inl, inr, ℕ, List, [], length, All, refl, ap, sym, ◌∙◌, subst, arith, append_assoc, append-nil}
 use Rattle.std.proofs.lemmas.Bool.{cases_lt}
+use Rattle.std.proofs.lemmas.List.{map-append}
 use Rattle.std.proofs.lemmas.List.Elements.{All-nil, All-cons, All-head, All-tail}
 use Rattle.span_io.specs.Causes.{cause_number}
 use Rattle.span_io.specs.PathLaws.{one_least}
@@ -11,9 +12,9 @@ use Rattle.span_io.specs.declared.limits.Limits.{Limits}
 use Rattle.span_io.specs.declared.refusal.Refusal.{Refusal}
 use Rattle.trace_model.specs.Proper.{IsProperGroup}
 use Rattle.trace_model.specs.Soundness.{IsSoundGroup, IsSoundTrace}
-use Rattle.trace_model.specs.declared.trace.Group.{Group}
+use Rattle.trace_model.specs.OtlpParts.{NotedGroup}
 use Rattle.span_convert.specs.Documents.{DocumentForm, IsDocument, DocumentBegins, IsTooLongDocument, OffendsInDocument, DocumentRefused}
-use Rattle.span_convert.specs.Units.{document_input}
+use Rattle.span_convert.specs.Units.{document_input, groups_in}
 use Rattle.span_convert.specs.Verdicts.{IsProperTrace}
 use Rattle.span_convert.proofs.CauseNumbers.{same_cause}
 use Rattle.span_convert.proofs.InputForms.{ComesFirst, InputFormLaws, IsDecidedInput, SomeInput}
@@ -24,11 +25,15 @@ pub all_first : {A : Type 0} (P : A → Type 0) (a b : List A) → All P (a ++ b
 all_first P [] b all = All-nil P
 all_first P (x ∷ a) b all = All-cons P x a (All-head P x (a ++ b) all) (all_first P a b (All-tail P x (a ++ b) all))
 
-one_more : (group other : Group) (a b : List Group) → group ≡ other → ComesFirst a b → ComesFirst (group ∷ a) (other ∷ b)
+-- the groups of two parts
+pub means_parts : (all first more : List NotedGroup) → all ≡ first ++ more → groups_in all ≡ groups_in first ++ groups_in more
+means_parts all first more parts = ap groups_in parts ∙ map-append (λ (unit : NotedGroup). unit.means) first more
+
+one_more : (group other : NotedGroup) (a b : List NotedGroup) → group ≡ other → ComesFirst a b → ComesFirst (group ∷ a) (other ∷ b)
 one_more group other a b e first = record { more = first.more; parts = λ i. sym e i ∷ first.parts i }
 
 -- of two fronts of one list the one comes first in the other
-fronts : (a b more others : List Group) → a ++ more ≡ b ++ others → ComesFirst a b ⊎ ComesFirst b a
+fronts : (a b more others : List NotedGroup) → a ++ more ≡ b ++ others → ComesFirst a b ⊎ ComesFirst b a
 fronts [] b more others e = inl (record { more = b; parts = refl })
 fronts (group ∷ a) [] more others e = inr (record { more = group ∷ a; parts = refl })
 fronts (group ∷ a) (other ∷ b) more others e = on (fronts a b more others (cc))
@@ -44,24 +49,24 @@ fronts (group ∷ a) (other ∷ b) more others e = on (fronts a b more others (c
 
 -- the bytes are a text of groups, or an offence in them counts
 abbrev pub IsDecidedText : DocumentForm → List ℕ → Type 0
-IsDecidedText from bytes = ((groups : List Group) × from.Reads bytes groups) ⊎ ((cause : Cause) × Counts (from.Offends bytes) (cause_number cause))
+IsDecidedText from bytes = ((groups : List NotedGroup) × from.Reads bytes groups) ⊎ ((cause : Cause) × Counts (from.Offends bytes) (cause_number cause))
 
 -- Bytes are a text of one list of groups at most, in which nothing offends, or an offence in them counts. The groups are sound and proper.
 pub record DocumentLaws (from : DocumentForm) : Type 0 where
-  pub once : (bytes : List ℕ) (a b : List Group) → from.Reads bytes a → from.Reads bytes b → a ≡ b
-  pub fine : (bytes : List ℕ) (groups : List Group) → from.Reads bytes groups → NothingOffends (from.Offends bytes)
+  pub once : (bytes : List ℕ) (a b : List NotedGroup) → from.Reads bytes a → from.Reads bytes b → a ≡ b
+  pub fine : (bytes : List ℕ) (groups : List NotedGroup) → from.Reads bytes groups → NothingOffends (from.Offends bytes)
   pub decided : (bytes : List ℕ) → IsDecidedText from bytes
-  pub sound : (bytes : List ℕ) (groups : List Group) → from.Reads bytes groups → IsSoundTrace groups
-  pub proper : (bytes : List ℕ) (groups : List Group) → from.Reads bytes groups → IsProperTrace groups
+  pub sound : (bytes : List ℕ) (groups : List NotedGroup) → from.Reads bytes groups → IsSoundTrace (groups_in groups)
+  pub proper : (bytes : List ℕ) (groups : List NotedGroup) → from.Reads bytes groups → IsProperTrace (groups_in groups)
 
 module _ (from : DocumentForm) (L : DocumentLaws from) where
   -- ---- one list of groups
 
-  same_document : (limits : Limits) (bytes : List ℕ) (a b : List Group) → IsDocument from limits bytes a → IsDocument from limits bytes b → a ≡ b
+  same_document : (limits : Limits) (bytes : List ℕ) (a b : List NotedGroup) → IsDocument from limits bytes a → IsDocument from limits bytes b → a ≡ b
   same_document limits bytes a b h k = L.once bytes a b h.text k.text
 
   -- what is a document isn't refused
-  not_refused : (limits : Limits) (bytes : List ℕ) (all groups : List Group) (r : Refusal) → IsDocument from limits bytes all → ¬ DocumentRefused from limits bytes groups r
+  not_refused : (limits : Limits) (bytes : List ℕ) (all groups : List NotedGroup) (r : Refusal) → IsDocument from limits bytes all → ¬ DocumentRefused from limits bytes groups r
   not_refused limits bytes all groups r document refused = on refused.why
     where
       on : IsTooLongDocument limits bytes r ⊎ OffendsInDocument from limits bytes r → ⊥
@@ -112,11 +117,11 @@ module _ (from : DocumentForm) (L : DocumentLaws from) where
     decided (inl long) = too_long long
     decided (inr within) = of_text within (L.decided bytes)
 
-  sound : (limits : Limits) (bytes : List ℕ) (groups : List Group) → DocumentBegins from limits bytes groups → IsSoundTrace groups
-  sound limits bytes groups h = all_first IsSoundGroup groups h.more (subst (All IsSoundGroup) h.parts (L.sound bytes h.all h.document.text))
+  sound : (limits : Limits) (bytes : List ℕ) (groups : List NotedGroup) → DocumentBegins from limits bytes groups → IsSoundTrace (groups_in groups)
+  sound limits bytes groups h = all_first IsSoundGroup (groups_in groups) (groups_in h.more) (subst (All IsSoundGroup) (means_parts h.all groups h.more h.parts) (L.sound bytes h.all h.document.text))
 
-  proper : (limits : Limits) (bytes : List ℕ) (groups : List Group) → DocumentBegins from limits bytes groups → IsProperTrace groups
-  proper limits bytes groups h = all_first IsProperGroup groups h.more (subst (All IsProperGroup) h.parts (L.proper bytes h.all h.document.text))
+  proper : (limits : Limits) (bytes : List ℕ) (groups : List NotedGroup) → DocumentBegins from limits bytes groups → IsProperTrace (groups_in groups)
+  proper limits bytes groups h = all_first IsProperGroup (groups_in groups) (groups_in h.more) (subst (All IsProperGroup) (means_parts h.all groups h.more h.parts) (L.proper bytes h.all h.document.text))
 
   pub document_some : SomeInput (document_input from)
   document_some = record {

@@ -14,14 +14,13 @@ use Rattle.span_io.specs.declared.limits.Limits.{Limits}
 use Rattle.span_io.specs.declared.refusal.Refusal.{Refusal}
 use Rattle.trace_model.specs.Proper.{IsProperGroup}
 use Rattle.trace_model.specs.Soundness.{IsSoundGroup, IsSoundTrace}
-use Rattle.trace_model.specs.declared.trace.Group.{Group}
+use Rattle.trace_model.specs.OtlpParts.{NotedGroup}
 use Rattle.otlp_proto.specs.Laws.{SomeGroup}
-use Rattle.jaeger_model.specs.Laws.{SpellsProper}
 use Rattle.map_jaeger.specs.Laws.{ReadIsSound, ReadIsProper}
 use Rattle.span_convert.specs.BatchFiles.{ProtocolWords}
 use Rattle.span_convert.specs.FramedForms.{FramedForm, RestCause, UnitsThen, UnitsBegin, AreAllUnits, UnitOffends, RestStops, UnitsRefused}
 use Rattle.span_convert.specs.InputLaws.{RequestLaws, BatchLaws}
-use Rattle.span_convert.specs.Units.{request_form, batch_form, framed_input, input_form}
+use Rattle.span_convert.specs.Units.{request_form, batch_form, framed_input, input_form, groups_in}
 use Rattle.span_convert.specs.Verdicts.{IsProperTrace}
 use Rattle.span_convert.proofs.BatchLaws.{batch_laws}
 use Rattle.span_convert.proofs.CauseNumbers.{same_cause}
@@ -37,7 +36,7 @@ nothing [] h = refl
 nothing (x ∷ l) h = absurd (omega arith)
 
 -- groups that come first among each other are the same
-pub both_first : (a b : List Group) → ComesFirst a b → ComesFirst b a → a ≡ b
+pub both_first : (a b : List NotedGroup) → ComesFirst a b → ComesFirst b a → a ≡ b
 both_first a b h g = g.parts ∙ ap (λ l. b ++ l) (nothing g.more (omega (arith, ap length g.parts, ap length h.parts, length-append b g.more, length-append a h.more))) ∙ append-nil b
 
 -- what stands behind as many members of one list is the same
@@ -54,7 +53,7 @@ module _ (from : FramedForm) (S : SourceLaws from) where
   -- ---- groups of units
 
   -- of units, and of them and others behind them
-  first_groups : (units behind : List (List ℕ)) (a b : List Group) → AllZip from.IsUnit units a → AllZip from.IsUnit (units ++ behind) b → ComesFirst a b
+  first_groups : (units behind : List (List ℕ)) (a b : List NotedGroup) → AllZip from.IsUnit units a → AllZip from.IsUnit (units ++ behind) b → ComesFirst a b
   first_groups [] behind [] b h g = record { more = b; parts = refl }
   first_groups [] behind (x ∷ a) b h g = absurd h
   first_groups (unit ∷ units) behind [] b h g = absurd h
@@ -67,19 +66,19 @@ module _ (from : FramedForm) (S : SourceLaws from) where
 
   -- the unit is a text of no group
   abbrev Halts : List ℕ → Type 0
-  Halts unit = (g : Group) → from.IsUnit unit g → ⊥
+  Halts unit = (g : NotedGroup) → from.IsUnit unit g → ⊥
 
   bad_halts : (unit : List ℕ) (n : ℕ) → Least (from.Offends unit) n → Halts unit
   bad_halts unit n least g is = S.fine unit g is least.place n least.offence
 
-  no_groups : (before : List (List ℕ)) (unit : List ℕ) (behind : List (List ℕ)) (groups : List Group) → Halts unit → AllZip from.IsUnit ((before ++ unit ∷ []) ++ behind) groups → ⊥
+  no_groups : (before : List (List ℕ)) (unit : List ℕ) (behind : List (List ℕ)) (groups : List NotedGroup) → Halts unit → AllZip from.IsUnit ((before ++ unit ∷ []) ++ behind) groups → ⊥
   no_groups [] unit behind [] halts h = h
   no_groups [] unit behind (g ∷ groups) halts h = halts g h.0
   no_groups (x ∷ before) unit behind [] halts h = h
   no_groups (x ∷ before) unit behind (g ∷ groups) halts h = no_groups before unit behind groups halts h.1
 
   -- of units that come first among others and one that halts
-  first_before : (before : List (List ℕ)) (unit : List ℕ) (units behind : List (List ℕ)) (a b : List Group) → Halts unit → before ++ unit ∷ [] ≡ units ++ behind → AllZip from.IsUnit before a → AllZip from.IsUnit units b → ComesFirst b a
+  first_before : (before : List (List ℕ)) (unit : List ℕ) (units behind : List (List ℕ)) (a b : List NotedGroup) → Halts unit → before ++ unit ∷ [] ≡ units ++ behind → AllZip from.IsUnit before a → AllZip from.IsUnit units b → ComesFirst b a
   first_before before unit [] behind a [] halts e h g = record { more = a; parts = refl }
   first_before before unit [] behind a (y ∷ b) halts e h g = absurd g
   first_before before unit (u ∷ units) behind a [] halts e h g = absurd g
@@ -92,13 +91,13 @@ module _ (from : FramedForm) (S : SourceLaws from) where
       record { more = w.more; parts = cc }
 
   -- the units of the first groups
-  record UnitsOf (units : List (List ℕ)) (groups : List Group) : Type 0 where
+  record UnitsOf (units : List (List ℕ)) (groups : List NotedGroup) : Type 0 where
     first : List (List ℕ)
     behind : List (List ℕ)
     parts : units ≡ first ++ behind
     are_groups : AllZip from.IsUnit first groups
 
-  units_of : (units : List (List ℕ)) (a b : List Group) → AllZip from.IsUnit units (a ++ b) → UnitsOf units a
+  units_of : (units : List (List ℕ)) (a b : List NotedGroup) → AllZip from.IsUnit units (a ++ b) → UnitsOf units a
   units_of units [] b h = record { first = []; behind = units; parts = refl; are_groups = tt }
   units_of [] (x ∷ a) b h = absurd h
   units_of (unit ∷ units) (x ∷ a) b h =
@@ -115,25 +114,25 @@ module _ (from : FramedForm) (S : SourceLaws from) where
 
     -- ---- what an input begins with
 
-    compare : (a b : List Group) → UnitsBegin from limits text a → UnitsBegin from limits text b → ComesFirst a b ⊎ ComesFirst b a
+    compare : (a b : List NotedGroup) → UnitsBegin from limits text a → UnitsBegin from limits text b → ComesFirst a b ⊎ ComesFirst b a
     compare a b h g = of (S.walks limits text h.units_then.units g.units_then.units h.rest g.rest h.units_then.held g.units_then.held)
       where
         of : GoOn from limits h.units_then.units g.units_then.units h.rest g.rest ⊎ GoOn from limits g.units_then.units h.units_then.units g.rest h.rest → ComesFirst a b ⊎ ComesFirst b a
         of (inl w) = inl (first_groups h.units_then.units w.behind a b h.units_then.are_groups (subst (λ (l : List (List ℕ)). AllZip from.IsUnit l b) w.parts g.units_then.are_groups))
         of (inr w) = inr (first_groups g.units_then.units w.behind b a g.units_then.are_groups (subst (λ (l : List (List ℕ)). AllZip from.IsUnit l a) w.parts h.units_then.are_groups))
 
-    begins_with : (units : List (List ℕ)) (groups : List Group) → HeldBy from limits text units → AllZip from.IsUnit units groups → UnitsBegin from limits text groups
+    begins_with : (units : List (List ℕ)) (groups : List NotedGroup) → HeldBy from limits text units → AllZip from.IsUnit units groups → UnitsBegin from limits text groups
     begins_with units groups w are = record { rest = w.rest; units_then = record { units = units; held = w.held; are_groups = are } }
 
-    shorter : (a b : List Group) → UnitsBegin from limits text (a ++ b) → UnitsBegin from limits text a
+    shorter : (a b : List NotedGroup) → UnitsBegin from limits text (a ++ b) → UnitsBegin from limits text a
     shorter a b h =
         let w : UnitsOf h.units_then.units a = units_of h.units_then.units a b h.units_then.are_groups in
         begins_with w.first a (held_first w.first w.behind h.rest (subst (λ (l : List (List ℕ)). from.HoldsUnits limits text l h.rest) w.parts h.units_then.held)) w.are_groups
 
-    whole_begins : (a : List Group) → AreAllUnits from limits text a → UnitsBegin from limits text a
+    whole_begins : (a : List NotedGroup) → AreAllUnits from limits text a → UnitsBegin from limits text a
     whole_begins a h = record { rest = []; units_then = h.units_then }
 
-    refused_begins : (a : List Group) (r : Refusal) → UnitsRefused from limits text a r → UnitsBegin from limits text a
+    refused_begins : (a : List NotedGroup) (r : Refusal) → UnitsRefused from limits text a r → UnitsBegin from limits text a
     refused_begins a r h = of h.why
       where
         of : UnitOffends from limits text a r.cause ⊎ RestStops from limits text a r.cause → UnitsBegin from limits text a
@@ -142,21 +141,21 @@ module _ (from : FramedForm) (S : SourceLaws from) where
 
     -- ---- where nothing begins at the rest
 
-    last_groups : (a b : List Group) (rest other : List ℕ) → Ends from limits rest → UnitsThen from limits text a rest → UnitsThen from limits text b other → ComesFirst b a
+    last_groups : (a b : List NotedGroup) (rest other : List ℕ) → Ends from limits rest → UnitsThen from limits text a rest → UnitsThen from limits text b other → ComesFirst b a
     last_groups a b rest other ends h g = of (S.walks limits text h.units g.units rest other h.held g.held)
       where
         of : GoOn from limits h.units g.units rest other ⊎ GoOn from limits g.units h.units other rest → ComesFirst b a
         of (inl w) = first_groups g.units [] b a g.are_groups (subst (λ (l : List (List ℕ)). AllZip from.IsUnit l a) (sym (w.ended ends).0 ∙ sym (append-nil g.units)) h.are_groups)
         of (inr w) = first_groups g.units w.behind b a g.are_groups (subst (λ (l : List (List ℕ)). AllZip from.IsUnit l a) w.parts h.are_groups)
 
-    same_rest : (a b : List Group) (rest other : List ℕ) → Ends from limits rest → Ends from limits other → UnitsThen from limits text a rest → UnitsThen from limits text b other → rest ≡ other
+    same_rest : (a b : List NotedGroup) (rest other : List ℕ) → Ends from limits rest → Ends from limits other → UnitsThen from limits text a rest → UnitsThen from limits text b other → rest ≡ other
     same_rest a b rest other ends end h g = elim (S.walks limits text h.units g.units rest other h.held g.held) as (λ w. rest ≡ other) [
       | inl w ↦ (w.ended ends).1
       | inr w ↦ sym (w.ended end).1
     ]
 
     -- no unit offends there
-    not_beyond : (a b : List Group) (rest : List ℕ) (cause : Cause) → Ends from limits rest → UnitsThen from limits text a rest → UnitOffends from limits text b cause → ⊥
+    not_beyond : (a b : List NotedGroup) (rest : List ℕ) (cause : Cause) → Ends from limits rest → UnitsThen from limits text a rest → UnitOffends from limits text b cause → ⊥
     not_beyond a b rest cause ends h o = of (S.walks limits text h.units (o.before ++ o.unit ∷ []) rest o.rest h.held o.held)
       where
         never : (behind : List (List ℕ)) → h.units ≡ (o.before ++ o.unit ∷ []) ++ behind → ⊥
@@ -168,7 +167,7 @@ module _ (from : FramedForm) (S : SourceLaws from) where
 
     -- ---- refusals
 
-    refused_ends : (a b : List Group) (r : Refusal) → UnitsRefused from limits text a r → UnitsBegin from limits text b → ComesFirst b a
+    refused_ends : (a b : List NotedGroup) (r : Refusal) → UnitsRefused from limits text a r → UnitsBegin from limits text b → ComesFirst b a
     refused_ends a b r h g = of h.why
       where
         by_unit : (o : UnitOffends from limits text a r.cause) → GoOn from limits (o.before ++ o.unit ∷ []) g.units_then.units o.rest g.rest ⊎ GoOn from limits g.units_then.units (o.before ++ o.unit ∷ []) g.rest o.rest → ComesFirst b a
@@ -179,10 +178,10 @@ module _ (from : FramedForm) (S : SourceLaws from) where
         of (inl o) = by_unit o (S.walks limits text (o.before ++ o.unit ∷ []) g.units_then.units o.rest g.rest o.held g.units_then.held)
         of (inr s) = last_groups a b s.rest g.rest (S.rest_ends limits (length text) s.rest r.cause s.why) s.units_then g.units_then
 
-    same_groups : (a b : List Group) (r q : Refusal) → UnitsRefused from limits text a r → UnitsRefused from limits text b q → a ≡ b
+    same_groups : (a b : List NotedGroup) (r q : Refusal) → UnitsRefused from limits text a r → UnitsRefused from limits text b q → a ≡ b
     same_groups a b r q h g = both_first a b (refused_ends b a q g (refused_begins a r h)) (refused_ends a b r h (refused_begins b q g))
 
-    same_unit : (a b : List Group) (r q : Cause) → a ≡ b → (h : UnitOffends from limits text a r) (g : UnitOffends from limits text b q) → h.unit ≡ g.unit
+    same_unit : (a b : List NotedGroup) (r q : Cause) → a ≡ b → (h : UnitOffends from limits text a r) (g : UnitOffends from limits text b q) → h.unit ≡ g.unit
     same_unit a b r q e h g = of (S.walks limits text (h.before ++ h.unit ∷ []) (g.before ++ g.unit ∷ []) h.rest g.rest h.held g.held)
       where
         as_many : length h.before ≡ length g.before
@@ -192,7 +191,7 @@ module _ (from : FramedForm) (S : SourceLaws from) where
         of (inl w) = next_is h.before g.before h.unit g.unit w.behind as_many w.parts
         of (inr w) = sym (next_is g.before h.before g.unit h.unit w.behind (sym as_many) w.parts)
 
-    same_why : (a b : List Group) (r q : Cause) → a ≡ b → UnitOffends from limits text a r ⊎ RestStops from limits text a r → UnitOffends from limits text b q ⊎ RestStops from limits text b q → r ≡ q
+    same_why : (a b : List NotedGroup) (r q : Cause) → a ≡ b → UnitOffends from limits text a r ⊎ RestStops from limits text a r → UnitOffends from limits text b q ⊎ RestStops from limits text b q → r ≡ q
     same_why a b r q e (inl h) (inl g) = same_cause r q (one_cause (from.Offends g.unit) (cause_number r) (cause_number q) (subst (λ (u : List ℕ). Least (from.Offends u) (cause_number r)) (same_unit a b r q e h g) h.least) g.least)
     same_why a b r q e (inl h) (inr g) = absurd (not_beyond b a g.rest r (S.rest_ends limits (length text) g.rest q g.why) g.units_then h)
     same_why a b r q e (inr h) (inl g) = absurd (not_beyond a b h.rest q (S.rest_ends limits (length text) h.rest r h.why) h.units_then g)
@@ -200,12 +199,12 @@ module _ (from : FramedForm) (S : SourceLaws from) where
         let same : h.rest ≡ g.rest = same_rest a b h.rest g.rest (S.rest_ends limits (length text) h.rest r h.why) (S.rest_ends limits (length text) g.rest q g.why) h.units_then g.units_then in
         S.one_cause limits (length text) g.rest r q (subst (λ (l : List ℕ). RestCause from limits (length text) l r) same h.why) g.why
 
-    refused_once : (a b : List Group) (r q : Refusal) → UnitsRefused from limits text a r → UnitsRefused from limits text b q → (a ≡ b) × (r ≡ q)
+    refused_once : (a b : List NotedGroup) (r q : Refusal) → UnitsRefused from limits text a r → UnitsRefused from limits text b q → (a ≡ b) × (r ≡ q)
     refused_once a b r q h g =
         let e : a ≡ b = same_groups a b r q h g in
-        (e, same_refusal r q (h.number ∙ ap (λ (l : List Group). length l + 1) e ∙ sym g.number) (same_why a b r.cause q.cause e h.why g.why))
+        (e, same_refusal r q (h.number ∙ ap (λ (l : List NotedGroup). length l + 1) e ∙ sym g.number) (same_why a b r.cause q.cause e h.why g.why))
 
-    whole_or_refused : AreLimits limits → (a b : List Group) (r : Refusal) → AreAllUnits from limits text a → UnitsRefused from limits text b r → ⊥
+    whole_or_refused : AreLimits limits → (a b : List NotedGroup) (r : Refusal) → AreAllUnits from limits text a → UnitsRefused from limits text b r → ⊥
     whole_or_refused valid a b r h g = of g.why
       where
         of : UnitOffends from limits text b r.cause ⊎ RestStops from limits text b r.cause → ⊥
@@ -227,17 +226,17 @@ module _ (from : FramedForm) (S : SourceLaws from) where
   -- ---- each input has groups, or is refused behind some
 
   module _ (U : UnitLaws from) where
-    sound_groups : (units : List (List ℕ)) (groups : List Group) → AllZip from.IsUnit units groups → IsSoundTrace groups
+    sound_groups : (units : List (List ℕ)) (groups : List NotedGroup) → AllZip from.IsUnit units groups → IsSoundTrace (groups_in groups)
     sound_groups [] [] h = All-nil IsSoundGroup
     sound_groups [] (g ∷ groups) h = absurd h
     sound_groups (unit ∷ units) [] h = absurd h
-    sound_groups (unit ∷ units) (g ∷ groups) h = All-cons IsSoundGroup g groups (U.sound unit g h.0) (sound_groups units groups h.1)
+    sound_groups (unit ∷ units) (g ∷ groups) h = All-cons IsSoundGroup g.means (groups_in groups) (U.sound unit g h.0) (sound_groups units groups h.1)
 
-    proper_groups : (units : List (List ℕ)) (groups : List Group) → AllBytes units → AllZip from.IsUnit units groups → IsProperTrace groups
+    proper_groups : (units : List (List ℕ)) (groups : List NotedGroup) → AllBytes units → AllZip from.IsUnit units groups → IsProperTrace (groups_in groups)
     proper_groups [] [] all h = All-nil IsProperGroup
     proper_groups [] (g ∷ groups) all h = absurd h
     proper_groups (unit ∷ units) [] all h = absurd h
-    proper_groups (unit ∷ units) (g ∷ groups) all h = All-cons IsProperGroup g groups (U.proper unit g all.0 h.0) (proper_groups units groups all.1 h.1)
+    proper_groups (unit ∷ units) (g ∷ groups) all h = All-cons IsProperGroup g.means (groups_in groups) (U.proper unit g all.0 h.0) (proper_groups units groups all.1 h.1)
 
     -- the first of the units in which an offence counts, and the groups before it
     record FirstOffence (units : List (List ℕ)) : Type 0 where
@@ -245,14 +244,14 @@ module _ (from : FramedForm) (S : SourceLaws from) where
       unit : List ℕ
       more : List (List ℕ)
       parts : units ≡ (before ++ unit ∷ []) ++ more
-      groups : List Group
+      groups : List NotedGroup
       are_groups : AllZip from.IsUnit before groups
       cause : Cause
       least : Least (from.Offends unit) (cause_number cause)
 
     -- the groups that they are all texts of
     record AllGroups (units : List (List ℕ)) : Type 0 where
-      groups : List Group
+      groups : List NotedGroup
       are_groups : AllZip from.IsUnit units groups
 
     by_unit : (unit : List ℕ) (units : List (List ℕ)) → IsDecidedUnit from unit → FirstOffence units ⊎ AllGroups units → FirstOffence (unit ∷ units) ⊎ AllGroups (unit ∷ units)
@@ -322,5 +321,5 @@ request_some L some proper = framed_some request_form (request_laws L) (request_
 pub batch_input : (protocol : ProtocolWords) → BatchLaws protocol → InputFormLaws (framed_input (batch_form protocol))
 batch_input protocol L = framed_laws (batch_form protocol) (batch_laws protocol L)
 
-pub batch_some : (protocol : ProtocolWords) → SpellsProper protocol.spells → BatchLaws protocol → ReadIsSound → ReadIsProper → SomeInput (framed_input (batch_form protocol))
-batch_some protocol spelled L sound proper = framed_some (batch_form protocol) (batch_laws protocol L) (batch_unit_laws protocol L spelled sound proper)
+pub batch_some : (protocol : ProtocolWords) → BatchLaws protocol → ReadIsSound → ReadIsProper → SomeInput (framed_input (batch_form protocol))
+batch_some protocol L sound proper = framed_some (batch_form protocol) (batch_laws protocol L) (batch_unit_laws protocol L sound proper)

@@ -1,21 +1,24 @@
 -- The texts of a file of OTLP/JSON, and what is read of them.
-use Rattle.std.proofs.Common.{◌≡◌, ℕ, ◌≤◌, ◌++◌, ◌∷◌, List, [], length, map, All, refl, ap}
+use Rattle.std.proofs.Common.{◌≡◌, ℕ, ◌++◌, ◌∷◌, List, [], map, All, refl, sym, subst}
 use Rattle.std.proofs.lemmas.List.{map-append}
 use Rattle.std.proofs.lemmas.List.Elements.{All-nil, All-cons, All-head, All-tail, All-weaker}
 use Rattle.span_io.specs.Outside.{IsFront}
 use Rattle.span_io.specs.declared.form.Form.TheVariants as forms
-use Rattle.span_io.specs.declared.limits.Limits.{Limits}
 use Rattle.trace_model.specs.Proper.{IsProperGroup}
 use Rattle.trace_model.specs.Soundness.{IsSoundGroup, IsSoundTrace}
+use Rattle.trace_model.specs.OtlpParts.{NotedGroup}
+use Rattle.trace_model.specs.RemarkLaws.{mapped}
 use Rattle.trace_model.specs.declared.trace.Group.{Group}
 use Rattle.otlp_json.specs.Canonical.{json_group_text, json_groups_text}
+use Rattle.otlp_json.specs.Group.{RemarkedGroup}
 use Rattle.otlp_json.specs.Held.{IsHeldByJson}
-use Rattle.otlp_json.specs.Texts.{unremarked}
+use Rattle.otlp_json.specs.Texts.{AreGroupsText}
+use Rattle.map_zipkin.specs.NotedGroups.{plain_noted}
 use Rattle.span_convert.specs.Canonical.{IsHeldBy}
-use Rattle.span_convert.specs.Documents.{IsDocument, partial_document, closing_document}
-use Rattle.span_convert.specs.GroupFiles.{ReadsGroups, ReadsGroupsPlainly, group_document, group_file}
+use Rattle.span_convert.specs.Documents.{partial_document, closing_document}
+use Rattle.span_convert.specs.GroupFiles.{remarked_group, ReadsGroups, group_file}
 use Rattle.span_convert.specs.InputLaws.{GroupFileLaws}
-use Rattle.span_convert.specs.Units.{CanHold}
+use Rattle.span_convert.specs.Units.{CanHold, groups_in}
 use Rattle.span_convert.specs.Verdicts.{CanHoldTrace, IsFaultless, IsProperTrace}
 use Rattle.span_convert.proofs.DocumentTexts.{document_front, document_closed}
 use Rattle.span_convert.proofs.GroupFileInputs.{groups_held}
@@ -34,13 +37,6 @@ group_file_closed groups = document_closed group_file refl groups
 
 -- ---- what is read of a text
 
-groups_alone : (groups : List Group) → groups ≡ map (λ group. group.0) (unremarked groups)
-groups_alone [] = refl
-groups_alone (group ∷ groups) = ap (λ (l : List Group). group ∷ l) (groups_alone groups)
-
-pub group_file_plainly : (bytes : List ℕ) (groups : List Group) → ReadsGroupsPlainly bytes groups → ReadsGroups bytes groups
-group_file_plainly bytes groups text = record { remarked = unremarked groups; text = text; means = groups_alone groups }
-
 held_groups : (groups : List Group) → CanHoldTrace forms.OtlpJson groups → All IsHeldByJson groups
 held_groups groups held = of groups held.sound held.proper held.no_fault
   where
@@ -52,14 +48,11 @@ held_groups groups held = of groups held.sound held.proper held.no_fault
 
 module _ (L : GroupFileLaws) where
   -- it has no fault
-  pub group_file_faultless : (bytes : List ℕ) (groups : List Group) → ReadsGroups bytes groups → IsFaultless forms.OtlpJson groups
-  group_file_faultless bytes groups h = All-weaker IsHeldByJson (CanHold forms.OtlpJson) (λ g held. held.no_fault) groups (groups_held L bytes groups h)
+  pub group_file_faultless : (bytes : List ℕ) (noted : List NotedGroup) → ReadsGroups bytes noted → IsFaultless forms.OtlpJson (groups_in noted)
+  group_file_faultless bytes noted h = All-weaker IsHeldByJson (CanHold forms.OtlpJson) (λ g held. held.no_fault) (groups_in noted) (groups_held L bytes noted h)
 
   module _ (groups : List Group) (held : IsHeldBy forms.OtlpJson groups) where
-    -- the text of a trace that OTLP/JSON can hold is read back
-    pub group_file_back : ReadsGroupsPlainly (json_groups_text groups) groups
-    group_file_back = L.again.text groups (held_groups groups held.can_hold)
-
-    -- within the limit it is a whole file
-    pub group_file_whole : (limits : Limits) → length (json_groups_text groups) ≤ limits.json → IsDocument group_document limits (json_groups_text groups) groups
-    group_file_whole limits within = record { within = within; text = group_file_plainly (json_groups_text groups) groups group_file_back }
+    -- the text of a trace that OTLP/JSON can hold is read back, without remarks
+    pub group_file_back : ReadsGroups (json_groups_text groups) (map plain_noted groups)
+    group_file_back =
+        subst (λ (l : List RemarkedGroup). AreGroupsText l (json_groups_text groups)) (sym (mapped remarked_group plain_noted groups)) (L.again.text groups (held_groups groups held.can_hold))

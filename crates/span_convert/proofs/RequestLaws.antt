@@ -6,7 +6,7 @@ use Rattle.span_io.specs.Frames.{ItemsThen, GoesOn}
 use Rattle.span_io.specs.declared.limits.Limits.{Limits}
 use Rattle.proto_wire.specs.Records.{Held, varint, fixed64, bytes, fixed32, Record}
 use Rattle.proto_wire.specs.Wire.{SpellsRecord, records, RefusedBy}
-use Rattle.trace_model.specs.declared.trace.Group.{Group}
+use Rattle.trace_model.specs.OtlpParts.{NotedGroup}
 use Rattle.otlp_proto.specs.Rows.{bytes_in}
 use Rattle.span_convert.specs.InputLaws.{RequestLaws}
 use Rattle.span_convert.specs.Requests.{AreRequestUnits, HoldsRequestUnits, IsRequestUnit}
@@ -135,13 +135,15 @@ module _ (L : RequestLaws) where
 
   -- ---- units
 
-  pub one_group : (unit : List ℕ) (g h : Group) → IsRequestUnit unit g → IsRequestUnit unit h → g ≡ h
-  one_group unit g h a b = (L.group.once unit g h a.remarks b.remarks a.text b.text).0
+  pub one_group : (unit : List ℕ) (g h : NotedGroup) → IsRequestUnit unit g → IsRequestUnit unit h → g ≡ h
+  one_group unit g h a b =
+      let both = L.group.once unit g.means h.means g.notes h.notes a b in
+      λ i. record { means = both.0 i; notes = both.1 i }
 
   pub request_laws : SourceLaws request_form
   request_laws = record {
     one_group = one_group;
-    fine = λ unit g is. L.group.fine unit g is.remarks is.text;
+    fine = λ unit g is. L.group.fine unit g.means g.notes is;
     walks = units_walk;
     before = before_unit;
     empty = λ limits valid. nothing_begins records RefusedBy L.step limits.unit valid.unit.0;

@@ -11,7 +11,7 @@ use Rattle.span_io.specs.declared.form.Form.TheVariants as forms
 use Rattle.span_io.specs.declared.limits.Limits.{Limits}
 use Rattle.span_io.specs.declared.refusal.Refusal.{Refusal}
 use Rattle.thrift_core.specs.Messages.{fields_of}
-use Rattle.trace_model.specs.declared.trace.Group.{Group}
+use Rattle.trace_model.specs.OtlpParts.{NotedGroup}
 use Rattle.jaeger_model.specs.Laws.{OneTree}
 use Rattle.span_convert.specs.BatchFiles.{ProtocolWords, binary, compact, batches, HoldsBatches}
 use Rattle.span_convert.specs.FramedForms.{FramedForm, UnitsBegin, AreAllUnits, UnitOffends, RestStops, UnitsRefused}
@@ -74,7 +74,7 @@ module _ {A : Type 0} (R : A → A → Type 0) where
 
 -- Of each group of which the one is a text the other is one, and each cause that counts in the one counts in the other.
 record SaysAlso (from other : FramedForm) (unit twin : List ℕ) : Type 0 where
-  groups : (group : Group) → from.IsUnit unit group → other.IsUnit twin group
+  groups : (group : NotedGroup) → from.IsUnit unit group → other.IsUnit twin group
   causes : (cause : Cause) → Least (from.Offends unit) (cause_number cause) → Least (other.Offends twin) (cause_number cause)
 
 module _ (protocol another : ProtocolWords) (T : OneTree protocol.spells another.spells) (L : BatchLaws another) (unit twin : List ℕ) (h : SaysTheSame protocol.spells another.spells unit twin) where
@@ -84,6 +84,7 @@ module _ (protocol another : ProtocolWords) (T : OneTree protocol.spells another
       batch = is.batch;
       text = (L.anywhere.means h.items h.others h.plain twin h.padded h.again h.second is.batch).0 ((T.same_batch (fields_of h.items) unit h.plain h.first h.again is.batch).0 is.text);
       means = is.means;
+      remarks = is.remarks;
     };
     causes = λ cause least. (L.anywhere.offends h.items h.others h.plain twin h.padded h.again h.second cause).0 ((T.same_cause (fields_of h.items) unit h.plain h.first h.again cause).0 least);
   }
@@ -94,6 +95,7 @@ module _ (protocol another : ProtocolWords) (T : OneTree protocol.spells another
       batch = is.batch;
       text = (T.same_batch (fields_of h.items) unit h.plain h.first h.again is.batch).1 ((L.anywhere.means h.items h.others h.plain twin h.padded h.again h.second is.batch).1 is.text);
       means = is.means;
+      remarks = is.remarks;
     };
     causes = λ cause least. (T.same_cause (fields_of h.items) unit h.plain h.first h.again cause).1 ((L.anywhere.offends h.items h.others h.plain twin h.padded h.again h.second cause).1 least);
   }
@@ -138,7 +140,7 @@ module _ (protocol another : ProtocolWords) (L : BatchLaws protocol) (limits : L
   twins_held before behind parts =
       first_items (batches another) limits.unit before behind [] (take limits.binary others) (subst (λ (l : List (List ℕ)). HoldsBatches another limits others l []) parts H.all_twins.held)
 
-  groups_also : (units twins : List (List ℕ)) (groups : List Group) → AllZip (SaysAlso from other) units twins → AllZip from.IsUnit units groups → AllZip other.IsUnit twins groups
+  groups_also : (units twins : List (List ℕ)) (groups : List NotedGroup) → AllZip (SaysAlso from other) units twins → AllZip from.IsUnit units groups → AllZip other.IsUnit twins groups
   groups_also [] [] [] s h = tt
   groups_also [] [] (g ∷ groups) s h = absurd h
   groups_also [] (t ∷ twins) groups s h = absurd s
@@ -153,13 +155,13 @@ module _ (protocol another : ProtocolWords) (L : BatchLaws protocol) (limits : L
 
   -- ---- what is said of it
 
-  begins : (groups : List Group) → UnitsBegin from limits bytes groups → UnitsBegin other limits others groups
+  begins : (groups : List NotedGroup) → UnitsBegin from limits bytes groups → UnitsBegin other limits others groups
   begins groups h =
       let w : FirstTwins (SaysAlso from other) h.units_then.units H.twins = twins_of h.units_then.units h.rest h.units_then.held in
       let f : FirstItems (batches another) limits.unit w.before (take limits.binary others) = twins_held w.before w.behind w.parts in
       record { rest = f.rest; units_then = record { units = w.before; held = f.items_then; are_groups = groups_also h.units_then.units w.before groups w.same h.units_then.are_groups } }
 
-  whole : (groups : List Group) → AreAllUnits from limits bytes groups → AreAllUnits other limits others groups
+  whole : (groups : List NotedGroup) → AreAllUnits from limits bytes groups → AreAllUnits other limits others groups
   whole groups h =
       let e : (H.units ≡ h.units_then.units) × ([] ≡ []) = all_of_them h.units_then.units [] h.units_then.held (S.empty limits valid) in
       record {
@@ -167,7 +169,7 @@ module _ (protocol another : ProtocolWords) (L : BatchLaws protocol) (limits : L
         within = H.all_twins.within;
       }
 
-  offends : (groups : List Group) (cause : Cause) → UnitOffends from limits bytes groups cause → UnitOffends other limits others groups cause
+  offends : (groups : List NotedGroup) (cause : Cause) → UnitOffends from limits bytes groups cause → UnitOffends other limits others groups cause
   offends groups cause h =
       let w : FirstTwins (SaysAlso from other) (h.before ++ h.unit ∷ []) H.twins = twins_of (h.before ++ h.unit ∷ []) h.rest h.held in
       let l : LastTwin (SaysAlso from other) h.before h.unit w.before = last_twin (SaysAlso from other) h.before h.unit w.before w.same in
@@ -182,12 +184,12 @@ module _ (protocol another : ProtocolWords) (L : BatchLaws protocol) (limits : L
       }
 
   -- nothing is left behind its batches
-  never_stops : (groups : List Group) (cause : Cause) → RestStops from limits bytes groups cause → ⊥
+  never_stops : (groups : List NotedGroup) (cause : Cause) → RestStops from limits bytes groups cause → ⊥
   never_stops groups cause s =
       let e : (H.units ≡ s.units_then.units) × (s.rest ≡ []) = all_of_them s.units_then.units s.rest s.units_then.held (S.rest_ends limits (length bytes) s.rest cause s.why) in
       S.end_fine limits valid (length bytes) s.rest cause e.1 H.all.within s.why
 
-  refuses : (groups : List Group) (refusal : Refusal) → UnitsRefused from limits bytes groups refusal → UnitsRefused other limits others groups refusal
+  refuses : (groups : List NotedGroup) (refusal : Refusal) → UnitsRefused from limits bytes groups refusal → UnitsRefused other limits others groups refusal
   refuses groups refusal h = record { why = inl (of h.why); number = h.number }
     where
       of : UnitOffends from limits bytes groups refusal.cause ⊎ RestStops from limits bytes groups refusal.cause → UnitOffends other limits others groups refusal.cause
@@ -195,12 +197,12 @@ module _ (protocol another : ProtocolWords) (L : BatchLaws protocol) (limits : L
       of (inr s) = absurd (never_stops groups refusal.cause s)
 
   verdict_also : (to : Form) (verdict : Verdict) → IsVerdictOn (framed_input from) to limits bytes verdict → IsVerdictOn (framed_input other) to limits others verdict
-  verdict_also to (good text tally) h = record { groups = h.groups; whole = whole h.groups h.whole; held = h.held; is_text = h.is_text; counts = h.counts }
-  verdict_also to (refused refusal text) h = record { groups = h.groups; refuses = refuses h.groups refusal h.refuses; held = h.held; is_text = h.is_text }
+  verdict_also to (good text tally) h = record { noted = h.noted; whole = whole h.noted h.whole; held = h.held; is_text = h.is_text; counts = h.counts }
+  verdict_also to (refused refusal text) h = record { noted = h.noted; refuses = refuses h.noted refusal h.refuses; held = h.held; is_text = h.is_text }
   verdict_also to (faulted found text) h = record {
-    groups = h.groups;
-    group = h.group;
-    begins = begins (h.groups ++ h.group ∷ []) h.begins;
+    noted = h.noted;
+    next = h.next;
+    begins = begins (h.noted ++ h.next ∷ []) h.begins;
     held = h.held;
     fault = h.fault;
     number = h.number;

@@ -9,7 +9,7 @@ use Rattle.span_io.specs.declared.cause.Cause.{Cause}
 use Rattle.span_io.specs.declared.limits.Limits.{Limits}
 use Rattle.trace_model.specs.Proper.{IsProperGroup}
 use Rattle.trace_model.specs.Soundness.{IsSoundGroup}
-use Rattle.trace_model.specs.declared.trace.Group.{Group}
+use Rattle.trace_model.specs.OtlpParts.{NotedGroup}
 use Rattle.span_convert.specs.FramedForms.{FramedForm, RestCause}
 
 abbrev pub AreBytes : List ℕ → Type 0
@@ -44,8 +44,8 @@ module _ (from : FramedForm) (limits : Limits) where
 
 -- two walks over one input, its rest, and what a unit is
 pub record SourceLaws (from : FramedForm) : Type 0 where
-  pub one_group : (unit : List ℕ) (g h : Group) → from.IsUnit unit g → from.IsUnit unit h → g ≡ h
-  pub fine : (unit : List ℕ) (g : Group) → from.IsUnit unit g → (place n : ℕ) → from.Offends unit place n → ⊥
+  pub one_group : (unit : List ℕ) (g h : NotedGroup) → from.IsUnit unit g → from.IsUnit unit h → g ≡ h
+  pub fine : (unit : List ℕ) (g : NotedGroup) → from.IsUnit unit g → (place n : ℕ) → from.Offends unit place n → ⊥
   pub walks : (limits : Limits) (text : List ℕ) (units others : List (List ℕ)) (rest other : List ℕ) → from.HoldsUnits limits text units rest → from.HoldsUnits limits text others other
       → GoOn from limits units others rest other ⊎ GoOn from limits others units other rest
   pub before : (limits : Limits) (text : List ℕ) (before : List (List ℕ)) (unit rest : List ℕ) → from.HoldsUnits limits text (before ++ unit ∷ []) rest → HeldBy from limits text before
@@ -58,7 +58,7 @@ pub record SourceLaws (from : FramedForm) : Type 0 where
 
 -- the unit is a text of a group, or an offence counts in it
 abbrev pub IsDecidedUnit : FramedForm → List ℕ → Type 0
-IsDecidedUnit from unit = ((group : Group) × from.IsUnit unit group) ⊎ ((cause : Cause) × Least (from.Offends unit) (cause_number cause))
+IsDecidedUnit from unit = ((group : NotedGroup) × from.IsUnit unit group) ⊎ ((cause : Cause) × Least (from.Offends unit) (cause_number cause))
 
 abbrev pub Decides : FramedForm → Type 0
 Decides from = (unit : List ℕ) → AreBytes unit → from.Tells unit → IsDecidedUnit from unit
@@ -68,5 +68,5 @@ pub record UnitLaws (from : FramedForm) : Type 0 where
   pub all_units : (limits : Limits) (text : List ℕ) → AllUnits from limits text
   pub are_bytes : (limits : Limits) (text : List ℕ) (units : List (List ℕ)) (rest : List ℕ) → AreBytes text → from.HoldsUnits limits text units rest → AllBytes units
   pub decides : Decides from
-  pub sound : (unit : List ℕ) (group : Group) → from.IsUnit unit group → IsSoundGroup group
-  pub proper : (unit : List ℕ) (group : Group) → AreBytes unit → from.IsUnit unit group → IsProperGroup group
+  pub sound : (unit : List ℕ) (group : NotedGroup) → from.IsUnit unit group → IsSoundGroup group.means
+  pub proper : (unit : List ℕ) (group : NotedGroup) → AreBytes unit → from.IsUnit unit group → IsProperGroup group.means

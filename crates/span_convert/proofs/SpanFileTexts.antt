@@ -1,17 +1,17 @@
 -- The texts of a Zipkin file, and what is read of them.
-use Rattle.std.proofs.Common.{◌≡◌, ℕ, ◌+◌, ◌≤◌, ◌++◌, ◌∷◌, List, [], length, map, All, refl, ap, sym, ◌∙◌, subst}
+use Rattle.std.proofs.Common.{◌≡◌, ℕ, ◌+◌, ◌++◌, ◌∷◌, List, [], length, map, All, refl, ap, sym, ◌∙◌, subst}
 use Rattle.std.proofs.lemmas.Grind.{flat_map-append}
 use Rattle.std.proofs.lemmas.List.{length-append, length-map, map-append}
 use Rattle.std.proofs.lemmas.List.Elements.{All-nil, All-cons, All-head, All-tail, All-append, All-weaker}
 use Rattle.std.specs.List.{flat_map}
 use Rattle.span_io.specs.Outside.{IsFront}
 use Rattle.span_io.specs.declared.form.Form.TheVariants as forms
-use Rattle.span_io.specs.declared.limits.Limits.{Limits}
 use Rattle.span_tags.specs.Runs.{Scoped, spans_of, scoped}
 use Rattle.trace_model.specs.Flat.{flat}
 use Rattle.trace_model.specs.Proper.{IsProperGroup}
 use Rattle.trace_model.specs.Soundness.{IsSoundGroup, IsSoundTrace}
 use Rattle.trace_model.specs.declared.span.Span.{Span}
+use Rattle.trace_model.specs.OtlpParts.{NotedGroup}
 use Rattle.trace_model.specs.declared.trace.Group.{Group}
 use Rattle.trace_model.specs.declared.trace.Scope.{Scope}
 use Rattle.zipkin_json.specs.Canonical.{zspan_text, spans_text}
@@ -21,19 +21,18 @@ use Rattle.zipkin_json.specs.declared.span.ZSpan.{ZSpan}
 use Rattle.map_zipkin.specs.Faults.{HasNoZipkinFault}
 use Rattle.map_zipkin.specs.Laws.{IsHeldByZipkin, ZipkinNormalForms}
 use Rattle.map_zipkin.specs.Normal.{normal_one, normal_spans, zipkin_normal}
-use Rattle.map_zipkin.specs.Reading.{run_span_of, groups_of}
-use Rattle.map_zipkin.specs.Regrouped.{RunSpan, run_of, regrouped}
-use Rattle.map_zipkin.specs.Remarks.{zipkin_left_out}
+use Rattle.map_zipkin.specs.NotedGroups.{plain_noted}
+use Rattle.map_zipkin.specs.Regrouped.{RunSpan, run_of}
 use Rattle.map_zipkin.specs.Writing.{spans_of_group}
 use Rattle.span_convert.specs.Canonical.{IsHeldBy}
-use Rattle.span_convert.specs.Documents.{IsDocument, partial_document, closing_document}
+use Rattle.span_convert.specs.Documents.{partial_document, closing_document}
 use Rattle.span_convert.specs.InputLaws.{SpanFileLaws}
-use Rattle.span_convert.specs.SpanFiles.{ReadsSpans, ReadsSpansPlainly, span_document, spans_of_groups, span_file, span_file_text}
-use Rattle.span_convert.specs.Units.{IsSizedGroup, normal_form, canonical_text, span_count}
+use Rattle.span_convert.specs.SpanFiles.{ReadsSpans, spans_of_groups, span_file, span_file_text}
+use Rattle.span_convert.specs.Units.{groups_in, IsSizedGroup, normal_form, canonical_text, span_count}
 use Rattle.span_convert.specs.Verdicts.{CanHoldTrace, IsFaultless, IsProperTrace}
 use Rattle.span_convert.proofs.DocumentInputs.{all_first}
 use Rattle.span_convert.proofs.DocumentTexts.{document_front, document_closed}
-use Rattle.span_convert.proofs.SpanFileInputs.{proper_read, timely_read}
+use Rattle.span_convert.proofs.SpanFileInputs.{groups_read, proper_read, timely_read}
 
 -- ---- what groups add
 
@@ -101,10 +100,6 @@ module _ {A : Type 0} (told : Group → Scoped Span → A) where
 
 -- ---- lists
 
-map_flat : {A B C : Type 0} → (f : B → C) (g : A → List B) (xs : List A) → map f (flat_map g xs) ≡ flat_map (λ x. map f (g x)) xs
-map_flat f g [] = refl
-map_flat f g (x ∷ xs) = map-append f (g x) (flat_map g xs) ∙ ap (λ l. map f (g x) ++ l) (map_flat f g xs)
-
 all_flat : {A B : Type 0} (P : B → Type 0) (f : A → List B) (xs : List A) → All (λ x. All P (f x)) xs → All P (flat_map f xs)
 all_flat P f [] all = All-nil P
 all_flat P f (x ∷ xs) all = All-append P (f x) (flat_map f xs) (All-head (λ x. All P (f x)) x xs all) (all_flat P f xs (All-tail (λ x. All P (f x)) x xs all))
@@ -117,9 +112,6 @@ all_both (span ∷ spans) proper timely = All-cons IsWritableZSpan span spans
 
 -- ---- what is read of a text
 
-pub span_file_plainly : (bytes : List ℕ) (groups : List Group) → ReadsSpansPlainly bytes groups → ReadsSpans bytes groups
-span_file_plainly bytes groups h = record { spans = h.spans; text = h.text; means = h.means }
-
 module _ (L : SpanFileLaws) where
   pub span_file_spans : (groups : List Group) → span_count (zipkin_normal groups) ≡ span_count groups
   span_file_spans groups =
@@ -128,13 +120,13 @@ module _ (L : SpanFileLaws) where
       ∙ spans_counted (λ group. normal_one group.resource) groups
 
   -- it has no fault, and is its own normal form
-  pub span_file_faultless : (bytes : List ℕ) (groups : List Group) → ReadsSpans bytes groups → IsFaultless forms.ZipkinJson groups
-  span_file_faultless bytes groups h =
-      subst (All HasNoZipkinFault) (sym h.means) (L.itself.no_fault h.spans (timely_read L.writable bytes h.spans h.text) (proper_read L.writable bytes h.spans h.text))
+  pub span_file_faultless : (bytes : List ℕ) (noted : List NotedGroup) → ReadsSpans bytes noted → IsFaultless forms.ZipkinJson (groups_in noted)
+  span_file_faultless bytes noted h =
+      subst (All HasNoZipkinFault) (groups_read L bytes noted h) (L.itself.no_fault h.spans (timely_read L.writable bytes h.spans h.text) (proper_read L.writable bytes h.spans h.text))
 
-  pub span_file_normal_read : (bytes : List ℕ) (groups : List Group) → ReadsSpans bytes groups → zipkin_normal groups ≡ groups
-  span_file_normal_read bytes groups h =
-      subst (λ (l : List Group). zipkin_normal l ≡ l) (sym h.means) (L.itself.itself h.spans (timely_read L.writable bytes h.spans h.text) (proper_read L.writable bytes h.spans h.text))
+  pub span_file_normal_read : (bytes : List ℕ) (noted : List NotedGroup) → ReadsSpans bytes noted → zipkin_normal (groups_in noted) ≡ groups_in noted
+  span_file_normal_read bytes noted h =
+      subst (λ (l : List Group). zipkin_normal l ≡ l) (groups_read L bytes noted h) (L.itself.itself h.spans (timely_read L.writable bytes h.spans h.text) (proper_read L.writable bytes h.spans h.text))
 
   -- ---- the normal form of a trace that Zipkin can hold
 
@@ -165,31 +157,9 @@ module _ (L : SpanFileLaws) where
         (all_flat IsProperZSpan spans_of_group (zipkin_normal groups) (All-weaker IsHeldByZipkin (λ g. All IsProperZSpan (spans_of_group g)) L.written.proper (zipkin_normal groups) normal_held))
         (all_flat IsTimelyZSpan spans_of_group (zipkin_normal groups) (All-weaker IsHeldByZipkin (λ g. All IsTimelyZSpan (spans_of_group g)) L.written.timely (zipkin_normal groups) normal_held)))
 
-    own_means : zipkin_normal groups ≡ groups_of (spans_of_groups (zipkin_normal groups))
-    own_means =
-        sym span_file_normal_again
-        ∙ sym (ap regrouped (map_flat run_span_of spans_of_group (zipkin_normal groups) ∙ each_back (zipkin_normal groups) normal_held))
-      where
-        each_back : (l : List Group) → All IsHeldByZipkin l → flat_map (λ g. map run_span_of (spans_of_group g)) l ≡ flat_map normal_spans l
-        each_back [] all = refl
-        each_back (g ∷ l) all =
-            let here : map run_span_of (spans_of_group g) ≡ normal_spans g = L.back.means g (All-head IsHeldByZipkin g l all) in
-            let rest : flat_map (λ g. map run_span_of (spans_of_group g)) l ≡ flat_map normal_spans l = each_back l (All-tail IsHeldByZipkin g l all) in
-            λ i. here i ++ rest i
-
-    pub span_file_back : ReadsSpansPlainly (canonical_text forms.ZipkinJson groups) (normal_form forms.ZipkinJson groups)
+    pub span_file_back : ReadsSpans (canonical_text forms.ZipkinJson groups) (map plain_noted (normal_form forms.ZipkinJson groups))
     span_file_back = record {
       spans = spans_of_groups (zipkin_normal groups);
       text = own_text;
-      means = own_means;
-      plain = all_flat (λ span. zipkin_left_out span ≡ []) spans_of_group (zipkin_normal groups)
-          (All-weaker IsHeldByZipkin (λ g. All (λ span. zipkin_left_out span ≡ []) (spans_of_group g)) L.back.plainly (zipkin_normal groups) normal_held);
-    }
-
-    -- within the limit it is a whole file
-    pub span_file_whole : (limits : Limits) → length (canonical_text forms.ZipkinJson groups) ≤ limits.json
-        → IsDocument span_document limits (canonical_text forms.ZipkinJson groups) (zipkin_normal groups)
-    span_file_whole limits within = record {
-      within = within;
-      text = span_file_plainly (canonical_text forms.ZipkinJson groups) (zipkin_normal groups) span_file_back;
+      means = sym (L.normal.read_back (zipkin_normal groups) normal_held ∙ ap (map plain_noted) span_file_normal_again);
     }

@@ -1,6 +1,6 @@
 -- Canonical text is read back as the trace that it was written for, and bytes are read as one trace at most.
-use Rattle.std.proofs.Common.{◌≡◌, ℕ, ◌<◌, ◌≤◌, ◌^◌, ◌∷◌, List, [], length, map, All, refl, ap, sym, subst, arith}
-use Rattle.std.proofs.lemmas.List.{length-append, take_all}
+use Rattle.std.proofs.Common.{◌≡◌, ℕ, ◌<◌, ◌≤◌, ◌^◌, ◌∷◌, List, [], length, map, All, refl, ap, sym, ◌∙◌, subst, arith}
+use Rattle.std.proofs.lemmas.List.{length-append, length-map}
 use Rattle.std.proofs.lemmas.List.Elements.{All-nil, All-cons, All-head, All-tail}
 use Rattle.std.specs.List.{AllZip}
 use Rattle.span_io.specs.Frames.{ItemsThen}
@@ -13,22 +13,25 @@ use Rattle.proto_wire.specs.Records.{Record, IsProper, bytes}
 use Rattle.proto_wire.specs.Wire.{SpellsRecord, records, RefusedBy, opening_text}
 use Rattle.trace_model.specs.Proper.{IsProperGroup}
 use Rattle.trace_model.specs.Soundness.{IsSoundGroup, IsSoundTrace}
+use Rattle.trace_model.specs.OtlpParts.{NotedGroup}
+use Rattle.trace_model.specs.RemarkLaws.{all_back}
 use Rattle.trace_model.specs.declared.trace.Group.{Group}
 use Rattle.otlp_proto.specs.Texts.{group_text, group_record}
 use Rattle.map_jaeger.specs.Laws.{NormalForms, ReadIsNormal}
 use Rattle.map_jaeger.specs.Normal.{normal}
+use Rattle.map_zipkin.specs.NotedGroups.{plain_noted}
 use Rattle.span_convert.specs.BatchFiles.{binary, compact}
-use Rattle.span_convert.specs.Canonical.{Reads, ReadsPlainly, IsHeldBy, IsSized, IsWithin, ConvertsToItself}
-use Rattle.span_convert.specs.FramedForms.{AreAllUnits}
+use Rattle.span_convert.specs.Canonical.{Reads, ReadsNoted, ReadsPlainly, IsHeldBy, IsSized, Fits, ConvertsToItself}
 use Rattle.span_convert.specs.InputLaws.{RequestLaws, SpanFileLaws, InputLaws, TextLaws}
-use Rattle.span_convert.specs.Requests.{AreRequestUnits, IsRequestUnit, request_text, IsRequestWithin, ReadsRequest, ReadsRequestPlainly, IsPlainRequestUnit}
-use Rattle.span_convert.specs.Units.{request_form, input_form, CanHold, normal_form, trace_text, canonical_text, span_count}
-use Rattle.span_convert.specs.Verdicts.{IsProperTrace, IsFaultless, tally_of}
-use Rattle.span_convert.proofs.BatchTexts.{IsNormal, normals, all_itself, normal_held_by, batches_back, batches_whole, batches_spans, batches_faultless, batches_normal, batches_plainly}
+use Rattle.span_convert.specs.Requests.{AreRequestUnits, IsRequestUnit, request_text, ReadsRequest}
+use Rattle.span_convert.specs.Units.{groups_in, CanHold, normal_form, trace_text, canonical_text, span_count}
+use Rattle.span_convert.specs.Verdicts.{CanHoldTrace, IsProperTrace, IsFaultless, tally_of}
+use Rattle.span_convert.proofs.BatchTexts.{IsNormal, normals, all_itself, normal_held_by, batches_back, batches_spans, batches_faultless, batches_normal}
+use Rattle.span_convert.proofs.FitLaws.{fits_sized, reads_whole}
 use Rattle.span_convert.proofs.FrameLemmas.{same_items}
-use Rattle.span_convert.proofs.GroupFileTexts.{group_file_faultless, group_file_back, group_file_whole, group_file_plainly}
+use Rattle.span_convert.proofs.GroupFileTexts.{group_file_faultless, group_file_back}
 use Rattle.span_convert.proofs.RequestLaws.{units_once, one_group}
-use Rattle.span_convert.proofs.SpanFileTexts.{span_file_back, span_file_normal_held, span_file_normal_again, span_file_spans, span_file_faultless, span_file_normal_read, span_file_plainly, span_file_whole}
+use Rattle.span_convert.proofs.SpanFileTexts.{span_file_back, span_file_normal_held, span_file_normal_again, span_file_spans, span_file_faultless, span_file_normal_read}
 
 -- the record of a unit
 unit_record : Group → Record
@@ -52,12 +55,9 @@ request_fine : (groups : List Group) → IsFaultless forms.OtlpProto groups
 request_fine [] = All-nil (CanHold forms.OtlpProto)
 request_fine (g ∷ groups) = All-cons (CanHold forms.OtlpProto) g groups tt (request_fine groups)
 
--- units without remarks are units
-remarked : (units : List (List ℕ)) (groups : List Group) → AllZip IsPlainRequestUnit units groups → AllZip IsRequestUnit units groups
-remarked [] [] h = tt
-remarked [] (g ∷ groups) h = absurd h
-remarked (unit ∷ units) [] h = absurd h
-remarked (unit ∷ units) (g ∷ groups) h = (record { remarks = []; text = h.0 }, remarked units groups h.1)
+-- groups without remarks are the groups
+plain_means : (groups : List Group) → groups_in (map plain_noted groups) ≡ groups
+plain_means groups = all_back (λ (unit : NotedGroup). unit.means) plain_noted (λ group. refl) groups
 
 -- ---- normal forms
 
@@ -90,19 +90,25 @@ normal_spans Z forms.JaegerCompact groups = batches_spans groups
 normal_spans Z forms.ZipkinJson groups = span_file_spans Z groups
 
 module _ (N : ReadIsNormal) (L : InputLaws) where
+  noted_faultless : (from : Form) (text : List ℕ) (noted : List NotedGroup) → ReadsNoted from text noted → IsFaultless from (groups_in noted)
+  noted_faultless forms.OtlpProto text noted h = request_fine (groups_in noted)
+  noted_faultless forms.OtlpJson text noted h = group_file_faultless L.groups text noted h
+  noted_faultless forms.JaegerBinary text noted h = batches_faultless binary N L.binary text noted h
+  noted_faultless forms.JaegerCompact text noted h = batches_faultless compact N L.compact text noted h
+  noted_faultless forms.ZipkinJson text noted h = span_file_faultless L.spans text noted h
+
+  noted_normal : (from : Form) (text : List ℕ) (noted : List NotedGroup) → ReadsNoted from text noted → normal_form from (groups_in noted) ≡ groups_in noted
+  noted_normal forms.OtlpProto text noted h = refl
+  noted_normal forms.OtlpJson text noted h = refl
+  noted_normal forms.JaegerBinary text noted h = batches_normal binary N L.binary text noted h
+  noted_normal forms.JaegerCompact text noted h = batches_normal compact N L.compact text noted h
+  noted_normal forms.ZipkinJson text noted h = span_file_normal_read L.spans text noted h
+
   pub faultless_read : (from : Form) (text : List ℕ) (groups : List Group) → Reads from text groups → IsFaultless from groups
-  faultless_read forms.OtlpProto text groups h = request_fine groups
-  faultless_read forms.OtlpJson text groups h = group_file_faultless L.groups text groups h
-  faultless_read forms.JaegerBinary text groups h = batches_faultless binary N L.binary text groups h
-  faultless_read forms.JaegerCompact text groups h = batches_faultless compact N L.compact text groups h
-  faultless_read forms.ZipkinJson text groups h = span_file_faultless L.spans text groups h
+  faultless_read from text groups h = subst (IsFaultless from) (sym h.means) (noted_faultless from text h.noted h.text)
 
   pub normal_read : (from : Form) (text : List ℕ) (groups : List Group) → Reads from text groups → normal_form from groups ≡ groups
-  normal_read forms.OtlpProto text groups h = refl
-  normal_read forms.OtlpJson text groups h = refl
-  normal_read forms.JaegerBinary text groups h = batches_normal binary N L.binary text groups h
-  normal_read forms.JaegerCompact text groups h = batches_normal compact N L.compact text groups h
-  normal_read forms.ZipkinJson text groups h = span_file_normal_read L.spans text groups h
+  normal_read from text groups h = subst (λ (l : List Group). normal_form from l ≡ l) (sym h.means) (noted_normal from text h.noted h.text)
 
 module _ (L : TextLaws) where
   -- ---- the frames and units of a canonical text
@@ -132,7 +138,7 @@ module _ (L : TextLaws) where
       let first : length (group_record g) ≤ limit = All-head (λ g. length (group_record g) ≤ limit) g groups all in
       (unit_record g, record_spelled g (omega (arith, first, short)), map group_text groups, refl, units_held limit groups short (All-tail (λ g. length (group_record g) ≤ limit) g groups all))
 
-  plain_units : (limit : ℕ) (groups : List Group) → limit < 2 ^ 63 → All (λ g. length (group_record g) ≤ limit) groups → IsSoundTrace groups → IsProperTrace groups → AllZip IsPlainRequestUnit (map group_text groups) groups
+  plain_units : (limit : ℕ) (groups : List Group) → limit < 2 ^ 63 → All (λ g. length (group_record g) ≤ limit) groups → IsSoundTrace groups → IsProperTrace groups → AllZip IsRequestUnit (map group_text groups) (map plain_noted groups)
   plain_units limit [] short all sound proper = tt
   plain_units limit (g ∷ groups) short all sound proper =
       let first : length (group_record g) ≤ limit = All-head (λ g. length (group_record g) ≤ limit) g groups all in (
@@ -140,7 +146,7 @@ module _ (L : TextLaws) where
         plain_units limit groups short (All-tail (λ g. length (group_record g) ≤ limit) g groups all) (All-tail IsSoundGroup g groups sound) (All-tail IsProperGroup g groups proper),
       )
 
-  request_read_back : (groups : List Group) → IsSoundTrace groups → IsProperTrace groups → IsSized forms.OtlpProto groups → ReadsRequestPlainly (request_text groups) groups
+  request_read_back : (groups : List Group) → IsSoundTrace groups → IsProperTrace groups → IsSized forms.OtlpProto groups → ReadsRequest (request_text groups) (map plain_noted groups)
   request_read_back groups sound proper sized =
       let all : All (λ g. length (group_record g) ≤ length (request_text groups)) groups = each_within (length (request_text groups)) groups (omega arith) in
       record {
@@ -160,53 +166,27 @@ module _ (L : TextLaws) where
 
   -- ---- canonical text converts to itself
 
-  request_whole : (limits : Limits) (groups : List Group) → AreLimits limits → IsSoundTrace groups → IsProperTrace groups → IsRequestWithin limits groups → AreAllUnits request_form limits (request_text groups) groups
-  request_whole limits groups valid sound proper within =
-      let short : limits.unit < 2 ^ 63 = omega (arith, valid.unit.1) in
+  pub to_itself : (to : Form) (limits : Limits) (groups : List Group) → AreLimits limits → IsHeldBy to groups → Fits to limits (canonical_text to groups) → ConvertsToItself to limits (canonical_text to groups) groups
+  to_itself to limits groups valid h fits =
+      let own : List Group = normal_form to groups in
+      let same : own ≡ groups_in (map plain_noted own) = sym (plain_means own) in
+      let many : length own ≡ length (map plain_noted own) = sym (length-map own plain_noted) in
       record {
-        units_then = record {
-          units = map group_text groups;
-          held = record {
-            frames = map group_record groups;
-            framed = subst (λ (l : List ℕ). ItemsThen records limits.unit (map group_record groups) [] l) (sym (take_all limits.binary (request_text groups) within.text)) (frames_then limits.unit groups short within.units);
-            are_units = units_held limits.unit groups short within.units;
-          };
-          are_groups = remarked (map group_text groups) groups (plain_units limits.unit groups short within.units sound proper);
-        };
-        within = within.text;
+        noted = map plain_noted own;
+        whole = reads_whole L.input to limits (canonical_text to groups) (map plain_noted own) (read_back to groups h (fits_sized to limits (canonical_text to groups) valid fits)) fits;
+        held = subst (CanHoldTrace to) same (normal_held L.normal L.input.spans to groups h).can_hold;
+        is_text = ap (λ (l : List Group). trace_text to l) (sym (normal_again L.normal L.input.spans to groups h)) ∙ ap (λ (l : List Group). canonical_text to l) same;
+        counts = (λ i. tally_of (many i) (sym (normal_spans L.input.spans to groups) i)) ∙ ap (λ (l : List Group). tally_of (length (map plain_noted own)) (span_count l)) same;
       }
-
-  whole : (to : Form) (limits : Limits) (groups : List Group) → AreLimits limits → IsHeldBy to groups → IsWithin to limits groups → (input_form to).IsWhole limits (canonical_text to groups) (normal_form to groups)
-  whole forms.OtlpProto limits groups valid h within = request_whole limits groups valid h.can_hold.sound h.can_hold.proper within
-  whole forms.OtlpJson limits groups valid h within = group_file_whole L.input.groups groups h limits within
-  whole forms.JaegerBinary limits groups valid h within = batches_whole binary L L.input.binary limits (normal groups) (binary_normals L.normal groups h) within
-  whole forms.JaegerCompact limits groups valid h within = batches_whole compact L L.input.compact limits (normal groups) (compact_normals L.normal groups h) within
-  whole forms.ZipkinJson limits groups valid h within = span_file_whole L.input.spans groups h limits within
-
-  pub to_itself : (to : Form) (limits : Limits) (groups : List Group) → AreLimits limits → IsHeldBy to groups → IsWithin to limits groups → ConvertsToItself to limits (canonical_text to groups) groups
-  to_itself to limits groups valid h within = record {
-    groups = normal_form to groups;
-    whole = whole to limits groups valid h within;
-    held = (normal_held L.normal L.input.spans to groups h).can_hold;
-    is_text = ap (λ (l : List Group). trace_text to l) (sym (normal_again L.normal L.input.spans to groups h));
-    counts = ap (λ n. tally_of (length (normal_form to groups)) n) (sym (normal_spans L.input.spans to groups));
-  }
 
 -- ---- bytes are read as one trace at most
 
 -- a text that is read without remarks is read
-request_reads_plainly : (text : List ℕ) (groups : List Group) → ReadsRequestPlainly text groups → ReadsRequest text groups
-request_reads_plainly text groups h = record { frames = h.frames; framed = h.framed; units = h.units; are_units = h.are_units; are_groups = remarked h.units groups h.are_groups }
-
 pub reads_plainly : (to : Form) (text : List ℕ) (groups : List Group) → ReadsPlainly to text groups → Reads to text groups
-reads_plainly forms.OtlpProto text groups h = request_reads_plainly text groups h
-reads_plainly forms.OtlpJson text groups h = group_file_plainly text groups h
-reads_plainly forms.JaegerBinary text groups h = batches_plainly binary text groups h
-reads_plainly forms.JaegerCompact text groups h = batches_plainly compact text groups h
-reads_plainly forms.ZipkinJson text groups h = span_file_plainly text groups h
+reads_plainly to text groups h = record { noted = map plain_noted groups; text = h; means = sym (plain_means groups) }
 
 module _ (L : RequestLaws) where
-  pub one_request : (text : List ℕ) (a b : List Group) → ReadsRequest text a → ReadsRequest text b → a ≡ b
+  pub one_request : (text : List ℕ) (a b : List NotedGroup) → ReadsRequest text a → ReadsRequest text b → a ≡ b
   one_request text a b h g =
       let frames : h.frames ≡ g.frames = same_items records RefusedBy L.step L.framing (length text) text h.frames g.frames h.framed g.framed in
       let units : h.units ≡ g.units = units_once L g.frames h.units g.units (subst (λ (l : List (List ℕ)). AreRequestUnits l h.units) frames h.are_units) g.are_units in

@@ -13,11 +13,11 @@ use Rattle.proto_wire.specs.Wire.{SpellsHeld, SpellsRecord, records}
 use Rattle.trace_model.specs.Proper.{IsProperGroup}
 use Rattle.trace_model.specs.Soundness.{IsSoundGroup}
 use Rattle.trace_model.specs.declared.remark.Remark.{Remark}
+use Rattle.trace_model.specs.OtlpParts.{NotedGroup}
 use Rattle.trace_model.specs.declared.trace.Group.{Group}
 use Rattle.otlp_proto.specs.Group.{IsGroupText, group_rules}
 use Rattle.otlp_proto.specs.Laws.{SomeGroup}
 use Rattle.otlp_proto.specs.Rows.{bytes_in}
-use Rattle.jaeger_model.specs.Laws.{SpellsProper}
 use Rattle.map_jaeger.specs.Laws.{ReadIsSound, ReadIsProper}
 use Rattle.span_convert.specs.BatchFiles.{ProtocolWords, batches, HoldsBatches, IsBatchUnit}
 use Rattle.span_convert.specs.InputLaws.{RequestLaws, BatchLaws}
@@ -79,7 +79,7 @@ decided_request : SomeGroup → (unit : List ℕ) → IsDecidedUnit request_form
 decided_request some unit = of (some unit)
   where
     of : ((g : Group) × (r : List Remark) × IsGroupText g r unit) ⊎ ((cause : Cause) × Least (Offence messages group_rules unit) (cause_number cause)) → IsDecidedUnit request_form unit
-    of (inl (g, r, is)) = inl (g, record { remarks = r; text = is })
+    of (inl (g, r, is)) = inl (record { means = g; notes = r }, is)
     of (inr least) = inr least
 
 -- each number, text and identifier in what is read of bytes lies in its range
@@ -91,18 +91,18 @@ request_unit_laws L some proper = record {
   all_units = request_units L;
   are_bytes = request_bytes;
   decides = λ unit all framed. decided_request some unit;
-  sound = λ unit g is. L.group.sound unit g is.remarks is.text;
-  proper = λ unit g all is. proper unit g is.remarks all is.text;
+  sound = λ unit g is. L.group.sound unit g.means g.notes is;
+  proper = λ unit g all is. proper unit g.means g.notes all is;
 }
 
-sound_batch : (protocol : ProtocolWords) → ReadIsSound → (unit : List ℕ) (g : Group) → IsBatchUnit protocol.spells unit g → IsSoundGroup g
+sound_batch : (protocol : ProtocolWords) → ReadIsSound → (unit : List ℕ) (g : NotedGroup) → IsBatchUnit protocol.spells unit g → IsSoundGroup g.means
 sound_batch protocol read unit g is = subst IsSoundGroup (sym is.means) (read is.batch)
 
-pub batch_unit_laws : (protocol : ProtocolWords) → BatchLaws protocol → SpellsProper protocol.spells → ReadIsSound → ReadIsProper → UnitLaws (batch_form protocol)
-batch_unit_laws protocol L spelled sound proper = record {
+pub batch_unit_laws : (protocol : ProtocolWords) → BatchLaws protocol → ReadIsSound → ReadIsProper → UnitLaws (batch_form protocol)
+batch_unit_laws protocol L sound proper = record {
   all_units = batch_units protocol L;
   are_bytes = batch_bytes protocol;
   decides = λ unit all framed. decided_batch protocol L unit framed;
   sound = sound_batch protocol sound;
-  proper = batch_unit_proper protocol.spells spelled L.proper proper;
+  proper = batch_unit_proper protocol.spells L.proper proper;
 }

@@ -1,6 +1,6 @@
 -- How a walk over the units of an input goes on, and how it ends.
 use Rattle.std.proofs.Common.{◌≡◌, ℕ, ◌+◌, min, ◌<◌, ◌≤◌, inl, inr, Bool, true, false, List, [], ◌∷◌, ◌++◌, length, All, take, drop, get_or, Option, Some, None, Result, Ok, Err, IfOk, IfErr, refl, sym, ap, subst, ◌∙◌, append_assoc, arith, length-append}
-use Rattle.std.proofs.lemmas.List.{append-nil, take_at, take_more, take-append-drop, length-take-le, length-drop}
+use Rattle.std.proofs.lemmas.List.{append-nil, map-append, length-map, take_at, take_more, take-append-drop, length-take-le, length-drop}
 use Rattle.std.proofs.lemmas.List.Concat.{flat_map-append, flat_map-cons}
 use Rattle.std.proofs.lemmas.List.Elements.{All-nil, All-cons, All-append}
 use Rattle.std.proofs.KnownBytes.{Appends-nil}
@@ -10,7 +10,7 @@ use Rattle.span_io.specs.TableLaws.{flat_more}
 use Rattle.span_io.specs.Causes.{cause_number}
 use Rattle.span_io.specs.Frames.{Framing, BeginsFrame, ItemsThen}
 use Rattle.span_io.specs.Offences.{Least}
-use Rattle.span_io.specs.Outside.{Outlet, Gains, GainsFront, OutputFails, Rises, last_count}
+use Rattle.span_io.specs.Outside.{Outlet, Sure, so_many, any_number, less, Gains, GainsFront, OutputHolds, FailsWithin, Rises, last_count}
 use Rattle.span_io.specs.declared.cause.Cause.{Cause}
 use Rattle.span_io.specs.declared.form.Form.{Form}
 use Rattle.span_io.specs.declared.limits.Limits.{Limits}
@@ -20,6 +20,7 @@ use Rattle.proto_wire.specs.Wire.{SpellsRecord, records}
 use Rattle.proto_wire.specs.declared.record.Frame.{Frame}
 use Rattle.trace_model.specs.Proper.{IsProperGroup}
 use Rattle.trace_model.specs.Soundness.{IsSoundGroup}
+use Rattle.trace_model.specs.OtlpParts.{NotedGroup}
 use Rattle.trace_model.specs.declared.trace.Group.{Group}
 use Rattle.trace_model.specs.declared.trace.Scope.{Scope}
 use Rattle.otlp_proto.specs.Rows.{bytes_in}
@@ -28,9 +29,9 @@ use Rattle.span_convert.specs.Canonical.{IsHeldBy}
 use Rattle.span_convert.specs.FramedForms.{FramedForm, RestCause, UnitsThen, UnitsBegin, UnitsRefused}
 use Rattle.span_convert.specs.Requests.{HoldsUnit, AreRequestUnits, HoldsRequestUnits}
 use Rattle.span_convert.specs.Rests.{Cuts}
-use Rattle.span_convert.specs.Units.{InputForm, framed_input, request_form, batch_form, FaultOf, CanHold, IsSizedGroup, span_count, canonical_text, partial_text}
-use Rattle.span_convert.specs.Verdicts.{CanHoldTrace, tally_of, IsTextSoFar, first, all, WritesFrontOn}
-use Rattle.span_convert.specs.Walks.{Exceeds, IsLookedAt, CutsFrame, HeldByFrames, StopsFrames, IsNextUnit, Converted, WalkedUnits, WritesGroup, AddsGroup, WritesFrontOf, StopsWriting, StopsGroup, EndsText, StopsText, StopsWalk, EndsWalk, WritesOut}
+use Rattle.span_convert.specs.Units.{InputForm, groups_in, framed_input, request_form, batch_form, FaultOf, CanHold, IsSizedGroup, span_count, canonical_text, partial_text}
+use Rattle.span_convert.specs.Verdicts.{CanHoldTrace, tally_of, IsTextSoFar, first, all, WritesFrontOn, FailsFrontOn}
+use Rattle.span_convert.specs.Walks.{Exceeds, IsLookedAt, CutsFrame, HeldByFrames, StopsFrames, IsNextUnit, Converted, WalkedUnits, WritesGroup, AddsGroup, WritesFrontOf, FailsFrontOf, StopsWriting, StopsGroup, EndsText, StopsText, StopsWalk, EndsWalk, WritesOut}
 use Rattle.span_convert.specs.declared.progress.Progress.{Progress}
 use Rattle.span_convert.specs.declared.progress.WalkStop.{WalkStop}
 use Rattle.span_convert.specs.declared.progress.WalkStop.TheVariants as walk_stops
@@ -126,11 +127,18 @@ batch_frames protocol = record { none = λ limits whole looked front. front; nex
 -- ---- what was converted so far
 
 pub gains_none : (a : Outlet) → Gains a a []
-gains_none a = record { held = Appends-nil a.held; taken = rises_none a.taken; faults = omega arith }
+gains_none a = record { held = Appends-nil a.held; taken = rises_none a.taken; sure = less_none a.sure; faults = omega arith }
   where
     rises_none : (n : Option ℕ) → Rises n n 0
     rises_none None = tt
     rises_none (Some n) = omega arith
+
+    less_none : (s : Sure) → s ≡ less s 0
+    less_none (so_many most) = ap so_many (omega arith)
+    less_none any_number = refl
+
+pub holds_none : (a : Outlet) → OutputHolds a a
+holds_none a = record { quiet = refl; sure = λ any. any; goes = λ going. going }
 
 abbrev counts : ℕ → ℕ → Tally
 counts units spans = record { units = units; spans = spans }
@@ -141,9 +149,6 @@ tally_from tally units spans e f =
 
 spans_more : (old next groups more : ℕ) → old ≡ min groups last_count → next ≡ min (old + more) last_count → next ≡ min (groups + more) last_count
 spans_more old next groups more e f = omega arith
-
-rose_since : (a b c : Outlet) → a.faults ≤ b.faults → OutputFails b c → OutputFails a c
-rose_since a b c h rose = omega arith
 
 all_one : {X : Type 0} (P : X → Type 0) (x : X) → P x → All P (x ∷ [])
 all_one P x h = All-cons P x [] h (All-nil P)
@@ -225,16 +230,13 @@ module _ (to : Form) (groups : List Group) (before now : Outlet) (progress : Pro
       counts = same ∙ w.counts;
     }
 
-    module _ (front : (a b c : Outlet) (first second : List ℕ) → Gains a b first → GainsFront b c second → GainsFront a c (first ++ second)) where
-      front_so_far : GainsFront now later progress.unwritten → WritesFrontOf to groups before later
-      front_so_far gains = record {
-        held = w.held.can_hold;
-        gains = subst (λ (l : List ℕ). GainsFront before later l) w.is_text (front before now later w.written progress.unwritten w.gains gains);
-      }
-
+    module _ (fails : (a b c : Outlet) (first second : List ℕ) → Gains a b first → FailsWithin b c second → FailsWithin a c (first ++ second)) where
       -- the sink failed
-      pub failed_so_far : OutputFails now later → GainsFront now later progress.unwritten → OutputFails before later × WritesFrontOf to groups before later
-      failed_so_far fails gains = (rose_since before now later w.gains.faults fails, front_so_far gains)
+      pub failed_so_far : FailsWithin now later progress.unwritten → FailsFrontOf to groups before later
+      failed_so_far failed = record {
+        held = w.held.can_hold;
+        fails = subst (λ (l : List ℕ). FailsWithin before later l) w.is_text (fails before now later w.written progress.unwritten w.gains failed);
+      }
 
       -- what is said of the stop at a group that has a fault
       abbrev HasFault : Group → WalkStop → Type 0
@@ -248,61 +250,85 @@ module _ (to : Form) (groups : List Group) (before now : Outlet) (progress : Pro
       stops_fault group (walk_stops.Faulted found) why has out =
           let here : HasFault group (walk_stops.Faulted found) = subst (HasFault group) (sym out.0) has in
           record { held = w.held.can_hold; fault = here.0; number = here.1; gains = gains_so_far out.1 }
-      stops_fault group walk_stops.Write why has out = let failed = failed_so_far out.0 out.1 in (failed.0, inl failed.1)
+      stops_fault group walk_stops.Write why has out = inl (failed_so_far out)
       stops_fault group walk_stops.OutOfMemory why has out = absurd out
 
 -- ---- what a walk comes to, whatever the form of its input is
 
-module _ (from : InputForm) (to : Form) (limits : Limits) (whole : List ℕ) (groups : List Group) (before : Outlet) where
-  so_far : CanHoldTrace to groups → from.Begins limits whole groups → IsTextSoFar from to limits whole (partial_text to groups)
-  so_far held begins = first (record { groups = groups; begins = begins; held = held; is_text = refl })
+-- the groups of what was read, with one more
+pub groups_push : (noted : List NotedGroup) (next : NotedGroup) → groups_in (noted ++ next ∷ []) ≡ groups_in noted ++ next.means ∷ []
+groups_push noted next = map-append (λ (unit : NotedGroup). unit.means) noted (next ∷ [])
+
+-- there are as many
+pub as_many : (noted : List NotedGroup) → length (groups_in noted) ≡ length noted
+as_many noted = length-map noted (λ (unit : NotedGroup). unit.means)
+
+module _ (from : InputForm) (to : Form) (limits : Limits) (whole : List ℕ) (noted : List NotedGroup) (before : Outlet) where
+  so_far : CanHoldTrace to (groups_in noted) → from.Begins limits whole noted → IsTextSoFar from to limits whole (partial_text to (groups_in noted))
+  so_far held begins = first (record { noted = noted; begins = begins; held = held; is_text = refl })
 
   -- a front of the text so far was written
-  writes_front : (now : Outlet) → from.Begins limits whole groups → WritesFrontOf to groups before now → WritesFrontOn from to limits whole before now
-  writes_front now begins w = record { text = partial_text to groups; so_far = so_far w.held begins; gains = w.gains }
+  writes_front : (now : Outlet) → from.Begins limits whole noted → WritesFrontOf to (groups_in noted) before now → WritesFrontOn from to limits whole before now
+  writes_front now begins w = record { text = partial_text to (groups_in noted); so_far = so_far w.held begins; gains = w.gains }
 
-  all_written : (now : Outlet) → from.IsWhole limits whole groups → CanHoldTrace to groups → GainsFront before now (canonical_text to groups) → WritesFrontOn from to limits whole before now
-  all_written now is_whole held gains = record {
-    text = canonical_text to groups;
-    so_far = all (tally_of (length groups) (span_count groups)) (record { groups = groups; whole = is_whole; held = held; is_text = refl; counts = refl });
-    gains = gains;
-  }
+  -- or the sink failed within it
+  fails_front : (now : Outlet) → from.Begins limits whole noted → FailsFrontOf to (groups_in noted) before now → FailsFrontOn from to limits whole before now
+  fails_front now begins w = record { text = partial_text to (groups_in noted); so_far = so_far w.held begins; fails = w.fails }
+
+  -- so many units and spans
+  its_counts : tally_of (length (groups_in noted)) (span_count (groups_in noted)) ≡ tally_of (length noted) (span_count (groups_in noted))
+  its_counts = ap (λ n. tally_of n (span_count (groups_in noted))) (as_many noted)
+
+  all_so_far : from.IsWhole limits whole noted → CanHoldTrace to (groups_in noted) → IsTextSoFar from to limits whole (canonical_text to (groups_in noted))
+  all_so_far is_whole held =
+      all (tally_of (length noted) (span_count (groups_in noted))) (record { noted = noted; whole = is_whole; held = held; is_text = refl; counts = refl })
 
   -- the input is all of the groups
-  pub ends_whole : (now later : Outlet) (progress : Progress) (result : Result Tally WalkStop) → from.IsWhole limits whole groups → Converted to groups before now progress
+  pub ends_whole : (now later : Outlet) (progress : Progress) (result : Result Tally WalkStop) → from.IsWhole limits whole noted → Converted to (groups_in noted) before now progress
       → IfOk result (λ tally. (groups : List Group) (before : Outlet) → Converted to groups before now progress → EndsText to groups tally before later)
       → IfErr result (λ stop. (groups : List Group) (before : Outlet) → Converted to groups before now progress → StopsText to groups stop before later)
       → EndsWalk from to limits whole result before later
   ends_whole now later progress (Ok tally) is_whole w ok stopped =
-      let ends = ok groups before w in
+      let ends = ok (groups_in noted) before w in
       record {
-        text = canonical_text to groups;
-        is_good = record { groups = groups; whole = is_whole; held = w.held.can_hold; is_text = refl; counts = ends.counts };
+        text = canonical_text to (groups_in noted);
+        is_good = record { noted = noted; whole = is_whole; held = w.held.can_hold; is_text = refl; counts = ends.counts ∙ its_counts };
         sized = w.held.sized;
         gains = ends.gains;
       }
-  ends_whole now later progress (Err (walk_stops.Refused refusal)) is_whole w ok stopped = absurd (stopped groups before w)
-  ends_whole now later progress (Err (walk_stops.Faulted found)) is_whole w ok stopped = absurd (stopped groups before w)
+  ends_whole now later progress (Err (walk_stops.Refused refusal)) is_whole w ok stopped = absurd (stopped (groups_in noted) before w)
+  ends_whole now later progress (Err (walk_stops.Faulted found)) is_whole w ok stopped = absurd (stopped (groups_in noted) before w)
   ends_whole now later progress (Err walk_stops.Write) is_whole w ok stopped =
-      let failed = stopped groups before w in
-      (failed.0, all_written later is_whole w.held.can_hold failed.1)
-  ends_whole now later progress (Err walk_stops.OutOfMemory) is_whole w ok stopped = all_written later is_whole w.held.can_hold (stopped groups before w)
+      record { text = canonical_text to (groups_in noted); so_far = all_so_far is_whole w.held.can_hold; fails = stopped (groups_in noted) before w }
+  ends_whole now later progress (Err walk_stops.OutOfMemory) is_whole w ok stopped =
+      record { text = canonical_text to (groups_in noted); so_far = all_so_far is_whole w.held.can_hold; gains = stopped (groups_in noted) before w }
 
 -- the next group stops it
-module _ (from : InputForm) (to : Form) (limits : Limits) (whole : List ℕ) (groups : List Group) (group : Group) (before now : Outlet) (begins : from.Begins limits whole groups) (more : from.Begins limits whole (groups ++ group ∷ [])) where
-  writes_either : StopsWriting to groups group before now → WritesFrontOn from to limits whole before now
-  writes_either (inl w) = writes_front from to limits whole groups before now begins w
-  writes_either (inr w) = writes_front from to limits whole (groups ++ group ∷ []) before now more w
+module _ (from : InputForm) (to : Form) (limits : Limits) (whole : List ℕ) (noted : List NotedGroup) (next : NotedGroup) (before now : Outlet) (begins : from.Begins limits whole noted) (more : from.Begins limits whole (noted ++ next ∷ [])) where
+  writes_either : StopsWriting to (groups_in noted) next.means before now → WritesFrontOn from to limits whole before now
+  writes_either (inl w) = writes_front from to limits whole noted before now begins w
+  writes_either (inr w) =
+      writes_front from to limits whole (noted ++ next ∷ []) before now more (subst (λ (l : List Group). WritesFrontOf to l before now) (sym (groups_push noted next)) w)
 
-  pub stops_at_group : (stop : WalkStop) → StopsGroup to groups group stop before now → StopsWalk from to limits whole stop before now
+  pub stops_at_group : (stop : WalkStop) → StopsGroup to (groups_in noted) next.means stop before now → StopsWalk from to limits whole stop before now
   stops_at_group (walk_stops.Refused refusal) stopped = absurd stopped
   stops_at_group (walk_stops.Faulted found) stopped = record {
-    text = partial_text to groups;
-    is_faulted = record { groups = groups; group = group; begins = more; held = stopped.held; fault = stopped.fault; number = stopped.number; is_text = refl };
-    so_far = so_far from to limits whole groups before stopped.held begins;
+    text = partial_text to (groups_in noted);
+    is_faulted = record {
+      noted = noted;
+      next = next;
+      begins = more;
+      held = stopped.held;
+      fault = stopped.fault;
+      number = stopped.number ∙ ap (λ n. n + 1) (as_many noted);
+      is_text = refl;
+    };
+    so_far = so_far from to limits whole noted before stopped.held begins;
     gains = stopped.gains;
   }
-  stops_at_group walk_stops.Write stopped = (stopped.0, writes_either stopped.1)
+  stops_at_group walk_stops.Write (inl w) = fails_front from to limits whole noted before now begins w
+  stops_at_group walk_stops.Write (inr w) =
+      fails_front from to limits whole (noted ++ next ∷ []) before now more (subst (λ (l : List Group). FailsFrontOf to l before now) (sym (groups_push noted next)) w)
   stops_at_group walk_stops.OutOfMemory stopped = writes_either stopped
 
 -- ---- the walk over frames
@@ -318,29 +344,29 @@ module _ (from : FramedForm) (to : Form) (limits : Limits) (whole : List ℕ) (b
   abbrev Walked : List ℕ → Outlet → Progress → Type 0
   Walked rest now progress = WalkedUnits from to limits whole rest before now progress
 
-  begins_so : (groups : List Group) (rest : List ℕ) → UnitsThen from limits whole groups rest → UnitsBegin from limits whole groups
-  begins_so groups rest held = record { rest = rest; units_then = held }
+  begins_so : (noted : List NotedGroup) (rest : List ℕ) → UnitsThen from limits whole noted rest → UnitsBegin from limits whole noted
+  begins_so noted rest held = record { rest = rest; units_then = held }
 
   module _ (frames : HeldByFrames from) where
     pub walked_none : (looked : List ℕ) (too_long : Bool) → IsLookedAt limits.binary whole looked too_long → Walked looked before (record { unwritten = []; tally = record { units = 0; spans = 0 } })
     walked_none looked too_long seen = record {
-      groups = [];
+      noted = [];
       units_then = record { units = []; held = frames.none limits whole looked seen.front; are_groups = tt };
       converted = converted_none to before;
     }
 
     -- behind a frame with a unit
-    units_more : (groups : List Group) (rest behind : List ℕ) (group : Group) → IsNextUnit from limits rest behind group → UnitsThen from limits whole groups rest → UnitsThen from limits whole (groups ++ group ∷ []) behind
-    units_more groups rest behind group here so_far = record {
+    units_more : (noted : List NotedGroup) (rest behind : List ℕ) (unit : NotedGroup) → IsNextUnit from limits rest behind unit → UnitsThen from limits whole noted rest → UnitsThen from limits whole (noted ++ unit ∷ []) behind
+    units_more noted rest behind unit here so_far = record {
       units = so_far.units ++ here.unit ∷ [];
       held = frames.next limits whole rest behind so_far.units (here.unit ∷ []) here.cut so_far.held;
-      are_groups = all_zip_push from.IsUnit so_far.units groups here.unit group so_far.are_groups here.is_unit;
+      are_groups = all_zip_push from.IsUnit so_far.units noted here.unit unit so_far.are_groups here.is_unit;
     }
 
     -- behind a frame without one
     pub walked_free : (rest behind : List ℕ) (now : Outlet) (progress : Progress) → CutsFrame from limits.unit rest [] behind → Walked rest now progress → Walked behind now progress
     walked_free rest behind now progress cut w = record {
-      groups = w.groups;
+      noted = w.noted;
       units_then = record {
         units = w.units_then.units;
         held = subst (λ (l : List (List ℕ)). from.HoldsUnits limits whole l behind) (append-nil w.units_then.units) (frames.next limits whole rest behind w.units_then.units [] cut w.units_then.held);
@@ -350,24 +376,24 @@ module _ (from : FramedForm) (to : Form) (limits : Limits) (whole : List ℕ) (b
     }
 
     -- behind one whose group was converted
-    pub walked_group : (rest behind : List ℕ) (now later : Outlet) (progress next : Progress) (group : Group) → IsNextUnit from limits rest behind group
-        → ((groups : List Group) (before : Outlet) → Converted to groups before now progress → Converted to (groups ++ group ∷ []) before later next) → Walked rest now progress → Walked behind later next
-    walked_group rest behind now later progress next group here converts w = record {
-      groups = w.groups ++ group ∷ [];
-      units_then = units_more w.groups rest behind group here w.units_then;
-      converted = converts w.groups before w.converted;
+    pub walked_group : (rest behind : List ℕ) (now later : Outlet) (progress next : Progress) (unit : NotedGroup) → IsNextUnit from limits rest behind unit
+        → ((groups : List Group) (before : Outlet) → Converted to groups before now progress → Converted to (groups ++ unit.means ∷ []) before later next) → Walked rest now progress → Walked behind later next
+    walked_group rest behind now later progress next unit here converts w = record {
+      noted = w.noted ++ unit ∷ [];
+      units_then = units_more w.noted rest behind unit here w.units_then;
+      converted = subst (λ (l : List Group). Converted to l before later next) (sym (groups_push w.noted unit)) (converts (groups_in w.noted) before w.converted);
     }
 
     -- at one whose group stops the walk
-    pub walk_stops_group : (rest behind : List ℕ) (now later : Outlet) (progress : Progress) (group : Group) (stop : WalkStop) → IsNextUnit from limits rest behind group
-        → ((groups : List Group) (before : Outlet) → Converted to groups before now progress → StopsGroup to groups group stop before later) → Walked rest now progress → StopsWalk (framed_input from) to limits whole stop before later
-    walk_stops_group rest behind now later progress group stop here stopped w =
-        stops_at_group (framed_input from) to limits whole w.groups group before later (begins_so w.groups rest w.units_then) (begins_so (w.groups ++ group ∷ []) behind (units_more w.groups rest behind group here w.units_then))
-        stop (stopped w.groups before w.converted)
+    pub walk_stops_group : (rest behind : List ℕ) (now later : Outlet) (progress : Progress) (unit : NotedGroup) (stop : WalkStop) → IsNextUnit from limits rest behind unit
+        → ((groups : List Group) (before : Outlet) → Converted to groups before now progress → StopsGroup to groups unit.means stop before later) → Walked rest now progress → StopsWalk (framed_input from) to limits whole stop before later
+    walk_stops_group rest behind now later progress unit stop here stopped w =
+        stops_at_group (framed_input from) to limits whole w.noted unit before later (begins_so w.noted rest w.units_then) (begins_so (w.noted ++ unit ∷ []) behind (units_more w.noted rest behind unit here w.units_then))
+        stop (stopped (groups_in w.noted) before w.converted)
 
   -- memory was wanted before the next group
   pub walk_stays : (rest : List ℕ) (now : Outlet) (progress : Progress) → Walked rest now progress → StopsWalk (framed_input from) to limits whole walk_stops.OutOfMemory before now
-  walk_stays rest now progress w = writes_front (framed_input from) to limits whole w.groups before now (begins_so w.groups rest w.units_then) (front_now to w.groups before now progress w.converted)
+  walk_stays rest now progress w = writes_front (framed_input from) to limits whole w.noted before now (begins_so w.noted rest w.units_then) (front_now to (groups_in w.noted) before now progress w.converted)
 
   -- the end
   pub walk_ends : (now later : Outlet) (progress : Progress) (result : Result Tally WalkStop) (looked : List ℕ) (too_long : Bool) → too_long ≡ false → IsLookedAt limits.binary whole looked too_long → Walked [] now progress
@@ -375,28 +401,27 @@ module _ (from : FramedForm) (to : Form) (limits : Limits) (whole : List ℕ) (b
       → IfErr result (λ stop. (groups : List Group) (before : Outlet) → Converted to groups before now progress → StopsText to groups stop before later)
       → EndsWalk (framed_input from) to limits whole result before later
   walk_ends now later progress result looked too_long short seen w =
-      ends_whole (framed_input from) to limits whole w.groups before now later progress result (record { units_then = w.units_then; within = exceeds_as limits.binary whole too_long false seen.exceeds short }) w.converted
+      ends_whole (framed_input from) to limits whole w.noted before now later progress result (record { units_then = w.units_then; within = exceeds_as limits.binary whole too_long false seen.exceeds short }) w.converted
 
-  module _ (both : (a b c : Outlet) (first second : List ℕ) → Gains a b first → Gains b c second → Gains a c (first ++ second)) (front : (a b c : Outlet) (first second : List ℕ) → Gains a b first → GainsFront b c second → GainsFront a c (first ++ second)) where
+  module _ (both : (a b c : Outlet) (first second : List ℕ) → Gains a b first → Gains b c second → Gains a c (first ++ second)) (fails : (a b c : Outlet) (first second : List ℕ) → Gains a b first → FailsWithin b c second → FailsWithin a c (first ++ second)) where
     module _ (rest : List ℕ) (now later : Outlet) (progress : Progress) (w : Walked rest now progress) where
       -- what is said of the stop where the input is refused
       abbrev IsRefusal : WalkStop → Type 0
-      IsRefusal (walk_stops.Refused refusal) = UnitsRefused from limits whole w.groups refusal
+      IsRefusal (walk_stops.Refused refusal) = UnitsRefused from limits whole w.noted refusal
       IsRefusal (walk_stops.Faulted found) = ⊥
       IsRefusal walk_stops.Write = ⊥
       IsRefusal walk_stops.OutOfMemory = ⊥
 
       refused_out : (stop why : WalkStop) → IsRefusal why → WritesOut stop why progress.unwritten now later → StopsWalk (framed_input from) to limits whole stop before later
       refused_out (walk_stops.Refused refusal) why is out = record {
-        text = partial_text to w.groups;
-        is_refused = record { groups = w.groups; refuses = subst IsRefusal (sym out.0) is; held = w.converted.held.can_hold; is_text = refl };
-        so_far = so_far (framed_input from) to limits whole w.groups before w.converted.held.can_hold (begins_so w.groups rest w.units_then);
-        gains = gains_so_far to w.groups before now progress w.converted both later out.1;
+        text = partial_text to (groups_in w.noted);
+        is_refused = record { noted = w.noted; refuses = subst IsRefusal (sym out.0) is; held = w.converted.held.can_hold; is_text = refl };
+        so_far = so_far (framed_input from) to limits whole w.noted before w.converted.held.can_hold (begins_so w.noted rest w.units_then);
+        gains = gains_so_far to (groups_in w.noted) before now progress w.converted both later out.1;
       }
       refused_out (walk_stops.Faulted found) why is out = absurd (subst IsRefusal (sym out.0) is)
       refused_out walk_stops.Write why is out =
-          let failed = failed_so_far to w.groups before now progress w.converted both later front out.0 out.1 in
-          (failed.0, writes_front (framed_input from) to limits whole w.groups before later (begins_so w.groups rest w.units_then) failed.1)
+          fails_front (framed_input from) to limits whole w.noted before later (begins_so w.noted rest w.units_then) (failed_so_far to (groups_in w.noted) before now progress w.converted both later fails out)
       refused_out walk_stops.OutOfMemory why is out = absurd out
 
       abbrev stop_for : Cause → WalkStop
@@ -416,7 +441,7 @@ module _ (from : FramedForm) (to : Form) (limits : Limits) (whole : List ℕ) (b
               are_groups = w.units_then.are_groups;
               least = least;
             });
-            number = next_number to w.groups before now progress w.converted;
+            number = next_number to (groups_in w.noted) before now progress w.converted ∙ ap (λ n. n + 1) (as_many w.noted);
           })
           out
 
@@ -427,6 +452,6 @@ module _ (from : FramedForm) (to : Form) (limits : Limits) (whole : List ℕ) (b
           refused_out stop (stop_for cause)
           (record {
             why = inr (record { rest = rest; units_then = w.units_then; why = rest_cause from limits whole rest cause too_long seen.exceeds why });
-            number = next_number to w.groups before now progress w.converted;
+            number = next_number to (groups_in w.noted) before now progress w.converted ∙ ap (λ n. n + 1) (as_many w.noted);
           })
           out

@@ -1,5 +1,5 @@
 -- A file of Jaeger: batches of jaeger.thrift in a protocol of Thrift, one after the other. Each is a unit.
-use Rattle.std.specs.Prelude.{◌≡◌, ℕ, ◌≤◌, take, Bool, Option, List, [], ◌∷◌, length, All}
+use Rattle.std.specs.Prelude.{◌≡◌, ℕ, take, Bool, Option, List, [], ◌∷◌, length}
 use Rattle.std.specs.List.{AllZip, flat_map}
 use Rattle.span_io.specs.Frames.{Framing, ItemsThen}
 use Rattle.span_io.specs.declared.cause.Cause.{Cause}
@@ -12,6 +12,7 @@ use Rattle.thrift_binary.specs.Reading.{binary_reads}
 use Rattle.thrift_binary.specs.Spelling as binary_protocol
 use Rattle.thrift_compact.specs.Reading.{compact_reads}
 use Rattle.thrift_compact.specs.Spelling as compact_protocol
+use Rattle.trace_model.specs.OtlpParts.{NotedGroup}
 use Rattle.trace_model.specs.declared.trace.Group.{Group}
 use Rattle.jaeger_model.specs.Batches.{IsBatchText}
 use Rattle.jaeger_model.specs.Canonical.{batch_text}
@@ -60,11 +61,12 @@ IsOwnUnit batch units = units ≡ batch ∷ []
 abbrev pub HoldsBatches : ProtocolWords → Limits → List ℕ → List (List ℕ) → List ℕ → Type 0
 HoldsBatches protocol limits bytes units rest = ItemsThen (batches protocol) limits.unit units rest (take limits.binary bytes)
 
--- the unit, spelled so, is a text of a batch that means the group
-pub record IsBatchUnit (Spells : Spelling) (unit : List ℕ) (group : Group) : Type 0 where
+-- the unit, spelled so, is a text of a batch that means the group, and these are the remarks on the batch
+pub record IsBatchUnit (Spells : Spelling) (unit : List ℕ) (noted : NotedGroup) : Type 0 where
   pub batch : Batch
   pub text : IsBatchText Spells batch unit
-  pub means : group ≡ group_of batch
+  pub means : noted.means ≡ group_of batch
+  pub remarks : AreRemarks batch noted.notes
 
 -- ---- texts
 
@@ -76,28 +78,10 @@ group_batch protocol group = batch_text protocol.keeps protocol.writes (batch_of
 abbrev pub batches_text : ProtocolWords → List Group → List ℕ
 batches_text protocol groups = flat_map (group_batch protocol) groups
 
--- the text of each batch is within the limit of a unit, and the whole is within that of an input
-pub record AreBatchesWithin (protocol : ProtocolWords) (limits : Limits) (groups : List Group) : Type 0 where
-  pub units : All (λ group. length (group_batch protocol group) ≤ limits.unit) groups
-  pub text : length (batches_text protocol groups) ≤ limits.binary
-
 -- ---- which bytes are a text of a trace, however long its units are
 
--- The bytes are a text of this trace: they are batches that mean its groups, in order.
-pub record ReadsBatches (protocol : ProtocolWords) (bytes : List ℕ) (groups : List Group) : Type 0 where
+-- The bytes are a text of these groups, each with the remarks on it: they are batches that mean the groups, in order.
+pub record ReadsBatches (protocol : ProtocolWords) (bytes : List ℕ) (noted : List NotedGroup) : Type 0 where
   pub units : List (List ℕ)
   pub framed : ItemsThen (batches protocol) (length bytes) units [] bytes
-  pub are_groups : AllZip (IsBatchUnit protocol.spells) units groups
-
--- the unit, spelled so, is a text of a batch that means the group, and on which there is no remark
-pub record IsPlainBatchUnit (Spells : Spelling) (unit : List ℕ) (group : Group) : Type 0 where
-  pub batch : Batch
-  pub text : IsBatchText Spells batch unit
-  pub means : group ≡ group_of batch
-  pub plain : AreRemarks batch []
-
--- The same, and no remark arises.
-pub record ReadsBatchesPlainly (protocol : ProtocolWords) (bytes : List ℕ) (groups : List Group) : Type 0 where
-  pub units : List (List ℕ)
-  pub framed : ItemsThen (batches protocol) (length bytes) units [] bytes
-  pub are_groups : AllZip (IsPlainBatchUnit protocol.spells) units groups
+  pub are_groups : AllZip (IsBatchUnit protocol.spells) units noted

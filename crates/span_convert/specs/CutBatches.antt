@@ -6,7 +6,7 @@ use Rattle.span_io.specs.declared.form.Form.TheVariants as forms
 use Rattle.span_io.specs.declared.limits.Limits.{Limits}
 use Rattle.span_convert.specs.BatchFiles.{ProtocolWords, binary, compact, batches, HoldsBatches}
 
--- The unit of this number isn't all there. Its bytes, less a varint at their end that isn't ended, are the front of a struct.
+-- The unit of this number isn't all there: more bytes make a struct of its bytes, less a varint at their end that isn't ended.
 pub record EndsInBatch (protocol : ProtocolWords) (limits : Limits) (bytes : List ℕ) (number : ℕ) : Type 0 where
   pub units : List (List ℕ)
   pub rest : List ℕ

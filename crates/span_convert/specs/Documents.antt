@@ -5,27 +5,28 @@ use Rattle.span_io.specs.Paths.{Faults, RefusesInput}
 use Rattle.span_io.specs.declared.cause.Cause.TheVariants as causes
 use Rattle.span_io.specs.declared.limits.Limits.{Limits}
 use Rattle.span_io.specs.declared.refusal.Refusal.{Refusal}
+use Rattle.trace_model.specs.OtlpParts.{NotedGroup}
 use Rattle.trace_model.specs.declared.trace.Group.{Group}
 
 pub record DocumentForm : Type 1 where
-  -- the bytes are a text of these groups
-  pub Reads : List ℕ → List Group → Type 0
+  -- the bytes are a text of these groups, each with the remarks on it
+  pub Reads : List ℕ → List NotedGroup → Type 0
   -- what offends in the bytes, by path
   pub Offends : List ℕ → Faults
 
 -- ---- what an input is read as
 
 -- These groups are all of it.
-pub record IsDocument (from : DocumentForm) (limits : Limits) (bytes : List ℕ) (groups : List Group) : Type 0 where
+pub record IsDocument (from : DocumentForm) (limits : Limits) (bytes : List ℕ) (noted : List NotedGroup) : Type 0 where
   pub within : length bytes ≤ limits.json
-  pub text : from.Reads bytes groups
+  pub text : from.Reads bytes noted
 
 -- these are the first of its groups
-pub record DocumentBegins (from : DocumentForm) (limits : Limits) (bytes : List ℕ) (groups : List Group) : Type 0 where
-  pub all : List Group
+pub record DocumentBegins (from : DocumentForm) (limits : Limits) (bytes : List ℕ) (noted : List NotedGroup) : Type 0 where
+  pub all : List NotedGroup
   pub document : IsDocument from limits bytes all
-  pub more : List Group
-  pub parts : all ≡ groups ++ more
+  pub more : List NotedGroup
+  pub parts : all ≡ noted ++ more
 
 -- There are more bytes than the limit; else an offence in them counts. No group stands before a refusal.
 abbrev pub IsTooLongDocument : Limits → List ℕ → Refusal → Type 0
@@ -34,8 +35,8 @@ IsTooLongDocument limits bytes refusal = (limits.json < length bytes) × (refusa
 abbrev pub OffendsInDocument : DocumentForm → Limits → List ℕ → Refusal → Type 0
 OffendsInDocument from limits bytes refusal = (length bytes ≤ limits.json) × RefusesInput (from.Offends bytes) refusal
 
-pub record DocumentRefused (from : DocumentForm) (limits : Limits) (bytes : List ℕ) (groups : List Group) (refusal : Refusal) : Type 0 where
-  pub none : groups ≡ []
+pub record DocumentRefused (from : DocumentForm) (limits : Limits) (bytes : List ℕ) (noted : List NotedGroup) (refusal : Refusal) : Type 0 where
+  pub none : noted ≡ []
   pub why : IsTooLongDocument limits bytes refusal ⊎ OffendsInDocument from limits bytes refusal
 
 -- ---- texts

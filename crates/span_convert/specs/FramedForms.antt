@@ -1,4 +1,5 @@
--- A form whose inputs are frames, one after the other. A unit stands in a frame, and is the text of a group.
+-- A form whose inputs are frames, one after the other. A unit stands in a frame, and is the text of a group. What is read of it is the group
+-- with the remarks on it.
 use Rattle.std.specs.Prelude.{◌≡◌, ℕ, ◌+◌, ◌<◌, ◌≤◌, ◌⊎◌, List, [], ◌∷◌, ◌++◌, length}
 use Rattle.std.specs.List.{AllZip}
 use Rattle.span_io.specs.Causes.{cause_number}
@@ -7,7 +8,7 @@ use Rattle.span_io.specs.Offences.{Least}
 use Rattle.span_io.specs.declared.cause.Cause.{Cause}
 use Rattle.span_io.specs.declared.limits.Limits.{Limits}
 use Rattle.span_io.specs.declared.refusal.Refusal.{Refusal}
-use Rattle.trace_model.specs.declared.trace.Group.{Group}
+use Rattle.trace_model.specs.OtlpParts.{NotedGroup}
 use Rattle.span_convert.specs.Rests.{StopsRest}
 
 pub record FramedForm : Type 1 where
@@ -20,8 +21,8 @@ pub record FramedForm : Type 1 where
   pub HoldsUnits : Limits → List ℕ → List (List ℕ) → List ℕ → Type 0
   -- what the frame of a unit tells of it
   pub Tells : List ℕ → Type 0
-  -- the unit is a text of the group
-  pub IsUnit : List ℕ → Group → Type 0
+  -- the unit is a text of the group, and these are the remarks on it
+  pub IsUnit : List ℕ → NotedGroup → Type 0
   -- what offends in a unit: at this place a cause of this number
   pub Offends : List ℕ → ℕ → ℕ → Type 0
 
@@ -32,38 +33,38 @@ RestCause from limits size rest cause = StopsRest from.frames from.Refused limit
 -- ---- what an input begins with
 
 -- It begins with units that are texts of these groups, and then comes the rest.
-pub record UnitsThen (from : FramedForm) (limits : Limits) (bytes : List ℕ) (groups : List Group) (rest : List ℕ) : Type 0 where
+pub record UnitsThen (from : FramedForm) (limits : Limits) (bytes : List ℕ) (noted : List NotedGroup) (rest : List ℕ) : Type 0 where
   pub units : List (List ℕ)
   pub held : from.HoldsUnits limits bytes units rest
-  pub are_groups : AllZip from.IsUnit units groups
+  pub are_groups : AllZip from.IsUnit units noted
 
-pub record UnitsBegin (from : FramedForm) (limits : Limits) (bytes : List ℕ) (groups : List Group) : Type 0 where
+pub record UnitsBegin (from : FramedForm) (limits : Limits) (bytes : List ℕ) (noted : List NotedGroup) : Type 0 where
   pub rest : List ℕ
-  pub units_then : UnitsThen from limits bytes groups rest
+  pub units_then : UnitsThen from limits bytes noted rest
 
 -- All of it is units that are texts of these groups, and other frames.
-pub record AreAllUnits (from : FramedForm) (limits : Limits) (bytes : List ℕ) (groups : List Group) : Type 0 where
-  pub units_then : UnitsThen from limits bytes groups []
+pub record AreAllUnits (from : FramedForm) (limits : Limits) (bytes : List ℕ) (noted : List NotedGroup) : Type 0 where
+  pub units_then : UnitsThen from limits bytes noted []
   pub within : length bytes ≤ limits.binary
 
 -- ---- why it isn't read to its end
 
 -- Behind the units of these groups comes one that offends.
-pub record UnitOffends (from : FramedForm) (limits : Limits) (bytes : List ℕ) (groups : List Group) (cause : Cause) : Type 0 where
+pub record UnitOffends (from : FramedForm) (limits : Limits) (bytes : List ℕ) (noted : List NotedGroup) (cause : Cause) : Type 0 where
   pub before : List (List ℕ)
   pub unit : List ℕ
   pub rest : List ℕ
   pub held : from.HoldsUnits limits bytes (before ++ unit ∷ []) rest
-  pub are_groups : AllZip from.IsUnit before groups
+  pub are_groups : AllZip from.IsUnit before noted
   pub least : Least (from.Offends unit) (cause_number cause)
 
 -- Behind them comes a rest at which no frame begins.
-pub record RestStops (from : FramedForm) (limits : Limits) (bytes : List ℕ) (groups : List Group) (cause : Cause) : Type 0 where
+pub record RestStops (from : FramedForm) (limits : Limits) (bytes : List ℕ) (noted : List NotedGroup) (cause : Cause) : Type 0 where
   pub rest : List ℕ
-  pub units_then : UnitsThen from limits bytes groups rest
+  pub units_then : UnitsThen from limits bytes noted rest
   pub why : RestCause from limits (length bytes) rest cause
 
 -- The refusal has the number behind theirs.
-pub record UnitsRefused (from : FramedForm) (limits : Limits) (bytes : List ℕ) (groups : List Group) (refusal : Refusal) : Type 0 where
-  pub why : UnitOffends from limits bytes groups refusal.cause ⊎ RestStops from limits bytes groups refusal.cause
-  pub number : refusal.unit ≡ length groups + 1
+pub record UnitsRefused (from : FramedForm) (limits : Limits) (bytes : List ℕ) (noted : List NotedGroup) (refusal : Refusal) : Type 0 where
+  pub why : UnitOffends from limits bytes noted refusal.cause ⊎ RestStops from limits bytes noted refusal.cause
+  pub number : refusal.unit ≡ length noted + 1

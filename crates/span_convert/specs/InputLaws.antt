@@ -5,6 +5,7 @@ use Rattle.proto_wire.specs.Laws.{OneWireReading, ShortestRecord}
 use Rattle.proto_wire.specs.Wire.{records, RefusedBy}
 use Rattle.thrift_core.specs.Laws.{OneReading, OpenFronts, PartsReadBack}
 use Rattle.thrift_core.specs.WrittenLaws.{WrittenStructs}
+use Rattle.trace_model.specs.Laws.{AttributesOnce, AttributesExist}
 use Rattle.trace_model.specs.Proper.{IsProperGroup}
 use Rattle.trace_model.specs.Soundness.{IsSoundGroup}
 use Rattle.trace_model.specs.declared.trace.Group.{Group}
@@ -16,7 +17,7 @@ use Rattle.jaeger_model.specs.FreeAtAnyDepth.{FreeAtAnyDepth}
 use Rattle.jaeger_model.specs.Laws.{OneBatch, OneTree, SomeBatch, FreeFields, ReadsTimes, ReadsProper}
 use Rattle.jaeger_model.specs.WrittenAgain.{EqualBatchTexts, WrittenAgain}
 use Rattle.map_jaeger.specs.Laws.{BatchesReadBack, NormalForms, WrittenIsProper}
-use Rattle.map_zipkin.specs.Laws.{ReadIsHeld, ReadIsZipkinNormal, Regroupings, SpansReadBack, WrittenIsWritable, ZipkinNormalForms}
+use Rattle.map_zipkin.specs.Laws.{GroupsNoted, ReadIsHeld, ReadIsZipkinNormal, Regroupings, SpansReadBack, WrittenIsWritable, ZipkinNormalForms}
 use Rattle.zipkin_json.specs.Laws.{OneList, SomeList, SpansWrittenAgain, ReadsWritable}
 use Rattle.span_convert.specs.BatchFiles.{ProtocolWords, binary, compact, batches, RefusedBatch}
 
@@ -42,6 +43,8 @@ pub record BatchLaws (protocol : ProtocolWords) : Type 0 where
   pub proper : ReadsProper protocol.spells
   pub again : WrittenAgain protocol.spells protocol.keeps protocol.writes
   pub equal : EqualBatchTexts protocol.keeps protocol.writes
+  pub once : AttributesOnce
+  pub exist : AttributesExist
 
 -- what they say of one tree in two protocols, from the one to the other
 pub record TreeLaws : Type 0 where
@@ -62,6 +65,7 @@ pub record SpanFileLaws : Type 0 where
   pub written : WrittenIsWritable
   pub normal : ZipkinNormalForms
   pub regrouped : Regroupings
+  pub noted : GroupsNoted
 
 -- the same of groups in JSON
 pub record GroupFileLaws : Type 0 where

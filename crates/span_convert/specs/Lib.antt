@@ -9,6 +9,7 @@ pub mod InputLaws
 pub mod Requests
 pub mod Rests
 pub mod SameBatches
+pub mod SameDocuments
 pub mod SpanFiles
 pub mod Units
 pub mod Verdicts

@@ -1,6 +1,7 @@
 -- A file of Zipkin: spans in a JSON array. Its units are the groups that the spans are.
-use Rattle.std.specs.Prelude.{◌≡◌, ℕ, List, [], All, codes, map}
+use Rattle.std.specs.Prelude.{◌≡◌, ℕ, List, codes, map}
 use Rattle.std.specs.List.{flat_map}
+use Rattle.trace_model.specs.OtlpParts.{NotedGroup}
 use Rattle.trace_model.specs.declared.trace.Group.{Group}
 use Rattle.zipkin_json.specs.Canonical.{zspan_text, spans_text}
 use Rattle.zipkin_json.specs.Span.{spans_faults}
@@ -8,24 +9,17 @@ use Rattle.zipkin_json.specs.Texts.{AreSpansText}
 use Rattle.json_members.specs.Texts.{document_faults}
 use Rattle.zipkin_json.specs.declared.span.ZSpan.{ZSpan}
 use Rattle.map_zipkin.specs.Normal.{zipkin_normal}
-use Rattle.map_zipkin.specs.Reading.{groups_of}
-use Rattle.map_zipkin.specs.Remarks.{zipkin_left_out}
+use Rattle.map_zipkin.specs.NotedGroups.{noted_groups_of}
 use Rattle.map_zipkin.specs.Writing.{spans_of_group}
 use Rattle.span_convert.specs.Documents.{DocumentForm, DocumentText}
 
 -- ---- which bytes are a text of a trace, however long they are
 
-pub record ReadsSpans (bytes : List ℕ) (groups : List Group) : Type 0 where
+-- the bytes are a text of spans that are these groups, each with the remarks on it
+pub record ReadsSpans (bytes : List ℕ) (noted : List NotedGroup) : Type 0 where
   pub spans : List ZSpan
   pub text : AreSpansText spans bytes
-  pub means : groups ≡ groups_of spans
-
--- The same, and no remark arises.
-pub record ReadsSpansPlainly (bytes : List ℕ) (groups : List Group) : Type 0 where
-  pub spans : List ZSpan
-  pub text : AreSpansText spans bytes
-  pub means : groups ≡ groups_of spans
-  pub plain : All (λ span. zipkin_left_out span ≡ []) spans
+  pub means : noted ≡ noted_groups_of spans
 
 abbrev pub span_document : DocumentForm
 span_document = record { Reads = ReadsSpans; Offends = document_faults spans_faults }

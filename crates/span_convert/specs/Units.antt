@@ -1,5 +1,5 @@
 -- What an input is read as, what the target can't hold of a group, and the texts of a trace, each by its form.
-use Rattle.std.specs.Prelude.{ℕ, List, [], length, Some, None}
+use Rattle.std.specs.Prelude.{ℕ, List, [], length, map, Some, None}
 use Rattle.span_io.specs.Offences.{Offence}
 use Rattle.span_io.specs.declared.form.Form.{Form}
 use Rattle.span_io.specs.declared.form.Form.TheVariants as forms
@@ -8,6 +8,7 @@ use Rattle.span_io.specs.declared.refusal.Refusal.{Refusal}
 use Rattle.proto_wire.specs.Messages.{messages}
 use Rattle.proto_wire.specs.Wire.{records, RefusedBy}
 use Rattle.trace_model.specs.Flat.{flat}
+use Rattle.trace_model.specs.OtlpParts.{NotedGroup}
 use Rattle.trace_model.specs.declared.fault.Fault.{Fault}
 use Rattle.trace_model.specs.declared.trace.Group.{Group}
 use Rattle.otlp_json.specs.Canonical.{json_groups_text}
@@ -52,14 +53,18 @@ batch_form protocol = record {
   Offends = BatchOffends protocol.spells;
 }
 
+-- the groups alone of what was read
+abbrev pub groups_in : List NotedGroup → List Group
+groups_in noted = map (λ unit. unit.means) noted
+
 -- what a form says of an input
 pub record InputForm : Type 1 where
-  -- it begins with these groups
-  pub Begins : Limits → List ℕ → List Group → Type 0
-  -- these groups are all of it
-  pub IsWhole : Limits → List ℕ → List Group → Type 0
-  -- behind these groups it isn't read, and is refused so
-  pub Refuses : Limits → List ℕ → List Group → Refusal → Type 0
+  -- it begins with these groups, each with the remarks on it
+  pub Begins : Limits → List ℕ → List NotedGroup → Type 0
+  -- these are all of it
+  pub IsWhole : Limits → List ℕ → List NotedGroup → Type 0
+  -- behind these it isn't read, and is refused so
+  pub Refuses : Limits → List ℕ → List NotedGroup → Refusal → Type 0
 
 abbrev pub framed_input : FramedForm → InputForm
 framed_input form = record { Begins = UnitsBegin form; IsWhole = AreAllUnits form; Refuses = UnitsRefused form }

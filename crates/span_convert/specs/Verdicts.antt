@@ -2,14 +2,15 @@
 -- or whose group has a fault of the target, or the rest behind them all. In one unit a cause goes before a fault. What was
 -- written is then the text of the groups before. In an input that is read whole a cause goes before every fault.
 use Rattle.std.specs.Prelude.{◌≡◌, ℕ, ◌+◌, min, List, [], ◌∷◌, ◌++◌, length, All, Result, Ok, Err}
-use Rattle.span_io.specs.Outside.{Outlet, Gains, GainsFront, OutputFails, last_count}
+use Rattle.span_io.specs.Outside.{Outlet, Gains, GainsFront, FailsWithin, last_count}
 use Rattle.span_io.specs.declared.form.Form.{Form}
 use Rattle.span_io.specs.declared.limits.Limits.{Limits}
 use Rattle.span_io.specs.declared.refusal.Refusal.{Refusal}
+use Rattle.trace_model.specs.OtlpParts.{NotedGroup}
 use Rattle.trace_model.specs.Proper.{IsProperGroup}
 use Rattle.trace_model.specs.Soundness.{IsSoundTrace}
 use Rattle.trace_model.specs.declared.trace.Group.{Group}
-use Rattle.span_convert.specs.Units.{InputForm, input_form, FaultOf, CanHold, canonical_text, partial_text, span_count}
+use Rattle.span_convert.specs.Units.{InputForm, groups_in, input_form, FaultOf, CanHold, canonical_text, partial_text, span_count}
 use Rattle.span_convert.specs.declared.bad.Bad.{Bad}
 use Rattle.span_convert.specs.declared.bad.Bad.TheVariants as bads
 use Rattle.span_convert.specs.declared.stop.Stop.{Stop}
@@ -47,30 +48,30 @@ pub data Verdict : Type 0 where
 abbrev pub tally_of : ℕ → ℕ → Tally
 tally_of units spans = record { units = units; spans = min spans last_count }
 
--- the groups are all of the input, and this is their canonical text
+-- these are all of the input, and this is the canonical text of their groups
 pub record IsGood (from : InputForm) (to : Form) (limits : Limits) (bytes text : List ℕ) (tally : Tally) : Type 0 where
-  pub groups : List Group
-  pub whole : from.IsWhole limits bytes groups
-  pub held : CanHoldTrace to groups
-  pub is_text : text ≡ canonical_text to groups
-  pub counts : tally ≡ tally_of (length groups) (span_count groups)
+  pub noted : List NotedGroup
+  pub whole : from.IsWhole limits bytes noted
+  pub held : CanHoldTrace to (groups_in noted)
+  pub is_text : text ≡ canonical_text to (groups_in noted)
+  pub counts : tally ≡ tally_of (length noted) (span_count (groups_in noted))
 
--- behind the groups it is refused, and this is their text so far
+-- behind these it is refused, and this is the text of their groups so far
 pub record IsRefusal (from : InputForm) (to : Form) (limits : Limits) (bytes text : List ℕ) (refusal : Refusal) : Type 0 where
-  pub groups : List Group
-  pub refuses : from.Refuses limits bytes groups refusal
-  pub held : CanHoldTrace to groups
-  pub is_text : text ≡ partial_text to groups
+  pub noted : List NotedGroup
+  pub refuses : from.Refuses limits bytes noted refusal
+  pub held : CanHoldTrace to (groups_in noted)
+  pub is_text : text ≡ partial_text to (groups_in noted)
 
--- behind the groups comes one that has this fault, and this is their text so far
+-- behind these comes a group that has this fault, and this is the text of their groups so far
 pub record IsFaulted (from : InputForm) (to : Form) (limits : Limits) (bytes text : List ℕ) (found : TargetFault) : Type 0 where
-  pub groups : List Group
-  pub group : Group
-  pub begins : from.Begins limits bytes (groups ++ group ∷ [])
-  pub held : CanHoldTrace to groups
-  pub fault : FaultOf to group found.fault
-  pub number : found.unit ≡ length groups + 1
-  pub is_text : text ≡ partial_text to groups
+  pub noted : List NotedGroup
+  pub next : NotedGroup
+  pub begins : from.Begins limits bytes (noted ++ next ∷ [])
+  pub held : CanHoldTrace to (groups_in noted)
+  pub fault : FaultOf to next.means found.fault
+  pub number : found.unit ≡ length noted + 1
+  pub is_text : text ≡ partial_text to (groups_in noted)
 
 abbrev pub IsVerdictOn : InputForm → Form → Limits → List ℕ → Verdict → Type 0
 IsVerdictOn from to limits bytes (good text tally) = IsGood from to limits bytes text tally
@@ -99,10 +100,10 @@ IsJudged from to limits bytes (Err stops.OutOfMemory) = Unit {0}
 
 -- the text so far of the first groups of the input
 pub record IsPartial (from : InputForm) (to : Form) (limits : Limits) (bytes text : List ℕ) : Type 0 where
-  pub groups : List Group
-  pub begins : from.Begins limits bytes groups
-  pub held : CanHoldTrace to groups
-  pub is_text : text ≡ partial_text to groups
+  pub noted : List NotedGroup
+  pub begins : from.Begins limits bytes noted
+  pub held : CanHoldTrace to (groups_in noted)
+  pub is_text : text ≡ partial_text to (groups_in noted)
 
 -- nothing, or that, or the text of all of it
 pub data IsTextSoFar (from : InputForm) (to : Form) (limits : Limits) (bytes text : List ℕ) : Type 0 where
@@ -116,10 +117,17 @@ pub record WritesFrontOn (from : InputForm) (to : Form) (limits : Limits) (bytes
   pub so_far : IsTextSoFar from to limits bytes text
   pub gains : GainsFront before now text
 
+-- the sink failed within such a text
+pub record FailsFrontOn (from : InputForm) (to : Form) (limits : Limits) (bytes : List ℕ) (before now : Outlet) : Type 0 where
+  pub text : List ℕ
+  pub so_far : IsTextSoFar from to limits bytes text
+  pub fails : FailsWithin before now text
+
 abbrev pub WritesFront : Form → Form → Limits → List ℕ → Outlet → Outlet → Type 0
 WritesFront from to limits bytes before now = WritesFrontOn (input_form from) to limits bytes before now
 
--- how the verdict was carried out where a call stopped: whole, or the sink failed or memory was wanted, and a front was written
+-- How the verdict was carried out where a call stopped: whole, or the sink failed within its text, or memory was wanted and a
+-- front of it was written.
 abbrev pub Stops : Verdict → Stop → Outlet → Outlet → Type 0
 Stops (good text tally) stops.Refused before now = ⊥
 Stops (good text tally) stops.Faulted before now = ⊥
@@ -127,7 +135,7 @@ Stops (refused refusal text) stops.Refused before now = Gains before now text
 Stops (refused refusal text) stops.Faulted before now = ⊥
 Stops (faulted found text) stops.Refused before now = ⊥
 Stops (faulted found text) stops.Faulted before now = Gains before now text
-Stops verdict stops.Write before now = OutputFails before now × GainsFront before now (verdict_text verdict)
+Stops verdict stops.Write before now = FailsWithin before now (verdict_text verdict)
 Stops verdict stops.OutOfMemory before now = GainsFront before now (verdict_text verdict)
 
 -- how it was where a call came to the end
@@ -152,9 +160,3 @@ Answers (faulted why text) (Ok out) = ⊥
 Answers (faulted why text) (Err (bads.Refused refusal)) = ⊥
 Answers (faulted why text) (Err (bads.Faulted found)) = found ≡ why
 Answers verdict (Err bads.OutOfMemory) = Unit {0}
-
-abbrev pub IsAnswered : Form → Form → Limits → List ℕ → Result (List ℕ) Bad → Type 0
-IsAnswered from to limits bytes (Ok out) = (verdict : Verdict) × IsVerdict from to limits bytes verdict
-IsAnswered from to limits bytes (Err (bads.Refused refusal)) = (verdict : Verdict) × IsVerdict from to limits bytes verdict
-IsAnswered from to limits bytes (Err (bads.Faulted found)) = (verdict : Verdict) × IsVerdict from to limits bytes verdict
-IsAnswered from to limits bytes (Err bads.OutOfMemory) = Unit {0}

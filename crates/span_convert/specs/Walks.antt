@@ -1,19 +1,20 @@
 -- The walk over the units of an input, of which no more bytes are looked at than its limit. It is one walk for all pairs of forms.
 use Rattle.std.specs.Prelude.{◌≡◌, ℕ, ◌+◌, min, ◌<◌, ◌≤◌, ◌⊎◌, take, Bool, true, false, List, [], ◌∷◌, ◌++◌, length, All, Option, Some, None, Result, Ok, Err}
 use Rattle.std.specs.Borrow.{Bor}
-use Rattle.span_io.specs.Outside.{Outlet, Gains, GainsFront, OutputFails, last_count}
+use Rattle.span_io.specs.Outside.{Outlet, Gains, GainsFront, FailsWithin, last_count}
 use Rattle.span_io.specs.declared.cause.Cause.{Cause}
 use Rattle.span_io.specs.declared.form.Form.{Form}
 use Rattle.span_io.specs.declared.halt.Halt.{Halt}
 use Rattle.span_io.specs.declared.halt.Halt.TheVariants as halts
 use Rattle.span_io.specs.declared.limits.Limits.{Limits}
 use Rattle.span_io.specs.declared.refusal.Refusal.{Refusal}
+use Rattle.trace_model.specs.OtlpParts.{NotedGroup}
 use Rattle.trace_model.specs.declared.trace.Group.{Group}
 use Rattle.span_convert.specs.Canonical.{IsHeldBy}
 use Rattle.span_convert.specs.FramedForms.{FramedForm, UnitsThen}
 use Rattle.span_convert.specs.Rests.{Cuts, StopsRest}
-use Rattle.span_convert.specs.Units.{InputForm, FaultOf, IsSizedGroup, canonical_text, partial_text, closing_text, span_count}
-use Rattle.span_convert.specs.Verdicts.{CanHoldTrace, tally_of, IsGood, IsRefusal, IsFaulted, IsTextSoFar, WritesFrontOn}
+use Rattle.span_convert.specs.Units.{InputForm, groups_in, FaultOf, IsSizedGroup, canonical_text, partial_text, closing_text, span_count}
+use Rattle.span_convert.specs.Verdicts.{CanHoldTrace, tally_of, IsGood, IsRefusal, IsFaulted, IsTextSoFar, WritesFrontOn, FailsFrontOn}
 use Rattle.span_convert.specs.declared.progress.Progress.{Progress}
 use Rattle.span_convert.specs.declared.progress.WalkStop.{WalkStop}
 use Rattle.span_convert.specs.declared.progress.WalkStop.TheVariants as walk_stops
@@ -55,11 +56,11 @@ pub record HeldByFrames (from : FramedForm) : Type 0 where
 abbrev pub StopsFrames : FramedForm → ℕ → Bool → List ℕ → Cause → Type 0
 StopsFrames from limit too_long rest cause = StopsRest from.frames from.Refused limit (too_long ≡ true) (too_long ≡ false) rest cause
 
--- the next frame holds the unit, which is a text of the group
-pub record IsNextUnit (from : FramedForm) (limits : Limits) (rest behind : List ℕ) (group : Group) : Type 0 where
+-- the next frame holds the unit, which is a text of the group with these remarks
+pub record IsNextUnit (from : FramedForm) (limits : Limits) (rest behind : List ℕ) (next : NotedGroup) : Type 0 where
   pub unit : List ℕ
   pub cut : CutsFrame from limits.unit rest (unit ∷ []) behind
-  pub is_unit : from.IsUnit unit group
+  pub is_unit : from.IsUnit unit next
 
 -- ---- what was converted so far
 
@@ -73,9 +74,9 @@ pub record Converted (to : Form) (groups : List Group) (before now : Outlet) (pr
 
 -- a walk over units came to this rest
 pub record WalkedUnits (from : FramedForm) (to : Form) (limits : Limits) (whole rest : List ℕ) (before now : Outlet) (progress : Progress) : Type 0 where
-  pub groups : List Group
-  pub units_then : UnitsThen from limits whole groups rest
-  pub converted : Converted to groups before now progress
+  pub noted : List NotedGroup
+  pub units_then : UnitsThen from limits whole noted rest
+  pub converted : Converted to (groups_in noted) before now progress
 
 -- The form can hold the group. What was appended is what it adds to the text of so many groups and spans.
 pub record WritesGroup (to : Form) (group : Group) (tally : Tally) (before now : List ℕ) : Type 0 where
@@ -109,6 +110,11 @@ pub record WritesFrontOf (to : Form) (groups : List Group) (before now : Outlet)
   pub held : CanHoldTrace to groups
   pub gains : GainsFront before now (partial_text to groups)
 
+-- the sink failed within it
+pub record FailsFrontOf (to : Form) (groups : List Group) (before now : Outlet) : Type 0 where
+  pub held : CanHoldTrace to groups
+  pub fails : FailsWithin before now (partial_text to groups)
+
 -- the group has a fault, and the text of the groups before it was written
 pub record StopsAtFault (to : Form) (groups : List Group) (group : Group) (found : TargetFault) (before now : Outlet) : Type 0 where
   pub held : CanHoldTrace to groups
@@ -120,10 +126,13 @@ pub record StopsAtFault (to : Form) (groups : List Group) (group : Group) (found
 abbrev pub StopsWriting : Form → List Group → Group → Outlet → Outlet → Type 0
 StopsWriting to groups group before now = WritesFrontOf to groups before now ⊎ WritesFrontOf to (groups ++ group ∷ []) before now
 
+abbrev pub FailsWriting : Form → List Group → Group → Outlet → Outlet → Type 0
+FailsWriting to groups group before now = FailsFrontOf to groups before now ⊎ FailsFrontOf to (groups ++ group ∷ []) before now
+
 abbrev pub StopsGroup : Form → List Group → Group → WalkStop → Outlet → Outlet → Type 0
 StopsGroup to groups group (walk_stops.Refused refusal) before now = ⊥
 StopsGroup to groups group (walk_stops.Faulted found) before now = StopsAtFault to groups group found before now
-StopsGroup to groups group walk_stops.Write before now = OutputFails before now × StopsWriting to groups group before now
+StopsGroup to groups group walk_stops.Write before now = FailsWriting to groups group before now
 StopsGroup to groups group walk_stops.OutOfMemory before now = StopsWriting to groups group before now
 
 -- ---- how the text of all groups ends
@@ -135,7 +144,7 @@ pub record EndsText (to : Form) (groups : List Group) (tally : Tally) (before no
 abbrev pub StopsText : Form → List Group → WalkStop → Outlet → Outlet → Type 0
 StopsText to groups (walk_stops.Refused refusal) before now = ⊥
 StopsText to groups (walk_stops.Faulted found) before now = ⊥
-StopsText to groups walk_stops.Write before now = OutputFails before now × GainsFront before now (canonical_text to groups)
+StopsText to groups walk_stops.Write before now = FailsWithin before now (canonical_text to groups)
 StopsText to groups walk_stops.OutOfMemory before now = GainsFront before now (canonical_text to groups)
 
 -- ---- how a walk ends
@@ -158,13 +167,13 @@ pub record WritesFaulted (from : InputForm) (to : Form) (limits : Limits) (whole
 pub record WritesWhole (from : InputForm) (to : Form) (limits : Limits) (whole : List ℕ) (tally : Tally) (before now : Outlet) : Type 0 where
   pub text : List ℕ
   pub is_good : IsGood from to limits whole text tally
-  pub sized : All (IsSizedGroup to) is_good.groups
+  pub sized : All (IsSizedGroup to) (groups_in is_good.noted)
   pub gains : Gains before now text
 
 abbrev pub StopsWalk : InputForm → Form → Limits → List ℕ → WalkStop → Outlet → Outlet → Type 0
 StopsWalk from to limits whole (walk_stops.Refused refusal) before now = WritesRefused from to limits whole refusal before now
 StopsWalk from to limits whole (walk_stops.Faulted found) before now = WritesFaulted from to limits whole found before now
-StopsWalk from to limits whole walk_stops.Write before now = OutputFails before now × WritesFrontOn from to limits whole before now
+StopsWalk from to limits whole walk_stops.Write before now = FailsFrontOn from to limits whole before now
 StopsWalk from to limits whole walk_stops.OutOfMemory before now = WritesFrontOn from to limits whole before now
 
 abbrev pub EndsWalk : InputForm → Form → Limits → List ℕ → Result Tally WalkStop → Outlet → Outlet → Type 0
@@ -175,5 +184,5 @@ EndsWalk from to limits whole (Err stop) before now = StopsWalk from to limits w
 abbrev pub WritesOut : WalkStop → WalkStop → List ℕ → Outlet → Outlet → Type 0
 WritesOut (walk_stops.Refused refusal) why text before now = (walk_stops.Refused refusal ≡ why) × Gains before now text
 WritesOut (walk_stops.Faulted found) why text before now = (walk_stops.Faulted found ≡ why) × Gains before now text
-WritesOut walk_stops.Write why text before now = OutputFails before now × GainsFront before now text
+WritesOut walk_stops.Write why text before now = FailsWithin before now text
 WritesOut walk_stops.OutOfMemory why text before now = ⊥

@@ -6,14 +6,18 @@ ghost use Rattle.span_io.specs.declared.form.Form.{Form};
 ghost use Rattle.span_convert.specs.Canonical.{ReadsBack};
 ghost use Rattle.span_convert.specs.CutBatches.{EndsInBatch, IfJaeger};
 ghost use Rattle.span_convert.specs.SameBatches.{SameBatches};
-ghost use Rattle.span_convert.specs.Verdicts.{Verdict, IsVerdict, Answers, IsAnswered};
+ghost use Rattle.span_convert.specs.SameDocuments.{SameDocuments};
+ghost use Rattle.span_convert.specs.Verdicts.{Verdict, IsVerdict, Answers};
 ghost use Rattle.span_convert.specs.Walks.{IsLookedAt};
 
 use crate::bad::Bad;
-use crate::laws::{cut_batches, one_verdict, output_read_back, same_batches};
+use crate::laws::{
+    cut_batches, one_verdict, output_read_back, same_batches, same_documents, some_verdict,
+};
 use crate::progress::WalkStop;
 use crate::units::input_limit;
 use crate::walk::write_units;
+use span_io::laws::proper_bytes;
 use span_io::{Blob, Failed, Form, Limits, OutOfMemory, Sink};
 use std::alloc::Global;
 
@@ -25,9 +29,16 @@ struct GrowingSink {
 }
 
 impl Sink for GrowingSink {
-    ghost use Rattle.std.specs.Prelude.{Some, length, false};
+    ghost use Rattle.std.specs.Prelude.{Some, None, length};
+    ghost use Rattle.span_io.specs.Outside.{so_many};
 
-    ghost outlet = { λ s. record { held = Some s.text; taken = Some (length s.text); faults = s.faults; steady = false } };
+    ghost outlet = { λ s. record {
+      held = Some s.text;
+      taken = Some (length s.text);
+      faults = s.faults;
+      sure = so_many 0;
+      course = None;
+    } };
 
     fn write(&mut self, piece: &[u8]) -> Result<usize, Failed> {
         match self.text.append(piece) {
@@ -66,12 +77,18 @@ pub fn convert_all(
     limits: &Limits,
 ) -> Result<Blob, Bad>
     requires limits { AreLimits limits.now }
-    ensures judged { IsAnswered from to limits.now bytes.now result }
+
+    // There is a verdict on the input, whatever is answered, and the answer is by it.
+    ensures exists { (verdict : Verdict) × IsVerdict from to limits.now bytes.now verdict }
     ensures verdict { (verdict : Verdict) → IsVerdict from to limits.now bytes.now verdict → Answers verdict result }
 
     // An input that holds the same batches of Jaeger, in whichever protocol, is answered so, too.
     ensures same { (other : Form) (others : List ℕ) → SameBatches limits.now from bytes.now other others
         → (verdict : Verdict) → IsVerdict other to limits.now others verdict → Answers verdict result }
+
+    // So is an input in JSON, in the same form, whose value says the same.
+    ensures same_document { (others : List ℕ) → SameDocuments limits.now from bytes.now others
+        → (verdict : Verdict) → IsVerdict from to limits.now others verdict → Answers verdict result }
 
     // Where an input of Jaeger ends too early, more bytes make its last batch whole.
     ensures cut { (unit : ℕ) → result ≡ Err (Bad.Refused (record { unit = unit; cause = causes.Truncated }))
@@ -80,9 +97,12 @@ pub fn convert_all(
     // What is answered is read back as the normal form of the input's trace.
     ensures back { IfOk result (λ out. ReadsBack from to limits.now bytes.now out) }
 {
+    proper_bytes(bytes);
+    some_verdict();
     one_verdict();
     output_read_back();
     same_batches();
+    same_documents();
     cut_batches();
     let (looked, too_long) = looked_at(bytes, input_limit(from, limits));
     let mut out = GrowingSink {

@@ -5,6 +5,7 @@ ghost use Rattle.span_io.specs.Causes.{cause_number};
 ghost use Rattle.span_io.specs.Offences.{Least};
 ghost use Rattle.thrift_core.specs.Values.{struct_frames, RefusedStruct};
 ghost use Rattle.trace_model.specs.Soundness.{IsSoundGroup};
+ghost use Rattle.map_zipkin.specs.NotedGroups.{noted_group};
 ghost use Rattle.span_convert.specs.BatchFiles.{binary, compact, IsOwnUnit, IsBatchUnit};
 ghost use Rattle.span_convert.specs.Units.{batch_form};
 ghost use Rattle.span_convert.specs.Rests.{Cuts, StopsRest};
@@ -13,12 +14,12 @@ ghost use Rattle.span_convert.specs.Walks.{lent_bytes, IfWhy};
 use crate::units::{Cut, UnitReader};
 use jaeger_model::read_batch;
 use map_jaeger::group_of_batch;
-use span_io::{Cause, Halt, Step};
+use span_io::{Cause, Halt, Items, Step};
 use std::alloc::Global;
 use thrift_binary::Binary;
 use thrift_compact::Compact;
 use thrift_core::{Protocol, first_frame};
-use trace_model::Group;
+use trace_model::{Group, Remark};
 
 /// Batches of jaeger.thrift in the Thrift binary protocol.
 #[derive(Clone, Copy, Debug)]
@@ -39,7 +40,7 @@ impl UnitReader for BinaryBatches {
         cut_batch::<Binary>(rest, limit, too_long)
     }
 
-    fn read(alloc: Global, unit: &[u8]) -> Result<Group, Halt<Cause>> {
+    fn read(alloc: Global, unit: &[u8]) -> Result<(Group, Items<Remark>), Halt<Cause>> {
         read_unit::<Binary>(alloc, unit)
     }
 }
@@ -63,7 +64,7 @@ impl UnitReader for CompactBatches {
         cut_batch::<Compact>(rest, limit, too_long)
     }
 
-    fn read(alloc: Global, unit: &[u8]) -> Result<Group, Halt<Cause>> {
+    fn read(alloc: Global, unit: &[u8]) -> Result<(Group, Items<Remark>), Halt<Cause>> {
         read_unit::<Compact>(alloc, unit)
     }
 }
@@ -97,14 +98,14 @@ fn cut_batch<'a, P: Protocol>(
     }
 }
 
-// The group that a batch means, or the least offence in the batch.
-fn read_unit<P: Protocol>(alloc: Global, unit: &[u8]) -> Result<Group, Halt<Cause>>
+// The group that a batch means, with the remarks on it, or the least offence in the batch.
+fn read_unit<P: Protocol>(alloc: Global, unit: &[u8]) -> Result<(Group, Items<Remark>), Halt<Cause>>
     requires framed { (struct_frames P.spells P.then_varint).Whole unit.now }
-    ensures value { IfOk result (λ group. IsBatchUnit P.spells unit.now group) }
-    ensures sound { IfOk result (λ group. IsSoundGroup group) }
+    ensures value { IfOk result (λ read. IsBatchUnit P.spells unit.now (noted_group read)) }
+    ensures sound { IfOk result (λ read. IsSoundGroup read.0) }
     ensures why { IfWhy result (λ cause. Least (BatchOffends P.spells unit.now) (cause_number cause)) }
 {
     let batch = read_batch::<P>(alloc, unit)?;
-    let (group, _remarks) = group_of_batch(alloc, batch)?;
-    Ok(group)
+    let read = group_of_batch(alloc, batch)?;
+    Ok(read)
 }

@@ -1,7 +1,7 @@
 //! Conversion of an input that comes in pieces.
-ghost use Rattle.std.specs.Prelude.{◌≡◌, ◌≢◌, ◌++◌, [], ℕ, List, length, ◌≤◌, ◌<◌, true, Err, None, OnOk, OnErr, IsErr, IsTrue};
+ghost use Rattle.std.specs.Prelude.{◌≡◌, ◌≢◌, ◌++◌, [], ℕ, List, length, ◌≤◌, ◌<◌, true, Err, None, OnOk, OnErr, IsErr};
 ghost use Rattle.span_io.specs.Limits.{AreLimits};
-ghost use Rattle.span_io.specs.Outside.{OutputFails};
+ghost use Rattle.span_io.specs.Outside.{OutputFails, OutputHolds};
 ghost use Rattle.span_convert.specs.Converters.{HasForms, IsVerdictBy, IsJudgedBy, WritesFrontBy, Fed, KeepsWhy, SameStop, KeepsStop, OnlyWants, Stopped, IsWhy, limit_of, stop_in, is_ended};
 ghost use Rattle.span_convert.specs.Verdicts.{Verdict, Carries, Stops};
 ghost use Rattle.span_convert.specs.Walks.{IsLookedAt};
@@ -108,9 +108,7 @@ impl Converter {
         ensures front { (whole : List ℕ) → IsLookedAt (limit_of self.old) whole self.old.held too_long
             → WritesFrontBy self.old whole (K.outlet out.old) (K.outlet out.new) }
         ensures fails { result ≡ Err stops.Write → OutputFails (K.outlet out.old) (K.outlet out.new) }
-        ensures quiet { result ≢ Err stops.Write → (K.outlet out.new).faults ≡ (K.outlet out.old).faults }
-        ensures answers { IsTrue (K.outlet out.old).steady → result ≢ Err stops.Write }
-        ensures steady { (K.outlet out.new).steady ≡ (K.outlet out.old).steady }
+        ensures holds { result ≢ Err stops.Write → OutputHolds (K.outlet out.old) (K.outlet out.new) }
         ensures longer { too_long ≡ true → IsErr result }
     {
         one_verdict();
@@ -164,9 +162,7 @@ impl Converter {
         ensures front { (whole : List ℕ) → IsLookedAt (limit_of self.old) whole (self.old.held ++ piece.now) true
             → WritesFrontBy self.old whole (K.outlet out.old) (K.outlet out.new) }
         ensures fails { result ≡ Err stops.Write → OutputFails (K.outlet out.old) (K.outlet out.new) }
-        ensures quiet { result ≢ Err stops.Write → (K.outlet out.new).faults ≡ (K.outlet out.old).faults }
-        ensures answers { IsTrue (K.outlet out.old).steady → result ≢ Err stops.Write }
-        ensures steady { (K.outlet out.new).steady ≡ (K.outlet out.old).steady }
+        ensures holds { result ≢ Err stops.Write → OutputHolds (K.outlet out.old) (K.outlet out.new) }
     {
         self.hold(piece)?;
         match self.carry_out(true, out) {
@@ -202,14 +198,11 @@ impl Converter {
         ensures front { (bytes : List ℕ) → Fed self.old bytes
             → WritesFrontBy self.old (bytes ++ piece.now) (K.outlet out.old) (K.outlet out.new) }
 
-        // The sink failed where its count rose, and only there.
+        // The sink failed where its count rose, and only there. Behind a failed write comes no other, and none
+        // is of nothing.
         ensures fails { stop_in self.old.state ≡ None → result ≡ Err stops.Write
             → OutputFails (K.outlet out.old) (K.outlet out.new) }
-        ensures quiet { result ≢ Err stops.Write → (K.outlet out.new).faults ≡ (K.outlet out.old).faults }
-
-        // A steady sink never fails, and stays so.
-        ensures answers { stop_in self.old.state ≡ None → IsTrue (K.outlet out.old).steady → result ≢ Err stops.Write }
-        ensures steady { (K.outlet out.new).steady ≡ (K.outlet out.old).steady }
+        ensures holds { result ≢ Err stops.Write → OutputHolds (K.outlet out.old) (K.outlet out.new) }
     {
         if let Some(stop) = self.state.stop() {
             return Err(stop);
@@ -238,11 +231,7 @@ impl Converter {
             → WritesFrontBy self.old bytes (K.outlet out.old) (K.outlet out.new) }
         ensures fails { stop_in self.old.state ≡ None → result ≡ Err stops.Write
             → OutputFails (K.outlet out.old) (K.outlet out.new) }
-        ensures quiet { result ≢ Err stops.Write → (K.outlet out.new).faults ≡ (K.outlet out.old).faults }
-
-        // A steady sink never fails, and stays so.
-        ensures answers { stop_in self.old.state ≡ None → IsTrue (K.outlet out.old).steady → result ≢ Err stops.Write }
-        ensures steady { (K.outlet out.new).steady ≡ (K.outlet out.old).steady }
+        ensures holds { result ≢ Err stops.Write → OutputHolds (K.outlet out.old) (K.outlet out.new) }
     {
         if let Some(earlier) = self.state.stop() {
             return Err(earlier);

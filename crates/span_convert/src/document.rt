@@ -1,9 +1,10 @@
 //! The walk over a document, which is read whole. Its groups are its units.
-ghost use Rattle.std.specs.Prelude.{◌≡◌, ◌≢◌, ℕ, List, true, All, IfOk, IfErr, IsErr, IsTrue, Err};
-ghost use Rattle.span_io.specs.Outside.{Outlet, OutputFails};
+ghost use Rattle.std.specs.Prelude.{◌≡◌, ◌≢◌, ℕ, List, true, map, All, IfOk, IfErr, IsErr, Err};
+ghost use Rattle.span_io.specs.Outside.{Outlet, OutputFails, OutputHolds};
 ghost use Rattle.span_io.specs.declared.form.Form.{Form};
 ghost use Rattle.span_io.specs.declared.limits.Limits.{Limits};
 ghost use Rattle.trace_model.specs.Soundness.{IsSoundGroup};
+ghost use Rattle.map_zipkin.specs.NotedGroups.{noted_group};
 ghost use Rattle.span_convert.specs.Documents.{IsDocument};
 ghost use Rattle.span_convert.specs.Units.{document_input};
 ghost use Rattle.span_convert.specs.Walks.{IsLookedAt, StopsWalk, EndsWalk};
@@ -15,20 +16,22 @@ use crate::request::Request;
 use crate::span_file::SpanFile;
 use crate::tally::Tally;
 use crate::units::{DocumentReader, UnitWriter};
-use crate::walk::convert_group;
+use crate::walk::convert_unit;
+use span_io::laws::gains_then;
 use span_io::{Cause, Form, Halt, Items, Refusal, Sink};
 use std::alloc::Global;
-use trace_model::Group;
+use trace_model::{Group, Remark};
 
-// The groups of a document, of whose bytes these are looked at, or why it isn't read.
-fn groups_in<R: DocumentReader>(
+// The groups of a document with the remarks on each, of whose bytes these are looked at, or why it
+// isn't read.
+fn units_in<R: DocumentReader>(
     alloc: Global,
     bytes: &[u8],
     too_long: bool,
-) -> Result<Items<Group>, WalkStop>
-    ensures whole { IfOk result (λ groups. (limits : Limits) (whole : List ℕ) → IsLookedAt limits.json whole bytes.now too_long
-        → IsDocument R.form limits whole groups) }
-    ensures sound { IfOk result (All IsSoundGroup) }
+) -> Result<Items<(Group, Items<Remark>)>, WalkStop>
+    ensures whole { IfOk result (λ units. (limits : Limits) (whole : List ℕ) → IsLookedAt limits.json whole bytes.now too_long
+        → IsDocument R.form limits whole (map noted_group units)) }
+    ensures sound { IfOk result (All (λ unit. IsSoundGroup unit.0)) }
     ensures stop { IfErr result (λ stop. (to : Form) (limits : Limits) (whole : List ℕ) (now : Outlet)
         → IsLookedAt limits.json whole bytes.now too_long
         → StopsWalk (document_input R.form) to limits whole stop now now) }
@@ -42,7 +45,7 @@ fn groups_in<R: DocumentReader>(
         }));
     }
     match R::read(alloc, bytes) {
-        Ok(groups) => Ok(groups),
+        Ok(units) => Ok(units),
         Err(Halt::Why(refusal)) => Err(WalkStop::Refused(refusal)),
         Err(Halt::OutOfMemory) => Err(WalkStop::OutOfMemory),
     }
@@ -51,20 +54,19 @@ fn groups_in<R: DocumentReader>(
 // Writes the text of the groups of a document.
 fn write_groups<R: DocumentReader, W: UnitWriter, K: Sink>(
     alloc: Global,
-    groups: Items<Group>,
+    units: Items<(Group, Items<Remark>)>,
     out: &mut K,
 ) -> Result<Tally, WalkStop>
-    requires sound { All IsSoundGroup groups }
-    ensures walk { (limits : Limits) (whole : List ℕ) → IsDocument R.form limits whole groups
+    requires sound { All (λ unit. IsSoundGroup unit.0) units }
+    ensures walk { (limits : Limits) (whole : List ℕ) → IsDocument R.form limits whole (map noted_group units)
         → EndsWalk (document_input R.form) W.form limits whole result (K.outlet out.old) (K.outlet out.new) }
     ensures fails { result ≡ Err WalkStop.Write → OutputFails (K.outlet out.old) (K.outlet out.new) }
-    ensures quiet { result ≢ Err WalkStop.Write → (K.outlet out.new).faults ≡ (K.outlet out.old).faults }
-    ensures answers { IsTrue (K.outlet out.old).steady → result ≢ Err WalkStop.Write }
-    ensures steady { (K.outlet out.new).steady ≡ (K.outlet out.old).steady }
+    ensures holds { result ≢ Err WalkStop.Write → OutputHolds (K.outlet out.old) (K.outlet out.new) }
 {
+    gains_then();
     let mut progress = Progress::none(alloc);
-    'groups: for group in groups.into_vec() {
-        convert_group::<W, K>(&mut progress, alloc, group, out)?;
+    'units: for unit in units.into_vec() {
+        convert_unit::<W, K>(&mut progress, alloc, unit, out)?;
     }
     progress.finish::<W, K>(out)
 }
@@ -79,13 +81,11 @@ fn walk_document<R: DocumentReader, W: UnitWriter, K: Sink>(
     ensures walk { (limits : Limits) (whole : List ℕ) → IsLookedAt limits.json whole bytes.now too_long
         → EndsWalk (document_input R.form) W.form limits whole result (K.outlet out.old) (K.outlet out.new) }
     ensures fails { result ≡ Err WalkStop.Write → OutputFails (K.outlet out.old) (K.outlet out.new) }
-    ensures quiet { result ≢ Err WalkStop.Write → (K.outlet out.new).faults ≡ (K.outlet out.old).faults }
-    ensures answers { IsTrue (K.outlet out.old).steady → result ≢ Err WalkStop.Write }
-    ensures steady { (K.outlet out.new).steady ≡ (K.outlet out.old).steady }
+    ensures holds { result ≢ Err WalkStop.Write → OutputHolds (K.outlet out.old) (K.outlet out.new) }
     ensures long { too_long ≡ true → IsErr result }
 {
-    let groups = groups_in::<R>(alloc, bytes, too_long)?;
-    write_groups::<R, W, K>(alloc, groups, out)
+    let units = units_in::<R>(alloc, bytes, too_long)?;
+    write_groups::<R, W, K>(alloc, units, out)
 }
 
 /// Writes the text in the target form of the groups of a document, of whose bytes these are looked at.
@@ -99,9 +99,7 @@ pub(crate) fn write_document_to<R: DocumentReader, K: Sink>(
     ensures walk { (limits : Limits) (whole : List ℕ) → IsLookedAt limits.json whole bytes.now too_long
         → EndsWalk (document_input R.form) to limits whole result (K.outlet out.old) (K.outlet out.new) }
     ensures fails { result ≡ Err WalkStop.Write → OutputFails (K.outlet out.old) (K.outlet out.new) }
-    ensures quiet { result ≢ Err WalkStop.Write → (K.outlet out.new).faults ≡ (K.outlet out.old).faults }
-    ensures answers { IsTrue (K.outlet out.old).steady → result ≢ Err WalkStop.Write }
-    ensures steady { (K.outlet out.new).steady ≡ (K.outlet out.old).steady }
+    ensures holds { result ≢ Err WalkStop.Write → OutputHolds (K.outlet out.old) (K.outlet out.new) }
     ensures long { too_long ≡ true → IsErr result }
 {
     match to {

@@ -1,5 +1,4 @@
 //! A file of OTLP/JSON: groups in the array of an object.
-ghost use Rattle.std.specs.Prelude.{◌≡◌, map, IfOk};
 ghost use Rattle.span_io.specs.declared.form.Form.TheVariants as forms;
 ghost use Rattle.span_convert.specs.GroupFiles.{group_document};
 
@@ -14,27 +13,12 @@ use trace_model::{Fault, Group, Remark, proper_group};
 #[derive(Clone, Copy, Debug)]
 pub(crate) struct GroupFile;
 
-// The groups alone.
-fn without_remarks(
-    alloc: Global,
-    remarked: Items<(Group, Items<Remark>)>,
-) -> Result<Items<Group>, OutOfMemory>
-    ensures { IfOk result (λ groups. groups ≡ map (λ group. group.0) remarked) }
-{
-    let mut groups = Items::with_room(alloc, remarked.len())?;
-    'pairs: for pair in remarked.into_vec() {
-        let (group, _remarks) = pair;
-        groups.push(group)?;
-    }
-    Ok(groups)
-}
-
 impl DocumentReader for GroupFile {
     ghost form = { group_document };
 
-    fn read(alloc: Global, bytes: &[u8]) -> Result<Items<Group>, Halt<Refusal>> {
-        let remarked = read_text(alloc, bytes)?;
-        Ok(without_remarks(alloc, remarked)?)
+    fn read(alloc: Global, bytes: &[u8]) -> Result<Items<(Group, Items<Remark>)>, Halt<Refusal>> {
+        let read = read_text(alloc, bytes)?;
+        Ok(read)
     }
 }
 

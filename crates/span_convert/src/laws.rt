@@ -5,13 +5,15 @@ ghost use Rattle.span_io.specs.Outside.{Outlet, IsFront};
 ghost use Rattle.span_io.specs.declared.cause.Cause.TheVariants as causes;
 ghost use Rattle.span_io.specs.declared.form.Form.{Form};
 ghost use Rattle.span_io.specs.declared.limits.Limits.{Limits};
+ghost use Rattle.trace_model.specs.OtlpParts.{NotedGroup};
 ghost use Rattle.trace_model.specs.declared.trace.Group.{Group};
-ghost use Rattle.span_convert.specs.Canonical.{ConvertsToItself, Reads, ReadsPlainly, ReadsBack, IsHeldBy, IsSized, IsWithin};
+ghost use Rattle.span_convert.specs.Canonical.{ConvertsToItself, Reads, ReadsNoted, ReadsPlainly, ReadsBack, Fits, IsHeldBy, IsSized};
 ghost use Rattle.span_convert.specs.BatchFiles.{words};
 ghost use Rattle.span_convert.specs.CutBatches.{EndsInBatch, IfJaeger};
 ghost use Rattle.span_convert.specs.InputLaws.{BatchLaws, GroupFileLaws, InputLaws, SpanFileLaws, TextLaws, TreeLaws};
 ghost use Rattle.span_convert.specs.SameBatches.{SameBatches};
-ghost use Rattle.span_convert.specs.Units.{input_form, IsSizedGroup, normal_form, canonical_text, partial_text, closing_text, span_count};
+ghost use Rattle.span_convert.specs.SameDocuments.{SameDocuments};
+ghost use Rattle.span_convert.specs.Units.{groups_in, input_form, IsSizedGroup, normal_form, canonical_text, partial_text, closing_text, span_count};
 ghost use Rattle.span_convert.specs.Verdicts.{Verdict, refused, IsFaultless, IsVerdict, IsGood, IsTextSoFar, WritesFront, verdict_text};
 
 use crate::tally::Tally;
@@ -37,6 +39,8 @@ fn batch_laws<P: Protocol>()
     jaeger_model::laws::reads_proper::<P>();
     jaeger_model::written_laws::written_again::<P>();
     jaeger_model::written_laws::equal_texts::<P>();
+    trace_model::laws::attributes_once();
+    trace_model::laws::attributes_exist();
 }
 
 // What they say of one tree in two protocols.
@@ -63,6 +67,7 @@ fn span_file_laws()
     map_zipkin::laws::written_is_proper();
     map_zipkin::laws::zipkin_normal_forms();
     map_zipkin::laws::regroupings();
+    map_zipkin::laws::groups_noted();
 }
 
 // What they say of groups in JSON.
@@ -109,6 +114,16 @@ pub fn same_batches()
 {
     input_laws();
     tree_laws();
+}
+
+/// Two inputs of one form in JSON have the same verdicts, where they are texts of values that mean the
+/// same and in which the same offends.
+pub fn same_documents()
+    ensures { (from to : Form) (limits : Limits) (bytes others : List ℕ)
+        → SameDocuments limits from bytes others → (verdict : Verdict)
+        → IsVerdict from to limits bytes verdict ↔ IsVerdict from to limits others verdict }
+{
+    // The clause is the law.
 }
 
 /// An input of Jaeger that is refused because it ends too early ends inside a batch, which more bytes make
@@ -172,7 +187,7 @@ pub fn text_read_back()
 
 /// A normal form is held by its form, is its own normal form, and has as many spans as its trace. What
 /// is read has no fault of its own form, and is its own normal form; bytes are read as one trace at
-/// most.
+/// most, with one list of remarks on each group.
 pub fn normal_forms()
     ensures held { (to : Form) (groups : List Group) → IsHeldBy to groups → IsHeldBy to (normal_form to groups) }
     ensures again { (to : Form) (groups : List Group) → IsHeldBy to groups
@@ -182,6 +197,8 @@ pub fn normal_forms()
     ensures read { (from : Form) (bytes : List ℕ) (groups : List Group) → Reads from bytes groups
         → normal_form from groups ≡ groups }
     ensures once { (from : Form) (bytes : List ℕ) (a b : List Group) → Reads from bytes a → Reads from bytes b → a ≡ b }
+    ensures remarks { (from : Form) (bytes : List ℕ) (a b : List NotedGroup) → ReadsNoted from bytes a → ReadsNoted from bytes b
+        → a ≡ b }
 {
     input_laws();
     map_jaeger::laws::normal_forms();
@@ -197,26 +214,27 @@ pub fn equal_texts()
     normal_forms();
 }
 
-/// Canonical text converts to itself, where it is within the limits.
+/// Canonical text converts to itself, where it fits as an input of its form.
 pub fn converts_to_itself()
     ensures { (to : Form) (limits : Limits) (groups : List Group) → AreLimits limits → IsHeldBy to groups
-        → IsWithin to limits groups → ConvertsToItself to limits (canonical_text to groups) groups }
+        → Fits to limits (canonical_text to groups) → ConvertsToItself to limits (canonical_text to groups) groups }
 {
     text_laws();
 }
 
 /// What was written for an input is read as the normal form of the input's trace, without remarks,
-/// and is the text of no trace of another normal form; and within the limits it converts to itself.
+/// and is the text of no trace of another normal form; and where it fits as an input of its form it
+/// converts to itself.
 pub fn output_read_back()
     ensures read { (from to : Form) (limits : Limits) (bytes text : List ℕ) (tally : Tally) → length text < 2 ^ 63
-        → (h : IsGood (input_form from) to limits bytes text tally) → All (IsSizedGroup to) h.groups
-        → ReadsPlainly to text (normal_form to h.groups) }
+        → (h : IsGood (input_form from) to limits bytes text tally) → All (IsSizedGroup to) (groups_in h.noted)
+        → ReadsPlainly to text (normal_form to (groups_in h.noted)) }
     ensures again { (from to : Form) (limits : Limits) (bytes text : List ℕ) (tally : Tally) → AreLimits limits
-        → (h : IsGood (input_form from) to limits bytes text tally) → All (IsSizedGroup to) h.groups
-        → IsWithin to limits h.groups → ConvertsToItself to limits text h.groups }
+        → (h : IsGood (input_form from) to limits bytes text tally) → All (IsSizedGroup to) (groups_in h.noted)
+        → Fits to limits text → ConvertsToItself to limits text (groups_in h.noted) }
     ensures back { (from to : Form) (limits : Limits) (bytes text : List ℕ) (tally : Tally) → AreLimits limits
         → length text < 2 ^ 63 → (h : IsGood (input_form from) to limits bytes text tally)
-        → All (IsSizedGroup to) h.groups → ReadsBack from to limits bytes text }
+        → All (IsSizedGroup to) (groups_in h.noted) → ReadsBack from to limits bytes text }
 {
     equal_texts();
     text_read_back();

@@ -22,10 +22,8 @@ mod why;
 pub use all::convert_all;
 pub use bad::Bad;
 pub use converter::Converter;
+pub use span_io::{Form, Limits, Refusal};
 pub use stop::Stop;
 pub use tally::Tally;
 pub use target_fault::TargetFault;
 pub use why::Why;
-
-#[cfg(test)]
-mod tests;

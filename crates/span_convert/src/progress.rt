@@ -1,6 +1,6 @@
 //! What a walk over the units of an input has converted so far.
-ghost use Rattle.std.specs.Prelude.{◌≡◌, ◌≢◌, ◌+◌, ◌<◌, min, [], ◌∷◌, ℕ, List, ◌++◌, length, IfOk, IfErr, IsOk, OnOk, OnErr, IsTrue, Err};
-ghost use Rattle.span_io.specs.Outside.{Outlet, Gains, GainsFront, OutputFails, last_count};
+ghost use Rattle.std.specs.Prelude.{◌≡◌, ◌≢◌, ◌+◌, ◌<◌, min, [], ◌∷◌, ℕ, List, ◌++◌, length, IfOk, IfErr, OnOk, OnErr, Err};
+ghost use Rattle.span_io.specs.Outside.{Outlet, Gains, OutputFails, OutputHolds, FailsWithin, last_count};
 ghost use Rattle.trace_model.specs.Soundness.{IsSoundGroup};
 ghost use Rattle.span_convert.specs.Units.{FaultOf, span_count};
 ghost use Rattle.trace_model.specs.declared.trace.Group as model;
@@ -84,10 +84,8 @@ impl Progress {
         ensures tally { self.new.tally ≡ self.old.tally }
         ensures ok { OnOk result ((self.new.unwritten ≡ []) × Gains (K.outlet out.old) (K.outlet out.new) self.old.unwritten) }
         ensures failed { OnErr result (OutputFails (K.outlet out.old) (K.outlet out.new)) }
-        ensures front { OnErr result (GainsFront (K.outlet out.old) (K.outlet out.new) self.old.unwritten) }
-        ensures quiet { OnOk result ((K.outlet out.new).faults ≡ (K.outlet out.old).faults) }
-        ensures answers { IsTrue (K.outlet out.old).steady → IsOk result }
-        ensures steady { (K.outlet out.new).steady ≡ (K.outlet out.old).steady }
+        ensures within { OnErr result (FailsWithin (K.outlet out.old) (K.outlet out.new) self.old.unwritten) }
+        ensures holds { OnOk result (OutputHolds (K.outlet out.old) (K.outlet out.new)) }
     {
         write_all(out, self.unwritten.as_slice())?;
         self.unwritten.clear();
@@ -103,9 +101,7 @@ impl Progress {
             → Converted W.form groups before (K.outlet out.old) self.old
             → StopsText W.form groups stop before (K.outlet out.new)) }
         ensures fails { result ≡ Err WalkStop.Write → OutputFails (K.outlet out.old) (K.outlet out.new) }
-        ensures quiet { result ≢ Err WalkStop.Write → (K.outlet out.new).faults ≡ (K.outlet out.old).faults }
-        ensures answers { IsTrue (K.outlet out.old).steady → result ≢ Err WalkStop.Write }
-        ensures steady { (K.outlet out.new).steady ≡ (K.outlet out.old).steady }
+        ensures holds { result ≢ Err WalkStop.Write → OutputHolds (K.outlet out.old) (K.outlet out.new) }
     {
         gains_then();
         closed_texts();
@@ -131,9 +127,8 @@ impl Progress {
         requires { self.old.tally.units < last_count }
         ensures written { WritesOut result (WalkStop.Refused (record { unit = self.old.tally.units + 1; cause = cause }))
             self.old.unwritten (K.outlet out.old) (K.outlet out.new) }
-        ensures quiet { result ≢ WalkStop.Write → (K.outlet out.new).faults ≡ (K.outlet out.old).faults }
-        ensures answers { IsTrue (K.outlet out.old).steady → result ≢ WalkStop.Write }
-        ensures steady { (K.outlet out.new).steady ≡ (K.outlet out.old).steady }
+        ensures fails { result ≡ WalkStop.Write → OutputFails (K.outlet out.old) (K.outlet out.new) }
+        ensures holds { result ≢ WalkStop.Write → OutputHolds (K.outlet out.old) (K.outlet out.new) }
     {
         let unit = self.next_unit();
         match self.flush(out) {
@@ -147,9 +142,8 @@ impl Progress {
         requires { self.old.tally.units < last_count }
         ensures written { WritesOut result (WalkStop.Faulted (record { unit = self.old.tally.units + 1; fault = fault }))
             self.old.unwritten (K.outlet out.old) (K.outlet out.new) }
-        ensures quiet { result ≢ WalkStop.Write → (K.outlet out.new).faults ≡ (K.outlet out.old).faults }
-        ensures answers { IsTrue (K.outlet out.old).steady → result ≢ WalkStop.Write }
-        ensures steady { (K.outlet out.new).steady ≡ (K.outlet out.old).steady }
+        ensures fails { result ≡ WalkStop.Write → OutputFails (K.outlet out.old) (K.outlet out.new) }
+        ensures holds { result ≢ WalkStop.Write → OutputHolds (K.outlet out.old) (K.outlet out.new) }
     {
         let unit = self.next_unit();
         match self.flush(out) {

@@ -13,9 +13,9 @@ use crate::tally::Tally;
 use crate::units::{Cut, UnitReader, UnitWriter};
 use otlp_proto::{read_group, write_group};
 use proto_wire::{Payload, WireRecord, first_record};
-use span_io::{Blob, Cause, Halt, OutOfMemory};
+use span_io::{Blob, Cause, Halt, Items, OutOfMemory};
 use std::alloc::Global;
-use trace_model::{Fault, Group, proper_group};
+use trace_model::{Fault, Group, Remark, proper_group};
 
 /// OTLP in protobuf. It can hold all of a group.
 #[derive(Clone, Copy, Debug)]
@@ -36,9 +36,9 @@ impl UnitReader for Request {
         cut_record(rest, limit, too_long)
     }
 
-    fn read(alloc: Global, unit: &[u8]) -> Result<Group, Halt<Cause>> {
-        let (group, _remarks) = read_group(alloc, unit)?;
-        Ok(group)
+    fn read(alloc: Global, unit: &[u8]) -> Result<(Group, Items<Remark>), Halt<Cause>> {
+        let read = read_group(alloc, unit)?;
+        Ok(read)
     }
 }
 

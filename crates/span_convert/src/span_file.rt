@@ -11,7 +11,7 @@ use map_zipkin::laws::zipkin_normal_forms;
 use map_zipkin::{groups_of_spans, spans_of_group};
 use span_io::{Blob, Halt, Items, OutOfMemory, Refusal};
 use std::alloc::Global;
-use trace_model::{Fault, Group, proper_group};
+use trace_model::{Fault, Group, Remark, proper_group};
 use zipkin_json::{ZSpan, read_text, write_span};
 
 /// Spans of Zipkin v2, in a JSON array.
@@ -21,7 +21,7 @@ pub(crate) struct SpanFile;
 impl DocumentReader for SpanFile {
     ghost form = { span_document };
 
-    fn read(alloc: Global, bytes: &[u8]) -> Result<Items<Group>, Halt<Refusal>> {
+    fn read(alloc: Global, bytes: &[u8]) -> Result<Items<(Group, Items<Remark>)>, Halt<Refusal>> {
         let spans = read_text(alloc, bytes)?;
         Ok(groups_of_spans(alloc, spans)?)
     }

@@ -1,10 +1,11 @@
 //! What the walk over an input asks of its form, and of the form of its target.
-ghost use Rattle.std.specs.Prelude.{◌≡◌, ◌<◌, ◌++◌, false, if◌then◌else◌, [], length, All, IfOk, IfErr, IfSome, OnOk, MatchOption};
+ghost use Rattle.std.specs.Prelude.{◌≡◌, ◌<◌, ◌++◌, false, if◌then◌else◌, [], length, map, All, IfOk, IfErr, IfSome, OnOk, MatchOption};
 ghost use Rattle.span_io.specs.Causes.{cause_number};
 ghost use Rattle.span_io.specs.Offences.{Least};
 ghost use Rattle.span_io.specs.Paths.{RefusesInput};
 ghost use Rattle.span_io.specs.declared.form.Form.{Form};
 ghost use Rattle.trace_model.specs.Soundness.{IsSoundGroup};
+ghost use Rattle.map_zipkin.specs.NotedGroups.{noted_group};
 ghost use Rattle.span_convert.specs.Documents.{DocumentForm};
 ghost use Rattle.span_convert.specs.FramedForms.{FramedForm};
 ghost use Rattle.span_convert.specs.Units as told;
@@ -14,7 +15,7 @@ ghost use Rattle.span_convert.specs.Walks.{lent_bytes, ClosesText, CutsFrame, He
 use crate::tally::Tally;
 use span_io::{Blob, Cause, Form, Halt, Items, Limits, OutOfMemory, Refusal};
 use std::alloc::Global;
-use trace_model::{Fault, Group};
+use trace_model::{Fault, Group, Remark};
 
 /// The most bytes that an input may have.
 pub(crate) fn input_limit(from: Form, limits: &Limits) -> u64
@@ -54,11 +55,11 @@ pub(crate) trait UnitReader {
         ensures framed { IfOk result (λ next. IfSome next (λ cut. IfSome cut.unit (λ unit. form.Tells unit.now))) }
         ensures why { IfErr result (λ cause. StopsFrames form limit too_long rest.now cause) };
 
-    /// The group that a unit is a text of, or the least offence in it.
-    fn read(alloc: Global, unit: &[u8]) -> Result<Group, Halt<Cause>>
+    /// The group that a unit is a text of, with the remarks on it, or the least offence in the unit.
+    fn read(alloc: Global, unit: &[u8]) -> Result<(Group, Items<Remark>), Halt<Cause>>
         requires framed { form.Tells unit.now }
-        ensures value { IfOk result (λ group. form.IsUnit unit.now group) }
-        ensures sound { IfOk result (λ group. IsSoundGroup group) }
+        ensures value { IfOk result (λ read. form.IsUnit unit.now (noted_group read)) }
+        ensures sound { IfOk result (λ read. IsSoundGroup read.0) }
         ensures why { IfWhy result (λ cause. Least (form.Offends unit.now) (cause_number cause)) };
 }
 
@@ -66,10 +67,11 @@ pub(crate) trait UnitReader {
 pub(crate) trait DocumentReader {
     ghost form: { DocumentForm };
 
-    /// The groups that the bytes are a text of, or the least offence in them.
-    fn read(alloc: Global, bytes: &[u8]) -> Result<Items<Group>, Halt<Refusal>>
-        ensures value { IfOk result (λ groups. form.Reads bytes.now groups) }
-        ensures sound { IfOk result (λ groups. All IsSoundGroup groups) }
+    /// The groups that the bytes are a text of, with the remarks on each, or the least offence in
+    /// the bytes.
+    fn read(alloc: Global, bytes: &[u8]) -> Result<Items<(Group, Items<Remark>)>, Halt<Refusal>>
+        ensures value { IfOk result (λ read. form.Reads bytes.now (map noted_group read)) }
+        ensures sound { IfOk result (All (λ unit. IsSoundGroup unit.0)) }
         ensures why { IfWhy result (λ refusal. RefusesInput (form.Offends bytes.now) refusal) };
 }
 

@@ -1,6 +1,6 @@
 //! The walk over the units of an input, which writes the text of each.
-ghost use Rattle.std.specs.Prelude.{◌≡◌, ◌≢◌, ◌≤◌, ◌+◌, ◌<◌, ◌++◌, ◌∷◌, [], ℕ, List, true, OnOk, IfErr, IfSome, IsErr, IsTrue, Err};
-ghost use Rattle.span_io.specs.Outside.{Outlet, OutputFails, last_count};
+ghost use Rattle.std.specs.Prelude.{◌≡◌, ◌≢◌, ◌≤◌, ◌+◌, ◌<◌, ◌++◌, ◌∷◌, [], ℕ, List, true, OnOk, IfErr, IfSome, IsErr, Err};
+ghost use Rattle.span_io.specs.Outside.{Outlet, OutputFails, OutputHolds, last_count};
 ghost use Rattle.span_io.specs.declared.form.Form.{Form};
 ghost use Rattle.span_io.specs.declared.limits.Limits.{Limits};
 ghost use Rattle.trace_model.specs.Soundness.{IsSoundGroup};
@@ -17,9 +17,9 @@ use crate::span_file::SpanFile;
 use crate::tally::Tally;
 use crate::units::{Cut, UnitReader, UnitWriter};
 use span_io::laws::gains_then;
-use span_io::{Failed, Form, Halt, Limits, Sink};
+use span_io::{Failed, Form, Halt, Items, Limits, Sink};
 use std::alloc::Global;
-use trace_model::Group;
+use trace_model::{Group, Remark};
 
 /// So many bytes of text, or more, are written at once.
 const FULL: usize = 65_536;
@@ -34,9 +34,7 @@ fn write_full<K: Sink>(progress: &mut Progress, out: &mut K) -> Result<(), WalkS
         → StopsGroup to groups group stop before (K.outlet out.new)) }
     ensures units { OnOk result (progress.new.tally.units ≡ progress.old.tally.units) }
     ensures fails { result ≡ Err WalkStop.Write → OutputFails (K.outlet out.old) (K.outlet out.new) }
-    ensures quiet { result ≢ Err WalkStop.Write → (K.outlet out.new).faults ≡ (K.outlet out.old).faults }
-    ensures answers { IsTrue (K.outlet out.old).steady → result ≢ Err WalkStop.Write }
-    ensures steady { (K.outlet out.new).steady ≡ (K.outlet out.old).steady }
+    ensures holds { result ≢ Err WalkStop.Write → OutputHolds (K.outlet out.old) (K.outlet out.new) }
 {
     gains_then();
     if progress.unwritten() < FULL {
@@ -48,8 +46,8 @@ fn write_full<K: Sink>(progress: &mut Progress, out: &mut K) -> Result<(), WalkS
     }
 }
 
-/// Converts a group.
-pub(crate) fn convert_group<W: UnitWriter, K: Sink>(
+// Converts a group.
+fn convert_group<W: UnitWriter, K: Sink>(
     progress: &mut Progress,
     alloc: Global,
     group: Group,
@@ -65,9 +63,7 @@ pub(crate) fn convert_group<W: UnitWriter, K: Sink>(
         → StopsGroup W.form groups group stop before (K.outlet out.new)) }
     ensures units { OnOk result (progress.new.tally.units ≡ progress.old.tally.units + 1) }
     ensures fails { result ≡ Err WalkStop.Write → OutputFails (K.outlet out.old) (K.outlet out.new) }
-    ensures quiet { result ≢ Err WalkStop.Write → (K.outlet out.new).faults ≡ (K.outlet out.old).faults }
-    ensures answers { IsTrue (K.outlet out.old).steady → result ≢ Err WalkStop.Write }
-    ensures steady { (K.outlet out.new).steady ≡ (K.outlet out.old).steady }
+    ensures holds { result ≢ Err WalkStop.Write → OutputHolds (K.outlet out.old) (K.outlet out.new) }
 {
     gains_then();
     match progress.add_group::<W>(alloc, group) {
@@ -75,6 +71,36 @@ pub(crate) fn convert_group<W: UnitWriter, K: Sink>(
         Err(Halt::Why(fault)) => Err(progress.stop_at_fault(fault, out)),
         Err(Halt::OutOfMemory) => Err(WalkStop::OutOfMemory),
     }
+}
+
+// The group that was read of a unit, without the remarks on it.
+fn group_alone(unit: (Group, Items<Remark>)) -> Group
+    ensures { result ≡ unit.0 }
+{
+    unit.0
+}
+
+/// Converts the group that was read of a unit. The remarks on it are let go.
+pub(crate) fn convert_unit<W: UnitWriter, K: Sink>(
+    progress: &mut Progress,
+    alloc: Global,
+    unit: (Group, Items<Remark>),
+    out: &mut K,
+) -> Result<(), WalkStop>
+    requires room { progress.old.tally.units < last_count }
+    requires sound { IsSoundGroup unit.0 }
+    ensures ok { OnOk result ((groups : List model.Group) (before : Outlet)
+        → Converted W.form groups before (K.outlet out.old) progress.old
+        → Converted W.form (groups ++ unit.0 ∷ []) before (K.outlet out.new) progress.new) }
+    ensures stop { IfErr result (λ stop. (groups : List model.Group) (before : Outlet)
+        → Converted W.form groups before (K.outlet out.old) progress.old
+        → StopsGroup W.form groups unit.0 stop before (K.outlet out.new)) }
+    ensures units { OnOk result (progress.new.tally.units ≡ progress.old.tally.units + 1) }
+    ensures fails { result ≡ Err WalkStop.Write → OutputFails (K.outlet out.old) (K.outlet out.new) }
+    ensures holds { result ≢ Err WalkStop.Write → OutputHolds (K.outlet out.old) (K.outlet out.new) }
+{
+    let group = group_alone(unit);
+    convert_group::<W, K>(progress, alloc, group, out)
 }
 
 // Converts a frame that was cut from a rest.
@@ -96,9 +122,7 @@ fn convert_frame<R: UnitReader, W: UnitWriter, K: Sink>(
         → StopsWalk (framed_input R.form) W.form limits whole stop before (K.outlet out.new)) }
     ensures units { OnOk result (progress.new.tally.units ≤ progress.old.tally.units + 1) }
     ensures fails { result ≡ Err WalkStop.Write → OutputFails (K.outlet out.old) (K.outlet out.new) }
-    ensures quiet { result ≢ Err WalkStop.Write → (K.outlet out.new).faults ≡ (K.outlet out.old).faults }
-    ensures answers { IsTrue (K.outlet out.old).steady → result ≢ Err WalkStop.Write }
-    ensures steady { (K.outlet out.new).steady ≡ (K.outlet out.old).steady }
+    ensures holds { result ≢ Err WalkStop.Write → OutputHolds (K.outlet out.old) (K.outlet out.new) }
 {
     gains_then();
     R::held_by_frames();
@@ -106,7 +130,7 @@ fn convert_frame<R: UnitReader, W: UnitWriter, K: Sink>(
         return Ok(());
     };
     match R::read(alloc, unit) {
-        Ok(group) => convert_group::<W, K>(progress, alloc, group, out),
+        Ok(read) => convert_unit::<W, K>(progress, alloc, read, out),
         Err(Halt::Why(cause)) => Err(progress.refuse(cause, out)),
         Err(Halt::OutOfMemory) => Err(WalkStop::OutOfMemory),
     }
@@ -123,9 +147,7 @@ fn walk_units<R: UnitReader, W: UnitWriter, K: Sink>(
     ensures walk { (whole : List ℕ) → IsLookedAt limits.now.binary whole bytes.now too_long
         → EndsWalk (framed_input R.form) W.form limits.now whole result (K.outlet out.old) (K.outlet out.new) }
     ensures fails { result ≡ Err WalkStop.Write → OutputFails (K.outlet out.old) (K.outlet out.new) }
-    ensures quiet { result ≢ Err WalkStop.Write → (K.outlet out.new).faults ≡ (K.outlet out.old).faults }
-    ensures answers { IsTrue (K.outlet out.old).steady → result ≢ Err WalkStop.Write }
-    ensures steady { (K.outlet out.new).steady ≡ (K.outlet out.old).steady }
+    ensures holds { result ≢ Err WalkStop.Write → OutputHolds (K.outlet out.old) (K.outlet out.new) }
     ensures long { too_long ≡ true → IsErr result }
 {
     gains_then();
@@ -156,9 +178,7 @@ fn write_to<R: UnitReader, K: Sink>(
     ensures walk { (whole : List ℕ) → IsLookedAt limits.now.binary whole bytes.now too_long
         → EndsWalk (framed_input R.form) to limits.now whole result (K.outlet out.old) (K.outlet out.new) }
     ensures fails { result ≡ Err WalkStop.Write → OutputFails (K.outlet out.old) (K.outlet out.new) }
-    ensures quiet { result ≢ Err WalkStop.Write → (K.outlet out.new).faults ≡ (K.outlet out.old).faults }
-    ensures answers { IsTrue (K.outlet out.old).steady → result ≢ Err WalkStop.Write }
-    ensures steady { (K.outlet out.new).steady ≡ (K.outlet out.old).steady }
+    ensures holds { result ≢ Err WalkStop.Write → OutputHolds (K.outlet out.old) (K.outlet out.new) }
     ensures long { too_long ≡ true → IsErr result }
 {
     match to {
@@ -187,9 +207,7 @@ pub(crate) fn write_units<K: Sink>(
     ensures walk { (whole : List ℕ) → IsLookedAt (input_limit from limits.now) whole bytes.now too_long
         → EndsWalk (input_form from) to limits.now whole result (K.outlet out.old) (K.outlet out.new) }
     ensures fails { result ≡ Err WalkStop.Write → OutputFails (K.outlet out.old) (K.outlet out.new) }
-    ensures quiet { result ≢ Err WalkStop.Write → (K.outlet out.new).faults ≡ (K.outlet out.old).faults }
-    ensures answers { IsTrue (K.outlet out.old).steady → result ≢ Err WalkStop.Write }
-    ensures steady { (K.outlet out.new).steady ≡ (K.outlet out.old).steady }
+    ensures holds { result ≢ Err WalkStop.Write → OutputHolds (K.outlet out.old) (K.outlet out.new) }
     ensures long { too_long ≡ true → IsErr result }
 {
     match from {

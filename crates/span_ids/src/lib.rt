@@ -15,6 +15,3 @@ pub use nanos::Nanos;
 pub use proper::proper_parent;
 pub use span_id::SpanId;
 pub use trace_id::TraceId;
-
-#[cfg(test)]
-mod tests;

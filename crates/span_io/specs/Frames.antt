@@ -1,7 +1,11 @@
 -- Items of a wire format, one after the other, and why no item stands at the front of some bytes. These words serve every wire
 -- format: it says which bytes are one whole item, where in an item a varint stands, and which lengths an item holds.
-use Rattle.std.specs.Prelude.{◌≡◌, ◌≢◌, ℕ, ◌<◌, ◌≤◌, ◌⊎◌, List, [], ◌∷◌, ◌++◌, length}
+use Rattle.std.specs.Prelude.{◌≡◌, ◌≢◌, ℕ, ◌<◌, ◌≤◌, ◌⊎◌, List, [], ◌∷◌, ◌++◌, length, All}
 use Rattle.span_io.specs.Varint.{IsInsideVarint, IsOverlong}
+
+-- the numbers are bytes
+abbrev pub AreBytes : List ℕ → Type 0
+AreBytes numbers = All (λ b. b < 256) numbers
 
 pub record Framing : Type 1 where
   -- the bytes are one item
@@ -11,9 +15,10 @@ pub record Framing : Type 1 where
   -- the bytes hold a length by which a string or a message ends behind so many bytes of the item
   pub EndsPast : ℕ → List ℕ → Type 0
 
--- some bytes can follow that make an item of them
+-- more bytes can follow that make an item of them
 pub record IsProperFront (F : Framing) (bytes : List ℕ) : Type 0 where
   pub more : List ℕ
+  pub are_bytes : AreBytes more
   pub some : more ≢ []
   pub whole : F.Whole (bytes ++ more)
 
@@ -31,7 +36,7 @@ pub record EndsInVarint (F : Framing) (bytes : List ℕ) : Type 0 where
 abbrev pub IsOpen : Framing → List ℕ → Type 0
 IsOpen F bytes = IsProperFront F bytes ⊎ EndsInVarint F bytes
 
--- The bytes, less a varint at their end that isn't ended, can be completed to an item.
+-- More bytes make an item of the bytes, less a varint at their end that isn't ended.
 pub record CanBeCompleted (F : Framing) (bytes : List ℕ) : Type 0 where
   pub front : List ℕ
   pub inside : List ℕ

@@ -17,11 +17,16 @@ pub data Place (F : Framing) (EndsIn : Cause → List ℕ → Type 0) (bytes : L
   is_begun : BeginsWhole F bytes → Place F EndsIn bytes
   is_refused : (cause : Cause) → cause ≢ causes.UnitTooLong → IsRefusedAt F (EndsIn cause) bytes → Place F EndsIn bytes
 
+-- a proper front of an item is open
+abbrev pub FrontsAreOpen : Framing → Type 0
+FrontsAreOpen F = (front more : List ℕ) → F.Whole (front ++ more) → more ≢ [] → IsOpen F front
+
 pub record FramingLaws (F : Framing) (EndsIn : Cause → List ℕ → Type 0) : Type 0 where
   -- an item has bytes, is no proper front of another, and doesn't end inside a varint
   pub some : (text : List ℕ) → F.Whole text → text ≢ []
   pub one_item : (text longer more : List ℕ) → F.Whole text → F.Whole longer → longer ≡ text ++ more → more ≡ []
   pub ended : (text : List ℕ) → F.Whole text → EndsInVarint F text → ⊥
+  pub fronts : FrontsAreOpen F
   -- a length past the limit stays, whatever follows, and until the limit is passed an item may yet come
   pub stays : (limit : ℕ) (text more : List ℕ) → F.EndsPast limit text → F.EndsPast limit (text ++ more)
   pub until_then : (limit : ℕ) (text : List ℕ) → F.EndsPast limit text → length text ≤ limit → IsOpen F text
@@ -34,13 +39,6 @@ pub record FramingLaws (F : Framing) (EndsIn : Cause → List ℕ → Type 0) : 
   pub one_kind : (front : List ℕ) (a b : Cause) → IsRefused F front → EndsIn a front → EndsIn b front → a ≡ b
 
 -- ---- fronts of open bytes
-
-pub proper_front : (F : Framing) (front more : List ℕ) → IsProperFront F (front ++ more) → IsProperFront F front
-proper_front F front more p = record {
-  more = more ++ p.more;
-  some = λ e. p.some (append_empty_right more p.more e);
-  whole = subst F.Whole (append_assoc front more p.more) p.whole;
-}
 
 -- a front of bytes that end inside a varint does so as well, or ends before it
 inside_front : (F : Framing) (front inside more : List ℕ) → F.ThenVarint front → IsProperFront F front → IsInsideVarint (inside ++ more) → IsOpen F (front ++ inside)
@@ -55,10 +53,12 @@ inside_front F front (b ∷ inside) more before proper h = inr (record {
   parts = refl;
 })
 
-pub open_front : (F : Framing) (front more : List ℕ) → IsOpen F (front ++ more) → IsOpen F front
-open_front F front more (inl p) = inl (proper_front F front more p)
-open_front F front more (inr h) = elim (two_cuts front more h.front h.inside h.parts) [
-  | inl w ↦ inl (proper_front F front w.between (subst (λ l. IsProperFront F l) w.front h.proper))
+pub open_front : (F : Framing) → FrontsAreOpen F → (front more : List ℕ) → IsOpen F (front ++ more) → IsOpen F front
+open_front F fronts front more (inl p) = fronts front (more ++ p.more) (subst F.Whole (append_assoc front more p.more) p.whole) (λ e. p.some (append_empty_right more p.more e))
+open_front F fronts front more (inr h) = elim (two_cuts front more h.front h.inside h.parts) [
+  | inl w ↦ fronts front (w.between ++ h.proper.more)
+      (subst F.Whole (ap (λ l. l ++ h.proper.more) w.front ∙ append_assoc front w.between h.proper.more) h.proper.whole)
+      (λ e. h.proper.some (append_empty_right w.between h.proper.more e))
   | inr w ↦ subst (λ l. IsOpen F l) (sym w.front) (inside_front F h.front w.between more h.then_varint h.proper (subst (λ l. IsInsideVarint l) w.rest h.unended))
 ]
 
@@ -167,7 +167,7 @@ module _ (F : Framing) (EndsIn : Cause → List ℕ → Type 0) (laws : FramingL
       parts = h.parts;
       kind = (h.whole, h.size);
       earlier = λ shorter more e some. few shorter
-          (inl (record { more = more; some = some; whole = subst F.Whole e h.whole }))
+          (laws.fronts shorter more (subst F.Whole e h.whole) some)
           (omega (arith, shorter_length h.text shorter more e some, h.size, h.within))
           (λ past. open_whole h.text (past_open h.text shorter more (omega (arith, h.size, h.within)) e past) h.whole);
     }
@@ -178,7 +178,7 @@ module _ (F : Framing) (EndsIn : Cause → List ℕ → Type 0) (laws : FramingL
         let some : drop limit front ≢ [] = λ none. omega (arith, ap length none, length-drop limit front) in
         let size : length (take limit front) ≡ limit = omega (arith, length-take limit front) in
         earlier (take limit front) (drop limit front) e some (inr (inl (record {
-          may_come = inl (record { more = drop limit front; some = some; whole = subst F.Whole e whole });
+          may_come = laws.fronts (take limit front) (drop limit front) (subst F.Whole e whole) some;
           beyond = inl size;
         })))
 
@@ -229,7 +229,7 @@ module _ (F : Framing) (EndsIn : Cause → List ℕ → Type 0) (laws : FramingL
     needs_more bytes may_come less none = record {
       may_come = may_come;
       undecided = λ front rest e. few front
-          (open_front F front rest (subst (λ l. IsOpen F l) e may_come))
+          (open_front F laws.fronts front rest (subst (λ l. IsOpen F l) e may_come))
           (omega (arith, ap length e, length-append front rest, less))
           (λ past. none (subst (λ l. F.EndsPast limit l) (sym e) (laws.stays limit front rest past)));
     }
@@ -281,13 +281,13 @@ module _ (F : Framing) (EndsIn : Cause → List ℕ → Type 0) (laws : FramingL
     pub too_long_first : (bytes : List ℕ) → IsOpen F bytes → length bytes ≤ limit → Beyond bytes → DecidedBy F limit (IsTooLong F limit) bytes
     too_long_first bytes may_come within beyond =
         let first : FirstBeyond bytes = first_beyond bytes [] bytes refl within beyond nothing_earlier in
-        let open_here : IsOpen F first.front = open_front F first.front first.rest (subst (λ l. IsOpen F l) first.parts may_come) in
+        let open_here : IsOpen F first.front = open_front F laws.fronts first.front first.rest (subst (λ l. IsOpen F l) first.parts may_come) in
         record {
           front = first.front;
           rest = first.rest;
           parts = first.parts;
           kind = record { may_come = open_here; beyond = first.beyond };
-          earlier = λ shorter more e some d. earlier shorter (open_front F shorter more (subst (λ l. IsOpen F l) e open_here)) (first.earlier shorter more e some) d;
+          earlier = λ shorter more e some d. earlier shorter (open_front F laws.fronts shorter more (subst (λ l. IsOpen F l) e open_here)) (first.earlier shorter more e some) d;
         }
       where
         earlier : (shorter : List ℕ) → IsOpen F shorter → (Beyond shorter → ⊥) → IsDecided F limit shorter → ⊥

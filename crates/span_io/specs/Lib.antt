@@ -1,6 +1,7 @@
 pub mod Causes
 pub mod Clones
 pub mod Counting
+pub mod Courses
 pub mod Cuts
 pub mod Forms
 pub mod Frames

@@ -1,35 +1,49 @@
 -- What contracts see of sources and sinks in memory.
-use Rattle.std.specs.Prelude.{◌≡◌, ℕ, ◌+◌, ◌<◌, ◌⊎◌, max, List, length, drop, Contains, Some, Result, Ok, Err, false, ◌==◌}
-use Rattle.span_io.specs.Outside.{Inlet, Outlet, counted}
+use Rattle.std.specs.Prelude.{◌≡◌, ℕ, ◌+◌, ◌-◌, ◌<◌, ◌⊎◌, max, List, [], ◌∷◌, length, drop, Contains, Some, Result, Ok, Err, ◌==◌}
+use Rattle.span_io.specs.Outside.{Inlet, Outlet, Sure, so_many, counted}
+use Rattle.span_io.specs.declared.course.ReadCourse.{ReadCourse}
+use Rattle.span_io.specs.declared.course.WriteCourse.{WriteCourse}
 
--- the bytes still to come, how many a call gives at the most, the calls that fail, and two counts
+-- the bytes still to come, how many a call gives at the most, the calls that fail, two counts, and how the reads went
 pub record SourceState : Type 0 where
   pub left : List ℕ
   pub cut : ℕ
   pub fail : List ℕ
   pub calls : ℕ
   pub faults : ℕ
+  pub course : ReadCourse
 
 -- of bytes, of which those from this place are still to come; a call gives at least one
-abbrev pub source_state : List ℕ → ℕ → ℕ → List ℕ → ℕ → ℕ → SourceState
-source_state bytes place cut fail calls faults =
-    record { left = drop place bytes; cut = max cut 1; fail = fail; calls = calls; faults = faults }
+abbrev pub source_state : List ℕ → ℕ → ℕ → List ℕ → ℕ → ℕ → ReadCourse → SourceState
+source_state bytes place cut fail calls faults course =
+    record { left = drop place bytes; cut = max cut 1; fail = fail; calls = calls; faults = faults; course = course }
 
 -- a source with no call that fails is steady
 abbrev pub inlet_of : SourceState → Inlet
-inlet_of s = record { left = Some s.left; faults = s.faults; steady = length s.fail == 0 }
+inlet_of s = record { left = Some s.left; faults = s.faults; steady = length s.fail == 0; course = Some s.course }
 
--- the bytes taken, the room for all of them, the calls that fail, and two counts
+-- the bytes taken, the room for all of them, the calls that fail, two counts, and how the writes went
 pub record SinkState : Type 0 where
   pub held : List ℕ
   pub room : ℕ
   pub fail : List ℕ
   pub calls : ℕ
   pub faults : ℕ
+  pub course : WriteCourse
 
--- a piece may be beyond the room, so the sink isn't steady
+-- with no call that fails the room left is surely taken
+abbrev pub sure_of : List ℕ → ℕ → Sure
+sure_of [] left = so_many left
+sure_of (call ∷ calls) left = so_many 0
+
 abbrev pub outlet_of : SinkState → Outlet
-outlet_of s = record { held = Some s.held; taken = Some (length s.held); faults = s.faults; steady = false }
+outlet_of s = record {
+  held = Some s.held;
+  taken = Some (length s.held);
+  faults = s.faults;
+  sure = sure_of s.fail (s.room - length s.held);
+  course = Some s.course;
+}
 
 -- the next call is listed, or the piece is beyond the room left
 abbrev pub Refuses : SinkState → List ℕ → Type 0

@@ -101,6 +101,11 @@ abbrev pub JudgesValue : {T : Type 0} → Result T (Halt Cause) → Faults → T
 JudgesValue (Ok x) Offends = NothingOffends Offends
 JudgesValue (Err halt) Offends = Halts halt Offends
 
+-- The same of a call that wants no memory, so a cause is all that it gives in place of a value.
+abbrev pub JudgesByCause : {T : Type 0} → Result T Cause → Faults → Type 0
+JudgesByCause (Ok x) Offends = NothingOffends Offends
+JudgesByCause (Err cause) Offends = Counts Offends (cause_number cause)
+
 -- the number of the element that a path leads into, from 1, and 0 for the whole
 abbrev pub unit_of : List ℕ → ℕ
 unit_of [] = 0

@@ -262,6 +262,3 @@ fn long_varint(bytes: &[u8]) -> Result<(u64, &[u8]), Lack>
     }
     Ok((number + weight * u64::from(*tenth), after))
 }
-
-#[cfg(test)]
-mod tests;

@@ -1,4 +1,5 @@
 //! Laws of the outside and of varints, as contracts of functions that do nothing.
+ghost use Rattle.span_io.specs.Frames.{AreBytes};
 ghost use Rattle.span_io.specs.Outside.{GainLaws};
 ghost use Rattle.span_io.specs.VarintLaws.{VarintLaws, ShortestLaws};
 
@@ -22,4 +23,13 @@ pub fn shortest_varint()
     ensures { ShortestLaws }
 {
     // The clause is the law.
+}
+
+/// The numbers of a slice of bytes are bytes.
+pub fn proper_bytes(bytes: &[u8])
+    ensures { AreBytes bytes.now }
+{
+    'bytes: for byte in bytes {
+        let _byte = *byte;
+    }
 }

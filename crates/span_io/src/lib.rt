@@ -5,6 +5,7 @@
 mod blob;
 mod cause;
 mod count_sink;
+mod course;
 mod cursor;
 mod form;
 mod halt;
@@ -26,6 +27,7 @@ mod writer_sink;
 pub use blob::Blob;
 pub use cause::Cause;
 pub use count_sink::CountSink;
+pub use course::{ReadCourse, WriteCourse};
 pub use cursor::{Cursor, Lack, Short};
 pub use form::Form;
 pub use halt::{Halt, OutOfMemory};
@@ -42,6 +44,3 @@ pub use step::Step;
 pub use text::Text;
 pub use varint::{Varint, zigzag};
 pub use writer_sink::WriterSink;
-
-#[cfg(test)]
-mod tests;

@@ -1,7 +1,10 @@
-ghost use Rattle.std.specs.Prelude.{◌≡◌, ◌<◌, ◌≤◌, ◌↔◌, [], length, take, IfOk, OnErr, IsOk, IsErr, IsTrue};
-ghost use Rattle.span_io.specs.Outside.{OutputFails, Gains, counted};
+ghost use Rattle.std.specs.Prelude.{◌≡◌, ◌<◌, ◌≤◌, ◌↔◌, [], length, take, IfOk, OnErr, IsOk, IsErr, Ok, Err};
+ghost use Rattle.span_io.specs.Courses.{course_of_writes, write_next};
+ghost use Rattle.span_io.specs.Outside.{Rose, Takes, Gains, counted};
 ghost use Rattle.span_io.specs.Memory.{outlet_of, Refuses, CountsFault};
+ghost use Rattle.span_io.specs.declared.course.WriteCourse.TheVariants as writes;
 
+use crate::course::WriteCourse;
 use crate::halt::OutOfMemory;
 use crate::items::Items;
 use crate::sink::Sink;
@@ -19,6 +22,7 @@ pub struct MemSink {
     fail: Items<u64>,
     calls: u64,
     faults: u64,
+    course: WriteCourse,
 }
 
 impl Model for MemSink {
@@ -27,14 +31,15 @@ impl Model for MemSink {
 
     ghost Value = { SinkState };
 
-    ghost view = { λ s. record { held = s.bytes.items; room = s.room; fail = s.fail; calls = s.calls; faults = s.faults } };
+    ghost view = { λ s. record { held = s.bytes.items; room = s.room; fail = s.fail; calls = s.calls; faults = s.faults; course = s.course } };
 
     ghost invariant = { λ s. (vec_len s.bytes ≤ s.room) × (s.room ≤ vec_capacity s.bytes) };
 }
 
 impl MemSink {
     pub fn new(alloc: Global, room: usize, fail: Items<u64>) -> Result<MemSink, OutOfMemory>
-        ensures { IfOk result (λ s. s ≡ record { held = []; room = room; fail = fail; calls = 0; faults = 0 }) }
+        ensures { IfOk result (λ s. s
+            ≡ record { held = []; room = room; fail = fail; calls = 0; faults = 0; course = writes.Going }) }
     {
         Ok(MemSink {
             bytes: Vec::with_capacity(alloc, room)?,
@@ -42,6 +47,7 @@ impl MemSink {
             fail,
             calls: 0,
             faults: 0,
+            course: WriteCourse::Going,
         })
     }
 
@@ -53,6 +59,26 @@ impl MemSink {
     }
 }
 
+// How the writes went, with one of this piece that failed.
+fn behind_failure(course: WriteCourse, piece: &[u8]) -> WriteCourse
+    ensures { result ≡ write_next {E = Unit} course piece.now (Err tt) }
+{
+    match (course, piece) {
+        (WriteCourse::Going, [byte, ..]) => WriteCourse::Stopped(*byte),
+        _ => WriteCourse::InVain,
+    }
+}
+
+// The same with one that took some bytes of the piece.
+fn behind_write(course: WriteCourse, piece: &[u8]) -> WriteCourse
+    ensures { result ≡ write_next {E = Unit} course piece.now (Ok 0) }
+{
+    match (course, piece) {
+        (WriteCourse::Going, [_, ..]) => WriteCourse::Going,
+        _ => WriteCourse::InVain,
+    }
+}
+
 impl Sink for MemSink {
     ghost outlet = { outlet_of };
 
@@ -61,10 +87,10 @@ impl Sink for MemSink {
         ensures some { IfOk result (λ n. 0 < length piece.now → 0 < n) }
         ensures ok { IfOk result (λ n. Gains (outlet_of self.old) (outlet_of self.new) (take n piece.now)) }
         ensures err { OnErr result (Gains (outlet_of self.old) (outlet_of self.new) []) }
-        ensures failed { OnErr result (OutputFails (outlet_of self.old) (outlet_of self.new)) }
+        ensures failed { OnErr result (Rose (outlet_of self.old).faults (outlet_of self.new).faults) }
         ensures quiet { IfOk result (λ _. (outlet_of self.new).faults ≡ (outlet_of self.old).faults) }
-        ensures answers { IsTrue (outlet_of self.old).steady → IsOk result }
-        ensures steady { (outlet_of self.new).steady ≡ (outlet_of self.old).steady }
+        ensures answers { 0 < length piece.now → Takes (outlet_of self.old).sure (length piece.now) → IsOk result }
+        ensures course { (outlet_of self.new).course ≡ course_of_writes (outlet_of self.old).course piece.now result }
 
         // It fails exactly on the listed calls and where the piece doesn't fit, and else takes all.
         ensures fails { IsErr result ↔ Refuses self.old piece.now }
@@ -77,8 +103,10 @@ impl Sink for MemSink {
         let listed = self.fail.as_slice().contains(&self.calls);
         if listed || self.room - self.bytes.len() < piece.len() {
             self.faults = self.faults.saturating_add(1);
+            self.course = behind_failure(self.course, piece);
             return Err(Failed);
         }
+        self.course = behind_write(self.course, piece);
         match self.bytes.extend_from_slice(piece) {
             Ok(()) => Ok(piece.len()),
             Err(_) => unreachable!(),

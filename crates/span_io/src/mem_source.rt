@@ -1,10 +1,13 @@
 ghost use Rattle.std.specs.Prelude.{◌≡◌, ◌-◌, ◌≤◌, ◌↔◌, length, min, max, Contains, IfOk, OnErr, IsOk, IsErr, IsTrue, Some};
 ghost use Rattle.std.specs.Io.{ReadsAtMost};
 ghost use Rattle.std.specs.Io.KnownBytes.{ReadConsumes};
+ghost use Rattle.span_io.specs.Courses.{course_of_reads};
 ghost use Rattle.span_io.specs.Outside.{InputFails, counted};
 ghost use Rattle.span_io.specs.Memory.{inlet_of, CountsFault};
+ghost use Rattle.span_io.specs.declared.course.ReadCourse.TheVariants as reads;
 
 use crate::blob::Blob;
+use crate::course::ReadCourse;
 use crate::items::Items;
 use crate::source::{Failed, Source};
 use std::marker::Model;
@@ -20,6 +23,7 @@ pub struct MemSource {
     fail: Items<u64>,
     calls: u64,
     faults: u64,
+    course: ReadCourse,
 }
 
 impl Model for MemSource {
@@ -28,14 +32,15 @@ impl Model for MemSource {
 
     ghost Value = { SourceState };
 
-    ghost view = { λ s. source_state s.bytes s.place s.cut s.fail s.calls s.faults };
+    ghost view = { λ s. source_state s.bytes s.place s.cut s.fail s.calls s.faults s.course };
 
     ghost invariant = { λ s. s.place ≤ length s.bytes };
 }
 
 impl MemSource {
     pub fn new(bytes: Blob, cut: usize, fail: Items<u64>) -> MemSource
-        ensures { result ≡ record { left = bytes; cut = max cut 1; fail = fail; calls = 0; faults = 0 } }
+        ensures { result
+            ≡ record { left = bytes; cut = max cut 1; fail = fail; calls = 0; faults = 0; course = reads.Going } }
     {
         MemSource {
             bytes,
@@ -44,6 +49,7 @@ impl MemSource {
             fail,
             calls: 0,
             faults: 0,
+            course: ReadCourse::Going,
         }
     }
 }
@@ -59,6 +65,7 @@ impl Source for MemSource {
         ensures quiet { IfOk result (λ _. (inlet_of self.new).faults ≡ (inlet_of self.old).faults) }
         ensures answers { IsTrue (inlet_of self.old).steady → IsOk result }
         ensures steady { (inlet_of self.new).steady ≡ (inlet_of self.old).steady }
+        ensures course { (inlet_of self.new).course ≡ course_of_reads (inlet_of self.old).course result }
 
         // It fails exactly on the listed calls, and else gives as many bytes as its cut, the room and
         // its rest allow.
@@ -71,12 +78,14 @@ impl Source for MemSource {
         self.calls = self.calls.saturating_add(1);
         if self.fail.as_slice().contains(&self.calls) {
             self.faults = self.faults.saturating_add(1);
+            self.course = self.course.next(true);
             return Err(Failed);
         }
         let rest = &self.bytes.as_slice()[self.place..];
         let given = self.cut.max(1).min(buf.len()).min(rest.len());
         buf[..given].copy_from_slice(&rest[..given]);
         self.place += given;
+        self.course = self.course.next(given == 0);
         Ok(given)
     }
 }

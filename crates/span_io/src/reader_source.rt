@@ -1,4 +1,4 @@
-ghost use Rattle.std.specs.Prelude.{◌≡◌, false};
+ghost use Rattle.std.specs.Prelude.{◌≡◌, None, false};
 
 use crate::source::{Failed, Source};
 use std::io::Read;
@@ -14,7 +14,7 @@ pub struct ReaderSource<R> {
 impl<R: Read> ReaderSource<R> {
     pub fn new(reader: R) -> ReaderSource<R>
         ensures { ⟦<ReaderSource<R> as Source>⟧.inlet result
-            ≡ record { left = R.remaining reader; faults = 0; steady = false } }
+            ≡ record { left = R.remaining reader; faults = 0; steady = false; course = None } }
     {
         ReaderSource { reader, faults: 0 }
     }
@@ -28,7 +28,7 @@ impl<R: Read> ReaderSource<R> {
 }
 
 impl<R: Read> Source for ReaderSource<R> {
-    ghost inlet = { λ s. record { left = R.remaining s.reader; faults = s.faults; steady = false } };
+    ghost inlet = { λ s. record { left = R.remaining s.reader; faults = s.faults; steady = false; course = None } };
 
     fn read(&mut self, buf: &mut [u8]) -> Result<usize, Failed> {
         match self.reader.read(buf) {

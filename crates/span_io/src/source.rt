@@ -1,6 +1,7 @@
 ghost use Rattle.std.specs.Prelude.{◌≡◌, ◌≤◌, IfOk, OnErr, IsOk, IsTrue};
 ghost use Rattle.std.specs.Io.{ReadsAtMost};
 ghost use Rattle.std.specs.Io.KnownBytes.{ReadConsumes};
+ghost use Rattle.span_io.specs.Courses.{course_of_reads};
 ghost use Rattle.span_io.specs.Outside.{Inlet, InputFails};
 
 /// The outside refused a call.
@@ -8,7 +9,8 @@ ghost use Rattle.span_io.specs.Outside.{Inlet, InputFails};
 pub struct Failed;
 
 /// Where bytes come from. Contracts see a source as its `inlet`: the bytes still to come, where they
-/// are told, a count of its faults, which stays at the end of 64 bits, and whether it is steady.
+/// are told, a count of its faults, which stays at the end of 64 bits, whether it is steady, and how
+/// its reads went, where it is told.
 pub trait Source {
     ghost inlet: { Self → Inlet };
 
@@ -23,5 +25,6 @@ pub trait Source {
 
         // A steady source never fails, and one that isn't never becomes so.
         ensures answers { IsTrue (inlet self.old).steady → IsOk result }
-        ensures steady { (inlet self.new).steady ≡ (inlet self.old).steady };
+        ensures steady { (inlet self.new).steady ≡ (inlet self.old).steady }
+        ensures course { (inlet self.new).course ≡ course_of_reads (inlet self.old).course result };
 }

@@ -1,4 +1,5 @@
-ghost use Rattle.std.specs.Prelude.{◌≡◌, None, false};
+ghost use Rattle.std.specs.Prelude.{◌≡◌, None};
+ghost use Rattle.span_io.specs.Outside.{so_many};
 
 use crate::sink::Sink;
 use crate::source::Failed;
@@ -15,7 +16,7 @@ pub struct WriterSink<W> {
 impl<W: Write> WriterSink<W> {
     pub fn new(writer: W) -> WriterSink<W>
         ensures { ⟦<WriterSink<W> as Sink>⟧.outlet result
-            ≡ record { held = W.contents writer; taken = None; faults = 0; steady = false } }
+            ≡ record { held = W.contents writer; taken = None; faults = 0; sure = so_many 0; course = None } }
     {
         WriterSink { writer, faults: 0 }
     }
@@ -29,7 +30,7 @@ impl<W: Write> WriterSink<W> {
 }
 
 impl<W: Write> Sink for WriterSink<W> {
-    ghost outlet = { λ s. record { held = W.contents s.writer; taken = None; faults = s.faults; steady = false } };
+    ghost outlet = { λ s. record { held = W.contents s.writer; taken = None; faults = s.faults; sure = so_many 0; course = None } };
 
     fn write(&mut self, piece: &[u8]) -> Result<usize, Failed> {
         match self.writer.write(piece) {

@@ -1,14 +1,15 @@
 -- How sizes are judged, of which each byte may be refused.
-use Rattle.std.proofs.Common.{◌≡◌, ◌≢◌, ◌≤◌, ◌<◌, ◌+◌, ◌++◌, ◌∷◌, ℕ, zero, suc, List, [], Bool, true, false, ltb, Option, Some, None, Result, Ok, refl, sym, ◌∙◌, subst, arith}
+use Rattle.std.proofs.Common.{◌≡◌, ◌≢◌, ◌≤◌, ◌<◌, ◌+◌, ◌++◌, ◌∷◌, inl, inr, ℕ, zero, suc, List, [], Bool, true, false, ltb, Option, Some, None, Result, Ok, refl, sym, ◌∙◌, subst, arith}
 use Rattle.std.proofs.lemmas.Bool.{ltb-true, ltb-false}
 use Rattle.std.specs.Int.{w32, from_be_bytes}
 use Rattle.span_io.specs.declared.cause.Cause.{Cause}
 use Rattle.span_io.specs.declared.cause.Cause.TheVariants as causes
+use Rattle.thrift_core.specs.Levels.{turn_of, RefusesPart}
 use Rattle.thrift_core.specs.Reading.{◌>>=◌}
 use Rattle.thrift_core.specs.Judged.{opens, MayCome, Judged, found, may_come, JudgesReading}
-use Rattle.thrift_core.specs.JudgedSteps.{zeros, one_fixed, judged_behind, refused_here}
-use Rattle.thrift_core.specs.Standing.{IsProperWhy, none_some}
-use Rattle.thrift_binary.specs.Spelling.{IsFixed, IsBinarySize, SaysSome, IsBinarySizeRefused}
+use Rattle.thrift_core.specs.JudgedSteps.{zeros, zeros_are_bytes, one_fixed, judged_behind, refused_here}
+use Rattle.thrift_core.specs.Standing.{IsProperWhy, none_some, none_is, some_is, one_counts, own_turn, before_last}
+use Rattle.thrift_binary.specs.Spelling.{IsFixed, IsBinarySize, SaysSome, SaysNegative, BinarySizeFault, IsBinarySizeRefused}
 use Rattle.thrift_binary.specs.Reading.{judged_at, why_first, why_later, binary_size_at}
 
 -- no part has a varint
@@ -61,8 +62,7 @@ module _ (why : Option Cause) (proper : IsProperWhy why) (S : ℕ → List ℕ �
   later_some : (b : ℕ) (bytes : List ℕ) (w : Option Cause) → why ≡ w → Judged ℕ S NoVarint R (suc b ∷ bytes) (judged_at (λ x. w) (suc b ∷ bytes) >>= λ x. f x.0 x.1)
   later_some b bytes None e = judged_behind ℕ S NoVarint R (suc b) open_here none_here (λ v. v) bytes (f (suc b) bytes) (goes_on (suc b) (λ some. e) bytes)
   later_some b bytes (Some cause) e =
-      let known = proper cause e in
-      refused_here ℕ S NoVarint R (suc b) open_here none_here (λ v. v) bytes cause (because (suc b) (λ z. omega (arith, z)) cause e) (none_then (suc b) (λ z. omega (arith, z)) cause e) (λ front v. v) known.0 known.1
+      refused_here ℕ S NoVarint R (suc b) open_here none_here (λ v. v) bytes cause (because (suc b) (λ z. omega (arith, z)) cause e) (none_then (suc b) (λ z. omega (arith, z)) cause e) (λ front v. v) (proper cause e)
 
   pub later_byte : (bytes : List ℕ) → Judged ℕ S NoVarint R bytes (judged_at (why_later why) bytes >>= λ x. f x.0 x.1)
   later_byte [] = may_come (opens ℕ S NoVarint [] open_here) refl
@@ -74,8 +74,23 @@ either_some : (why : Option Cause) (m n : ℕ) → (1 ≤ m → why ≡ None) �
 either_some why zero n quiet also some = also (omega (arith, some))
 either_some why (suc m) n quiet also some = quiet (omega arith)
 
-refused_some : (why : Option Cause) (cause : Cause) (front : List ℕ) → why ≡ Some cause → SaysSome front → IsBinarySizeRefused why cause front
-refused_some why cause front e says = subst (λ w. IsBinarySizeRefused w cause front) (sym e) (refl, says)
+pub binary_size_fault : (why : Option Cause) → IsProperWhy why → (front : List ℕ) (cause : Cause) → BinarySizeFault why front cause → RefusesPart cause
+binary_size_fault why proper front cause (inl h) = proper cause h.0
+binary_size_fault why proper front cause (inr h) = subst RefusesPart (sym h.0) (omega arith)
+
+refused_some : (why : Option Cause) → IsProperWhy why → (cause : Cause) (front : List ℕ) → why ≡ Some cause → SaysSome front → IsBinarySizeRefused why cause front
+refused_some why proper cause front e says = (inl (e, says), first)
+  where
+    first : (other : Cause) → BinarySizeFault why front other → turn_of cause ≤ turn_of other
+    first other (inl h) = own_turn cause other (some_is other cause (sym h.0 ∙ e))
+    first other (inr h) = before_last cause other (proper cause e) h.0
+
+refused_negative : (front : List ℕ) → SaysNegative front → IsBinarySizeRefused None causes.BadSize front
+refused_negative front says = (inr (refl, says), first)
+  where
+    first : (other : Cause) → BinarySizeFault None front other → turn_of causes.BadSize ≤ turn_of other
+    first other (inl h) = absurd (none_is other h.0)
+    first other (inr h) = own_turn causes.BadSize other (sym h.0)
 
 module _ (why : Option Cause) (proper : IsProperWhy why) where
   abbrev Read : Type 0
@@ -100,35 +115,35 @@ module _ (why : Option Cause) (proper : IsProperWhy why) where
   judged_3 : (a b c : ℕ) → a < 128 → (1 ≤ a + b + c → why ≡ None) → (bytes : List ℕ) → Judged ℕ (λ n text. BinarySized why n (a ∷ b ∷ c ∷ text)) NoVarint (λ cause text. Refused cause (a ∷ b ∷ c ∷ text)) bytes (at_3 a b c bytes)
   judged_3 a b c small quiet bytes = later_byte why proper (λ n text. BinarySized why n (a ∷ b ∷ c ∷ text)) (λ cause text. Refused cause (a ∷ b ∷ c ∷ text))
       (λ d rest. Ok (from_be_bytes w32 (a ∷ b ∷ c ∷ d ∷ []), rest))
-      (record { word = from_be_bytes w32 (a ∷ b ∷ c ∷ 0 ∷ []); more = zeros 1; some = λ e. cc; spelled = sized a b c 0 small (λ some. quiet (omega (arith, some))) })
+      (record { word = from_be_bytes w32 (a ∷ b ∷ c ∷ 0 ∷ []); more = zeros 1; are_bytes = zeros_are_bytes 1; some = λ e. cc; spelled = sized a b c 0 small (λ some. quiet (omega (arith, some))) })
       (λ n h. h.0)
       (λ d other cause e n text h. none_some why cause e (h.1 (fourth_some n a b c d text h.0 other)))
-      (λ d other cause e. (let none = quiet_zero why cause (a + b + c) quiet e in refused_some why cause (a ∷ b ∷ c ∷ d ∷ []) e (omega (arith, none), omega (arith, none), omega (arith, none), other)))
+      (λ d other cause e. (let none = quiet_zero why cause (a + b + c) quiet e in refused_some why proper cause (a ∷ b ∷ c ∷ d ∷ []) e (omega (arith, none), omega (arith, none), omega (arith, none), other)))
       (λ d also rest. found (from_be_bytes w32 (a ∷ b ∷ c ∷ d ∷ [])) [] rest (sized a b c d small (either_some why (a + b + c) d quiet also)) refl refl)
       bytes
 
   judged_2 : (a b : ℕ) → a < 128 → (1 ≤ a + b → why ≡ None) → (bytes : List ℕ) → Judged ℕ (λ n text. BinarySized why n (a ∷ b ∷ text)) NoVarint (λ cause text. Refused cause (a ∷ b ∷ text)) bytes (at_2 a b bytes)
   judged_2 a b small quiet bytes = later_byte why proper (λ n text. BinarySized why n (a ∷ b ∷ text)) (λ cause text. Refused cause (a ∷ b ∷ text))
       (at_3 a b)
-      (record { word = from_be_bytes w32 (a ∷ b ∷ 0 ∷ 0 ∷ []); more = zeros 2; some = λ e. cc; spelled = sized a b 0 0 small (λ some. quiet (omega (arith, some))) })
+      (record { word = from_be_bytes w32 (a ∷ b ∷ 0 ∷ 0 ∷ []); more = zeros 2; are_bytes = zeros_are_bytes 2; some = λ e. cc; spelled = sized a b 0 0 small (λ some. quiet (omega (arith, some))) })
       (λ n h. h.0)
       (λ c other cause e n text h. none_some why cause e (h.1 (third_some n a b c text h.0 other)))
-      (λ c other cause e. (let none = quiet_zero why cause (a + b) quiet e in refused_some why cause (a ∷ b ∷ c ∷ []) e (omega (arith, none), omega (arith, none), other)))
+      (λ c other cause e. (let none = quiet_zero why cause (a + b) quiet e in refused_some why proper cause (a ∷ b ∷ c ∷ []) e (omega (arith, none), omega (arith, none), other)))
       (λ c also rest. judged_3 a b c small (either_some why (a + b) c quiet also) rest)
       bytes
 
   judged_1 : (a : ℕ) → a < 128 → (1 ≤ a → why ≡ None) → (bytes : List ℕ) → Judged ℕ (λ n text. BinarySized why n (a ∷ text)) NoVarint (λ cause text. Refused cause (a ∷ text)) bytes (at_1 a bytes)
   judged_1 a small quiet bytes = later_byte why proper (λ n text. BinarySized why n (a ∷ text)) (λ cause text. Refused cause (a ∷ text))
       (at_2 a)
-      (record { word = from_be_bytes w32 (a ∷ 0 ∷ 0 ∷ 0 ∷ []); more = zeros 3; some = λ e. cc; spelled = sized a 0 0 0 small (λ some. quiet (omega (arith, some))) })
+      (record { word = from_be_bytes w32 (a ∷ 0 ∷ 0 ∷ 0 ∷ []); more = zeros 3; are_bytes = zeros_are_bytes 3; some = λ e. cc; spelled = sized a 0 0 0 small (λ some. quiet (omega (arith, some))) })
       (λ n h. h.0)
       (λ b other cause e n text h. none_some why cause e (h.1 (second_some n a b text h.0 other)))
-      (λ b other cause e. (let none = quiet_zero why cause a quiet e in refused_some why cause (a ∷ b ∷ []) e (none, other)))
+      (λ b other cause e. (let none = quiet_zero why cause a quiet e in refused_some why proper cause (a ∷ b ∷ []) e (none, other)))
       (λ b also rest. judged_2 a b small (either_some why a b quiet also) rest)
       bytes
 
   open_size : MayCome ℕ (BinarySized why) []
-  open_size = record { word = from_be_bytes w32 (0 ∷ 0 ∷ 0 ∷ 0 ∷ []); more = zeros 4; some = λ e. cc; spelled = sized 0 0 0 0 (omega arith) (λ some. absurd (omega (arith, some))) }
+  open_size = record { word = from_be_bytes w32 (0 ∷ 0 ∷ 0 ∷ 0 ∷ []); more = zeros 4; are_bytes = zeros_are_bytes 4; some = λ e. cc; spelled = sized 0 0 0 0 (omega arith) (λ some. absurd (omega (arith, some))) }
 
   none_size : (n : ℕ) → BinarySized why n [] → ⊥
   none_size n h = h.0
@@ -137,12 +152,11 @@ module _ (why : Option Cause) (proper : IsProperWhy why) where
   judged_by : (w : Option Cause) → why ≡ w → (b : ℕ) (bytes : List ℕ) (small : Bool) → ltb (suc b) 128 ≡ small → Judged ℕ (BinarySized why) NoVarint Refused (suc b ∷ bytes) (judged_at (why_first w) (suc b ∷ bytes) >>= λ x. at_1 x.0 x.1)
   judged_by None e b bytes true f = rw f (judged_behind ℕ (BinarySized why) NoVarint Refused (suc b) open_size none_size (λ v. v) bytes (at_1 (suc b) bytes) (judged_1 (suc b) (ltb-true (suc b) 128 f) (λ some. e) bytes))
   judged_by None e b bytes false f = rw f (refused_here ℕ (BinarySized why) NoVarint Refused (suc b) open_size none_size (λ v. v) bytes causes.BadSize
-      (subst (λ w. IsBinarySizeRefused w causes.BadSize (suc b ∷ [])) (sym e) (refl, ltb-false (suc b) 128 f))
-      (λ n text h. omega (arith, first_small n (suc b) text h.0, ltb-false (suc b) 128 f)) (λ front v. v) (λ z. cc) (λ z. cc))
+      (subst (λ w. IsBinarySizeRefused w causes.BadSize (suc b ∷ [])) (sym e) (refused_negative (suc b ∷ []) (ltb-false (suc b) 128 f)))
+      (λ n text h. omega (arith, first_small n (suc b) text h.0, ltb-false (suc b) 128 f)) (λ front v. v) (omega arith))
   judged_by (Some cause) e b bytes small f =
-      let known = proper cause e in
-      refused_here ℕ (BinarySized why) NoVarint Refused (suc b) open_size none_size (λ v. v) bytes cause (refused_some why cause (suc b ∷ []) e (λ z. omega (arith, z)))
-      (λ n text h. none_some why cause e (h.1 (first_some n (suc b) text h.0 (λ z. omega (arith, z))))) (λ front v. v) known.0 known.1
+      refused_here ℕ (BinarySized why) NoVarint Refused (suc b) open_size none_size (λ v. v) bytes cause (refused_some why proper cause (suc b ∷ []) e (λ z. omega (arith, z)))
+      (λ n text h. none_some why cause e (h.1 (first_some n (suc b) text h.0 (λ z. omega (arith, z))))) (λ front v. v) (proper cause e)
 
   judged_size : (bytes : List ℕ) → Judged ℕ (BinarySized why) NoVarint Refused bytes (binary_size_at why bytes)
   unfolding binary_size_at
@@ -151,11 +165,7 @@ module _ (why : Option Cause) (proper : IsProperWhy why) where
   judged_size (suc b ∷ bytes) = judged_by why refl b bytes (ltb (suc b) 128) refl
 
   one_cause : (front : List ℕ) (a b : Cause) → Refused a front → Refused b front → a ≡ b
-  one_cause front a b h g = cause_by why front a b h g
-    where
-      cause_by : (w : Option Cause) (front : List ℕ) (a b : Cause) → IsBinarySizeRefused w a front → IsBinarySizeRefused w b front → a ≡ b
-      cause_by None front a b h g = h.0 ∙ sym g.0
-      cause_by (Some cause) front a b h g = h.0 ∙ sym g.0
+  one_cause front a b h g = one_counts (λ fault. BinarySizeFault why front fault) (binary_size_fault why proper front) a b h g
 
   pub binary_size_judges : JudgesReading ℕ (BinarySized why) NoVarint Refused (λ bytes. binary_size_at why bytes)
   binary_size_judges = record {

@@ -10,7 +10,7 @@ use Rattle.thrift_core.specs.declared.type_code.TypeCode.{TypeCode}
 use Rattle.thrift_core.specs.Levels.{why_none, why_no_pair}
 use Rattle.thrift_core.specs.Reading.{◌>>=◌, unless, known}
 use Rattle.thrift_core.specs.Judged.{opens, MayCome, Judged, found, may_come, JudgesReading}
-use Rattle.thrift_core.specs.JudgedSteps.{zeros, one_fixed, fixed_judges, judged_behind, open_behind, refused_here, judged_as}
+use Rattle.thrift_core.specs.JudgedSteps.{zeros, zeros_are_bytes, one_fixed, fixed_judges, judged_behind, open_behind, refused_here, judged_as}
 use Rattle.thrift_core.specs.Standing.{may_stand, level_stands, stands_none, level_of, some_is, none_is, proper_none, proper_pair, pair_stands, no_why, same_list, same_map, field_with, same_field}
 use Rattle.thrift_binary.specs.TypeCodes.{kind_among, binary_kind_of_code}
 use Rattle.thrift_binary.specs.Spelling.{signed, IsFixed, IsBinaryHeader, IsBinaryListHead, IsBinaryMapHead, IsBinarySizeRefused, IsBinaryHeaderRefused, IsBinaryListRefused, IsBinaryMapRefused}
@@ -21,7 +21,7 @@ use Rattle.thrift_binary.specs.JudgedBytes.{NoVarint, BinarySized, binary_size_j
 
 module _ (left : ℕ) where
   open_list : MayCome ListHead (IsBinaryListHead left) []
-  open_list = record { word = record { element = binary_kind_of_code 0; size = 0 }; more = zeros 5; some = λ e. cc; spelled = (refl, (omega arith, refl), λ some. absurd (omega (arith, some))) }
+  open_list = record { word = record { element = binary_kind_of_code 0; size = 0 }; more = zeros 5; are_bytes = zeros_are_bytes 5; some = λ e. cc; spelled = (refl, (omega arith, refl), λ some. absurd (omega (arith, some))) }
 
   none_list : (head : ListHead) → IsBinaryListHead left head [] → ⊥
   none_list head h = h
@@ -69,6 +69,7 @@ module _ (left : ℕ) where
   open_key = record {
     word = record { key = binary_kind_of_code 0; value = binary_kind_of_code 0; size = 0 };
     more = zeros 6;
+    are_bytes = zeros_are_bytes 6;
     some = λ e. cc;
     spelled = (refl, refl, (omega arith, refl), λ some. absurd (omega (arith, some)));
   }
@@ -80,6 +81,7 @@ module _ (left : ℕ) where
   open_value key = record {
     word = record { key = binary_kind_of_code key; value = binary_kind_of_code 0; size = 0 };
     more = zeros 5;
+    are_bytes = zeros_are_bytes 5;
     some = λ e. cc;
     spelled = (refl, refl, (omega arith, refl), λ some. absurd (omega (arith, some)));
   }
@@ -136,7 +138,7 @@ module _ (left : ℕ) where
   Unheaded cause front = IsBinaryHeaderRefused left cause front
 
   open_header : MayCome (Option Field) Headed []
-  open_header = record { word = None; more = 0 ∷ []; some = λ e. cc; spelled = tt }
+  open_header = record { word = None; more = zeros 1; are_bytes = zeros_are_bytes 1; some = λ e. cc; spelled = tt }
 
   none_header : (word : Option Field) → Headed word [] → ⊥
   none_header None h = h
@@ -155,9 +157,8 @@ module _ (left : ℕ) where
 
   field_refused : (n : ℕ) (bytes : List ℕ) (cause : Cause) → why_none left (binary_kind_of_code (suc n)) ≡ Some cause → Judged (Option Field) Headed NoVarint Unheaded (suc n ∷ bytes) (Err cause)
   field_refused n bytes cause e =
-      let known = proper_none left (binary_kind_of_code (suc n)) cause e in
       refused_here (Option Field) Headed NoVarint Unheaded (suc n) open_header none_header (λ v. v) bytes cause ((λ z. omega (arith, z)), e)
-      (λ word text h. none_is cause (sym (field_stands n word text h) ∙ e)) (λ front v. v) known.0 known.1
+      (λ word text h. none_is cause (sym (field_stands n word text h) ∙ e)) (λ front v. v) (proper_none left (binary_kind_of_code (suc n)) cause e)
 
   field_found : (n : ℕ) (bytes : List ℕ) (kind : TypeCode) → binary_kind_of_code (suc n) ≡ Some kind → why_none left (Some kind) ≡ None
       → Judged (Option Field) Headed NoVarint Unheaded (suc n ∷ bytes) (fixed_at ℤ 2 (signed w16) bytes >>= λ id. Ok (Some (field_with id.0 kind None), id.1))

@@ -1,5 +1,5 @@
--- What the binary protocol binary_keeps: how its parts are read, refused, completed and written.
-use Rattle.std.proofs.Common.{◌≡◌, ◌≢◌, ◌≤◌, ◌<◌, ◌++◌, ◌∷◌, ℕ, zero, ℤ, Bool, true, false, List, [], length, Some, None, Result, Ok, Err, FitsSigned, refl, ap, sym, ◌∙◌, subst, arith}
+-- What the binary protocol keeps: how its parts are read, refused, completed and written.
+use Rattle.std.proofs.Common.{◌≡◌, ◌≢◌, ◌≤◌, ◌<◌, ◌++◌, ◌∷◌, ℕ, zero, ℤ, Bool, true, false, List, [], length, Option, Some, None, Result, Ok, Err, FitsSigned, refl, ap, sym, ◌∙◌, subst, arith}
 use Rattle.std.specs.Int.{w8, w16, w32, w64, from_be_bytes, to_be_bytes, cast_signed, cast_unsigned}
 use Rattle.std.proofs.Math.Facts.{Fits-of_z}
 use Rattle.std.proofs.lemmas.Int.{to_z-of_z}
@@ -11,14 +11,16 @@ use Rattle.thrift_core.specs.declared.field.MapHead.{MapHead}
 use Rattle.thrift_core.specs.declared.type_code.TypeCode.{TypeCode}
 use Rattle.thrift_core.specs.declared.type_code.TypeCode.TheVariants as kinds
 use Rattle.thrift_core.specs.Parts.{Part, header, truth, byte, short, int, long, eight, size, list_head, map_head, WordOf, Begins, HasLevel}
-use Rattle.thrift_core.specs.Protocols.{ReadsExactly, PartLaws, HasBytes, WritesShortest, MayWrite, last_size}
+use Rattle.thrift_core.specs.Levels.{RefusesPart, why_none, why_no_pair}
+use Rattle.thrift_core.specs.Standing.{IsProperWhy, proper_none, proper_pair}
+use Rattle.thrift_core.specs.Protocols.{ReadsExactly, SpelledInBytes, PartLaws, HasBytes, WritesShortest, MayWrite, last_size}
 use Rattle.thrift_binary.specs.TypeCodes.{binary_code_of, kind_among, binary_kind_of_code}
 use Rattle.thrift_binary.specs.Spelling.{signed, signed_text, binary_is_true, as_they_are, IsFixed, IsBinarySize, IsBinarySizeRefused, binary_spells, binary_then_varint, binary_refuses, binary_keeps, binary_writes}
 use Rattle.thrift_core.specs.Reading.{◌>>=◌}
 use Rattle.thrift_binary.specs.Reading.{binary_reads, binary_size_at}
-use Rattle.thrift_core.specs.Judged.{Judged, found, JudgesReading, reads_found, reads_only, reads_short, reads_bad, reads_within}
-use Rattle.thrift_core.specs.JudgedSteps.{zeros, fixed_judges, judged_as}
-use Rattle.thrift_binary.specs.JudgedBytes.{NoVarint, BinarySized, binary_size_judges, one_size}
+use Rattle.thrift_core.specs.Judged.{Judged, found, JudgesReading, reads_found, reads_only, reads_short, reads_bad, reads_cause}
+use Rattle.thrift_core.specs.JudgedSteps.{zeros, zeros_are_bytes, fixed_judges, judged_as}
+use Rattle.thrift_binary.specs.JudgedBytes.{NoVarint, BinarySized, binary_size_fault, binary_size_judges, one_size}
 use Rattle.thrift_binary.specs.JudgedHeads.{binary_list_judges, binary_map_judges, binary_header_judges}
 
 -- ---- each part is judged
@@ -63,6 +65,25 @@ judges size = length_judges
 judges (list_head left) = binary_list_judges left
 judges (map_head left) = binary_map_judges left
 
+-- ---- what a part is refused for
+
+size_refused_by : (why : Option Cause) (front : List ℕ) (cause : Cause) → IsProperWhy why → IsBinarySizeRefused why cause front → RefusesPart cause
+size_refused_by why front cause known h = binary_size_fault why known front cause h.0
+
+refused_by : (part : Part) (front : List ℕ) (cause : Cause) → binary_refuses part cause front → RefusesPart cause
+refused_by (header left last) [] cause h = absurd h
+refused_by (header left last) (code ∷ []) cause h = proper_none left (binary_kind_of_code code) cause h.1
+refused_by (header left last) (code ∷ b ∷ front) cause h = absurd h
+refused_by size front cause h = size_refused_by None front cause (λ c e. cc) h
+refused_by (list_head left) [] cause h = absurd h
+refused_by (list_head left) (code ∷ number) cause h =
+    size_refused_by (why_none left (binary_kind_of_code code)) number cause (proper_none left (binary_kind_of_code code)) h
+refused_by (map_head left) [] cause h = absurd h
+refused_by (map_head left) (key ∷ []) cause h = absurd h
+refused_by (map_head left) (key ∷ value ∷ number) cause h =
+    size_refused_by (why_no_pair left (binary_kind_of_code key) (binary_kind_of_code value)) number cause (proper_pair left (binary_kind_of_code key) (binary_kind_of_code value)) h
+refused_by other front cause h = absurd h
+
 -- ---- readers
 
 begun : (part : Part) (word : WordOf part) (bytes rest : List ℕ) → (text : List ℕ) × binary_spells part word text × (bytes ≡ text ++ rest) → Begins binary_spells part word bytes rest
@@ -83,7 +104,7 @@ binary_reads_exactly = record {
   only = λ part word bytes rest h. reads_only (WordOf part) (S part) (V part) (R part) (binary_reads part) (judges part) word h.text bytes rest h.spelled h.parts;
   short = λ part bytes. reads_short (WordOf part) (S part) (V part) (R part) (binary_reads part) (judges part) bytes;
   bad = λ part bytes cause other. reads_bad (WordOf part) (S part) (V part) (R part) (binary_reads part) (judges part) bytes cause other;
-  within = λ part bytes. reads_within (WordOf part) (S part) (V part) (R part) (binary_reads part) (judges part) bytes;
+  refused_for = λ part bytes cause. reads_cause (WordOf part) (S part) (V part) (R part) (binary_reads part) (judges part) bytes cause;
 }
 
 -- ---- what stands where
@@ -119,18 +140,36 @@ map_level left head (key ∷ value ∷ number) h some = (let both = h.3 some in 
 map_level left head other h some = absurd h
 
 -- a part can be spelled with zeros
-spellable : (part : Part) → (word : WordOf part) × (text : List ℕ) × binary_spells part word text
-spellable (header left last) = (None, 0 ∷ [], tt)
-spellable (truth (Some held)) = (held, [], (refl, refl))
-spellable (truth None) = (false, zeros 1, (refl, refl))
-spellable byte = (signed w8 (zeros 1), zeros 1, (refl, refl))
-spellable short = (signed w16 (zeros 2), zeros 2, (refl, refl))
-spellable int = (signed w32 (zeros 4), zeros 4, (refl, refl))
-spellable long = (signed w64 (zeros 8), zeros 8, (refl, refl))
-spellable eight = (zeros 8, zeros 8, (refl, refl))
-spellable size = (0, zeros 4, (omega arith, refl))
-spellable (list_head left) = (record { element = binary_kind_of_code 0; size = 0 }, zeros 5, (refl, (omega arith, refl), λ some. absurd (omega (arith, some))))
-spellable (map_head left) = (record { key = binary_kind_of_code 0; value = binary_kind_of_code 0; size = 0 }, zeros 6, (refl, refl, (omega arith, refl), λ some. absurd (omega (arith, some))))
+by_zeros : (part : Part) (word : WordOf part) (many : ℕ) → binary_spells part word (zeros many) → SpelledInBytes binary_spells part word
+by_zeros part word many h = record { text = zeros many; are_bytes = zeros_are_bytes many; spelled = h }
+
+no_bytes : SpelledInBytes binary_spells size 0
+no_bytes = by_zeros size 0 4 (omega arith, refl)
+
+abbrev no_elements : ListHead
+no_elements = record { element = binary_kind_of_code 0; size = 0 }
+
+empty_list : (left : ℕ) → SpelledInBytes binary_spells (list_head left) no_elements
+empty_list left = by_zeros (list_head left) no_elements 5 (refl, (omega arith, refl), λ some. absurd (omega (arith, some)))
+
+abbrev no_pairs : MapHead
+no_pairs = record { key = binary_kind_of_code 0; value = binary_kind_of_code 0; size = 0 }
+
+empty_map : (left : ℕ) → SpelledInBytes binary_spells (map_head left) no_pairs
+empty_map left = by_zeros (map_head left) no_pairs 6 (refl, refl, (omega arith, refl), λ some. absurd (omega (arith, some)))
+
+spellable : (part : Part) → (word : WordOf part) × SpelledInBytes binary_spells part word
+spellable (header left last) = (None, by_zeros (header left last) None 1 tt)
+spellable (truth (Some held)) = (held, by_zeros (truth (Some held)) held 0 (refl, refl))
+spellable (truth None) = (false, by_zeros (truth None) false 1 (refl, refl))
+spellable byte = (signed w8 (zeros 1), by_zeros byte (signed w8 (zeros 1)) 1 (refl, refl))
+spellable short = (signed w16 (zeros 2), by_zeros short (signed w16 (zeros 2)) 2 (refl, refl))
+spellable int = (signed w32 (zeros 4), by_zeros int (signed w32 (zeros 4)) 4 (refl, refl))
+spellable long = (signed w64 (zeros 8), by_zeros long (signed w64 (zeros 8)) 8 (refl, refl))
+spellable eight = (zeros 8, by_zeros eight (zeros 8) 8 (refl, refl))
+spellable size = (0, no_bytes)
+spellable (list_head left) = (no_elements, empty_list left)
+spellable (map_head left) = (no_pairs, empty_map left)
 
 pub binary_part_laws : PartLaws binary_spells binary_then_varint binary_refuses
 binary_part_laws = record {
@@ -139,12 +178,13 @@ binary_part_laws = record {
   list_level = list_level;
   map_level = map_level;
   varint_front = λ part front h. absurd h;
+  refused_by = refused_by;
   one_cause = λ part bytes a b closed h g. (judges part).one_cause bytes a b h g;
   spellable = spellable;
-  stop = λ left last. (0 ∷ [], tt);
-  no_bytes = (zeros 4, (omega arith, refl));
-  empty_list = λ left. (record { element = binary_kind_of_code 0; size = 0 }, zeros 5, (refl, (omega arith, refl), λ some. absurd (omega (arith, some))), refl);
-  empty_map = λ left. (record { key = binary_kind_of_code 0; value = binary_kind_of_code 0; size = 0 }, zeros 6, (refl, refl, (omega arith, refl), λ some. absurd (omega (arith, some))), refl);
+  stop = λ left last. by_zeros (header left last) None 1 tt;
+  no_bytes = no_bytes;
+  empty_list = λ left. (no_elements, empty_list left, refl);
+  empty_map = λ left. (no_pairs, empty_map left, refl);
 }
 
 -- ---- writing

@@ -4,3 +4,4 @@ pub mod Reading
 pub mod JudgedBytes
 pub mod JudgedHeads
 pub mod Laws
+pub mod ProperWords

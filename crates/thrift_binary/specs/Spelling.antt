@@ -1,6 +1,6 @@
 -- How each part of a text is spelled (Thrift binary protocol): numbers have the most significant byte first, and those that have a
 -- sign are in two's complement.
-use Rattle.std.specs.Prelude.{◌≡◌, ◌≢◌, ◌≤◌, ◌<◌, ℕ, zero, ℤ, Bool, true, false, Option, Some, None, List, [], ◌∷◌, length}
+use Rattle.std.specs.Prelude.{◌≡◌, ◌≢◌, ◌≤◌, ◌<◌, ◌⊎◌, ℕ, zero, ℤ, Bool, true, false, Option, Some, None, List, [], ◌∷◌, length}
 use Rattle.std.specs.Int.{Width, w8, w16, w32, w64, from_be_bytes, to_be_bytes, cast_signed, cast_unsigned, from_bool}
 use Rattle.span_io.specs.declared.cause.Cause.{Cause}
 use Rattle.span_io.specs.declared.cause.Cause.TheVariants as causes
@@ -10,7 +10,7 @@ use Rattle.thrift_core.specs.declared.field.MapHead.{MapHead}
 use Rattle.thrift_core.specs.declared.type_code.TypeCode.{TypeCode}
 use Rattle.thrift_core.specs.Parts.{Part, header, truth, byte, short, int, long, eight, size, list_head, map_head, Spelling, HasLevel}
 use Rattle.thrift_core.specs.Protocols.{WritingOf}
-use Rattle.thrift_core.specs.Levels.{MayStand, why_none, why_no_pair}
+use Rattle.thrift_core.specs.Levels.{CountsFirst, MayStand, why_none, why_no_pair}
 use Rattle.thrift_binary.specs.TypeCodes.{binary_code_of, binary_kind_of_code}
 
 -- ---- what so many bytes say
@@ -89,11 +89,12 @@ abbrev pub SaysNegative : List ℕ → Type 0
 SaysNegative (a ∷ []) = 128 ≤ a
 SaysNegative other = ⊥
 
--- A size behind what may have no elements, for this cause, is refused where it says that there are some; any other where it is
--- negative.
+-- What speaks against a size: that it is negative, and behind what may have no elements, for this cause, that there are some.
+abbrev pub BinarySizeFault : Option Cause → List ℕ → Cause → Type 0
+BinarySizeFault why front cause = ((why ≡ Some cause) × SaysSome front) ⊎ ((cause ≡ causes.BadSize) × SaysNegative front)
+
 abbrev pub IsBinarySizeRefused : Option Cause → Cause → List ℕ → Type 0
-IsBinarySizeRefused (Some why) cause front = (cause ≡ why) × SaysSome front
-IsBinarySizeRefused None cause front = (cause ≡ causes.BadSize) × SaysNegative front
+IsBinarySizeRefused why cause front = CountsFirst (λ fault. BinarySizeFault why front fault) cause
 
 -- a field is refused at the code of its type
 abbrev pub IsBinaryHeaderRefused : ℕ → Cause → List ℕ → Type 0
@@ -117,7 +118,7 @@ binary_refuses other cause front = ⊥
 
 -- ---- writing
 
--- the head of a field binary_keeps no truth value
+-- the head of a field keeps no truth value
 abbrev pub binary_keeps : Option Bool → Option Bool
 binary_keeps given = None
 

@@ -1,6 +1,7 @@
 ghost use Rattle.thrift_binary.specs.Spelling as spelling;
 ghost use Rattle.thrift_binary.specs.Reading as reading;
 ghost use Rattle.thrift_binary.specs.Laws as binary_laws;
+ghost use Rattle.thrift_binary.specs.ProperWords as proper_words;
 
 use crate::reading::{
     byte_of, eight_of, header_of, int_of, list_of, long_of, map_of, short_of, size_of, truth_of,
@@ -149,6 +150,8 @@ impl Protocol for Binary {
     ghost reads_exactly = { binary_laws.binary_reads_exactly };
 
     ghost part_laws = { binary_laws.binary_part_laws };
+
+    ghost spells_proper = { proper_words.binary_spells_proper };
 
     ghost writes_shortest = { binary_laws.binary_writes_shortest };
 }

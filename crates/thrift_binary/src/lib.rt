@@ -7,6 +7,3 @@ mod reading;
 mod type_codes;
 
 pub use binary::Binary;
-
-#[cfg(test)]
-mod tests;

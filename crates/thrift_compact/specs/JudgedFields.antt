@@ -7,14 +7,14 @@ use Rattle.span_io.specs.declared.cause.Cause.{Cause}
 use Rattle.span_io.specs.declared.cause.Cause.TheVariants as causes
 use Rattle.thrift_core.specs.declared.field.Field.{Field}
 use Rattle.thrift_core.specs.declared.type_code.TypeCode.{TypeCode}
-use Rattle.thrift_core.specs.Levels.{why_none}
+use Rattle.thrift_core.specs.Levels.{turn_of, RefusesPart, CountsFirst, why_none}
 use Rattle.thrift_core.specs.Parts.{header}
 use Rattle.thrift_core.specs.Reading.{◌>>=◌, unless, known}
 use Rattle.thrift_core.specs.Judged.{opens, MayCome, HasEnded, Judged, found, may_come, JudgesReading}
-use Rattle.thrift_core.specs.JudgedSteps.{judged_behind, ended_behind, refused_here, judged_as}
-use Rattle.thrift_core.specs.Standing.{level_stands, level_of, none_some, some_is, proper_none, field_with, same_field}
+use Rattle.thrift_core.specs.JudgedSteps.{zeros, zeros_are_bytes, judged_behind, ended_behind, refused_here, judged_as}
+use Rattle.thrift_core.specs.Standing.{level_stands, level_of, none_some, some_is, proper_none, one_counts, own_turn, before_wire, field_with, same_field}
 use Rattle.thrift_compact.specs.TypeCodes.{compact_kind_of_code, held_by_code}
-use Rattle.thrift_compact.specs.Spelling.{IsSigned, HasCode, IsCompactHeader, IsSignedRefused, IsCompactHeaderRefused, compact_then_varint}
+use Rattle.thrift_compact.specs.Spelling.{IsSigned, HasCode, IsCompactHeader, IsSignedRefused, CompactFieldFault, IsCompactHeaderRefused, compact_then_varint}
 use Rattle.thrift_compact.specs.Reading.{within, signed_at, id_at, compact_header_at}
 use Rattle.thrift_compact.specs.JudgedVarints.{AtOnce, no_bytes}
 use Rattle.thrift_compact.specs.JudgedNumbers.{Tested, fits, unfit, tested_16, id_judges, within_id, outside_id}
@@ -54,6 +54,10 @@ no_kind : compact_kind_of_code 0 ≡ None
 unfolding compact_kind_of_code
 no_kind = refl
 
+pub field_fault : (left : ℕ) (last : ℤ) (b : ℕ) (cause : Cause) → CompactFieldFault left last b cause → RefusesPart cause
+field_fault left last b cause (inl h) = proper_none left (compact_kind_of_code (b % 16)) cause h
+field_fault left last b cause (inr h) = subst RefusesPart (sym h.0) (omega arith)
+
 module _ (left : ℕ) (last : ℤ) where
   abbrev Headed : Option Field → List ℕ → Type 0
   Headed word text = IsCompactHeader left last word text
@@ -71,7 +75,7 @@ module _ (left : ℕ) (last : ℤ) where
   IdRefused cause text = IsSignedRefused w16 causes.BadWire cause text
 
   open_header : MayCome (Option Field) Headed []
-  open_header = record { word = None; more = 0 ∷ []; some = λ e. cc; spelled = tt }
+  open_header = record { word = None; more = zeros 1; are_bytes = zeros_are_bytes 1; some = λ e. cc; spelled = tt }
 
   none_header : (word : Option Field) → Headed word [] → ⊥
   none_header None h = h
@@ -109,12 +113,26 @@ module _ (left : ℕ) (last : ℤ) where
       let same : suc n ≡ code_in n = omega (arith, near.0) in
       subst (λ x. why_none left (compact_kind_of_code x) ≡ None) same near.1
 
+  type_counts : (n : ℕ) (cause : Cause) → why_none left (compact_kind_of_code (code_in n)) ≡ Some cause → CountsFirst (λ fault. CompactFieldFault left last (suc n) fault) cause
+  type_counts n cause e = (inl e, first)
+    where
+      first : (other : Cause) → CompactFieldFault left last (suc n) other → turn_of cause ≤ turn_of other
+      first other (inl h) = own_turn cause other (some_is other cause (sym h ∙ e))
+      first other (inr h) = before_wire left (compact_kind_of_code (code_in n)) cause other e h.0
+
+  id_counts : (n : ℕ) → why_none left (compact_kind_of_code (code_in n)) ≡ None → (FitsSigned w16 (last +ℤ pos (suc n / 16)) → ⊥)
+      → CountsFirst (λ fault. CompactFieldFault left last (suc n) fault) causes.BadWire
+  id_counts n e out = (inr (refl, out), first)
+    where
+      first : (other : Cause) → CompactFieldFault left last (suc n) other → turn_of causes.BadWire ≤ turn_of other
+      first other (inl h) = absurd (none_some (why_none left (compact_kind_of_code (code_in n))) other h e)
+      first other (inr h) = own_turn causes.BadWire other (sym h.0)
+
   type_refused : (n : ℕ) (bytes : List ℕ) (cause : Cause) → why_none left (compact_kind_of_code (code_in n)) ≡ Some cause → Judged (Option Field) Headed IdVarint Unheaded (suc n ∷ bytes) (Err cause)
   type_refused n bytes cause e =
-      let proper = proper_none left (compact_kind_of_code (code_in n)) cause e in
-      refused_here (Option Field) Headed IdVarint Unheaded (suc n) open_header none_header no_id_varint bytes cause ((λ z. omega (arith, z)), inl e)
+      refused_here (Option Field) Headed IdVarint Unheaded (suc n) open_header none_header no_id_varint bytes cause ((λ z. omega (arith, z)), type_counts n cause e)
       (λ word text h. none_some (why_none left (compact_kind_of_code (code_in n))) cause e (head_stands n word text h))
-      (λ front v. none_some (why_none left (compact_kind_of_code (code_in n))) cause e (varint_stands n front v)) proper.0 proper.1
+      (λ front v. none_some (why_none left (compact_kind_of_code (code_in n))) cause e (varint_stands n front v)) (proper_none left (compact_kind_of_code (code_in n)) cause e)
 
   -- ---- the id behind the code
 
@@ -176,8 +194,8 @@ module _ (left : ℕ) (last : ℤ) where
     field_near bytes far (unfit out test) =
         subst (λ r. Judged (Option Field) Headed IdVarint Unheaded (suc n ∷ bytes) (headed kind n (r >>= λ id. Ok (id, bytes)))) (sym (outside_id next_id out))
         (refused_here (Option Field) Headed IdVarint Unheaded (suc n) open_header none_header no_id_varint bytes causes.BadWire
-        ((λ z. omega (arith, z)), inr (subst (λ k. why_none left k ≡ None) (sym e) f, refl, out)) (not_near far out)
-        (λ front v. omega (arith, far, (varint_near n front v).0)) (λ z. cc) (λ z. cc))
+        ((λ z. omega (arith, z)), id_counts n (subst (λ k. why_none left k ≡ None) (sym e) f) out) (not_near far out)
+        (λ front v. omega (arith, far, (varint_near n front v).0)) (omega arith))
 
     field_at : (bytes : List ℕ) (delta : ℕ) → suc n / 16 ≡ delta → Judged (Option Field) Headed IdVarint Unheaded (suc n ∷ bytes) (headed kind n (id_at last delta bytes))
     field_at bytes zero g = field_far bytes g
@@ -256,16 +274,7 @@ module _ (left : ℕ) (last : ℤ) where
 
   one_header_cause : (front : List ℕ) (a b : Cause) → Unheaded a front → Unheaded b front → a ≡ b
   one_header_cause [] a b h g = absurd h
-  one_header_cause (c ∷ []) a b h g = elim h.1 [
-    | inl x ↦ elim g.1 [
-      | inl y ↦ some_is b a (sym y ∙ x)
-      | inr y ↦ absurd (none_some (why_none left (compact_kind_of_code (c % 16))) a x y.0)
-    ]
-    | inr x ↦ elim g.1 [
-      | inl y ↦ absurd (none_some (why_none left (compact_kind_of_code (c % 16))) b y x.0)
-      | inr y ↦ x.1 ∙ sym y.1
-    ]
-  ]
+  one_header_cause (c ∷ []) a b h g = one_counts (λ fault. CompactFieldFault left last c fault) (field_fault left last c) a b h.1 g.1
   one_header_cause (c ∷ next ∷ front) a b h g = (id_judges AtOnce tt alone).one_cause (next ∷ front) a b h g
 
   pub compact_header_judges : JudgesReading (Option Field) Headed IdVarint Unheaded (compact_header_at left last)

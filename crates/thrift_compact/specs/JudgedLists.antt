@@ -11,7 +11,7 @@ use Rattle.thrift_core.specs.Parts.{list_head}
 use Rattle.thrift_core.specs.Protocols.{last_size}
 use Rattle.thrift_core.specs.Reading.{◌>>=◌, unless}
 use Rattle.thrift_core.specs.Judged.{opens, MayCome, HasEnded, Judged, found, may_come, JudgesReading}
-use Rattle.thrift_core.specs.JudgedSteps.{judged_behind, ended_behind, refused_here, judged_as}
+use Rattle.thrift_core.specs.JudgedSteps.{zeros, zeros_are_bytes, judged_behind, ended_behind, refused_here, judged_as}
 use Rattle.thrift_core.specs.Standing.{IsProperWhy, may_stand, stands_none, none_some, some_is, proper_none, same_list, list_with}
 use Rattle.thrift_compact.specs.TypeCodes.{compact_kind_of_code}
 use Rattle.thrift_compact.specs.Spelling.{IsCompactListHead, IsCompactListRefused, IsCompactSizeRefused, compact_then_varint}
@@ -30,7 +30,7 @@ not_overlong h = omega (arith, ap length h.parts, length-append h.front (h.tenth
 
 -- a size is refused at a byte
 pub refused_some : (why : Option Cause) → IsProperWhy why → (cause : Cause) → IsCompactSizeRefused why cause [] → ⊥
-refused_some why known cause h = elim (refusing_by why known why [] cause h) [
+refused_some why known cause h = elim (refusing_by why known [] cause h) [
   | inl x ↦ not_overlong x.1
   | inr x ↦ no_bytes x.0 x.1
 ]
@@ -58,7 +58,7 @@ module _ (left : ℕ) where
   headed b number = number >>= λ x. Ok (list_with (compact_kind_of_code (b % 16)) x.0, x.1)
 
   open_list : MayCome ListHead Listed []
-  open_list = record { word = list_with (compact_kind_of_code 0) 0; more = 0 ∷ []; some = λ e. cc; spelled = ((refl, λ some. absurd (omega (arith, some))), refl, omega arith) }
+  open_list = record { word = list_with (compact_kind_of_code 0) 0; more = zeros 1; are_bytes = zeros_are_bytes 1; some = λ e. cc; spelled = ((refl, λ some. absurd (omega (arith, some))), refl, omega arith) }
 
   none_list : (head : ListHead) → Listed head [] → ⊥
   none_list head h = h
@@ -116,8 +116,7 @@ module _ (left : ℕ) where
       found (list_with (compact_kind_of_code (b % 16)) (b / 16)) (b ∷ []) bytes ((refl, λ some. may_stand left (compact_kind_of_code (b % 16)) (free.1 some)), refl, small) refl refl
   list_short b bytes small (Some cause) e =
       let why = small_why (why_of b) (b / 16) cause small e in
-      let known = proper_none left (compact_kind_of_code (b % 16)) cause why.0 in
-      refused_here ListHead Listed ListVarint Unlisted b open_list none_list no_list_varint bytes cause (why.1, small, why.0) (short_list b small cause why.0 why.1) (short_varint b small) known.0 known.1
+      refused_here ListHead Listed ListVarint Unlisted b open_list none_list no_list_varint bytes cause (why.1, small, why.0) (short_list b small cause why.0 why.1) (short_varint b small) (proper_none left (compact_kind_of_code (b % 16)) cause why.0)
 
   list_by : (b : ℕ) (bytes : List ℕ) (small : Bool) → ltb (b / 16) 15 ≡ small
       → Judged ListHead Listed ListVarint Unlisted (b ∷ bytes) (headed b (if small then unless (why_size (why_of b) (b / 16)) (b / 16, bytes) else compact_size_at (why_of b) bytes))

@@ -1,6 +1,8 @@
 -- How the heads of maps are judged.
-use Rattle.std.proofs.Common.{◌≡◌, ◌≢◌, ◌/◌, ◌%◌, ◌++◌, ◌∷◌, inl, inr, ℕ, zero, suc, List, [], Option, Some, None, Result, refl, ap, sym, ◌∙◌, subst, arith}
+use Rattle.std.proofs.Common.{◌≡◌, ◌≢◌, ◌<◌, ◌/◌, ◌%◌, ◌++◌, ◌∷◌, inl, inr, ℕ, zero, suc, List, [], Option, Some, None, Result, refl, ap, sym, ◌∙◌, subst, arith}
 use Rattle.std.proofs.lemmas.List.{append_assoc, append-nil}
+use Rattle.std.proofs.lemmas.List.Elements.{All-nil, All-cons, All-append}
+use Rattle.span_io.specs.Frames.{AreBytes}
 use Rattle.span_io.specs.declared.cause.Cause.{Cause}
 use Rattle.span_io.specs.Cuts.{snoc_front}
 use Rattle.span_io.specs.VarintFacts.{varint_laws}
@@ -52,17 +54,20 @@ module _ (left : ℕ) where
   record Ends (number : List ℕ) : Type 0 where
     pub head : MapHead
     pub types : List ℕ
+    pub are_bytes : AreBytes types
     pub mapped : Mapped head (number ++ types)
 
   map_of_size : (n : ℕ) (number : List ℕ) → IsCompactSize n number → Ends number
   map_of_size zero number s = record {
     head = map_with None None 0;
     types = [];
+    are_bytes = All-nil (λ b. b < 256);
     mapped = record { number = number; types = []; parts = refl; its_size = s; its_types = (refl, refl, refl) };
   }
   map_of_size (suc n) number s = record {
     head = map_with (key_of 17) (value_of 17) (suc n);
     types = 17 ∷ [];
+    are_bytes = All-cons (λ b. b < 256) 17 [] (omega arith) (All-nil (λ b. b < 256));
     mapped = record { number = number; types = 17 ∷ []; parts = refl; its_size = s; its_types = (omega arith, refl, refl, truths.0, truths.1) };
   }
 
@@ -76,7 +81,7 @@ module _ (left : ℕ) where
   map_opens : (bytes : List ℕ) → Opens ℕ IsCompactSize MapVarint bytes → Opens MapHead Mapped MapVarint bytes
   map_opens bytes (inl m) =
       let w = map_of_size m.whole.0 (bytes ++ m.more) m.whole.1 in
-      inl (record { more = m.more ++ w.types; some = some_more m.more w.types m.some; whole = (w.head, longer bytes m.more w.types w.head w.mapped) })
+      inl (record { more = m.more ++ w.types; are_bytes = All-append (λ b. b < 256) m.more w.types m.are_bytes w.are_bytes; some = some_more m.more w.types m.some; whole = (w.head, longer bytes m.more w.types w.head w.mapped) })
   map_opens bytes (inr m) =
       let p = m.proper in
       let w = map_of_size p.whole.0 (m.front ++ p.more) p.whole.1 in
@@ -84,7 +89,12 @@ module _ (left : ℕ) where
         front = m.front;
         inside = m.inside;
         then_varint = m.then_varint;
-        proper = record { more = p.more ++ w.types; some = some_more p.more w.types p.some; whole = (w.head, longer m.front p.more w.types w.head w.mapped) };
+        proper = record {
+          more = p.more ++ w.types;
+          are_bytes = All-append (λ b. b < 256) p.more w.types p.are_bytes w.are_bytes;
+          some = some_more p.more w.types p.some;
+          whole = (w.head, longer m.front p.more w.types w.head w.mapped);
+        };
         some = m.some;
         unended = m.unended;
         parts = m.parts;
@@ -95,7 +105,7 @@ module _ (left : ℕ) where
   unfolding map_of_size
   size_opens n number shorter [] s e =
       let w = map_of_size (suc n) number s in
-      opens MapHead Mapped MapVarint shorter (record { word = w.head; more = w.types; some = λ f. cc; spelled = subst (λ l. Mapped w.head (l ++ w.types)) (e ∙ append-nil shorter) w.mapped })
+      opens MapHead Mapped MapVarint shorter (record { word = w.head; more = w.types; are_bytes = w.are_bytes; some = λ f. cc; spelled = subst (λ l. Mapped w.head (l ++ w.types)) (e ∙ append-nil shorter) w.mapped })
   size_opens n number shorter (b ∷ between) s e =
       map_opens shorter (inside_opens ℕ IsCompactSize MapVarint (IsCompactSizeRefused None) (meant_size None any_size) any_is tt at_once shorter
       (varint_laws.fronts (suc n) shorter (b ∷ between) (subst (λ l. SpellsVarint l (suc n)) e s.0) (λ f. cc)))
@@ -142,8 +152,7 @@ module _ (left : ℕ) where
         clashes = clash_pairs n b number cause s e;
         ended = ended_more number (b ∷ []) (sizes.ended (suc n) number s);
         before = λ shorter more f some. (let cut = snoc_front number b shorter more f some in size_opens n number shorter cut.0 s cut.1);
-        not_short = known.0;
-        not_long = known.1;
+        of_part = known;
       }) refl
 
   behind_size : (n : ℕ) (bytes number rest : List ℕ) → IsCompactSize n number → bytes ≡ number ++ rest → Judged MapHead Mapped MapVarint Unmapped bytes (pairs_at left n rest)
@@ -169,8 +178,7 @@ module _ (left : ℕ) where
     clashes = clash_size r.front r.clashes;
     ended = r.ended;
     before = λ shorter more f some. map_opens shorter (r.before shorter more f some);
-    not_short = r.not_short;
-    not_long = r.not_long;
+    of_part = r.of_part;
   }) (ap paired e)
 
   judged_map : (bytes : List ℕ) → Judged MapHead Mapped MapVarint Unmapped bytes (compact_map_at left bytes)
@@ -201,7 +209,7 @@ module _ (left : ℕ) where
 
   -- a size that is refused is no size and a byte of types
   size_not_pair : (text : List ℕ) (a b : Cause) → IsCompactSizeRefused None a text → ArePairsRefused left b text → ⊥
-  size_not_pair text a b h g = elim (refusing_by None any_size None text a h) [
+  size_not_pair text a b h g = elim (refusing_by None any_size text a h) [
     | inl x ↦ overlong_not_number g.many text g.number [] (g.types ∷ []) x.1 g.its_size.0 (sym g.parts ∙ sym (append-nil text))
     | inr x ↦ some_tail (one_varint g.many x.0 g.number text (g.types ∷ []) [] g.its_size.0 x.1 (sym g.parts ∙ sym (append-nil text))).1
   ]

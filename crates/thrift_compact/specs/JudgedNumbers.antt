@@ -8,6 +8,7 @@ use Rattle.span_io.specs.declared.cause.Cause.TheVariants as causes
 use Rattle.span_io.specs.declared.cursor.Lack.{Lack}
 use Rattle.span_io.specs.Varint.{SpellsVarint, IsOverlong, varint_at}
 use Rattle.span_io.specs.Zigzag.{zigzag, unzigzag, zigzag_at}
+use Rattle.thrift_core.specs.Levels.{RefusesPart}
 use Rattle.thrift_core.specs.Judged.{Judged, JudgesReading}
 use Rattle.thrift_compact.specs.Spelling.{IsSigned, IsSignedRefused}
 use Rattle.thrift_compact.specs.Reading.{is_signed, within, signed_at}
@@ -89,7 +90,7 @@ tested_32 (negsuc n) = by_size n (leb n 2147483647) refl
     by_size n false e = unfit (λ f. omega (arith, f.sfits, leb-false n 2147483647 e)) (and-true (leb n 2147483647) ∙ e)
 
 module _ (w : Width) (many : ℕ) (outside : Cause) (tested : (z : ℤ) → Tested w many z) (zero_fits : FitsSigned w (pos 0))
-    (not_short : outside ≢ causes.Truncated) (not_long : outside ≢ causes.UnitTooLong) where
+    (of_part : RefusesPart outside) where
   abbrev meant_signed : ℕ → Result ℤ Cause
   meant_signed n = within many outside (unzigzag n)
 
@@ -130,10 +131,10 @@ module _ (w : Width) (many : ℕ) (outside : Cause) (tested : (z : ℤ) → Test
       let out = outside_by (unzigzag n) cause (tested (unzigzag n)) e in
       inr (out.0, (unzigzag n, subst (λ k. SpellsVarint text k) (sym (zigzagged n)) s, out.1))
 
-  proper_signed : (n : ℕ) (cause : Cause) → meant_signed n ≡ Err cause → (cause ≢ causes.Truncated) × (cause ≢ causes.UnitTooLong)
+  proper_signed : (n : ℕ) (cause : Cause) → meant_signed n ≡ Err cause → RefusesPart cause
   proper_signed n cause e =
       let out = outside_by (unzigzag n) cause (tested (unzigzag n)) e in
-      (λ f. not_short (sym out.0 ∙ f), λ f. not_long (sym out.0 ∙ f))
+      subst RefusesPart (sym out.0) of_part
 
   signed_is : IsNumber ℤ (IsSigned w) (IsSignedRefused w outside) meant_signed
   signed_is = record {
@@ -166,10 +167,10 @@ pub zero_32 : FitsSigned w32 (pos 0)
 zero_32 = record { sfits = omega arith }
 
 pub id_judges : (V : List ℕ → Type 0) → V [] → ((front : List ℕ) → V front → front ≡ []) → JudgesReading ℤ (IsSigned w16) V (IsSignedRefused w16 causes.BadWire) (signed_at 15 causes.BadWire)
-id_judges V here at_once = signed_judges w16 15 causes.BadWire tested_16 zero_16 (λ e. cc) (λ e. cc) V here at_once
+id_judges V here at_once = signed_judges w16 15 causes.BadWire tested_16 zero_16 (omega arith) V here at_once
 
 pub within_id : (z : ℤ) → FitsSigned w16 z → within 15 causes.BadWire z ≡ Ok z
-within_id z h = within_fit w16 15 causes.BadWire tested_16 zero_16 (λ e. cc) (λ e. cc) z h
+within_id z h = within_fit w16 15 causes.BadWire tested_16 zero_16 (omega arith) z h
 
 pub outside_id : (z : ℤ) → (FitsSigned w16 z → ⊥) → within 15 causes.BadWire z ≡ Err causes.BadWire
-outside_id z h = within_unfit w16 15 causes.BadWire tested_16 zero_16 (λ e. cc) (λ e. cc) z h
+outside_id z h = within_unfit w16 15 causes.BadWire tested_16 zero_16 (omega arith) z h

@@ -1,19 +1,20 @@
 -- How sizes, 64-bit numbers, single bytes and doubles are judged.
-use Rattle.std.proofs.Common.{◌≡◌, ◌≢◌, ◌≤◌, ◌<◌, ◌++◌, ◌∷◌, ◌⊎◌, inl, inr, ℕ, zero, suc, ℤ, pos, leb, List, [], length, take, drop, reverse, Bool, true, false, Option, Some, None, Result, Ok, Err, nat_lt, if◌then◌else◌, refl, ap, sym, ◌∙◌, subst, arith}
+use Rattle.std.proofs.Common.{◌≡◌, ◌≤◌, ◌<◌, ◌++◌, ◌∷◌, ◌⊎◌, inl, inr, ℕ, zero, suc, ℤ, pos, leb, List, [], length, take, drop, reverse, Bool, true, false, Option, Some, None, Result, Ok, Err, nat_lt, if◌then◌else◌, refl, ap, sym, ◌∙◌, subst, arith}
 use Rattle.std.proofs.lemmas.Bool.{leb-true, leb-false, le-leb, lt-leb}
 use Rattle.span_io.specs.declared.cause.Cause.{Cause}
 use Rattle.span_io.specs.declared.cause.Cause.TheVariants as causes
 use Rattle.span_io.specs.declared.cursor.Lack.{Lack}
 use Rattle.span_io.specs.Varint.{SpellsVarint, IsOverlong, varint_at}
 use Rattle.span_io.specs.Zigzag.{zigzag, unzigzag, SpellsZigzag, zigzag_at}
+use Rattle.thrift_core.specs.Levels.{turn_of, RefusesPart}
 use Rattle.thrift_core.specs.Protocols.{last_size}
 use Rattle.thrift_core.specs.Reading.{◌>>=◌, unless}
 use Rattle.thrift_core.specs.Judged.{opens, Judged, found, may_come, JudgesReading}
-use Rattle.thrift_core.specs.JudgedSteps.{fixed_judges}
-use Rattle.thrift_core.specs.Standing.{IsProperWhy, none_some, some_is}
-use Rattle.thrift_compact.specs.Spelling.{IsByte, IsCompactSize, IsCompactSizeRefused}
+use Rattle.thrift_core.specs.JudgedSteps.{zeros, zeros_are_bytes, fixed_judges}
+use Rattle.thrift_core.specs.Standing.{IsProperWhy, none_some, some_is, last_turn, own_turn, before_last}
+use Rattle.thrift_compact.specs.Spelling.{IsByte, IsCompactSize, CompactSizeFault, IsCompactSizeRefused}
 use Rattle.thrift_compact.specs.Reading.{told, byte_at, why_size, compact_size_at, eight_at}
-use Rattle.thrift_compact.specs.JudgedVarints.{IsNumber, varint_or_cause, number_judges}
+use Rattle.thrift_compact.specs.JudgedVarints.{overlong_not_number, IsNumber, varint_or_cause, number_judges}
 use Rattle.thrift_compact.specs.JudgedNumbers.{ok_is, err_is, ok_not_err, zigzagged, unzigzagged, judges_at}
 
 -- ---- numbers of 64 bits
@@ -69,14 +70,40 @@ free_size why zero e = (omega arith, λ some. absurd (omega (arith, some)))
 free_size (Some cause) (suc n) e = absurd (none_some (Some cause) cause refl e)
 free_size None (suc n) e = (free_by n (leb (suc n) last_size) refl e, λ some. refl)
 
+pub compact_size_fault : (why : Option Cause) → IsProperWhy why → (text : List ℕ) (cause : Cause) → CompactSizeFault why text cause → RefusesPart cause
+compact_size_fault why proper text cause (inl h) = subst RefusesPart (sym h.0) (omega arith)
+compact_size_fault why proper text cause (inr (inl h)) = proper cause h.0
+compact_size_fault why proper text cause (inr (inr h)) = subst RefusesPart (sym h.0) (omega arith)
+
+spelled_not_overlong : (n : ℕ) (text : List ℕ) → SpellsVarint text n → IsOverlong text → ⊥
+spelled_not_overlong n text s h = overlong_not_number n text text [] [] h s refl
+
+-- behind what may have no elements
+some_refused : (why : Option Cause) → IsProperWhy why → (n : ℕ) (text : List ℕ) (cause : Cause) → why ≡ Some cause → 1 ≤ n → SpellsVarint text n → IsCompactSizeRefused why cause text
+some_refused why proper n text cause e some s = (inr (inl (e, (n, s, some))), first)
+  where
+    first : (other : Cause) → CompactSizeFault why text other → turn_of cause ≤ turn_of other
+    first other (inl h) = absurd (spelled_not_overlong n text s h.1)
+    first other (inr (inl h)) = own_turn cause other (some_is other cause (sym h.0 ∙ e))
+    first other (inr (inr h)) = before_last cause other (proper cause e) h.0
+
+large_refused : (n : ℕ) (text : List ℕ) → last_size < n → SpellsVarint text n → IsCompactSizeRefused None causes.BadSize text
+large_refused n text large s = (inr (inr (refl, (n, s, large))), first)
+  where
+    first : (other : Cause) → CompactSizeFault None text other → turn_of causes.BadSize ≤ turn_of other
+    first other (inl h) = absurd (spelled_not_overlong n text s h.1)
+    first other (inr (inl h)) = absurd (none_some None other h.0 refl)
+    first other (inr (inr h)) = own_turn causes.BadSize other (sym h.0)
+
 refused_by : (n : ℕ) (text : List ℕ) (cause : Cause) (b : Bool) → leb (suc n) last_size ≡ b → (if b then None else Some causes.BadSize) ≡ Some cause → SpellsVarint text (suc n) → IsCompactSizeRefused None cause text
 refused_by n text cause true f e s = absurd (none_some None cause e refl)
-refused_by n text cause false f e s = inr (some_is causes.BadSize cause e, (suc n, s, leb-false (suc n) last_size f))
+refused_by n text cause false f e s =
+    subst (λ c. IsCompactSizeRefused None c text) (sym (some_is causes.BadSize cause e)) (large_refused (suc n) text (leb-false (suc n) last_size f) s)
 
-size_refused : (why : Option Cause) (n : ℕ) (text : List ℕ) (cause : Cause) → why_size why n ≡ Some cause → SpellsVarint text n → IsCompactSizeRefused why cause text
-size_refused why zero text cause e s = absurd (none_some None cause e refl)
-size_refused (Some known) (suc n) text cause e s = inr (some_is known cause e, (suc n, s, omega arith))
-size_refused None (suc n) text cause e s = refused_by n text cause (leb (suc n) last_size) refl e s
+size_refused : (why : Option Cause) → IsProperWhy why → (n : ℕ) (text : List ℕ) (cause : Cause) → why_size why n ≡ Some cause → SpellsVarint text n → IsCompactSizeRefused why cause text
+size_refused why proper zero text cause e s = absurd (none_some None cause e refl)
+size_refused (Some known) proper (suc n) text cause e s = some_refused (Some known) proper (suc n) text cause e (omega arith) s
+size_refused None proper (suc n) text cause e s = refused_by n text cause (leb (suc n) last_size) refl e s
 
 some_size : (cause : Cause) (n : ℕ) → 1 ≤ n → why_size (Some cause) n ≡ Some cause
 some_size cause zero some = absurd (omega (arith, some))
@@ -91,9 +118,9 @@ proper_size why known zero cause e = absurd (none_some None cause e refl)
 proper_size (Some other) known (suc n) cause e = known cause e
 proper_size None known (suc n) cause e = large_by (leb (suc n) last_size) e
   where
-    large_by : (b : Bool) → (if b then None else Some causes.BadSize) ≡ Some cause → (cause ≢ causes.Truncated) × (cause ≢ causes.UnitTooLong)
+    large_by : (b : Bool) → (if b then None else Some causes.BadSize) ≡ Some cause → RefusesPart cause
     large_by true f = absurd (none_some None cause f refl)
-    large_by false f = (let same = some_is causes.BadSize cause f in (λ g. cc, λ g. cc))
+    large_by false f = subst RefusesPart (sym (some_is causes.BadSize cause f)) (omega arith)
 
 unless_err : (A : Type 0) (why : Option Cause) (x : A) (cause : Cause) → unless why x ≡ Err cause → why ≡ Some cause
 unless_err A None x cause e = absurd (ok_not_err x cause e)
@@ -116,28 +143,40 @@ module _ (why : Option Cause) (known : IsProperWhy why) where
   spelling_size word text h = (word, h.0.0, ap (λ w. unless w word) (size_free why word h.0.1 h.1))
 
   overlong_size : (text : List ℕ) → IsOverlong text → IsCompactSizeRefused why causes.BadVarint text
-  overlong_size text h = overlong_by why
+  overlong_size text h = (inl (refl, h), first)
     where
-      overlong_by : (w : Option Cause) → IsCompactSizeRefused w causes.BadVarint text
-      overlong_by None = inl (refl, h)
-      overlong_by (Some cause) = inl (refl, h)
+      first : (other : Cause) → CompactSizeFault why text other → turn_of causes.BadVarint ≤ turn_of other
+      first other (inl g) = own_turn causes.BadVarint other (sym g.0)
+      first other (inr (inl g)) = absurd (spelled_not_overlong g.1.0 text g.1.1 h)
+      first other (inr (inr g)) = absurd (spelled_not_overlong g.1.0 text g.1.1 h)
 
-  abbrev RefusingBy : Option Cause → List ℕ → Cause → Type 0
-  RefusingBy w text cause = ((cause ≡ causes.BadVarint) × IsOverlong text) ⊎ ((n : ℕ) × SpellsVarint text n × (unless (why_size w n) n ≡ Err cause))
+  abbrev RefusingBy : List ℕ → Cause → Type 0
+  RefusingBy text cause = ((cause ≡ causes.BadVarint) × IsOverlong text) ⊎ ((n : ℕ) × SpellsVarint text n × (unless (why_size why n) n ≡ Err cause))
 
-  pub refusing_by : (w : Option Cause) (text : List ℕ) (cause : Cause) → IsCompactSizeRefused w cause text → RefusingBy w text cause
-  refusing_by None text cause (inl h) = inl h
-  refusing_by None text cause (inr h) = inr (h.1.0, h.1.1, ap (λ w. unless w h.1.0) (large_size h.1.0 h.1.2) ∙ ap (λ c. Err c) (sym h.0))
-  refusing_by (Some other) text cause (inl h) = inl h
-  refusing_by (Some other) text cause (inr h) = inr (h.1.0, h.1.1, ap (λ w. unless w h.1.0) (some_size other h.1.0 h.1.2) ∙ ap (λ c. Err c) (sym h.0))
+  -- a size that is too large counts as that where it is behind nothing
+  large_counts : (w : Option Cause) → IsProperWhy w → (n : ℕ) (text : List ℕ) → last_size < n → SpellsVarint text n
+      → ((other : Cause) → CompactSizeFault w text other → turn_of causes.BadSize ≤ turn_of other) → why_size w n ≡ Some causes.BadSize
+  large_counts None proper n text large s first = large_size n large
+  large_counts (Some other) proper n text large s first =
+      let late : turn_of causes.BadSize ≤ turn_of other = first other (inr (inl (refl, (n, s, omega (arith, large))))) in
+      some_size other n (omega (arith, large)) ∙ ap Some (sym (last_turn other (proper other refl) late))
+
+  pub refusing_by : (text : List ℕ) (cause : Cause) → IsCompactSizeRefused why cause text → RefusingBy text cause
+  refusing_by text cause (inl h, first) = inl h
+  refusing_by text cause (inr (inl h), first) =
+      let is : why_size why h.1.0 ≡ Some cause = subst (λ w. why_size w h.1.0 ≡ Some cause) (sym h.0) (some_size cause h.1.0 h.1.2) in
+      inr (h.1.0, h.1.1, ap (λ w. unless w h.1.0) is)
+  refusing_by text cause (inr (inr h), first) =
+      let is = large_counts why known h.1.0 text h.1.2 h.1.1 (λ other g. subst (λ c. turn_of c ≤ turn_of other) h.0 (first other g)) in
+      inr (h.1.0, h.1.1, ap (λ w. unless w h.1.0) is ∙ ap (λ c. Err c) (sym h.0))
 
   size_is : IsNumber ℕ (CompactSized why) (IsCompactSizeRefused why) meant_size
   size_is = record {
     spelled = spelled_size;
     spelling = spelling_size;
     overlong = overlong_size;
-    unsuited = λ text n cause s e. size_refused why n text cause (unless_err ℕ (why_size why n) n cause e) s;
-    refusing = λ text cause h. refusing_by why text cause h;
+    unsuited = λ text n cause s e. size_refused why known n text cause (unless_err ℕ (why_size why n) n cause e) s;
+    refusing = refusing_by;
     proper = λ n cause e. proper_size why known n cause (unless_err ℕ (why_size why n) n cause e);
     none = 0;
     of_zero = refl;
@@ -183,7 +222,7 @@ module _ (A : Type 0) (value : ℕ → A) (V : List ℕ → Type 0) (no_varint :
   Byte word text = IsByte value word text
 
   judged_byte : (bytes : List ℕ) → Judged A Byte V Never bytes (byte_at value bytes)
-  judged_byte [] = may_come (opens A Byte V [] (record { word = value 0; more = 0 ∷ []; some = λ e. cc; spelled = refl })) refl
+  judged_byte [] = may_come (opens A Byte V [] (record { word = value 0; more = zeros 1; are_bytes = zeros_are_bytes 1; some = λ e. cc; spelled = refl })) refl
   judged_byte (b ∷ bytes) = found (value b) (b ∷ []) bytes refl refl refl
 
   one_byte : (w v : A) (text other tail more : List ℕ) → Byte w text → Byte v other → text ++ tail ≡ other ++ more → (w ≡ v) × (tail ≡ more)

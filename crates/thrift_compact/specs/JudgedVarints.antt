@@ -10,8 +10,10 @@ use Rattle.span_io.specs.declared.cursor.Lack.TheVariants as lacks
 use Rattle.span_io.specs.Varint.{SpellsWithin, SpellsVarint, BeginsVarint, IsInsideVarint, IsOverlong, varint_at}
 use Rattle.span_io.specs.VarintFacts.{varint_laws}
 use Rattle.span_io.specs.Cuts.{snoc_front, all_front}
+use Rattle.thrift_core.specs.Levels.{RefusesPart}
 use Rattle.thrift_core.specs.Reading.{◌>>=◌}
 use Rattle.thrift_core.specs.Judged.{Opens, opens, MayCome, Clashes, HasEnded, Judged, found, may_come, refused, JudgesReading}
+use Rattle.thrift_core.specs.JudgedSteps.{zeros, zeros_are_bytes}
 use Rattle.thrift_compact.specs.Reading.{told}
 
 -- ---- what is known of varints
@@ -80,7 +82,7 @@ pub record IsNumber (W : Type 0) (S : W → List ℕ → Type 0) (R : Cause → 
   pub overlong : (text : List ℕ) → IsOverlong text → R causes.BadVarint text
   pub unsuited : (text : List ℕ) (n : ℕ) (cause : Cause) → SpellsVarint text n → meant n ≡ Err cause → R cause text
   pub refusing : (text : List ℕ) (cause : Cause) → R cause text → ((cause ≡ causes.BadVarint) × IsOverlong text) ⊎ ((n : ℕ) × SpellsVarint text n × (meant n ≡ Err cause))
-  pub proper : (n : ℕ) (cause : Cause) → meant n ≡ Err cause → (cause ≢ causes.Truncated) × (cause ≢ causes.UnitTooLong)
+  pub proper : (n : ℕ) (cause : Cause) → meant n ≡ Err cause → RefusesPart cause
   pub none : W
   pub of_zero : meant 0 ≡ Ok none
 
@@ -90,7 +92,7 @@ varint_or_cause W meant bytes = told (varint_at bytes) >>= λ x. meant x.0 >>= �
 module _ (W : Type 0) (S : W → List ℕ → Type 0) (V : List ℕ → Type 0) (R : Cause → List ℕ → Type 0) (meant : ℕ → Result W Cause) (is : IsNumber W S R meant)
     (here : V []) (at_once : (front : List ℕ) → V front → front ≡ []) where
   open_here : MayCome W S []
-  open_here = record { word = is.none; more = 0 ∷ []; some = λ e. cc; spelled = is.spelled is.none (0 ∷ []) 0 (byte_spells 0 (omega arith)) is.of_zero }
+  open_here = record { word = is.none; more = zeros 1; are_bytes = zeros_are_bytes 1; some = λ e. cc; spelled = is.spelled is.none (0 ∷ []) 0 (byte_spells 0 (omega arith)) is.of_zero }
 
   pub inside_opens : (bytes : List ℕ) → IsInsideVarint bytes → Opens W S V bytes
   inside_opens [] i = opens W S V [] open_here
@@ -98,7 +100,7 @@ module _ (W : Type 0) (S : W → List ℕ → Type 0) (V : List ℕ → Type 0) 
     front = [];
     inside = b ∷ bytes;
     then_varint = here;
-    proper = record { more = open_here.more; some = open_here.some; whole = (open_here.word, open_here.spelled) };
+    proper = record { more = open_here.more; are_bytes = open_here.are_bytes; some = open_here.some; whole = (open_here.word, open_here.spelled) };
     some = omega arith;
     unended = i;
     parts = refl;
@@ -131,8 +133,7 @@ module _ (W : Type 0) (S : W → List ℕ → Type 0) (V : List ℕ → Type 0) 
     clashes = clash_unsuited b.text n cause b.spelled e;
     ended = ended_at_once b.text (λ rest inside i e. number_not_inside n b.text rest inside b.spelled i e);
     before = λ shorter more e some. inside_opens shorter (varint_laws.fronts n shorter more (subst (λ l. SpellsVarint l n) e b.spelled) some);
-    not_short = known.0;
-    not_long = known.1;
+    of_part = known;
   }) refl)
 
   varint_by : (bytes : List ℕ) (read : Result (ℕ × List ℕ) Lack) → varint_at bytes ≡ read → Judged W S V R bytes (told read >>= λ x. meant x.0 >>= λ word. Ok (word, x.1))
@@ -146,8 +147,7 @@ module _ (W : Type 0) (S : W → List ℕ → Type 0) (V : List ℕ → Type 0) 
     clashes = clash_overlong o.text o.overlong;
     ended = ended_at_once o.text (λ rest inside i e. overlong_not_inside o.text rest inside o.overlong i e);
     before = λ shorter more e some. inside_opens shorter (before_tenth o.text shorter more o.overlong e some);
-    not_short = λ z. cc;
-    not_long = λ z. cc;
+    of_part = omega arith;
   }) refl)
 
   one_word : (w v : W) (text other tail more : List ℕ) → S w text → S v other → text ++ tail ≡ other ++ more → (w ≡ v) × (tail ≡ more)

@@ -1,10 +1,10 @@
--- What the compact protocol compact_keeps: how its parts are refused, completed and written.
-use Rattle.std.proofs.Common.{◌≡◌, ◌≢◌, ◌≤◌, ◌<◌, ◌<ℤ◌, ◌++◌, ◌∷◌, ◌+◌, ◌*◌, ◌/◌, ◌%◌, ◌^◌, inl, inr, ◌+ℤ◌, ◌-ℤ◌, nat_abs, ℕ, zero, ℤ, pos, Bool, true, false, List, [], length, replicate, Option, Some, None, Result, Ok, Err, FitsSigned, All, refl, ap, sym, ◌∙◌, subst, arith, nat_le}
+-- What the compact protocol keeps: how its parts are refused, completed and written.
+use Rattle.std.proofs.Common.{◌≡◌, ◌≢◌, ◌≤◌, ◌<◌, ◌<ℤ◌, ◌++◌, ◌∷◌, ◌+◌, ◌*◌, ◌/◌, ◌%◌, ◌^◌, inl, inr, ◌+ℤ◌, ◌-ℤ◌, nat_abs, ℕ, zero, ℤ, pos, Bool, true, false, List, [], length, Option, Some, None, Result, Ok, Err, FitsSigned, All, refl, ap, sym, ◌∙◌, subst, arith, nat_le}
 use Rattle.std.specs.Int.{Width, w8, w16, w32, w64, cast_signed}
 use mir.Val.{hbits}
 use Rattle.std.proofs.lemmas.Bool.{cases_lt}
 use Rattle.std.proofs.lemmas.Int.{ints, to_z-of_z}
-use Rattle.std.proofs.lemmas.List.{append-nil, length-append, length-reverse, reverse-reverse}
+use Rattle.std.proofs.lemmas.List.{length-append, length-reverse, reverse-reverse}
 use Rattle.span_io.specs.declared.cause.Cause.{Cause}
 use Rattle.span_io.specs.declared.cause.Cause.TheVariants as causes
 use Rattle.span_io.specs.declared.cursor.Lack.{Lack}
@@ -20,11 +20,16 @@ use Rattle.thrift_core.specs.declared.field.ListHead.{ListHead}
 use Rattle.thrift_core.specs.declared.field.MapHead.{MapHead}
 use Rattle.thrift_core.specs.declared.type_code.TypeCode.{TypeCode}
 use Rattle.thrift_core.specs.declared.type_code.TypeCode.TheVariants as kinds
-use Rattle.thrift_core.specs.Levels.{why_none, why_no_pair}
+use Rattle.thrift_core.specs.Levels.{RefusesPart, why_none}
+use Rattle.thrift_core.specs.Standing.{proper_none, proper_pair}
 use Rattle.thrift_core.specs.Parts.{Part, header, truth, byte, short, int, long, eight, size, list_head, map_head, WordOf, HasLevel, texts_of}
-use Rattle.thrift_core.specs.Protocols.{PartLaws, HasBytes, WritesShortest, MayWrite, IsGiven, last_size}
+use Rattle.thrift_core.specs.JudgedSteps.{zeros, zeros_are_bytes}
+use Rattle.thrift_core.specs.Protocols.{SpelledInBytes, PartLaws, HasBytes, WritesShortest, MayWrite, IsGiven, last_size}
 use Rattle.thrift_compact.specs.TypeCodes.{compact_code_of, compact_kind_of_code, held_by_code, field_code}
-use Rattle.thrift_compact.specs.Spelling.{compact_is_true, IsByte, IsSigned, IsCompactSize, HasCode, IsCompactHeader, IsListOf, IsCompactListHead, ArePairs, IsCompactMapHead, IsSignedRefused, IsCompactSizeRefused, IsCompactHeaderRefused, IsCompactListRefused, ArePairsRefused, IsCompactMapRefused, is_near, field_id_text, list_head_text, compact_spells, compact_then_varint, compact_refuses, compact_keeps, compact_writes}
+use Rattle.thrift_compact.specs.Spelling.{compact_is_true, IsByte, IsSigned, IsCompactSize, HasCode, IsCompactHeader, IsListOf, IsCompactListHead, ArePairs, IsCompactMapHead, IsSignedRefused, is_near, field_id_text, list_head_text, compact_spells, compact_then_varint, compact_refuses, compact_keeps, compact_writes}
+use Rattle.thrift_compact.specs.JudgedFields.{field_fault}
+use Rattle.thrift_compact.specs.JudgedSizes.{compact_size_fault, any_size}
+use Rattle.thrift_compact.specs.ReadsExactly.{judges}
 use Rattle.std.proofs.lemmas.List.Elements.{All-head, All-tail}
 
 -- ---- varints
@@ -125,18 +130,28 @@ no_elements left code = (refl, λ some. absurd (omega (arith, some)))
 no_pairs : (left : ℕ) → IsCompactMapHead left (record { key = None; value = None; size = 0 }) (0 ∷ [])
 no_pairs left = record { number = 0 ∷ []; types = []; parts = refl; its_size = zero_size; its_types = (refl, refl, refl) }
 
-spellable : (part : Part) → (word : WordOf part) × (text : List ℕ) × compact_spells part word text
-spellable (header left last) = (None, 0 ∷ [], tt)
-spellable (truth (Some held)) = (held, [], (refl, refl))
-spellable (truth None) = (false, 0 ∷ [], refl)
-spellable byte = (cast_signed w8 0, 0 ∷ [], refl)
-spellable short = (pos 0, 0 ∷ [], zero_short)
-spellable int = (pos 0, 0 ∷ [], zero_int)
-spellable long = (pos 0, 0 ∷ [], spelled_zero)
-spellable eight = (replicate 8 0, replicate 8 0, (refl, refl))
-spellable size = (0, 0 ∷ [], zero_size)
-spellable (list_head left) = (record { element = compact_kind_of_code 0; size = 0 }, 0 ∷ [], (no_elements left 0, refl, omega arith))
-spellable (map_head left) = (record { key = None; value = None; size = 0 }, 0 ∷ [], no_pairs left)
+-- as so many zeros
+by_zeros : (part : Part) (word : WordOf part) (many : ℕ) → compact_spells part word (zeros many) → SpelledInBytes compact_spells part word
+by_zeros part word many h = record { text = zeros many; are_bytes = zeros_are_bytes many; spelled = h }
+
+empty_list : (left : ℕ) → SpelledInBytes compact_spells (list_head left) (record { element = compact_kind_of_code 0; size = 0 })
+empty_list left = by_zeros (list_head left) (record { element = compact_kind_of_code 0; size = 0 }) 1 (no_elements left 0, refl, omega arith)
+
+empty_map : (left : ℕ) → SpelledInBytes compact_spells (map_head left) (record { key = None; value = None; size = 0 })
+empty_map left = by_zeros (map_head left) (record { key = None; value = None; size = 0 }) 1 (no_pairs left)
+
+spellable : (part : Part) → (word : WordOf part) × SpelledInBytes compact_spells part word
+spellable (header left last) = (None, by_zeros (header left last) None 1 tt)
+spellable (truth (Some held)) = (held, by_zeros (truth (Some held)) held 0 (refl, refl))
+spellable (truth None) = (false, by_zeros (truth None) false 1 refl)
+spellable byte = (cast_signed w8 0, by_zeros byte (cast_signed w8 0) 1 refl)
+spellable short = (pos 0, by_zeros short (pos 0) 1 zero_short)
+spellable int = (pos 0, by_zeros int (pos 0) 1 zero_int)
+spellable long = (pos 0, by_zeros long (pos 0) 1 spelled_zero)
+spellable eight = (zeros 8, by_zeros eight (zeros 8) 8 (refl, refl))
+spellable size = (0, by_zeros size 0 1 zero_size)
+spellable (list_head left) = (record { element = compact_kind_of_code 0; size = 0 }, empty_list left)
+spellable (map_head left) = (record { key = None; value = None; size = 0 }, empty_map left)
 
 -- ---- the front of a part that a varint follows
 
@@ -144,7 +159,7 @@ abbrev Proper : Part → List ℕ → Type 0
 Proper part front = IsProperFront (texts_of compact_spells compact_then_varint part) front
 
 by_zero : (part : Part) (front : List ℕ) (word : WordOf part) → compact_spells part word (front ++ 0 ∷ []) → Proper part front
-by_zero part front word h = record { more = 0 ∷ []; some = λ e. cc; whole = (word, h) }
+by_zero part front word h = record { more = zeros 1; are_bytes = zeros_are_bytes 1; some = λ e. cc; whole = (word, h) }
 
 varint_front : (part : Part) (front : List ℕ) → compact_then_varint part front → Proper part front
 varint_front (header left last) (b ∷ []) h =
@@ -158,70 +173,28 @@ varint_front size [] h = by_zero size [] 0 zero_size
 varint_front (map_head left) [] h = by_zero (map_head left) [] (record { key = None; value = None; size = 0 }) (no_pairs left)
 varint_front part front h = absurd h
 
--- ---- what is refused has one cause
+-- ---- what a part is refused for
 
-same_some : (a b : Cause) (why : Option Cause) → why ≡ Some a → why ≡ Some b → a ≡ b
-same_some a b why e f = (let x : Option Cause = Some a in let y : Option Cause = Some b in let same : x ≡ y = sym e ∙ f in cc)
+signed_refused_by : (w : Width) (outside cause : Cause) (text : List ℕ) → RefusesPart outside → IsSignedRefused w outside cause text → RefusesPart cause
+signed_refused_by w outside cause text known (inl h) = subst RefusesPart (sym h.0) (omega arith)
+signed_refused_by w outside cause text known (inr h) = subst RefusesPart (sym h.0) known
 
-some_none : (a : Cause) (why : Option Cause) → why ≡ Some a → why ≡ None → ⊥
-some_none a why e f = (let x : Option Cause = Some a in let y : Option Cause = None in let same : x ≡ y = sym e ∙ f in cc)
-
-one_signed_cause : (w : Width) (outside a b : Cause) (text : List ℕ) → IsSignedRefused w outside a text → IsSignedRefused w outside b text → a ≡ b
-one_signed_cause w outside a b text (inl h) (inl g) = h.0 ∙ sym g.0
-one_signed_cause w outside a b text (inl h) (inr g) = absurd (not_both (zigzag g.1.0) text g.1.1 h.1)
-one_signed_cause w outside a b text (inr h) (inl g) = absurd (not_both (zigzag h.1.0) text h.1.1 g.1)
-one_signed_cause w outside a b text (inr h) (inr g) = h.0 ∙ sym g.0
-
-one_size_cause : (why : Option Cause) (a b : Cause) (text : List ℕ) → IsCompactSizeRefused why a text → IsCompactSizeRefused why b text → a ≡ b
-one_size_cause (Some why) a b text (inl h) (inl g) = h.0 ∙ sym g.0
-one_size_cause (Some why) a b text (inl h) (inr g) = absurd (not_both g.1.0 text g.1.1 h.1)
-one_size_cause (Some why) a b text (inr h) (inl g) = absurd (not_both h.1.0 text h.1.1 g.1)
-one_size_cause (Some why) a b text (inr h) (inr g) = h.0 ∙ sym g.0
-one_size_cause None a b text (inl h) (inl g) = h.0 ∙ sym g.0
-one_size_cause None a b text (inl h) (inr g) = absurd (not_both g.1.0 text g.1.1 h.1)
-one_size_cause None a b text (inr h) (inl g) = absurd (not_both h.1.0 text h.1.1 g.1)
-one_size_cause None a b text (inr h) (inr g) = h.0 ∙ sym g.0
-
-one_header_cause : (left : ℕ) (last : ℤ) (a b : Cause) (text : List ℕ) → IsCompactHeaderRefused left last a text → IsCompactHeaderRefused left last b text → a ≡ b
-one_header_cause left last a b [] h g = absurd h
-one_header_cause left last a b (x ∷ []) (some, inl h) (other, inl g) = same_some a b (why_none left (compact_kind_of_code (x % 16))) h g
-one_header_cause left last a b (x ∷ []) (some, inl h) (other, inr g) = absurd (some_none a (why_none left (compact_kind_of_code (x % 16))) h g.0)
-one_header_cause left last a b (x ∷ []) (some, inr h) (other, inl g) = absurd (some_none b (why_none left (compact_kind_of_code (x % 16))) g h.0)
-one_header_cause left last a b (x ∷ []) (some, inr h) (other, inr g) = h.1 ∙ sym g.1
-one_header_cause left last a b (x ∷ c ∷ id) h g = one_signed_cause w16 causes.BadWire a b (c ∷ id) h g
-
-one_list_cause : (left : ℕ) (a b : Cause) (text : List ℕ) → IsCompactListRefused left a text → IsCompactListRefused left b text → a ≡ b
-one_list_cause left a b [] h g = absurd h
-one_list_cause left a b (x ∷ []) h g = same_some a b (why_none left (compact_kind_of_code (x % 16))) h.2 g.2
-one_list_cause left a b (x ∷ c ∷ number) h g = one_size_cause (why_none left (compact_kind_of_code (x % 16))) a b (c ∷ number) h g
-
--- behind a size that isn't refused
-size_or_pairs : (left : ℕ) (a b : Cause) (text : List ℕ) → IsCompactSizeRefused None a text → ArePairsRefused left b text → ⊥
-size_or_pairs left a b text (inl h) p = never_both p.many p.number text (p.types ∷ []) [] p.its_size.0 h.1 (sym p.parts ∙ sym (append-nil text))
-size_or_pairs left a b text (inr h) p = (let none = (one_number h.1.0 p.many text p.number [] (p.types ∷ []) h.1.1 p.its_size.0 (append-nil text ∙ p.parts)).1 in cc)
-
-one_pairs_cause : (left : ℕ) (a b : Cause) (text : List ℕ) → ArePairsRefused left a text → ArePairsRefused left b text → a ≡ b
-one_pairs_cause left a b text p q =
-    let types : p.types ∷ [] ≡ q.types ∷ [] = (one_number p.many q.many p.number q.number (p.types ∷ []) (q.types ∷ []) p.its_size.0 q.its_size.0 (sym p.parts ∙ q.parts)).1 in
-    let same : p.types ≡ q.types = cc in
-    same_some a b (why_no_pair left (compact_kind_of_code (q.types / 16)) (compact_kind_of_code (q.types % 16)))
-    (subst (λ n. why_no_pair left (compact_kind_of_code (n / 16)) (compact_kind_of_code (n % 16)) ≡ Some a) same p.why) q.why
-
-one_map_cause : (left : ℕ) (a b : Cause) (text : List ℕ) → IsCompactMapRefused left a text → IsCompactMapRefused left b text → a ≡ b
-one_map_cause left a b text (inl h) (inl g) = one_size_cause None a b text h g
-one_map_cause left a b text (inl h) (inr g) = absurd (size_or_pairs left a b text h g)
-one_map_cause left a b text (inr h) (inl g) = absurd (size_or_pairs left b a text g h)
-one_map_cause left a b text (inr h) (inr g) = one_pairs_cause left a b text h g
-
-one_cause : (part : Part) (text : List ℕ) (a b : Cause) → compact_refuses part a text → compact_refuses part b text → a ≡ b
-one_cause (header left last) text a b h g = one_header_cause left last a b text h g
-one_cause short text a b h g = one_signed_cause w16 causes.BadVarint a b text h g
-one_cause int text a b h g = one_signed_cause w32 causes.BadVarint a b text h g
-one_cause long text a b h g = h.0 ∙ sym g.0
-one_cause size text a b h g = one_size_cause None a b text h g
-one_cause (list_head left) text a b h g = one_list_cause left a b text h g
-one_cause (map_head left) text a b h g = one_map_cause left a b text h g
-one_cause other text a b h g = absurd h
+pub compact_refused_by : (part : Part) (text : List ℕ) (cause : Cause) → compact_refuses part cause text → RefusesPart cause
+compact_refused_by (header left last) [] cause h = absurd h
+compact_refused_by (header left last) (b ∷ []) cause h = field_fault left last b cause h.1.0
+compact_refused_by (header left last) (b ∷ c ∷ id) cause h = signed_refused_by w16 causes.BadWire cause (c ∷ id) (omega arith) h
+compact_refused_by short text cause h = signed_refused_by w16 causes.BadVarint cause text (omega arith) h
+compact_refused_by int text cause h = signed_refused_by w32 causes.BadVarint cause text (omega arith) h
+compact_refused_by long text cause h = subst RefusesPart (sym h.0) (omega arith)
+compact_refused_by size text cause h = compact_size_fault None any_size text cause h.0
+compact_refused_by (list_head left) [] cause h = absurd h
+compact_refused_by (list_head left) (b ∷ []) cause h = proper_none left (compact_kind_of_code (b % 16)) cause h.2
+compact_refused_by (list_head left) (b ∷ c ∷ number) cause h =
+    compact_size_fault (why_none left (compact_kind_of_code (b % 16))) (proper_none left (compact_kind_of_code (b % 16))) (c ∷ number) cause h.0
+compact_refused_by (map_head left) text cause (inl h) = compact_size_fault None any_size text cause h.0
+compact_refused_by (map_head left) text cause (inr h) =
+    proper_pair left (compact_kind_of_code (h.types / 16)) (compact_kind_of_code (h.types % 16)) cause h.why
+compact_refused_by other text cause h = absurd h
 
 pub compact_part_laws : PartLaws compact_spells compact_then_varint compact_refuses
 compact_part_laws = record {
@@ -230,12 +203,13 @@ compact_part_laws = record {
   list_level = list_level;
   map_level = map_level;
   varint_front = varint_front;
-  one_cause = λ part text a b closed h g. one_cause part text a b h g;
+  refused_by = compact_refused_by;
+  one_cause = λ part text a b closed h g. (judges part).one_cause text a b h g;
   spellable = spellable;
-  stop = λ left last. (0 ∷ [], tt);
-  no_bytes = (0 ∷ [], zero_size);
-  empty_list = λ left. (record { element = compact_kind_of_code 0; size = 0 }, 0 ∷ [], (no_elements left 0, refl, omega arith), refl);
-  empty_map = λ left. (record { key = None; value = None; size = 0 }, 0 ∷ [], no_pairs left, refl);
+  stop = λ left last. by_zeros (header left last) None 1 tt;
+  no_bytes = by_zeros size 0 1 zero_size;
+  empty_list = λ left. (record { element = compact_kind_of_code 0; size = 0 }, empty_list left, refl);
+  empty_map = λ left. (record { key = None; value = None; size = 0 }, empty_map left, refl);
 }
 
 -- ---- writing

@@ -9,3 +9,4 @@ pub mod JudgedMaps
 pub mod JudgedFields
 pub mod ReadsExactly
 pub mod Laws
+pub mod ProperWords

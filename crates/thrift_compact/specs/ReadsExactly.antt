@@ -1,12 +1,12 @@
 -- The readers of the compact protocol are exact: each answers a word where a spelling of it stands, Truncated where the bytes are open, and
 -- else the cause that compact_refuses them.
-use Rattle.std.proofs.Common.{◌≡◌, ◌++◌, ℕ, ℤ, Bool, List, [], Some, None, refl, ap, sym, ◌∙◌}
+use Rattle.std.proofs.Common.{◌≡◌, ◌++◌, ℕ, ℤ, Bool, List, [], Some, None, refl, ap, sym, ◌∙◌, arith}
 use Rattle.std.specs.Int.{w8, w16, w32, cast_signed}
 use Rattle.span_io.specs.declared.cause.Cause.{Cause}
 use Rattle.span_io.specs.declared.cause.Cause.TheVariants as causes
 use Rattle.thrift_core.specs.Parts.{Part, header, truth, byte, short, int, long, eight, size, list_head, map_head, WordOf, Begins}
 use Rattle.thrift_core.specs.Protocols.{ReadsExactly}
-use Rattle.thrift_core.specs.Judged.{found, JudgesReading, reads_found, reads_only, reads_short, reads_bad, reads_within}
+use Rattle.thrift_core.specs.Judged.{found, JudgesReading, reads_found, reads_only, reads_short, reads_bad, reads_cause}
 use Rattle.thrift_compact.specs.Spelling.{compact_is_true, compact_spells, compact_then_varint, compact_refuses}
 use Rattle.thrift_compact.specs.Reading.{compact_reads}
 use Rattle.thrift_compact.specs.JudgedNumbers.{tested_16, tested_32, zero_16, zero_32, signed_judges}
@@ -58,8 +58,8 @@ judges (header left last) = compact_header_judges left last
 judges (truth (Some held)) = held_judges held
 judges (truth None) = byte_judges Bool compact_is_true (V (truth None)) (λ front v. v)
 judges byte = byte_judges ℤ (cast_signed w8) (V byte) (λ front v. v)
-judges short = signed_judges w16 15 causes.BadVarint tested_16 zero_16 (λ e. cc) (λ e. cc) (V short) tt short_at_once
-judges int = signed_judges w32 31 causes.BadVarint tested_32 zero_32 (λ e. cc) (λ e. cc) (V int) tt int_at_once
+judges short = signed_judges w16 15 causes.BadVarint tested_16 zero_16 (omega arith) (V short) tt short_at_once
+judges int = signed_judges w32 31 causes.BadVarint tested_32 zero_32 (omega arith) (V int) tt int_at_once
 judges long = long_judges (V long) tt long_at_once
 judges eight = eight_judges (V eight) (λ front v. v)
 judges size = any_judges (V size) tt size_at_once
@@ -77,5 +77,5 @@ compact_reads_exactly = record {
   only = λ part word bytes rest h. reads_only (WordOf part) (S part) (V part) (R part) (compact_reads part) (judges part) word h.text bytes rest h.spelled h.parts;
   short = λ part bytes. reads_short (WordOf part) (S part) (V part) (R part) (compact_reads part) (judges part) bytes;
   bad = λ part bytes cause other. reads_bad (WordOf part) (S part) (V part) (R part) (compact_reads part) (judges part) bytes cause other;
-  within = λ part bytes. reads_within (WordOf part) (S part) (V part) (R part) (compact_reads part) (judges part) bytes;
+  refused_for = λ part bytes cause. reads_cause (WordOf part) (S part) (V part) (R part) (compact_reads part) (judges part) bytes cause;
 }

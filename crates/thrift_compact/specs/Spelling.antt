@@ -10,7 +10,7 @@ use Rattle.thrift_core.specs.declared.field.Field.{Field}
 use Rattle.thrift_core.specs.declared.field.ListHead.{ListHead}
 use Rattle.thrift_core.specs.declared.field.MapHead.{MapHead}
 use Rattle.thrift_core.specs.declared.type_code.TypeCode.{TypeCode}
-use Rattle.thrift_core.specs.Levels.{MayStand, why_none, why_no_pair}
+use Rattle.thrift_core.specs.Levels.{CountsFirst, MayStand, why_none, why_no_pair}
 use Rattle.thrift_core.specs.Parts.{Part, header, truth, byte, short, int, long, eight, size, list_head, map_head, Spelling, HasLevel}
 use Rattle.thrift_core.specs.Protocols.{WritingOf, last_size}
 use Rattle.thrift_compact.specs.TypeCodes.{compact_code_of, compact_kind_of_code, held_by_code, field_code}
@@ -103,15 +103,22 @@ abbrev pub IsSignedRefused : Width → Cause → Cause → List ℕ → Type 0
 IsSignedRefused w outside cause text =
     ((cause ≡ causes.BadVarint) × IsOverlong text) ⊎ ((cause ≡ outside) × ((z : ℤ) × SpellsZigzag text z × ¬ FitsSigned w z))
 
--- a size that is no varint, that isn't 0 behind what may have no elements, for this cause, or that is too large
-abbrev pub IsCompactSizeRefused : Option Cause → Cause → List ℕ → Type 0
-IsCompactSizeRefused (Some why) cause text = ((cause ≡ causes.BadVarint) × IsOverlong text) ⊎ ((cause ≡ why) × ((n : ℕ) × SpellsVarint text n × (1 ≤ n)))
-IsCompactSizeRefused None cause text = ((cause ≡ causes.BadVarint) × IsOverlong text) ⊎ ((cause ≡ causes.BadSize) × ((n : ℕ) × SpellsVarint text n × (last_size < n)))
+-- What speaks against a size: that it is no varint or too large, and behind what may have no elements, for this cause, that there are some.
+abbrev pub CompactSizeFault : Option Cause → List ℕ → Cause → Type 0
+CompactSizeFault why text cause = ((cause ≡ causes.BadVarint) × IsOverlong text)
+    ⊎ (((why ≡ Some cause) × ((n : ℕ) × SpellsVarint text n × (1 ≤ n)))
+    ⊎ ((cause ≡ causes.BadSize) × ((n : ℕ) × SpellsVarint text n × (last_size < n))))
 
--- the code first, and then the id
+abbrev pub IsCompactSizeRefused : Option Cause → Cause → List ℕ → Type 0
+IsCompactSizeRefused why cause text = CountsFirst (λ fault. CompactSizeFault why text fault) cause
+
+-- What speaks against a field at its first byte: its type, and an id outside its type.
+abbrev pub CompactFieldFault : ℕ → ℤ → ℕ → Cause → Type 0
+CompactFieldFault left last b cause = (why_none left (compact_kind_of_code (b % 16)) ≡ Some cause)
+    ⊎ ((cause ≡ causes.BadWire) × ¬ FitsSigned w16 (last +ℤ pos (b / 16)))
+
 abbrev pub IsCompactHeaderRefused : ℕ → ℤ → Cause → List ℕ → Type 0
-IsCompactHeaderRefused left last cause (b ∷ []) = (b ≢ 0) × ((why_none left (compact_kind_of_code (b % 16)) ≡ Some cause)
-    ⊎ ((why_none left (compact_kind_of_code (b % 16)) ≡ None) × (cause ≡ causes.BadWire) × ¬ FitsSigned w16 (last +ℤ pos (b / 16))))
+IsCompactHeaderRefused left last cause (b ∷ []) = (b ≢ 0) × CountsFirst (λ fault. CompactFieldFault left last b fault) cause
 IsCompactHeaderRefused left last cause (b ∷ c ∷ id) = IsSignedRefused w16 causes.BadWire cause (c ∷ id)
 IsCompactHeaderRefused left last cause [] = ⊥
 
@@ -144,7 +151,7 @@ compact_refuses other cause front = ⊥
 
 -- ---- writing
 
--- the head of a field compact_keeps its truth value
+-- the head of a field keeps its truth value
 abbrev pub compact_keeps : Option Bool → Option Bool
 compact_keeps given = given
 

@@ -2,6 +2,7 @@ ghost use Rattle.thrift_compact.specs.Spelling as spelling;
 ghost use Rattle.thrift_compact.specs.Reading as reading;
 ghost use Rattle.thrift_compact.specs.Laws as compact_laws;
 ghost use Rattle.thrift_compact.specs.ReadsExactly as exactly;
+ghost use Rattle.thrift_compact.specs.ProperWords as proper_words;
 
 use crate::reading::{
     byte_of, eight_of, header_of, int_of, list_of, long_of, map_of, short_of, size_of, truth_of,
@@ -163,6 +164,8 @@ impl Protocol for Compact {
     ghost reads_exactly = { exactly.compact_reads_exactly };
 
     ghost part_laws = { compact_laws.compact_part_laws };
+
+    ghost spells_proper = { proper_words.compact_spells_proper };
 
     ghost writes_shortest = { compact_laws.compact_writes_shortest };
 }

@@ -8,6 +8,3 @@ mod type_codes;
 mod writing;
 
 pub use compact::Compact;
-
-#[cfg(test)]
-mod tests;

@@ -6,7 +6,7 @@ use Rattle.span_io.specs.declared.cause.Cause.{Cause}
 use Rattle.span_io.specs.declared.cause.Cause.TheVariants as causes
 use Rattle.span_io.specs.Cuts.{two_cuts}
 use Rattle.span_io.specs.Frames.{Framing, IsOpen, IsRefused, IsRefusedAt}
-use Rattle.span_io.specs.FramingLaws.{open_front}
+use Rattle.span_io.specs.FramingLaws.{FrontsAreOpen, open_front}
 use Rattle.thrift_core.specs.declared.passing.Halted.{Halted}
 use Rattle.thrift_core.specs.declared.passing.Halted.TheVariants as halts
 use Rattle.thrift_core.specs.declared.type_code.TypeCode.{TypeCode}
@@ -21,7 +21,7 @@ use Rattle.thrift_core.proofs.Determined.{one_word, one_end}
 use Rattle.thrift_core.proofs.Halts.{is_truncated, stop_not_whole, lack_not_whole}
 use Rattle.thrift_core.proofs.Stopping.{IsSound}
 use Rattle.thrift_core.proofs.Meanings.{value_on, value_whole}
-use Rattle.thrift_core.proofs.TextsFrom.{end_is, truncated_is, stop_is, never_long, lacks_is, open_halts, one_kind}
+use Rattle.thrift_core.proofs.TextsFrom.{end_is, truncated_is, stop_is, never_long, lacks_is, open_halts, fronts_open, one_kind}
 
 -- ---- one of three
 
@@ -32,14 +32,14 @@ record OneFront (F : Framing) (J M : List ℕ → Type 0) : Type 0 where
   first : J front
   second : M front
 
-module _ (F : Framing) where
+module _ (F : Framing) (fronts : FrontsAreOpen F) where
   open_not_refused : (J : List ℕ → Type 0) (text : List ℕ) → IsOpen F text → IsRefusedAt F J text → ⊥
-  open_not_refused J text may_come r = r.shortest.refused.closed (open_front F r.front r.shortest.rest (subst (λ l. IsOpen F l) r.shortest.parts may_come))
+  open_not_refused J text may_come r = r.shortest.refused.closed (open_front F fronts r.front r.shortest.rest (subst (λ l. IsOpen F l) r.shortest.parts may_come))
 
   refused_item : (front item between : List ℕ) → IsRefused F front → F.Whole item → item ≡ front ++ between → ⊥
   refused_item front item [] refused whole e =
       refused.none (record { text = item; rest = []; whole = whole; parts = sym (append-nil item ∙ e ∙ append-nil front) })
-  refused_item front item (b ∷ between) refused whole e = refused.closed (inl (record { more = b ∷ between; some = λ none. cc; whole = subst F.Whole e whole }))
+  refused_item front item (b ∷ between) refused whole e = refused.closed (fronts front (b ∷ between) (subst F.Whole e whole) (λ none. cc))
 
   begun_not_refused : (J : List ℕ → Type 0) (text item rest : List ℕ) → F.Whole item → text ≡ item ++ rest → IsRefusedAt F J text → ⊥
   begun_not_refused J text item rest whole e r = elim (two_cuts r.front r.shortest.rest item rest (sym r.shortest.parts ∙ e)) [
@@ -61,20 +61,20 @@ module _ (F : Framing) where
       longer [] e = record { front = g.front; refused = g.shortest.refused; first = subst J (e ∙ append-nil g.front) h.ends_in; second = g.ends_in }
       longer (b ∷ between) e = absurd (h.shortest.least g.front (b ∷ between) e (λ none. cc) g.shortest.refused)
 
-module _ (F : Framing) (K : Cause → List ℕ → Type 0) (one_kind : (front : List ℕ) (a b : Cause) → IsRefused F front → K a front → K b front → a ≡ b) where
+module _ (F : Framing) (fronts : FrontsAreOpen F) (K : Cause → List ℕ → Type 0) (one_kind : (front : List ℕ) (a b : Cause) → IsRefused F front → K a front → K b front → a ≡ b) where
   open_answers : {A : Type 0} (cause : Cause) (text : List ℕ) → cause ≡ causes.Truncated → IsOpen F text → AnswersRefusals {A = A} F K (Err cause) text
   open_answers cause text e may_come = record {
     short = (λ _. may_come, λ _. ap (λ c. Err c) e);
-    bad = λ other is_other. (λ same. absurd (is_other cc), λ refused. absurd (open_not_refused F (K other) text may_come refused));
+    bad = λ other is_other. (λ same. absurd (is_other cc), λ refused. absurd (open_not_refused F fronts (K other) text may_come refused));
     within = λ long. cc;
   }
 
   refused_answers : {A : Type 0} (cause : Cause) (text : List ℕ) → cause ≢ causes.Truncated → cause ≢ causes.UnitTooLong → IsRefusedAt F (K cause) text → AnswersRefusals {A = A} F K (Err cause) text
   refused_answers cause text is_other not_long refused = record {
-    short = (λ same. absurd (is_other cc), λ may_come. absurd (open_not_refused F (K cause) text may_come refused));
+    short = (λ same. absurd (is_other cc), λ may_come. absurd (open_not_refused F fronts (K cause) text may_come refused));
     bad = λ other _. (
       λ same. (let e : cause ≡ other = cc in subst (λ c. IsRefusedAt F (K c) text) e refused),
-      λ so. (let both = one_front F (K cause) (K other) text refused so in ap (λ c. Err c) (one_kind both.front cause other both.refused both.first both.second)),
+      λ so. (let both = one_front F fronts (K cause) (K other) text refused so in ap (λ c. Err c) (one_kind both.front cause other both.refused both.first both.second)),
     );
     within = λ long. not_long cc;
   }
@@ -82,7 +82,7 @@ module _ (F : Framing) (K : Cause → List ℕ → Type 0) (one_kind : (front : 
   begun_answers : {A : Type 0} (value : A) (text item rest : List ℕ) → (IsOpen F text → ⊥) → F.Whole item → text ≡ item ++ rest → AnswersRefusals {A = A} F K (Ok value) text
   begun_answers value text item rest not_open whole e = record {
     short = (λ same. absurd cc, λ may_come. absurd (not_open may_come));
-    bad = λ other _. (λ same. absurd cc, λ refused. absurd (begun_not_refused F (K other) text item rest whole e refused));
+    bad = λ other _. (λ same. absurd cc, λ refused. absurd (begun_not_refused F fronts (K other) text item rest whole e refused));
     within = λ long. cc;
   }
 
@@ -93,6 +93,9 @@ module _ (Spells : Spelling) (reads : ReadingOf) (ThenVarint : Part → List ℕ
     one_cause : (front : List ℕ) (a b : Cause) → IsRefused (texts_from Spells ThenVarint start) front → RefusedFrom Spells Refuses start a front → RefusedFrom Spells Refuses start b front → a ≡ b
     one_cause front a b refused h g = one_kind Spells reads ThenVarint Refuses R L start front a b sound refused h g
 
+    fronts : FrontsAreOpen (texts_from Spells ThenVarint start)
+    fronts = fronts_open Spells reads ThenVarint Refuses R L start sound
+
     not_open : (text rest : List ℕ) → Passes Spells (start ∷ []) text [] rest → IsOpen (texts_from Spells ThenVarint start) text → ⊥
     not_open text rest h may_come = elim (open_halts Spells reads ThenVarint Refuses R L start text may_come) [
       | inl stop ↦ stop_not_whole Spells reads ThenVarint Refuses R start text causes.Truncated rest stop h
@@ -102,19 +105,19 @@ module _ (Spells : Spelling) (reads : ReadingOf) (ThenVarint : Part → List ℕ
     pub passed_answers : {A : Type 0} (value : A) (text rest : List ℕ) → Passes Spells (start ∷ []) text [] rest → AnswersRefusals {A = A} (texts_from Spells ThenVarint start) (RefusedFrom Spells Refuses start) (Ok value) text
     passed_answers value text rest h =
         let front = end_is Spells reads ThenVarint Refuses R L start text rest h in
-        begun_answers (texts_from Spells ThenVarint start) (RefusedFrom Spells Refuses start) one_cause value text front.0 rest (not_open text rest h) front.1 front.2
+        begun_answers (texts_from Spells ThenVarint start) fronts (RefusedFrom Spells Refuses start) one_cause value text front.0 rest (not_open text rest h) front.1 front.2
 
     pub halted_answers : {A : Type 0} (halted : Halted) (cause : Cause) (text : List ℕ) → HaltsAs Spells reads start text halted → cause ≡ cause_of halted
         → AnswersRefusals {A = A} (texts_from Spells ThenVarint start) (RefusedFrom Spells Refuses start) (Err cause) text
     halted_answers (halts.For why) cause text h is = elim (is_truncated why) [
-      | inl e ↦ open_answers (texts_from Spells ThenVarint start) (RefusedFrom Spells Refuses start) one_cause cause text (is ∙ e)
+      | inl e ↦ open_answers (texts_from Spells ThenVarint start) fronts (RefusedFrom Spells Refuses start) one_cause cause text (is ∙ e)
           (truncated_is Spells reads ThenVarint Refuses R L start text sound (subst (λ c. StopsFor Spells reads start text c) e h))
-      | inr other ↦ refused_answers (texts_from Spells ThenVarint start) (RefusedFrom Spells Refuses start) one_cause cause text (λ e. other (sym is ∙ e))
+      | inr other ↦ refused_answers (texts_from Spells ThenVarint start) fronts (RefusedFrom Spells Refuses start) one_cause cause text (λ e. other (sym is ∙ e))
           (λ e. never_long Spells reads ThenVarint Refuses R L start text why h (sym is ∙ e))
           (subst (λ c. IsRefusedAt (texts_from Spells ThenVarint start) (RefusedFrom Spells Refuses start c) text) (sym is) (stop_is Spells reads ThenVarint Refuses R L start text why sound other h))
     ]
     halted_answers (halts.Lacking many) cause text h is =
-        open_answers (texts_from Spells ThenVarint start) (RefusedFrom Spells Refuses start) one_cause cause text is (lacks_is Spells reads ThenVarint Refuses R L start text many sound h)
+        open_answers (texts_from Spells ThenVarint start) fronts (RefusedFrom Spells Refuses start) one_cause cause text is (lacks_is Spells reads ThenVarint Refuses R L start text many sound h)
 
   -- ---- values
 

@@ -1,13 +1,15 @@
 -- What is open can be completed, where each value has a level.
-use Rattle.std.proofs.Common.{◌≡◌, ◌≤◌, ◌++◌, ◌∷◌, ◌⊎◌, inl, inr, ℕ, zero, suc, ℤ, pos, Bool, List, [], replicate, Option, Some, None, refl, ap, sym, ◌∙◌, subst, arith}
+use Rattle.std.proofs.Common.{◌≡◌, ◌≤◌, ◌<◌, ◌++◌, ◌∷◌, ◌⊎◌, inl, inr, ℕ, zero, suc, ℤ, pos, Bool, List, [], replicate, Option, Some, None, refl, ap, sym, ◌∙◌, subst, arith}
 use Rattle.std.proofs.lemmas.List.{append_assoc, length-replicate}
+use Rattle.std.proofs.lemmas.List.Elements.{All-nil, All-append, All-replicate}
+use Rattle.span_io.specs.Frames.{AreBytes}
 use Rattle.span_io.specs.declared.cause.Cause.{Cause}
 use Rattle.thrift_core.specs.declared.field.ListHead.{ListHead}
 use Rattle.thrift_core.specs.declared.field.MapHead.{MapHead}
 use Rattle.thrift_core.specs.declared.type_code.TypeCode.{TypeCode}
 use Rattle.thrift_core.specs.declared.type_code.TypeCode.TheVariants as kinds
 use Rattle.thrift_core.specs.Parts.{Part, header, truth, byte, short, int, long, eight, size, list_head, map_head, WordOf, Spelling, HasLevel}
-use Rattle.thrift_core.specs.Protocols.{PartLaws}
+use Rattle.thrift_core.specs.Protocols.{SpelledInBytes, PartLaws}
 use Rattle.thrift_core.specs.Walks.{Open, in_struct, in_value, in_elements, in_pairs, in_bytes, a_part, made_of, first_of, opened_by_header, opened_by_size, opened_elements, opened_pairs, nothing_more, Turn, Turns, Passes}
 use Rattle.thrift_core.proofs.Determined.{no_turns, one_turn, passes_on}
 
@@ -30,55 +32,72 @@ all_append (top ∷ a) b h g = (h.0, all_append a b h.1 g)
 
 -- ---- a text of it
 
--- a text of it, whatever is open below and follows
+-- a text of it in bytes, whatever is open below and follows
 pub record Filled (Spells : Spelling) (top : Open) : Type 0 where
   pub text : List ℕ
+  pub are_bytes : AreBytes text
   pub fills : (below : List Open) (rest : List ℕ) → Passes Spells (top ∷ below) (text ++ rest) below rest
 
 pub record AllFilled (Spells : Spelling) (stack : List Open) : Type 0 where
   pub text : List ℕ
+  pub are_bytes : AreBytes text
   pub fills : (rest : List ℕ) → Passes Spells stack (text ++ rest) [] rest
+
+both_bytes : (a b : List ℕ) → AreBytes a → AreBytes b → AreBytes (a ++ b)
+both_bytes a b h g = All-append (λ n. n < 256) a b h g
+
+no_numbers : AreBytes []
+no_numbers = All-nil (λ n. n < 256)
 
 module _ (Spells : Spelling) where
   -- a word that opens nothing
-  by_word : (top : Open) (part : Part) (opens : WordOf part → List Open) → first_of top ≡ a_part part opens → (word : WordOf part) (text : List ℕ) → Spells part word text → opens word ≡ [] → Filled Spells top
-  by_word top part opens first word text spelled nothing = record {
-    text = text;
-    fills = λ below rest. one_turn Spells top below (text ++ rest) [] rest (subst (λ f. Turn Spells f (text ++ rest) [] rest) (sym first) (word, record { text = text; spelled = spelled; parts = refl }, sym nothing));
+  by_word : (top : Open) (part : Part) (opens : WordOf part → List Open) → first_of top ≡ a_part part opens → (word : WordOf part) → SpelledInBytes Spells part word → opens word ≡ [] → Filled Spells top
+  by_word top part opens first word s nothing = record {
+    text = s.text;
+    are_bytes = s.are_bytes;
+    fills = λ below rest. one_turn Spells top below (s.text ++ rest) [] rest
+        (subst (λ f. Turn Spells f (s.text ++ rest) [] rest) (sym first) (word, record { text = s.text; spelled = s.spelled; parts = refl }, sym nothing));
   }
 
   -- a word that opens one thing that has a text
-  word_and : (top : Open) (part : Part) (opens : WordOf part → List Open) → first_of top ≡ a_part part opens → (word : WordOf part) (text : List ℕ) → Spells part word text
+  word_and : (top : Open) (part : Part) (opens : WordOf part → List Open) → first_of top ≡ a_part part opens → (word : WordOf part) → SpelledInBytes Spells part word
       → (inner : Open) → opens word ≡ inner ∷ [] → Filled Spells inner → Filled Spells top
-  word_and top part opens first word text spelled inner one f = record {
-    text = text ++ f.text;
-    fills = λ below rest. subst (λ l. Passes Spells (top ∷ below) l below rest) (sym (append_assoc text f.text rest)) (passes_on Spells (top ∷ below) (text ++ (f.text ++ rest)) (inner ∷ below) (f.text ++ rest) below rest
-        (one_turn Spells top below (text ++ (f.text ++ rest)) (inner ∷ []) (f.text ++ rest)
-        (subst (λ g. Turn Spells g (text ++ (f.text ++ rest)) (inner ∷ []) (f.text ++ rest)) (sym first) (word, record { text = text; spelled = spelled; parts = refl }, sym one)))
+  word_and top part opens first word s inner one f = record {
+    text = s.text ++ f.text;
+    are_bytes = both_bytes s.text f.text s.are_bytes f.are_bytes;
+    fills = λ below rest.
+        let whole = s.text ++ (f.text ++ rest) in
+        subst (λ l. Passes Spells (top ∷ below) l below rest) (sym (append_assoc s.text f.text rest)) (passes_on Spells (top ∷ below) whole (inner ∷ below) (f.text ++ rest) below rest
+        (one_turn Spells top below whole (inner ∷ []) (f.text ++ rest)
+        (subst (λ g. Turn Spells g whole (inner ∷ []) (f.text ++ rest)) (sym first) (word, record { text = s.text; spelled = s.spelled; parts = refl }, sym one)))
         (f.fills below rest));
   }
 
   made_of_nothing : (top : Open) → first_of top ≡ made_of [] → Filled Spells top
   made_of_nothing top first = record {
     text = [];
+    are_bytes = no_numbers;
     fills = λ below rest. one_turn Spells top below rest [] rest (subst (λ f. Turn Spells f rest [] rest) (sym first) (refl, refl));
   }
 
   all_filled : (a : Open) (more : List Open) → Filled Spells a → AllFilled Spells more → AllFilled Spells (a ∷ more)
   all_filled a more f g = record {
     text = f.text ++ g.text;
+    are_bytes = both_bytes f.text g.text f.are_bytes g.are_bytes;
     fills = λ rest. subst (λ l. Passes Spells (a ∷ more) l [] rest) (sym (append_assoc f.text g.text rest)) (passes_on Spells (a ∷ more) (f.text ++ (g.text ++ rest)) more (g.text ++ rest) [] rest (f.fills more (g.text ++ rest)) (g.fills rest));
   }
 
   bytes_filled : (many : ℕ) → Filled Spells (in_bytes many)
   bytes_filled many = record {
     text = replicate many 0;
+    are_bytes = All-replicate (λ n. n < 256) many 0 (omega arith);
     fills = λ below rest. one_turn Spells (in_bytes many) below (replicate many 0 ++ rest) [] rest (replicate many 0, refl, length-replicate many 0, refl);
   }
 
   made_of_one : (top inner : Open) → first_of top ≡ made_of (inner ∷ []) → Filled Spells inner → Filled Spells top
   made_of_one top inner first f = record {
     text = f.text;
+    are_bytes = f.are_bytes;
     fills = λ below rest. passes_on Spells (top ∷ below) (f.text ++ rest) (inner ∷ below) (f.text ++ rest) below rest
         (one_turn Spells top below (f.text ++ rest) (inner ∷ []) (f.text ++ rest) (subst (λ g. Turn Spells g (f.text ++ rest) (inner ∷ []) (f.text ++ rest)) (sym first) (refl, refl)))
         (f.fills below rest);
@@ -87,6 +106,7 @@ module _ (Spells : Spelling) where
   made_of_two : (top a b : Open) → first_of top ≡ made_of (a ∷ b ∷ []) → Filled Spells a → Filled Spells b → Filled Spells top
   made_of_two top a b first f g = record {
     text = f.text ++ g.text;
+    are_bytes = both_bytes f.text g.text f.are_bytes g.are_bytes;
     fills = λ below rest. subst (λ l. Passes Spells (top ∷ below) l below rest) (sym (append_assoc f.text g.text rest)) (passes_on Spells (top ∷ below) (f.text ++ (g.text ++ rest)) (a ∷ b ∷ below) (f.text ++ (g.text ++ rest)) below rest
         (one_turn Spells top below (f.text ++ (g.text ++ rest)) (a ∷ b ∷ []) (f.text ++ (g.text ++ rest)) (subst (λ x. Turn Spells x (f.text ++ (g.text ++ rest)) (a ∷ b ∷ []) (f.text ++ (g.text ++ rest))) (sym first) (refl, refl)))
         (passes_on Spells (a ∷ b ∷ below) (f.text ++ (g.text ++ rest)) (b ∷ below) (g.text ++ rest) below rest (f.fills (b ∷ below) (g.text ++ rest)) (g.fills below rest)));
@@ -95,6 +115,7 @@ module _ (Spells : Spelling) where
   made_of_three : (top a b c : Open) → first_of top ≡ made_of (a ∷ b ∷ c ∷ []) → Filled Spells a → Filled Spells b → Filled Spells c → Filled Spells top
   made_of_three top a b c first f g h = record {
     text = f.text ++ (g.text ++ h.text);
+    are_bytes = both_bytes f.text (g.text ++ h.text) f.are_bytes (both_bytes g.text h.text g.are_bytes h.are_bytes);
     fills = λ below rest.
         let whole : List ℕ = f.text ++ (g.text ++ (h.text ++ rest)) in
         let parts : (f.text ++ (g.text ++ h.text)) ++ rest ≡ whole = append_assoc f.text (g.text ++ h.text) rest ∙ ap (λ l. f.text ++ l) (append_assoc g.text h.text rest) in
@@ -115,30 +136,30 @@ no_elements_opened left (Some kind) = inr (in_elements left kind zero, refl, ref
 
 module _ (Spells : Spelling) (ThenVarint : Part → List ℕ → Type 0) (Refuses : Part → Cause → List ℕ → Type 0) (L : PartLaws Spells ThenVarint Refuses) where
   leaf_filled : (left : ℕ) (kind : TypeCode) (held : Option Bool) (part : Part) → first_of (in_value left kind held) ≡ a_part part nothing_more → Filled Spells (in_value left kind held)
-  leaf_filled left kind held part first = let some = L.spellable part in by_word Spells (in_value left kind held) part nothing_more first some.0 some.1 some.2 refl
+  leaf_filled left kind held part first = let some = L.spellable part in by_word Spells (in_value left kind held) part nothing_more first some.0 some.1 refl
 
   map_filled : (left : ℕ) (held : Option Bool) → Filled Spells (in_value (suc left) kinds.Map held)
   map_filled left held =
       let empty = L.empty_map left in
       let opens : MapHead → List Open = λ head. opened_pairs left head.key head.value head.size in
-      let none : opens empty.0 ≡ opened_pairs left empty.0.key empty.0.value 0 = ap (opened_pairs left empty.0.key empty.0.value) empty.3 in
+      let none : opens empty.0 ≡ opened_pairs left empty.0.key empty.0.value 0 = ap (opened_pairs left empty.0.key empty.0.value) empty.2 in
       elim (no_pairs_opened left empty.0.key empty.0.value) as (λ x. Filled Spells (in_value (suc left) kinds.Map held)) [
-        | inl e ↦ by_word Spells (in_value (suc left) kinds.Map held) (map_head left) opens refl empty.0 empty.1 empty.2 (none ∙ e)
-        | inr w ↦ word_and Spells (in_value (suc left) kinds.Map held) (map_head left) opens refl empty.0 empty.1 empty.2 w.0 (none ∙ w.1) (made_of_nothing Spells w.0 w.2)
+        | inl e ↦ by_word Spells (in_value (suc left) kinds.Map held) (map_head left) opens refl empty.0 empty.1 (none ∙ e)
+        | inr w ↦ word_and Spells (in_value (suc left) kinds.Map held) (map_head left) opens refl empty.0 empty.1 w.0 (none ∙ w.1) (made_of_nothing Spells w.0 w.2)
       ]
 
   list_filled : (top : Open) (left : ℕ) → first_of top ≡ a_part (list_head left) (λ head. opened_elements left head.element head.size) → Filled Spells top
   list_filled top left first =
       let empty = L.empty_list left in
       let opens : ListHead → List Open = λ head. opened_elements left head.element head.size in
-      let none : opens empty.0 ≡ opened_elements left empty.0.element 0 = ap (opened_elements left empty.0.element) empty.3 in
+      let none : opens empty.0 ≡ opened_elements left empty.0.element 0 = ap (opened_elements left empty.0.element) empty.2 in
       elim (no_elements_opened left empty.0.element) as (λ x. Filled Spells top) [
-        | inl e ↦ by_word Spells top (list_head left) opens first empty.0 empty.1 empty.2 (none ∙ e)
-        | inr w ↦ word_and Spells top (list_head left) opens first empty.0 empty.1 empty.2 w.0 (none ∙ w.1) (made_of_nothing Spells w.0 w.2)
+        | inl e ↦ by_word Spells top (list_head left) opens first empty.0 empty.1 (none ∙ e)
+        | inr w ↦ word_and Spells top (list_head left) opens first empty.0 empty.1 w.0 (none ∙ w.1) (made_of_nothing Spells w.0 w.2)
       ]
 
   struct_filled : (left : ℕ) (last : ℤ) → Filled Spells (in_struct left last)
-  struct_filled left last = let stop = L.stop left last in by_word Spells (in_struct left last) (header left last) (opened_by_header left) refl None stop.0 stop.1 refl
+  struct_filled left last = by_word Spells (in_struct left last) (header left last) (opened_by_header left) refl None (L.stop left last) refl
 
   value_filled : (left : ℕ) (kind : TypeCode) (held : Option Bool) → HasLevel left kind → Filled Spells (in_value left kind held)
   value_filled left kinds.Truth held h = leaf_filled left kinds.Truth held (truth held) refl
@@ -147,7 +168,7 @@ module _ (Spells : Spelling) (ThenVarint : Part → List ℕ → Type 0) (Refuse
   value_filled left kinds.I32 held h = leaf_filled left kinds.I32 held int refl
   value_filled left kinds.I64 held h = leaf_filled left kinds.I64 held long refl
   value_filled left kinds.Eight held h = leaf_filled left kinds.Eight held eight refl
-  value_filled left kinds.Binary held h = word_and Spells (in_value left kinds.Binary held) size opened_by_size refl 0 L.no_bytes.0 L.no_bytes.1 (in_bytes 0) refl (bytes_filled Spells 0)
+  value_filled left kinds.Binary held h = word_and Spells (in_value left kinds.Binary held) size opened_by_size refl 0 L.no_bytes (in_bytes 0) refl (bytes_filled Spells 0)
   value_filled (suc left) kinds.Struct held h = made_of_one Spells (in_value (suc left) kinds.Struct held) (in_struct left (pos 0)) refl (struct_filled left (pos 0))
   value_filled (suc left) kinds.Map held h = map_filled left held
   value_filled (suc left) kinds.Set held h = list_filled (in_value (suc left) kinds.Set held) left refl
@@ -180,7 +201,7 @@ module _ (Spells : Spelling) (ThenVarint : Part → List ℕ → Type 0) (Refuse
   -- all that is open can be completed
   pub stack_filled : (stack : List Open) → AllSuit stack → AllFilled Spells stack
   unfolding AllSuit
-  stack_filled [] h = record { text = []; fills = λ rest. no_turns Spells [] rest }
+  stack_filled [] h = record { text = []; are_bytes = no_numbers; fills = λ rest. no_turns Spells [] rest }
   stack_filled (top ∷ below) h = all_filled Spells top below (filled top h.0) (stack_filled below h.1)
 
   -- ---- what words open has its levels

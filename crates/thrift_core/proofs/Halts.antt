@@ -74,7 +74,10 @@ module _ (Spells : Spelling) (reads : ReadingOf) (ThenVarint : Part → List ℕ
   stays_by no_level text more cause other e = e
 
   no_limit : (first : First) (text : List ℕ) → StopsBy reads first text causes.UnitTooLong → ⊥
-  no_limit (a_part part opens) text e = R.within part text e
+  no_limit (a_part part opens) text e = elim (R.refused_for part text causes.UnitTooLong e) [
+    | inl short ↦ cc
+    | inr refuses ↦ absurd (omega (arith, refuses))
+  ]
   no_limit (some_bytes many) text e = absurd e
   no_limit (made_of opens) text e = absurd e
   no_limit no_level text e = cc

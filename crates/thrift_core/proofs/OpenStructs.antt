@@ -80,6 +80,7 @@ module _ (Spells : Spelling) (reads : ReadingOf) (ThenVarint : Part → List ℕ
       let all : Passes Spells (outer_struct ∷ []) (text ++ fill.text) [] [] = passes_on Spells (outer_struct ∷ []) (text ++ fill.text) (top ∷ below) fill.text [] [] (passes_more Spells (outer_struct ∷ []) text (top ∷ below) [] fill.text h) rest in
       record {
         more = fill.text;
+        are_bytes = fill.are_bytes;
         some = λ none. elim (still_struct Spells h.count (outer_struct ∷ []) text (top ∷ below) [] (inl (outer_levels, pos 0, refl, refl)) h.turns) [
           | inl e ↦ cc
           | inr struct ↦ (let empty : Passes Spells (top ∷ below) [] [] [] = subst (λ l. Passes Spells (top ∷ below) l [] []) none rest in no_bytes empty.count (top ∷ below) [] struct empty.turns)
@@ -106,7 +107,7 @@ module _ (Spells : Spelling) (reads : ReadingOf) (ThenVarint : Part → List ℕ
     lacking = λ text many h. completed text (texts.lacks_is Spells reads ThenVarint Refuses R L outer_struct text many (inl tt) h);
     completed = completed;
     all = λ text. of_place text (texts.place Spells reads ThenVarint Refuses R L outer_struct text (inl tt));
-    fronts = λ front more h. open_front F front more h;
+    fronts = open_front F (texts.fronts_open Spells reads ThenVarint Refuses R L outer_struct (inl tt));
   }
 
   -- ---- one reading

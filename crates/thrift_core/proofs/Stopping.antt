@@ -1,10 +1,11 @@
 -- What a walk says where it halts: the text is open, or its shortest refused front has this cause.
 use Rattle.std.proofs.Common.{◌≡◌, ◌≢◌, ◌≤◌, ◌<◌, ◌+◌, ◌-◌, ◌++◌, ◌∷◌, ◌⊎◌, ◌↔◌, inl, inr, ℕ, zero, suc, Bool, List, [], length, replicate, Option, Err, refl, ap, sym, ◌∙◌, subst, arith}
 use Rattle.std.proofs.lemmas.List.{append_assoc, append-nil, length-append, length-replicate}
+use Rattle.std.proofs.lemmas.List.Elements.{All-append, All-replicate}
 use Rattle.span_io.specs.declared.cause.Cause.{Cause}
 use Rattle.span_io.specs.declared.cause.Cause.TheVariants as causes
 use Rattle.span_io.specs.Cuts.{append_empty_right}
-use Rattle.span_io.specs.Frames.{Framing, IsProperFront, IsOpen, IsRefused, IsRefusedAt}
+use Rattle.span_io.specs.Frames.{Framing, AreBytes, IsProperFront, IsOpen, IsRefused, IsRefusedAt}
 use Rattle.thrift_core.specs.declared.type_code.TypeCode.{TypeCode}
 use Rattle.thrift_core.specs.declared.type_code.TypeCode.TheVariants as kinds
 use Rattle.thrift_core.specs.Parts.{Part, WordOf, Spelling, Begins, texts_of}
@@ -68,14 +69,15 @@ module _ (Spells : Spelling) (reads : ReadingOf) (ThenVarint : Part → List ℕ
 
   -- ---- open texts
 
-  completed : (text more : List ℕ) (stack : List Open) → more ≢ [] → Suits start → Passes Spells (start ∷ []) (text ++ more) stack [] → IsProperFront F text
-  completed text more stack some suits h =
+  completed : (text more : List ℕ) (stack : List Open) → AreBytes more → more ≢ [] → Suits start → Passes Spells (start ∷ []) (text ++ more) stack [] → IsProperFront F text
+  completed text more stack bytes some suits h =
       let fill = stack_filled Spells ThenVarint Refuses L stack (walk_suits Spells ThenVarint Refuses L start (text ++ more) stack [] suits h) in
       let rest : Passes Spells stack fill.text [] [] = subst (λ l. Passes Spells stack l [] []) (append-nil fill.text) (fill.fills []) in
       let all : Passes Spells (start ∷ []) ((text ++ more) ++ fill.text) [] [] =
       passes_on Spells (start ∷ []) ((text ++ more) ++ fill.text) stack fill.text [] [] (passes_more Spells (start ∷ []) (text ++ more) stack [] fill.text h) rest in
       record {
         more = more ++ fill.text;
+        are_bytes = All-append (λ b. b < 256) more fill.text bytes fill.are_bytes;
         some = λ e. some (left_empty more fill.text e);
         whole = (same (text ++ (more ++ fill.text))).1 (subst (λ l. Passes Spells (start ∷ []) l [] []) (append_assoc text more fill.text) all);
       }
@@ -90,7 +92,7 @@ module _ (Spells : Spelling) (reads : ReadingOf) (ThenVarint : Part → List ℕ
       let begun : Begins Spells part p.whole.0 (rest ++ p.more) [] = record { text = rest ++ p.more; spelled = p.whole.1; parts = sym (append-nil (rest ++ p.more)) } in
       let turn : Passes Spells (top ∷ below) (rest ++ p.more) (opens p.whole.0 ++ below) [] =
       one_turn Spells top below (rest ++ p.more) (opens p.whole.0) [] (subst (λ f. Turn Spells f (rest ++ p.more) (opens p.whole.0) []) (sym first) (p.whole.0, begun, refl)) in
-      completed text p.more (opens p.whole.0 ++ below) p.some suits
+      completed text p.more (opens p.whole.0 ++ below) p.are_bytes p.some suits
       (passes_on Spells (start ∷ []) (text ++ p.more) (top ∷ below) (rest ++ p.more) (opens p.whole.0 ++ below) [] (passes_more Spells (start ∷ []) text (top ∷ below) rest p.more h) turn)
 
   part_open : (text : List ℕ) (top : Open) (below : List Open) (rest : List ℕ) (part : Part) (opens : WordOf part → List Open) → Suits start → Passes Spells (start ∷ []) text (top ∷ below) rest → first_of top ≡ a_part part opens
@@ -124,7 +126,7 @@ module _ (Spells : Spelling) (reads : ReadingOf) (ThenVarint : Part → List ℕ
       let size : length (h.rest ++ more) ≡ h.held = omega (arith, length-append h.rest more, length-replicate {A = ℕ} many 0, h.missing) in
       let turn : Passes Spells (in_bytes h.held ∷ h.below) (h.rest ++ more) h.below [] =
       one_turn Spells (in_bytes h.held) h.below (h.rest ++ more) [] [] (h.rest ++ more, sym (append-nil (h.rest ++ more)), size, refl) in
-      inl (completed text more h.below (λ e. omega (arith, ap length e, length-replicate {A = ℕ} many 0, h.some)) suits
+      inl (completed text more h.below (All-replicate (λ b. b < 256) many 0 (omega arith)) (λ e. omega (arith, ap length e, length-replicate {A = ℕ} many 0, h.some)) suits
       (passes_on Spells (start ∷ []) (text ++ more) (in_bytes h.held ∷ h.below) (h.rest ++ more) h.below [] (passes_more Spells (start ∷ []) text (in_bytes h.held ∷ h.below) h.rest more h.passes) turn))
 
   -- ---- a start that has no level
@@ -149,21 +151,28 @@ module _ (Spells : Spelling) (reads : ReadingOf) (ThenVarint : Part → List ℕ
 
   -- ---- what is open halts so
 
-  -- where an item may yet come, the walk stops for Truncated or lacks bytes
-  pub open_halts : (text : List ℕ) → IsOpen F text → StopsFor Spells reads start text causes.Truncated ⊎ ((many : ℕ) × Lacks Spells start text many)
-  open_halts text (inl p) = by_fate (fate Spells reads ThenVarint Refuses R L start text)
+  abbrev HaltsOpen : List ℕ → Type 0
+  HaltsOpen text = StopsFor Spells reads start text causes.Truncated ⊎ ((many : ℕ) × Lacks Spells start text many)
+
+  -- in a proper front of an item the walk stops for Truncated or lacks bytes
+  pub front_halts : (front more : List ℕ) → Whole (front ++ more) → more ≢ [] → HaltsOpen front
+  front_halts front more is some = by_fate (fate Spells reads ThenVarint Refuses R L start front)
     where
-      whole : Passes Spells (start ∷ []) (text ++ p.more) [] []
-      whole = (same (text ++ p.more)).0 p.whole
+      whole : Passes Spells (start ∷ []) (front ++ more) [] []
+      whole = (same (front ++ more)).0 is
 
-      by_cause : (cause : Cause) → StopsFor Spells reads start text cause → (cause ≡ causes.Truncated) ⊎ (cause ≢ causes.Truncated) → StopsFor Spells reads start text causes.Truncated ⊎ ((many : ℕ) × Lacks Spells start text many)
-      by_cause cause h (inl e) = inl (subst (λ c. StopsFor Spells reads start text c) e h)
-      by_cause cause h (inr other) = absurd (stop_not_whole Spells reads ThenVarint Refuses R start (text ++ p.more) cause [] (stop_stays Spells reads ThenVarint Refuses R start text p.more cause other h) whole)
+      by_cause : (cause : Cause) → StopsFor Spells reads start front cause → (cause ≡ causes.Truncated) ⊎ (cause ≢ causes.Truncated) → HaltsOpen front
+      by_cause cause h (inl e) = inl (subst (λ c. StopsFor Spells reads start front c) e h)
+      by_cause cause h (inr other) = absurd (stop_not_whole Spells reads ThenVarint Refuses R start (front ++ more) cause [] (stop_stays Spells reads ThenVarint Refuses R start front more cause other h) whole)
 
-      by_fate : Fate Spells reads start text → StopsFor Spells reads start text causes.Truncated ⊎ ((many : ℕ) × Lacks Spells start text many)
-      by_fate (begins_whole rest h) = absurd (p.some (append_empty_right rest p.more (one_end Spells reads ThenVarint Refuses R (start ∷ []) (text ++ p.more) (rest ++ p.more) [] (passes_more Spells (start ∷ []) text [] rest p.more h) whole)))
+      by_fate : Fate Spells reads start front → HaltsOpen front
+      by_fate (begins_whole rest h) = absurd (some (append_empty_right rest more (one_end Spells reads ThenVarint Refuses R (start ∷ []) (front ++ more) (rest ++ more) [] (passes_more Spells (start ∷ []) front [] rest more h) whole)))
       by_fate (stops_for cause h) = by_cause cause h (is_truncated cause)
       by_fate (lacks_some many h) = inr (many, h)
+
+  -- and so where an item may yet come
+  pub open_halts : (text : List ℕ) → IsOpen F text → HaltsOpen text
+  open_halts text (inl p) = front_halts text p.more p.whole p.some
   open_halts text (inr v) = inl (record {
     top = v.then_varint.top;
     below = v.then_varint.below;

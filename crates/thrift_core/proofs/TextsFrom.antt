@@ -5,7 +5,7 @@ use Rattle.std.proofs.lemmas.List.{append-nil, length-append}
 use Rattle.span_io.specs.declared.cause.Cause.{Cause}
 use Rattle.span_io.specs.declared.cause.Cause.TheVariants as causes
 use Rattle.span_io.specs.Frames.{Framing, EndsInVarint, IsOpen, IsRefused, IsRefusedAt}
-use Rattle.span_io.specs.FramingLaws.{Place, is_open, is_begun, is_refused, FramingLaws}
+use Rattle.span_io.specs.FramingLaws.{Place, is_open, is_begun, is_refused, FrontsAreOpen, FramingLaws}
 use Rattle.thrift_core.specs.Parts.{Part, header, WordOf, Spelling, Begins, BeginsNone, texts_of}
 use Rattle.thrift_core.specs.Reading.{ReadingOf}
 use Rattle.thrift_core.specs.Protocols.{ReadsExactly, PartLaws}
@@ -64,6 +64,13 @@ module _ (Spells : Spelling) (reads : ReadingOf) (ThenVarint : Part → List ℕ
   -- an item that may yet come: Truncated, or missing bytes
   pub open_halts : (text : List ℕ) → IsOpen F text → StopsFor Spells reads start text causes.Truncated ⊎ ((many : ℕ) × Lacks Spells start text many)
   open_halts text h = stopping.open_halts Spells reads ThenVarint Refuses R L start F.Whole same text h
+
+  -- a proper front of an item is open
+  pub fronts_open : IsSound start → FrontsAreOpen F
+  fronts_open sound front more whole some = elim (stopping.front_halts Spells reads ThenVarint Refuses R L start F.Whole same front more whole some) [
+    | inl s ↦ truncated_is front sound s
+    | inr l ↦ lacks_is front l.0 sound l.1
+  ]
 
   -- ---- each place is known
 
@@ -168,13 +175,14 @@ module _ (Spells : Spelling) (reads : ReadingOf) (ThenVarint : Part → List ℕ
     of_nothing =
         let fill = filled Spells ThenVarint Refuses L start suits in
         let whole : Passes Spells (start ∷ []) fill.text [] [] = subst (λ l. Passes Spells (start ∷ []) l [] []) (append-nil fill.text) (fill.fills [] []) in
-        inl (record { more = fill.text; some = bytes_some fill.text ((same fill.text).1 whole); whole = (same fill.text).1 whole })
+        inl (record { more = fill.text; are_bytes = fill.are_bytes; some = bytes_some fill.text ((same fill.text).1 whole); whole = (same fill.text).1 whole })
 
     pub laws : FramingLaws F K
     laws = record {
       some = bytes_some;
       one_item = one_item;
       ended = ended;
+      fronts = fronts_open (inl suits);
       stays = stays;
       until_then = λ limit text h within. until_then limit text (inl suits) h within;
       tells = λ limit text within. tells_by limit text within (fate Spells reads ThenVarint Refuses R L start text);

@@ -1,15 +1,16 @@
 -- What stands at the front of some bytes that are read as one part, in a spelling in which bytes are judged one after the other: a
 -- word is found, it may yet come, or the last byte of a front is refused. All that a reader promises follows.
-use Rattle.std.proofs.Common.{◌≡◌, ◌≢◌, ◌++◌, ◌∷◌, ◌↔◌, inl, inr, ℕ, List, [], Result, Ok, Err, ap, sym, ◌∙◌, subst}
+use Rattle.std.proofs.Common.{◌≡◌, ◌≢◌, ◌++◌, ◌∷◌, ◌↔◌, ◌⊎◌, inl, inr, ℕ, List, [], Result, Ok, Err, ap, sym, ◌∙◌, subst, arith}
 use Rattle.std.proofs.lemmas.List.{append_assoc, append-nil}
 use Rattle.span_io.specs.declared.cause.Cause.{Cause}
 use Rattle.span_io.specs.declared.cause.Cause.TheVariants as causes
 use Rattle.span_io.specs.Varint.{IsInsideVarint}
-use Rattle.span_io.specs.Frames.{Framing, IsOpen, IsRefused, ShortestRefused, IsRefusedAt}
-use Rattle.span_io.specs.FramingLaws.{open_front}
+use Rattle.span_io.specs.Frames.{Framing, AreBytes, IsOpen, IsRefused, ShortestRefused, IsRefusedAt}
+use Rattle.span_io.specs.FramingLaws.{FrontsAreOpen, open_front}
 use Rattle.span_io.specs.Cuts.{two_cuts, append_empty_right}
+use Rattle.thrift_core.specs.Levels.{RefusesPart}
 
--- the judged_texts of words as items, and behind which first bytes of one a varint stands
+-- the texts of words as items, and behind which first bytes of one a varint stands
 abbrev pub judged_texts : (W : Type 0) → (W → List ℕ → Type 0) → (List ℕ → Type 0) → Framing
 judged_texts W S V = record { Whole = λ text. (word : W) × S word text; ThenVarint = V; EndsPast = λ limit text. ⊥ }
 
@@ -21,11 +22,12 @@ Opens W S V bytes = IsOpen (judged_texts W S V) bytes
 pub record MayCome (W : Type 0) (S : W → List ℕ → Type 0) (bytes : List ℕ) : Type 0 where
   pub word : W
   pub more : List ℕ
+  pub are_bytes : AreBytes more
   pub some : more ≢ []
   pub spelled : S word (bytes ++ more)
 
 pub opens : (W : Type 0) (S : W → List ℕ → Type 0) (V : List ℕ → Type 0) (bytes : List ℕ) → MayCome W S bytes → Opens W S V bytes
-opens W S V bytes m = inl (record { more = m.more; some = m.some; whole = (m.word, m.spelled) })
+opens W S V bytes m = inl (record { more = m.more; are_bytes = m.are_bytes; some = m.some; whole = (m.word, m.spelled) })
 
 -- no spelling of a word agrees with these bytes and what follows them
 abbrev pub Clashes : (W : Type 0) → (W → List ℕ → Type 0) → List ℕ → Type 0
@@ -43,8 +45,7 @@ pub record Refusal (W : Type 0) (S : W → List ℕ → Type 0) (V : List ℕ �
   pub clashes : Clashes W S front
   pub ended : HasEnded V front
   pub before : (shorter more : List ℕ) → front ≡ shorter ++ more → more ≢ [] → Opens W S V shorter
-  pub not_short : cause ≢ causes.Truncated
-  pub not_long : cause ≢ causes.UnitTooLong
+  pub of_part : RefusesPart cause
 
 pub data Judged (W : Type 0) (S : W → List ℕ → Type 0) (V : List ℕ → Type 0) (R : Cause → List ℕ → Type 0) (bytes : List ℕ) (read : Result (W × List ℕ) Cause) : Type 0 where
   found : (word : W) (text rest : List ℕ) → S word text → bytes ≡ text ++ rest → read ≡ Ok (word, rest) → Judged W S V R bytes read
@@ -59,6 +60,9 @@ pub record JudgesReading (W : Type 0) (S : W → List ℕ → Type 0) (V : List 
   pub one_cause : (front : List ℕ) (a b : Cause) → R a front → R b front → a ≡ b
 
 -- ---- what follows
+
+not_cut : RefusesPart causes.Truncated → ⊥
+not_cut refuses = absurd (omega (arith, refuses))
 
 module _ (W : Type 0) (S : W → List ℕ → Type 0) (V : List ℕ → Type 0) (R : Cause → List ℕ → Type 0) (reads : List ℕ → Result (W × List ℕ) Cause) (laws : JudgesReading W S V R reads) where
   abbrev F : Framing
@@ -95,6 +99,16 @@ module _ (W : Type 0) (S : W → List ℕ → Type 0) (V : List ℕ → Type 0) 
       let whole : text ++ (rest ++ more) ≡ (bytes ++ more) ++ [] = sym (append_assoc text rest more) ∙ ap (λ l. l ++ more) (sym e) ∙ sym (append-nil (bytes ++ more)) in
       some (append_empty_right rest more (laws.one word other text (bytes ++ more) (rest ++ more) [] s t whole).1)
 
+  -- a proper front of a word's text is open
+  fronts_open : FrontsAreOpen F
+  fronts_open front more whole some = by_place (reads front) (laws.judged front)
+    where
+      by_place : (read : Read) → Judged W S V R front read → IsOpen F front
+      by_place read (found word text rest s e f) = absurd (ends word whole.0 text rest front more s e some whole.1)
+      by_place read (may_come m e) = m
+      by_place read (refused cause r e) =
+          absurd (r.clashes whole.0 (front ++ more) [] (r.rest ++ more) whole.1 (append-nil (front ++ more) ∙ ap (λ l. l ++ more) r.parts ∙ append_assoc r.front r.rest more))
+
   open_ends : (word : W) (text rest bytes : List ℕ) → S word text → bytes ≡ text ++ rest → IsOpen F bytes → ⊥
   open_ends word text rest bytes s e (inl h) = ends word h.whole.0 text rest bytes h.more s e h.some h.whole.1
   open_ends word text rest bytes s e (inr h) = laws.ended word text s rest h.front h.inside h.then_varint h.unended (sym e ∙ h.parts)
@@ -116,7 +130,7 @@ module _ (W : Type 0) (S : W → List ℕ → Type 0) (V : List ℕ → Type 0) 
   short_in : (bytes : List ℕ) → Judged W S V R bytes (reads bytes) → reads bytes ≡ Err causes.Truncated → IsOpen F bytes
   short_in bytes (found w t r s p e) h = absurd (ok_err w r causes.Truncated (reads bytes) e h)
   short_in bytes (may_come m e) h = m
-  short_in bytes (refused cause r e) h = absurd (r.not_short (err_same cause causes.Truncated (reads bytes) e h))
+  short_in bytes (refused cause r e) h = absurd (not_cut (subst RefusesPart (err_same cause causes.Truncated (reads bytes) e h) r.of_part))
 
   open_in : (bytes : List ℕ) → Judged W S V R bytes (reads bytes) → IsOpen F bytes → reads bytes ≡ Err causes.Truncated
   open_in bytes (found w t r s p e) h = absurd (open_ends w t r bytes s p h)
@@ -154,7 +168,7 @@ module _ (W : Type 0) (S : W → List ℕ → Type 0) (V : List ℕ → Type 0) 
   -- a front of a whole text is whole or open
   front_of_whole : (word : W) (text front between : List ℕ) → S word text → text ≡ front ++ between → IsRefused F front → ⊥
   front_of_whole word text front [] s e h = h.none (record { text = text; rest = []; whole = (word, s); parts = sym (append-nil front) ∙ sym e ∙ sym (append-nil text) })
-  front_of_whole word text front (b ∷ between) s e h = h.closed (inl (record { more = b ∷ between; some = λ f. cc; whole = (word, subst (λ l. S word l) e s) }))
+  front_of_whole word text front (b ∷ between) s e h = h.closed (fronts_open front (b ∷ between) (word, subst (λ l. S word l) e s) (λ f. cc))
 
   no_word : (word : W) (text rest bytes front after : List ℕ) → S word text → bytes ≡ text ++ rest → bytes ≡ front ++ after → IsRefused F front → ⊥
   no_word word text rest bytes front after s e f h = elim (two_cuts text rest front after (sym e ∙ f)) [
@@ -174,7 +188,7 @@ module _ (W : Type 0) (S : W → List ℕ → Type 0) (V : List ℕ → Type 0) 
 
   refused_in : (bytes : List ℕ) (cause : Cause) → Judged W S V R bytes (reads bytes) → IsRefusedAt F (R cause) bytes → reads bytes ≡ Err cause
   refused_in bytes cause (found w t r s p e) h = absurd (no_word w t r bytes h.front h.shortest.rest s p h.shortest.parts h.shortest.refused)
-  refused_in bytes cause (may_come m e) h = absurd (h.shortest.refused.closed (open_front F h.front h.shortest.rest (subst (λ l. IsOpen F l) h.shortest.parts m)))
+  refused_in bytes cause (may_come m e) h = absurd (h.shortest.refused.closed (open_front F fronts_open h.front h.shortest.rest (subst (λ l. IsOpen F l) h.shortest.parts m)))
   refused_in bytes cause (refused c r e) h =
       let same : h.front ≡ r.front = one_refused bytes h.front r.front h.shortest (shortest bytes c r) in
       e ∙ ap (λ x. Err x) (laws.one_cause r.front c cause r.because (subst (λ l. R cause l) same h.ends_in))
@@ -182,10 +196,10 @@ module _ (W : Type 0) (S : W → List ℕ → Type 0) (V : List ℕ → Type 0) 
   pub reads_bad : (bytes : List ℕ) (cause : Cause) → cause ≢ causes.Truncated → (reads bytes ≡ Err cause) ↔ IsRefusedAt F (R cause) bytes
   reads_bad bytes cause other = (λ e. bad_in bytes cause (laws.judged bytes) other e, λ h. refused_in bytes cause (laws.judged bytes) h)
 
-  within_in : (bytes : List ℕ) → Judged W S V R bytes (reads bytes) → reads bytes ≡ Err causes.UnitTooLong → ⊥
-  within_in bytes (found w t r s p e) h = ok_err w r causes.UnitTooLong (reads bytes) e h
-  within_in bytes (may_come m e) h = (let same : causes.Truncated ≡ causes.UnitTooLong = err_same causes.Truncated causes.UnitTooLong (reads bytes) e h in cc)
-  within_in bytes (refused cause r e) h = r.not_long (err_same cause causes.UnitTooLong (reads bytes) e h)
+  cause_in : (bytes : List ℕ) (cause : Cause) → Judged W S V R bytes (reads bytes) → reads bytes ≡ Err cause → (cause ≡ causes.Truncated) ⊎ RefusesPart cause
+  cause_in bytes cause (found w t r s p e) h = absurd (ok_err w r cause (reads bytes) e h)
+  cause_in bytes cause (may_come m e) h = inl (err_same cause causes.Truncated (reads bytes) h e)
+  cause_in bytes cause (refused c r e) h = inr (subst RefusesPart (err_same c cause (reads bytes) e h) r.of_part)
 
-  pub reads_within : (bytes : List ℕ) → reads bytes ≢ Err causes.UnitTooLong
-  reads_within bytes h = within_in bytes (laws.judged bytes) h
+  pub reads_cause : (bytes : List ℕ) (cause : Cause) → reads bytes ≡ Err cause → (cause ≡ causes.Truncated) ⊎ RefusesPart cause
+  reads_cause bytes cause h = cause_in bytes cause (laws.judged bytes) h

@@ -1,11 +1,14 @@
 -- How parts are judged, step by step: words of so many bytes, what stands behind a byte, and words that stand for others.
 use Rattle.std.proofs.Common.{◌≡◌, ◌≢◌, ◌<◌, ◌-◌, ◌++◌, ◌∷◌, inl, inr, ℕ, List, [], length, take, drop, replicate, Bool, true, false, ltb, Result, Ok, Err, nat_lt, if◌then◌else◌, refl, ap, sym, ◌∙◌, subst, arith}
 use Rattle.std.proofs.lemmas.Bool.{ltb-true, ltb-false}
+use Rattle.std.proofs.lemmas.List.Elements.{All-replicate}
 use Rattle.std.proofs.lemmas.List.{length-append, length-take, length-replicate, take-append-drop, take_at, drop_at}
 use Rattle.span_io.specs.declared.cause.Cause.{Cause}
 use Rattle.span_io.specs.declared.cause.Cause.TheVariants as causes
 use Rattle.span_io.specs.Cuts.{append_empty_right}
+use Rattle.span_io.specs.Frames.{AreBytes}
 use Rattle.thrift_core.specs.Reading.{◌>>=◌}
+use Rattle.thrift_core.specs.Levels.{RefusesPart}
 use Rattle.thrift_core.specs.Judged.{Opens, opens, MayCome, Clashes, HasEnded, Judged, found, may_come, refused, JudgesReading}
 
 -- ---- a word of so many bytes
@@ -15,6 +18,9 @@ zeros many = replicate many 0
 
 pub length-zeros : (many : ℕ) → length (zeros many) ≡ many
 length-zeros many = length-replicate {A = ℕ} many 0
+
+pub zeros_are_bytes : (many : ℕ) → AreBytes (zeros many)
+zeros_are_bytes many = All-replicate (λ b. b < 256) many 0 (omega arith)
 
 module _ (A : Type 0) (many : ℕ) (value : List ℕ → A) (V : List ℕ → Type 0) (no_varint : (front : List ℕ) → V front → ⊥) where
   abbrev Fixed : A → List ℕ → Type 0
@@ -30,6 +36,7 @@ module _ (A : Type 0) (many : ℕ) (value : List ℕ → A) (V : List ℕ → Ty
   open_fixed bytes less = opens A Fixed V bytes (record {
     word = value (bytes ++ zeros (many - length bytes));
     more = zeros (many - length bytes);
+    are_bytes = zeros_are_bytes (many - length bytes);
     some = λ e. omega (arith, ap length e, length-zeros (many - length bytes));
     spelled = (omega (arith, length-append bytes (zeros (many - length bytes)), length-zeros (many - length bytes)), refl);
   })
@@ -78,12 +85,12 @@ module _ (W : Type 0) (S : W → List ℕ → Type 0) (V : List ℕ → Type 0) 
       ended rest front inside (subst (λ y. V (y ∷ front)) heads v) i tails
 
   pub open_behind : (bytes : List ℕ) → Opens W Then ThenVarint bytes → Opens W S V (k ∷ bytes)
-  open_behind bytes (inl m) = opens W S V (k ∷ bytes) (record { word = m.whole.0; more = m.more; some = m.some; spelled = m.whole.1 })
+  open_behind bytes (inl m) = opens W S V (k ∷ bytes) (record { word = m.whole.0; more = m.more; are_bytes = m.are_bytes; some = m.some; spelled = m.whole.1 })
   open_behind bytes (inr m) = inr (record {
     front = k ∷ m.front;
     inside = m.inside;
     then_varint = m.then_varint;
-    proper = record { more = m.proper.more; some = m.proper.some; whole = m.proper.whole };
+    proper = record { more = m.proper.more; are_bytes = m.proper.are_bytes; some = m.proper.some; whole = m.proper.whole };
     some = m.some;
     unended = m.unended;
     parts = ap (λ l. k ∷ l) m.parts;
@@ -107,8 +114,7 @@ module _ (W : Type 0) (S : W → List ℕ → Type 0) (V : List ℕ → Type 0) 
     clashes = clashes_behind r.front r.clashes;
     ended = ended_behind r.front r.ended;
     before = λ shorter more e some. before_behind r.front r.before shorter more e some;
-    not_short = r.not_short;
-    not_long = r.not_long;
+    of_part = r.of_part;
   }) e
 
   clashes_here : ((word : W) (text : List ℕ) → S word (k ∷ text) → ⊥) → Clashes W S (k ∷ [])
@@ -121,8 +127,8 @@ module _ (W : Type 0) (S : W → List ℕ → Type 0) (V : List ℕ → Type 0) 
 
   -- this byte is refused
   pub refused_here : (bytes : List ℕ) (cause : Cause) → R cause (k ∷ []) → ((word : W) (text : List ℕ) → S word (k ∷ text) → ⊥) → ((front : List ℕ) → V (k ∷ front) → ⊥)
-      → cause ≢ causes.Truncated → cause ≢ causes.UnitTooLong → Judged W S V R (k ∷ bytes) (Err cause)
-  refused_here bytes cause because none no_more not_short not_long = refused cause (record {
+      → RefusesPart cause → Judged W S V R (k ∷ bytes) (Err cause)
+  refused_here bytes cause because none no_more of_part = refused cause (record {
     front = k ∷ [];
     rest = bytes;
     parts = refl;
@@ -130,8 +136,7 @@ module _ (W : Type 0) (S : W → List ℕ → Type 0) (V : List ℕ → Type 0) 
     clashes = clashes_here none;
     ended = ended_behind [] (λ rest front inside v i e. no_more front v);
     before = λ shorter more e some. before_here shorter more e some;
-    not_short = not_short;
-    not_long = not_long;
+    of_part = of_part;
   }) refl
 
 -- ---- words that stand for others
@@ -141,12 +146,12 @@ module _ (W X : Type 0) (S : W → List ℕ → Type 0) (T : X → List ℕ → 
     (onward : (front : List ℕ) → V front → U front) (backward : (front : List ℕ) → U front → V front)
     (because : (cause : Cause) (front : List ℕ) → R cause front → Q cause front) where
   open_as : (bytes : List ℕ) → Opens W S V bytes → Opens X T U bytes
-  open_as bytes (inl m) = opens X T U bytes (record { word = f m.whole.0; more = m.more; some = m.some; spelled = there m.whole.0 (bytes ++ m.more) m.whole.1 })
+  open_as bytes (inl m) = opens X T U bytes (record { word = f m.whole.0; more = m.more; are_bytes = m.are_bytes; some = m.some; spelled = there m.whole.0 (bytes ++ m.more) m.whole.1 })
   open_as bytes (inr m) = inr (record {
     front = m.front;
     inside = m.inside;
     then_varint = onward m.front m.then_varint;
-    proper = record { more = m.proper.more; some = m.proper.some; whole = (f m.proper.whole.0, there m.proper.whole.0 (m.front ++ m.proper.more) m.proper.whole.1) };
+    proper = record { more = m.proper.more; are_bytes = m.proper.are_bytes; some = m.proper.some; whole = (f m.proper.whole.0, there m.proper.whole.0 (m.front ++ m.proper.more) m.proper.whole.1) };
     some = m.some;
     unended = m.unended;
     parts = m.parts;
@@ -172,6 +177,5 @@ module _ (W X : Type 0) (S : W → List ℕ → Type 0) (T : X → List ℕ → 
     clashes = clashes_as r.front r.clashes;
     ended = ended_as r.front r.ended;
     before = λ shorter more e some. open_as shorter (r.before shorter more e some);
-    not_short = r.not_short;
-    not_long = r.not_long;
+    of_part = r.of_part;
   }) (ap as_other e)

@@ -1,14 +1,15 @@
 -- What a protocol keeps: how its parts are read, refused, completed and written.
-use Rattle.std.specs.Prelude.{◌≡◌, ◌≢◌, ◌≤◌, ◌<◌, ◌<ℤ◌, ◌↔◌, ℕ, ℤ, Bool, Option, Some, None, List, [], All, length, Ok, Err, FitsSigned}
-use Rattle.std.specs.Int.{w8, w16, w32, w64}
+use Rattle.std.specs.Prelude.{◌≡◌, ◌≢◌, ◌≤◌, ◌<◌, ◌<ℤ◌, ◌↔◌, ◌⊎◌, ◌^◌, ℕ, ℤ, Bool, Option, Some, None, List, [], All, length, Ok, Err, FitsSigned}
+use Rattle.std.specs.Int.{w8, w16, w32, w64, cast_unsigned}
 use Rattle.span_io.specs.declared.cause.Cause.{Cause}
 use Rattle.span_io.specs.declared.cause.Cause.TheVariants as causes
-use Rattle.span_io.specs.Frames.{IsOpen, IsProperFront, IsRefused, IsRefusedAt}
+use Rattle.span_io.specs.Frames.{AreBytes, IsOpen, IsProperFront, IsRefused, IsRefusedAt}
 use Rattle.thrift_core.specs.declared.field.Field.{Field}
 use Rattle.thrift_core.specs.declared.field.ListHead.{ListHead}
 use Rattle.thrift_core.specs.declared.field.MapHead.{MapHead}
 use Rattle.thrift_core.specs.declared.type_code.TypeCode.{TypeCode}
 use Rattle.thrift_core.specs.declared.type_code.TypeCode.TheVariants as kinds
+use Rattle.thrift_core.specs.Levels.{RefusesPart}
 use Rattle.thrift_core.specs.Parts.{Part, header, truth, byte, short, int, long, eight, size, list_head, map_head, WordOf, Spelling, Begins, HasLevel, texts_of}
 use Rattle.thrift_core.specs.Reading.{ReadingOf}
 
@@ -20,13 +21,19 @@ pub record ReadsExactly (Spells : Spelling) (reads : ReadingOf) (ThenVarint : Pa
   pub short : (part : Part) (bytes : List ℕ) → (reads part bytes ≡ Err causes.Truncated) ↔ IsOpen (texts_of Spells ThenVarint part) bytes
   pub bad : (part : Part) (bytes : List ℕ) (cause : Cause) → cause ≢ causes.Truncated
       → (reads part bytes ≡ Err cause) ↔ IsRefusedAt (texts_of Spells ThenVarint part) (Refuses part cause) bytes
-  -- no part is refused for the length of its unit
-  pub within : (part : Part) (bytes : List ℕ) → reads part bytes ≢ Err causes.UnitTooLong
+  -- there is no other cause
+  pub refused_for : (part : Part) (bytes : List ℕ) (cause : Cause) → reads part bytes ≡ Err cause → (cause ≡ causes.Truncated) ⊎ RefusesPart cause
 
 -- every part but a truth value that is held already
 abbrev pub HasBytes : Part → Type 0
 HasBytes (truth (Some b)) = ⊥
 HasBytes other = Unit {0}
+
+-- a spelling of the word in bytes
+pub record SpelledInBytes (Spells : Spelling) (part : Part) (word : WordOf part) : Type 0 where
+  pub text : List ℕ
+  pub are_bytes : AreBytes text
+  pub spelled : Spells part word text
 
 -- What words stand where, and that each part can be spelled.
 pub record PartLaws (Spells : Spelling) (ThenVarint : Part → List ℕ → Type 0) (Refuses : Part → Cause → List ℕ → Type 0) : Type 0 where
@@ -39,14 +46,25 @@ pub record PartLaws (Spells : Spelling) (ThenVarint : Part → List ℕ → Type
       → (key : TypeCode) × (value : TypeCode) × (head.key ≡ Some key) × (head.value ≡ Some value) × HasLevel left key × HasLevel left value
   -- behind the front of a part that a varint follows the part isn't whole
   pub varint_front : (part : Part) (front : List ℕ) → ThenVarint part front → IsProperFront (texts_of Spells ThenVarint part) front
-  -- what refuses a part has one cause
+  -- what refuses a part has one cause, of these
+  pub refused_by : (part : Part) (bytes : List ℕ) (cause : Cause) → Refuses part cause bytes → RefusesPart cause
   pub one_cause : (part : Part) (bytes : List ℕ) (a b : Cause) → IsRefused (texts_of Spells ThenVarint part) bytes → Refuses part a bytes → Refuses part b bytes → a ≡ b
   -- each part can be spelled, and what opens others so that it opens nothing
-  pub spellable : (part : Part) → (word : WordOf part) × (text : List ℕ) × Spells part word text
-  pub stop : (left : ℕ) (last : ℤ) → (text : List ℕ) × Spells (header left last) None text
-  pub no_bytes : (text : List ℕ) × Spells size 0 text
-  pub empty_list : (left : ℕ) → (head : ListHead) × (text : List ℕ) × Spells (list_head left) head text × (head.size ≡ 0)
-  pub empty_map : (left : ℕ) → (head : MapHead) × (text : List ℕ) × Spells (map_head left) head text × (head.size ≡ 0)
+  pub spellable : (part : Part) → (word : WordOf part) × SpelledInBytes Spells part word
+  pub stop : (left : ℕ) (last : ℤ) → SpelledInBytes Spells (header left last) None
+  pub no_bytes : SpelledInBytes Spells size 0
+  pub empty_list : (left : ℕ) → (head : ListHead) × SpelledInBytes Spells (list_head left) head × (head.size ≡ 0)
+  pub empty_map : (left : ℕ) → (head : MapHead) × SpelledInBytes Spells (map_head left) head × (head.size ≡ 0)
+
+-- a number of 64 bits
+abbrev pub IsProperLong : ℤ → Type 0
+IsProperLong n = FitsSigned w64 n × (cast_unsigned w64 n < 2 ^ 64)
+
+-- what bytes spell has the bits of its type
+pub record SpellsProper (Spells : Spelling) : Type 0 where
+  pub int : (n : ℤ) (text : List ℕ) → AreBytes text → Spells int n text → FitsSigned w32 n
+  pub long : (n : ℤ) (text : List ℕ) → AreBytes text → Spells long n text → IsProperLong n
+  pub eight : (bytes text : List ℕ) → AreBytes text → Spells eight bytes text → (length bytes ≡ 8) × AreBytes bytes
 
 -- ---- writing
 

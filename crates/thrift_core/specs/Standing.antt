@@ -1,5 +1,5 @@
 -- Which values may stand where so many levels are left, for the proofs of the protocols; and when two heads are one.
-use Rattle.std.proofs.Common.{◌≡◌, ◌≢◌, ◌⊎◌, inl, inr, ℕ, zero, suc, ℤ, Bool, Option, Some, None, refl, ap, sym, ◌∙◌, subst, arith}
+use Rattle.std.proofs.Common.{◌≡◌, ◌≤◌, ◌⊎◌, inl, inr, ℕ, zero, suc, ℤ, Bool, true, false, cond, leb, Option, Some, None, refl, ap, sym, ◌∙◌, subst, arith}
 use Rattle.span_io.specs.declared.cause.Cause.{Cause}
 use Rattle.span_io.specs.declared.cause.Cause.TheVariants as causes
 use Rattle.thrift_core.specs.declared.field.Field.{Field}
@@ -8,13 +8,13 @@ use Rattle.thrift_core.specs.declared.field.MapHead.{MapHead}
 use Rattle.thrift_core.specs.declared.type_code.TypeCode.{TypeCode}
 use Rattle.thrift_core.specs.declared.type_code.TypeCode.TheVariants as kinds
 use Rattle.thrift_core.specs.Parts.{HasLevel}
-use Rattle.thrift_core.specs.Levels.{MayStand, why_none, deeper, why_no_pair}
+use Rattle.thrift_core.specs.Levels.{turn_of, RefusesPart, CountsFirst, counting, MayStand, why_none, why_no_pair}
 
 -- ---- why no value may stand
 
--- what a part may be refused for
+-- it is one for which a part may be refused
 abbrev pub IsProperWhy : Option Cause → Type 0
-IsProperWhy why = (cause : Cause) → why ≡ Some cause → (cause ≢ causes.Truncated) × (cause ≢ causes.UnitTooLong)
+IsProperWhy why = (cause : Cause) → why ≡ Some cause → RefusesPart cause
 
 pub may_stand : (left : ℕ) (element : Option TypeCode) → why_none left element ≡ None → MayStand left element
 may_stand left None e = (let same : Some causes.BadWire ≡ None = e in absurd (let f : Some causes.BadWire ≡ None = same in cc))
@@ -57,25 +57,31 @@ why_is zero (Some kinds.Set) cause e = inr (some_is causes.TooDeep cause e)
 why_is zero (Some kinds.List) cause e = inr (some_is causes.TooDeep cause e)
 why_is zero (Some other) cause e = absurd (none_is cause e)
 
-proper : (cause : Cause) → IsWhy cause → (cause ≢ causes.Truncated) × (cause ≢ causes.UnitTooLong)
-proper cause (inl e) = (λ f. cc, λ f. cc)
-proper cause (inr e) = (λ f. cc, λ f. cc)
+refusing : (cause : Cause) → IsWhy cause → RefusesPart cause
+refusing cause (inl e) = subst RefusesPart (sym e) (omega arith)
+refusing cause (inr e) = subst RefusesPart (sym e) (omega arith)
 
 pub proper_none : (left : ℕ) (element : Option TypeCode) → IsProperWhy (why_none left element)
-proper_none left element cause e = proper cause (why_is left element cause e)
+proper_none left element cause e = refusing cause (why_is left element cause e)
 
 -- one of them is the cause
-pub either_why : (a b : Option Cause) (cause : Cause) → deeper a b ≡ Some cause → (a ≡ Some cause) ⊎ (b ≡ Some cause)
-either_why (Some causes.TooDeep) b cause e = inl e
-either_why (Some other) None cause e = inl e
-either_why (Some other) (Some b) cause e = inr e
+pub either_why : (a b : Option Cause) (cause : Cause) → counting a b ≡ Some cause → (a ≡ Some cause) ⊎ (b ≡ Some cause)
 either_why None b cause e = inr e
+either_why (Some a) None cause e = inl e
+either_why (Some a) (Some b) cause e = by_turn (leb (turn_of a) (turn_of b)) e
+  where
+    by_turn : (first : Bool) → cond first (Some a) (Some b) ≡ Some cause → (Some a ≡ Some cause) ⊎ (Some b ≡ Some cause)
+    by_turn true e = inl e
+    by_turn false e = inr e
 
-pub either_none : (a b : Option Cause) → deeper a b ≡ None → (a ≡ None) × (b ≡ None)
-either_none (Some causes.TooDeep) b e = absurd cc
-either_none (Some other) None e = absurd cc
-either_none (Some other) (Some b) e = absurd cc
+pub either_none : (a b : Option Cause) → counting a b ≡ None → (a ≡ None) × (b ≡ None)
 either_none None b e = (refl, e)
+either_none (Some a) None e = absurd cc
+either_none (Some a) (Some b) e = by_turn (leb (turn_of a) (turn_of b)) e
+  where
+    by_turn : (first : Bool) → cond first (Some a) (Some b) ≡ None → (Some a ≡ None) × (Some b ≡ None)
+    by_turn true e = absurd cc
+    by_turn false e = absurd cc
 
 pub proper_pair : (left : ℕ) (key value : Option TypeCode) → IsProperWhy (why_no_pair left key value)
 proper_pair left key value cause e = elim (either_why (why_none left key) (why_none left value) cause e) [
@@ -92,6 +98,39 @@ no_why left key value h = rw (stands_none left key h.0, stands_none left value h
 -- a type that may stand has its level
 pub level_of : (left : ℕ) (kind : TypeCode) → why_none left (Some kind) ≡ None → HasLevel left kind
 level_of left kind f = (let s = may_stand left (Some kind) f in let same : kind ≡ s.0 = cc in subst (λ k. HasLevel left k) (sym same) s.2)
+
+-- ---- one cause counts
+
+one_turn : (a b : Cause) → RefusesPart a → turn_of a ≡ turn_of b → a ≡ b
+one_turn causes.TooDeep causes.TooDeep known e = refl
+one_turn causes.BadVarint causes.BadVarint known e = refl
+one_turn causes.BadWire causes.BadWire known e = refl
+one_turn causes.BadSize causes.BadSize known e = refl
+one_turn causes.TooDeep other known e = absurd (omega (arith, e))
+one_turn causes.BadVarint other known e = absurd (omega (arith, e))
+one_turn causes.BadWire other known e = absurd (omega (arith, e))
+one_turn causes.BadSize other known e = absurd (omega (arith, e))
+one_turn other b known e = absurd (omega (arith, known))
+
+pub one_counts : (Holds : Cause → Type 0) → ((cause : Cause) → Holds cause → RefusesPart cause) → (a b : Cause) → CountsFirst Holds a → CountsFirst Holds b → a ≡ b
+one_counts Holds known a b h g = one_turn a b (known a h.0) (omega (arith, h.1 b g.0, g.1 a h.0))
+
+-- the last in its turn
+pub last_turn : (cause : Cause) → RefusesPart cause → turn_of causes.BadSize ≤ turn_of cause → causes.BadSize ≡ cause
+last_turn cause known late = one_turn causes.BadSize cause (omega arith) (omega (arith, known, late))
+
+-- a cause has its own turn
+pub own_turn : (a b : Cause) → a ≡ b → turn_of a ≤ turn_of b
+own_turn a b e = omega (arith, ap turn_of e)
+
+pub before_wire : (left : ℕ) (element : Option TypeCode) (cause other : Cause) → why_none left element ≡ Some cause → other ≡ causes.BadWire → turn_of cause ≤ turn_of other
+before_wire left element cause other e f = elim (why_is left element cause e) [
+  | inl g ↦ omega (arith, ap turn_of g, ap turn_of f)
+  | inr g ↦ omega (arith, ap turn_of g, ap turn_of f)
+]
+
+pub before_last : (cause other : Cause) → RefusesPart cause → other ≡ causes.BadSize → turn_of cause ≤ turn_of other
+before_last cause other known e = omega (arith, known, ap turn_of e)
 
 -- what is refused isn't free
 pub none_some : (why : Option Cause) (cause : Cause) → why ≡ Some cause → why ≡ None → ⊥

@@ -118,7 +118,11 @@ unfoldable mutual
       × ValueThen Spells second left None between after
       × PairsThen Spells more key value left after rest
 
--- the levels that are left in a struct that no other container holds: containers may stand at 32 levels, and it is the first
+-- containers may stand at so many levels
+abbrev pub all_levels : ℕ
+all_levels = 32
+
+-- the levels that are left in a struct that no other container holds, which is the first
 abbrev pub outer_levels : ℕ
 outer_levels = 31
 

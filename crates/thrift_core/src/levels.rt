@@ -1,4 +1,5 @@
-ghost use Rattle.std.specs.Prelude.{◌≡◌};
+ghost use Rattle.std.specs.Prelude.{◌≡◌, Some};
+ghost use Rattle.thrift_core.specs.Levels as order;
 ghost use Rattle.thrift_core.specs.Levels.{why_none, why_no_pair};
 
 use crate::type_code::TypeCode;
@@ -25,8 +26,33 @@ pub fn why_not_both(left: u8, key: Option<TypeCode>, value: Option<TypeCode>) ->
 {
     match (why_not(left, key), why_not(left, value)) {
         (None, of_value) => of_value,
-        (Some(Cause::TooDeep), _) => Some(Cause::TooDeep),
         (of_key, None) => of_key,
-        (_, of_value) => of_value,
+        (Some(of_key), Some(of_value)) => Some(counting(of_key, of_value)),
+    }
+}
+
+// Of two causes at one place, the one that counts.
+#[inline(always)]
+fn counting(cause: Cause, other: Cause) -> Cause
+    ensures { Some result ≡ order.counting (Some cause) (Some other) }
+{
+    if turn(cause) <= turn(other) {
+        cause
+    } else {
+        other
+    }
+}
+
+// When a cause counts.
+#[inline(always)]
+fn turn(cause: Cause) -> u8
+    ensures { result ≡ order.turn_of cause }
+{
+    match cause {
+        Cause::TooDeep => 1,
+        Cause::BadVarint => 2,
+        Cause::BadWire => 3,
+        Cause::BadSize => 4,
+        _ => 5,
     }
 }

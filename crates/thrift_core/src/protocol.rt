@@ -2,14 +2,15 @@ ghost use Rattle.std.specs.Prelude.{◌≡◌, ◌≤◌, ◌<ℤ◌, ℕ, ℤ, 
 ghost use Rattle.span_io.specs.declared.cause.Cause.{Cause};
 ghost use Rattle.thrift_core.specs.Parts.{Part, Spelling, header, truth, byte, short, int, long, eight, size, list_head, map_head};
 ghost use Rattle.thrift_core.specs.Reading.{ReadingOf, GivesWord, Stays};
-ghost use Rattle.thrift_core.specs.Protocols.{ReadsExactly, PartLaws, WritingOf, WritesShortest, IsGiven, field_head, list_of_type, last_size};
+ghost use Rattle.thrift_core.specs.Protocols.{ReadsExactly, PartLaws, SpellsProper, WritingOf, WritesShortest, IsGiven, field_head, list_of_type, last_size};
 
 use crate::field::{Field, ListHead, MapHead};
 use crate::type_code::TypeCode;
 use span_io::{Blob, Cause, Cursor, OutOfMemory};
 
 /// A protocol of Thrift: how each part of a text is spelled. `left` says how many levels of containers are left for what
-/// stands there. Readers take no memory, and a refusal leaves the place. Writers append the shortest spelling, or leave
+/// stands there. Readers take no memory, and a refusal, which is Truncated, BadVarint, BadWire, BadSize or TooDeep, leaves
+/// the place. Writers append the shortest spelling, or leave
 /// `out` as it was.
 pub trait Protocol {
     ghost spells: { Spelling };
@@ -128,6 +129,8 @@ pub trait Protocol {
     ghost reads_exactly: { ReadsExactly spells reads then_varint refuses };
 
     ghost part_laws: { PartLaws spells then_varint refuses };
+
+    ghost spells_proper: { SpellsProper spells };
 
     ghost writes_shortest: { WritesShortest spells keeps writes };
 }

@@ -1,7 +1,7 @@
 ghost use Rattle.std.specs.Prelude.{◌≡◌, ◌↔◌, ◌<◌, ◌≤◌, ℕ, List, length, None, IfOk, OnErr};
 ghost use Rattle.std.specs.Result.{IsOk};
 ghost use Rattle.thrift_core.specs.Reading.{Stays, Lends, IsLent, binary_at};
-ghost use Rattle.thrift_core.specs.Trees.{BinaryThen};
+ghost use Rattle.thrift_core.specs.Trees.{BinaryThen, all_levels};
 ghost use Rattle.thrift_core.specs.Values.{BeginsValue, RefusesValue};
 ghost use Rattle.thrift_core.specs.declared.type_code.TypeCode.TheVariants as kinds;
 
@@ -34,7 +34,7 @@ pub fn bytes<'a, P: Protocol>(c: &mut Cursor<'a>) -> Result<&'a [u8], Cause>
     }
 }
 
-/// Passes over one value for which so many levels of containers are left. A truth value that the head of its field holds
+/// Passes over one value for which so many levels of containers are left, of 32. A truth value that the head of its field holds
 /// already has no bytes. It takes no memory.
 pub fn skip<P: Protocol>(
     c: &mut Cursor<'_>,
@@ -42,6 +42,8 @@ pub fn skip<P: Protocol>(
     held: Option<bool>,
     left: u8,
 ) -> Result<(), Cause>
+    requires levels { left ≤ all_levels }
+
     // A value that begins the bytes is passed over, whatever follows.
     ensures value { (rest : List ℕ) → (IsOk result × (c.new.rest ≡ rest)) ↔ BeginsValue P.spells left kind held c.old.rest rest }
     ensures refused { RefusesValue P.spells P.then_varint P.refuses left kind held result c.old.rest }

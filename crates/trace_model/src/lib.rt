@@ -32,8 +32,3 @@ pub use span::{Code, Event, Kind, Link, Span, Status};
 pub use texts::value_text;
 pub use trace::{Group, Scope};
 pub use value::{Attrs, Value, attrs_copy};
-
-#[cfg(test)]
-mod event_tests;
-#[cfg(test)]
-mod tests;

@@ -7,21 +7,14 @@ use crate::span::{Event, Link, Span};
 use crate::trace::{Group, Scope};
 use crate::value::{Attrs, Value};
 use span_ids::{Nanos, proper_parent};
-use span_io::{Blob, Items};
+use span_io::Items;
+use span_io::laws::proper_bytes;
 
 fn proper_double(double: [u8; 8])
     ensures size { length double ≡ 8 }
     ensures bytes { All (λ b. b < 256) double }
 {
     // The type keeps it.
-}
-
-fn proper_bytes(bytes: &Blob)
-    ensures { All (λ b. b < 256) bytes.now }
-{
-    'bytes: for byte in bytes.as_slice() {
-        let _byte = *byte;
-    }
 }
 
 #[cycle(proper)]
@@ -36,7 +29,7 @@ fn proper_value(value: &Value)
             let _number = *number;
         }
         Value::Eight(double) => proper_double(*double),
-        Value::Bytes(bytes) => proper_bytes(bytes),
+        Value::Bytes(bytes) => proper_bytes(bytes.as_slice()),
         Value::List(members) => proper_members(members),
         Value::Map(pairs) => proper_attributes(pairs),
         Value::Truth(_) | Value::Nothing => {}

@@ -1,5 +1,7 @@
+pub mod AllLemmas
 pub mod Choices
 pub mod Decisions
+pub mod FreeMembers
 pub mod ParentLemmas
 pub mod TagLemmas
 pub mod WritingLemmas

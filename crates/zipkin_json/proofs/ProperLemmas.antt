@@ -16,8 +16,8 @@ use Rattle.zipkin_json.specs.Laws.{ReadsWritable}
 use Rattle.json_members.specs.Members.{member, elements, Spelled}
 use Rattle.zipkin_json.specs.Members.{IsPort}
 use Rattle.span_ids.specs.Proper.{IsProperTraceId, IsProperSpanId, IsProperParent}
-use Rattle.zipkin_json.specs.Proper.{IsProperEndpoint, IsProperAnnotation, IsProperZTag, IsTimelyAnnotation, IsWritableZSpan}
-use Rattle.zipkin_json.specs.Span.{IsEndpoint, no_endpoint, IsAnnotation, AreAnnotations, texts_in, AreTags, IsZSpan, TagsRise}
+use Rattle.zipkin_json.specs.Proper.{IsProperEndpoint, IsProperAnnotation, IsProperZTag, IsProperZSpan, IsTimelyAnnotation, IsWritableZSpan}
+use Rattle.zipkin_json.specs.Span.{IsEndpoint, no_endpoint, IsAnnotation, AreAnnotations, texts_in, AreTags, IsZSpan, HasRisingTags, TagsRise}
 use Rattle.zipkin_json.specs.declared.span.Endpoint.{Endpoint}
 use Rattle.zipkin_json.specs.declared.span.ZSpan.{ZSpan}
 use Rattle.json_members.specs.ReadBackLaws.{Follow}
@@ -75,24 +75,30 @@ time_fits time count is fits = omega (arith, is, fits)
 time_whole : (time count : ℕ) → time ≡ nanos count → IsWhole time
 time_whole time count is = omega (arith, is)
 
-abbrev FineAnnotations : List (ℕ × List ℕ) → Type 0
-FineAnnotations list = All IsProperAnnotation list × All IsTimelyAnnotation list
-
-each_annotation : (ds : Items) (list : List (ℕ × List ℕ)) → ItemsSound ds → AllZip (λ d x. IsAnnotation x d) (elements ds) list → FineAnnotations list
-each_annotation no_items [] h are = (All-nil IsProperAnnotation, All-nil IsTimelyAnnotation)
+each_annotation : (ds : Items) (list : List (ℕ × List ℕ)) → ItemsSound ds → AllZip (λ d x. IsAnnotation x d) (elements ds) list → All IsProperAnnotation list
+each_annotation no_items [] h are = All-nil IsProperAnnotation
 each_annotation no_items (a ∷ list) h are = absurd are
 each_annotation (item d ds) [] h are = absurd are
 each_annotation (item d ds) (a ∷ list) h are =
-    let more = each_annotation ds list h.1 are.1 in
     let is = are.0 in
-    let text = needed_text a.1 (member (codes "value") d) (member_sound (codes "value") d h.0) is.value in (
-      All-cons IsProperAnnotation a list (time_fits a.0 is.timestamp is.time is.fits, text) more.0,
-      All-cons IsTimelyAnnotation a list (time_whole a.0 is.timestamp is.time) more.1,
-    )
+    let text = needed_text a.1 (member (codes "value") d) (member_sound (codes "value") d h.0) is.value in
+    All-cons IsProperAnnotation a list (time_fits a.0 is.timestamp is.time is.fits, text) (each_annotation ds list h.1 are.1)
 
-given_annotations : (list : List (ℕ × List ℕ)) (o : Option Data) → HoldsOf Sound o → Given AreAnnotations (λ l. l ≡ []) list o → FineAnnotations list
-given_annotations list None h are = subst FineAnnotations (sym are) (All-nil IsProperAnnotation, All-nil IsTimelyAnnotation)
+given_annotations : (list : List (ℕ × List ℕ)) (o : Option Data) → HoldsOf Sound o → Given AreAnnotations (λ l. l ≡ []) list o → All IsProperAnnotation list
+given_annotations list None h are = subst (All IsProperAnnotation) (sym are) (All-nil IsProperAnnotation)
 given_annotations list (Some d) h are = each_annotation are.held list (array_sound d are.held h are.shape) are.means
+
+each_timely : (ds : List Data) (list : List (ℕ × List ℕ)) → AllZip (λ d x. IsAnnotation x d) ds list → All IsTimelyAnnotation list
+each_timely [] [] are = All-nil IsTimelyAnnotation
+each_timely [] (a ∷ list) are = absurd are
+each_timely (d ∷ ds) [] are = absurd are
+each_timely (d ∷ ds) (a ∷ list) are =
+    let is = are.0 in
+    All-cons IsTimelyAnnotation a list (time_whole a.0 is.timestamp is.time) (each_timely ds list are.1)
+
+given_timely : (list : List (ℕ × List ℕ)) (o : Option Data) → Given AreAnnotations (λ l. l ≡ []) list o → All IsTimelyAnnotation list
+given_timely list None are = subst (All IsTimelyAnnotation) (sym are) (All-nil IsTimelyAnnotation)
+given_timely list (Some d) are = each_timely (elements are.held) list are.means
 
 -- ---- tags
 
@@ -135,33 +141,36 @@ given_tags tags (Some d) h are = let fine = tags_fine are.held tags (object_soun
 
 -- ---- spans
 
-span_writable : (s : ZSpan) (d : Data) → Sound d → IsZSpan s d → IsWritableZSpan s
-span_writable s d h is =
+span_proper : (s : ZSpan) (d : Data) → Sound d → IsZSpan s d → IsProperZSpan s
+span_proper s d h is =
     let sum = is.sum in
+    let low : is.timestamp ≤ last_micros = omega (arith, sum) in
+    record {
+      trace = given_trace s.trace _ is.trace;
+      id = given_id s.id _ is.id;
+      parent = given_parent s.parent _ is.parent;
+      name = given_text s.name _ (member_sound (codes "name") d h) is.name;
+      start = time_fits s.start is.timestamp is.start low;
+      end = time_fits s.end (is.timestamp + is.duration) is.end is.sum;
+      local = given_endpoint s.local _ (member_sound (codes "localEndpoint") d h) is.local;
+      remote = given_endpoint s.remote _ (member_sound (codes "remoteEndpoint") d h) is.remote;
+      annotations = given_annotations s.annotations _ (member_sound (codes "annotations") d h) is.annotations;
+      tags = (given_tags s.tags _ (member_sound (codes "tags") d h) is.tags).0;
+    }
+
+-- a span that was read, which is proper in hand
+pub span_writable : (s : ZSpan) (d : Data) → IsZSpan s d → HasRisingTags s → IsProperZSpan s → IsWritableZSpan s
+span_writable s d is rising proper =
     let starts = is.start in
     let ends = is.end in
-    let low : is.timestamp ≤ last_micros = omega (arith, sum) in
-    let annotations = given_annotations s.annotations _ (member_sound (codes "annotations") d h) is.annotations in
-    let tags = given_tags s.tags _ (member_sound (codes "tags") d h) is.tags in
     record {
-      proper = record {
-        trace = given_trace s.trace _ is.trace;
-        id = given_id s.id _ is.id;
-        parent = given_parent s.parent _ is.parent;
-        name = given_text s.name _ (member_sound (codes "name") d h) is.name;
-        start = time_fits s.start is.timestamp is.start low;
-        end = time_fits s.end (is.timestamp + is.duration) is.end is.sum;
-        local = given_endpoint s.local _ (member_sound (codes "localEndpoint") d h) is.local;
-        remote = given_endpoint s.remote _ (member_sound (codes "remoteEndpoint") d h) is.remote;
-        annotations = annotations.0;
-        tags = tags.0;
-      };
+      proper = proper;
       timely = record {
         start = time_whole s.start is.timestamp is.start;
         end = time_whole s.end (is.timestamp + is.duration) is.end;
         order = omega (arith, starts, ends);
-        annotations = annotations.1;
-        rising = tags.1;
+        annotations = given_timely s.annotations _ is.annotations;
+        rising = rising;
       };
     }
 
@@ -169,7 +178,9 @@ each_writable : (ds : Items) (spans : List ZSpan) → ItemsSound ds → AllZip (
 each_writable no_items [] h are = All-nil IsWritableZSpan
 each_writable no_items (s ∷ spans) h are = absurd are
 each_writable (item d ds) [] h are = absurd are
-each_writable (item d ds) (s ∷ spans) h are = All-cons IsWritableZSpan s spans (span_writable s d h.0 are.0) (each_writable ds spans h.1 are.1)
+each_writable (item d ds) (s ∷ spans) h are =
+    let rising = (given_tags s.tags _ (member_sound (codes "tags") d h.0) (are.0).tags).1 in
+    All-cons IsWritableZSpan s spans (span_writable s d are.0 rising (span_proper s d h.0 are.0)) (each_writable ds spans h.1 are.1)
 
 pub text_writable : ReadsWritable
 text_writable spans bytes h =

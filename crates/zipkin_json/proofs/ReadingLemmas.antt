@@ -1,6 +1,5 @@
 -- What is answered of a value, of its bytes.
 use Rattle.std.proofs.Common.{◌≡◌, ℕ, List, None, Result, Ok, Err, subst, IfOk, IsUtf8}
-use Rattle.std.specs.List.{All}
 use Rattle.serde_json.specs.Data.{Data}
 use Rattle.serde_json.specs.Errors.{IsMemory}
 use Rattle.serde_json.specs.Read.{read}
@@ -12,8 +11,7 @@ use Rattle.span_io.specs.declared.refusal.Refusal.{Refusal}
 use Rattle.span_io.specs.Paths.{JudgesInput}
 use Rattle.span_io.specs.Offences.{OnlyReads}
 use Rattle.json_members.specs.ReadingLaws.{same_value, no_value}
-use Rattle.zipkin_json.specs.Laws.{OneList, ReadsWritable}
-use Rattle.zipkin_json.specs.Proper.{IsWritableZSpan}
+use Rattle.zipkin_json.specs.Laws.{OneList}
 use Rattle.zipkin_json.specs.Span.{AreSpans, spans_faults}
 use Rattle.json_members.specs.Texts.{IsJsonText, IsUnread}
 use Rattle.zipkin_json.specs.Texts.{AreSpansText}
@@ -35,10 +33,6 @@ module _ (bytes : List ℕ) (d : Data) (is : IsJsonText d bytes) where
   pub value_text : (answer : Answer) → IfOk answer (λ spans. AreSpans spans d) → IfOk answer (λ spans. AreSpansText spans bytes)
   value_text (Ok read) h = record { value = d; is_text = is; are_spans = h }
   value_text (Err halt) h = tt
-
-  pub writable_text : ReadsWritable → (answer : Answer) → IfOk answer (λ spans. AreSpans spans d) → IfOk answer (All IsWritableZSpan)
-  writable_text law (Ok read) h = law read bytes (record { value = d; is_text = is; are_spans = h })
-  writable_text law (Err halt) h = tt
 
   pub only_text : (answer : Answer) → ((spans : List ZSpan) → AreSpans spans d → OnlyReads answer spans) → (spans : List ZSpan) → AreSpansText spans bytes → OnlyReads answer spans
   only_text answer only spans h = only spans (subst (λ (v : Data). AreSpans spans v) (same_value bytes d is h.value h.is_text) h.are_spans)

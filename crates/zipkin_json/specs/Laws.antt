@@ -5,6 +5,7 @@ use Rattle.span_io.specs.Causes.{cause_number}
 use Rattle.span_io.specs.declared.cause.Cause.{Cause}
 use Rattle.span_io.specs.Paths.{NothingOffends, Counts}
 use Rattle.zipkin_json.specs.Canonical.{span_json, spans_json, spans_text}
+use Rattle.zipkin_json.specs.Known.{spans_agree}
 use Rattle.zipkin_json.specs.Proper.{IsWritableZSpan}
 use Rattle.zipkin_json.specs.Span.{IsZSpan, AreSpans, spans_faults}
 use Rattle.zipkin_json.specs.Texts.{AreSpansText}
@@ -32,3 +33,8 @@ EqualSpansTexts = (a b : List ZSpan) → All IsWritableZSpan a → All IsWritabl
 -- what is read of a text can be written
 abbrev pub ReadsWritable : Type 0
 ReadsWritable = (spans : List ZSpan) (bytes : List ℕ) → AreSpansText spans bytes → All IsWritableZSpan spans
+
+-- unknown members change nothing: values whose known members agree mean the same spans, and the same offends in them
+pub record FreeMembers : Type 0 where
+  pub means : (v w : Data) → spans_agree v w → (spans : List ZSpan) → AreSpans spans v ↔ AreSpans spans w
+  pub offends : (v w : Data) → spans_agree v w → (path : List ℕ) (number : ℕ) → spans_faults v path number ↔ spans_faults w path number

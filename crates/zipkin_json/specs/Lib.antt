@@ -2,6 +2,7 @@ pub mod Identifiers
 pub mod Members
 pub mod Span
 pub mod Proper
+pub mod Known
 pub mod Laws
 pub mod Texts
 pub mod Canonical

@@ -1,7 +1,7 @@
 //! Identifiers and the kind, which are texts.
 ghost use Rattle.std.specs.Prelude.{◌≡◌, ◌↔◌, ℕ, Option, IfSome, IfOk, OnErr, IfNone, IsTrue};
 ghost use Rattle.serde_json.specs.View.{view};
-ghost use Rattle.span_io.specs.Paths.{required, optional, JudgesValue, Given, Never};
+ghost use Rattle.span_io.specs.Paths.{required, optional, JudgesByCause, Given, Never};
 ghost use Rattle.zipkin_json.specs.Identifiers.{AreZeros, SpellsTrace, SpellsSpan, SpellsParent};
 ghost use Rattle.json_members.specs.Members.{member, Spelled};
 ghost use Rattle.zipkin_json.specs.Span.{SpellsKind, trace_faults, id_faults, parent_faults, kind_faults};
@@ -12,7 +12,7 @@ use crate::span::ZKind;
 use json_members::member_of;
 use serde_json::Value;
 use span_ids::{BadId, IdRule, SpanId, TraceId};
-use span_io::{Cause, Halt};
+use span_io::Cause;
 
 fn trace_of(text: &str) -> Result<TraceId, BadId>
     ensures ok { IfOk result (λ id. SpellsTrace text.now id) }
@@ -62,85 +62,85 @@ fn kind_of(text: &str) -> Option<ZKind>
     }
 }
 
-fn trace_in(v: &Value) -> Result<TraceId, Halt<Cause>>
+fn trace_in(v: &Value) -> Result<TraceId, Cause>
     ensures value { IfOk result (λ id. Spelled SpellsTrace id (view v.now)) }
-    ensures judged { JudgesValue result (trace_faults (view v.now)) }
+    ensures judged { JudgesByCause result (trace_faults (view v.now)) }
 {
     let Some(text) = v.as_str() else {
-        return Err(Halt::Why(Cause::BadShape));
+        return Err(Cause::BadShape);
     };
     match trace_of(text) {
         Ok(id) => Ok(id),
-        Err(_) => Err(Halt::Why(Cause::BadId)),
+        Err(_) => Err(Cause::BadId),
     }
 }
 
-fn span_in(v: &Value) -> Result<SpanId, Halt<Cause>>
+fn span_in(v: &Value) -> Result<SpanId, Cause>
     ensures value { IfOk result (λ id. Spelled SpellsSpan id (view v.now)) }
-    ensures judged { JudgesValue result (id_faults (view v.now)) }
+    ensures judged { JudgesByCause result (id_faults (view v.now)) }
 {
     let Some(text) = v.as_str() else {
-        return Err(Halt::Why(Cause::BadShape));
+        return Err(Cause::BadShape);
     };
     match span_of(text) {
         Ok(id) => Ok(id),
-        Err(_) => Err(Halt::Why(Cause::BadId)),
+        Err(_) => Err(Cause::BadId),
     }
 }
 
-fn parent_in(v: &Value) -> Result<Option<SpanId>, Halt<Cause>>
+fn parent_in(v: &Value) -> Result<Option<SpanId>, Cause>
     ensures value { IfOk result (λ id. Spelled SpellsParent id (view v.now)) }
-    ensures judged { JudgesValue result (parent_faults (view v.now)) }
+    ensures judged { JudgesByCause result (parent_faults (view v.now)) }
 {
     let Some(text) = v.as_str() else {
-        return Err(Halt::Why(Cause::BadShape));
+        return Err(Cause::BadShape);
     };
     match parent_of(text) {
         Ok(parent) => Ok(parent),
-        Err(_) => Err(Halt::Why(Cause::BadId)),
+        Err(_) => Err(Cause::BadId),
     }
 }
 
-fn kind_in(v: &Value) -> Result<ZKind, Halt<Cause>>
+fn kind_in(v: &Value) -> Result<ZKind, Cause>
     ensures value { IfOk result (λ kind. Spelled SpellsKind kind (view v.now)) }
-    ensures judged { JudgesValue result (kind_faults (view v.now)) }
+    ensures judged { JudgesByCause result (kind_faults (view v.now)) }
 {
     let Some(text) = v.as_str() else {
-        return Err(Halt::Why(Cause::BadShape));
+        return Err(Cause::BadShape);
     };
     match kind_of(text) {
         Some(kind) => Ok(kind),
-        None => Err(Halt::Why(Cause::BadEnum)),
+        None => Err(Cause::BadEnum),
     }
 }
 
-pub fn required_trace(v: &Value, name: &str) -> Result<TraceId, Halt<Cause>>
+pub fn required_trace(v: &Value, name: &str) -> Result<TraceId, Cause>
     ensures value { IfOk result (λ id. Given (Spelled SpellsTrace) Never id
         (member name.now (view v.now))) }
-    ensures judged { JudgesValue result (required trace_faults (member name.now (view v.now))) }
+    ensures judged { JudgesByCause result (required trace_faults (member name.now (view v.now))) }
 {
     match member_of(v, name) {
-        None => Err(Halt::Why(Cause::Missing)),
+        None => Err(Cause::Missing),
         Some(found) => trace_in(found),
     }
 }
 
-pub fn required_span(v: &Value, name: &str) -> Result<SpanId, Halt<Cause>>
+pub fn required_span(v: &Value, name: &str) -> Result<SpanId, Cause>
     ensures value { IfOk result (λ id. Given (Spelled SpellsSpan) Never id
         (member name.now (view v.now))) }
-    ensures judged { JudgesValue result (required id_faults (member name.now (view v.now))) }
+    ensures judged { JudgesByCause result (required id_faults (member name.now (view v.now))) }
 {
     match member_of(v, name) {
-        None => Err(Halt::Why(Cause::Missing)),
+        None => Err(Cause::Missing),
         Some(found) => span_in(found),
     }
 }
 
 // A parent that may be absent.
-pub fn parent(v: &Value, name: &str) -> Result<Option<SpanId>, Halt<Cause>>
+pub fn parent(v: &Value, name: &str) -> Result<Option<SpanId>, Cause>
     ensures value { IfOk result (λ id. Given (Spelled SpellsParent) (λ p. p ≡ None) id
         (member name.now (view v.now))) }
-    ensures judged { JudgesValue result (optional parent_faults (member name.now (view v.now))) }
+    ensures judged { JudgesByCause result (optional parent_faults (member name.now (view v.now))) }
 {
     match member_of(v, name) {
         None => Ok(None),
@@ -149,10 +149,10 @@ pub fn parent(v: &Value, name: &str) -> Result<Option<SpanId>, Halt<Cause>>
 }
 
 // A kind that may be absent.
-pub fn kind(v: &Value, name: &str) -> Result<ZKind, Halt<Cause>>
+pub fn kind(v: &Value, name: &str) -> Result<ZKind, Cause>
     ensures value { IfOk result (λ kind. Given (Spelled SpellsKind) (λ k. k ≡ kinds.Absent) kind
         (member name.now (view v.now))) }
-    ensures judged { JudgesValue result (optional kind_faults (member name.now (view v.now))) }
+    ensures judged { JudgesByCause result (optional kind_faults (member name.now (view v.now))) }
 {
     match member_of(v, name) {
         None => Ok(ZKind::Absent),

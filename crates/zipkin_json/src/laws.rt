@@ -1,5 +1,5 @@
 //! Laws of what JSON values mean, as contracts of functions that do nothing.
-ghost use Rattle.zipkin_json.specs.Laws.{OneList, SomeList, SpansWrittenAgain, EqualSpansTexts, ReadsWritable};
+ghost use Rattle.zipkin_json.specs.Laws.{OneList, SomeList, SpansWrittenAgain, EqualSpansTexts, ReadsWritable, FreeMembers};
 
 /// A value has one list of spans at most, and nothing offends in one that has a list.
 pub fn one_list()
@@ -33,6 +33,13 @@ pub fn equal_texts()
 /// What is read of a text can be written: it is proper and timely, and the keys of its tags rise.
 pub fn reads_proper()
     ensures { ReadsWritable }
+{
+    // The clause is the law.
+}
+
+/// Unknown members change neither what a value means nor what offends in it.
+pub fn free_members()
+    ensures { FreeMembers }
 {
     // The clause is the law.
 }

@@ -6,14 +6,13 @@ mod endpoint;
 mod identifiers;
 pub mod laws;
 mod members;
+mod proper;
 mod reading;
 mod span;
 mod tags;
 mod writing;
 
+pub use proper::proper_span;
 pub use reading::{read_spans, read_text};
 pub use span::{Endpoint, ZKind, ZSpan};
 pub use writing::write_span;
-
-#[cfg(test)]
-mod tests;

@@ -1,7 +1,7 @@
 //! Members of an object, by their kinds.
 ghost use Rattle.std.specs.Prelude.{◌≡◌, ◌+◌, ◌≤◌, [], false, IfOk};
 ghost use Rattle.serde_json.specs.View.{view};
-ghost use Rattle.span_io.specs.Paths.{required, optional, JudgesValue, Given, Never};
+ghost use Rattle.span_io.specs.Paths.{required, optional, JudgesValue, JudgesByCause, Given, Never};
 ghost use Rattle.span_ids.specs.Times.{last_micros};
 ghost use Rattle.json_members.specs.Members.{member, IsText, text_faults, IsTruth, truth_faults, IsCount};
 ghost use Rattle.zipkin_json.specs.Members.{IsPort, port_faults, count_faults};
@@ -25,10 +25,10 @@ pub fn required_text(alloc: Global, v: &Value, name: &str) -> Result<Text, Halt<
 }
 
 // A truth value that may be absent, which is false then.
-pub fn truth(v: &Value, name: &str) -> Result<bool, Halt<Cause>>
+pub fn truth(v: &Value, name: &str) -> Result<bool, Cause>
     ensures value { IfOk result (λ truth. Given IsTruth (λ t. t ≡ false) truth
         (member name.now (view v.now))) }
-    ensures judged { JudgesValue result (optional truth_faults (member name.now (view v.now))) }
+    ensures judged { JudgesByCause result (optional truth_faults (member name.now (view v.now))) }
 {
     match member_of(v, name) {
         None => Ok(false),
@@ -37,49 +37,49 @@ pub fn truth(v: &Value, name: &str) -> Result<bool, Halt<Cause>>
 }
 
 // A port that may be absent, which is 0 then.
-pub fn port(v: &Value, name: &str) -> Result<u16, Halt<Cause>>
+pub fn port(v: &Value, name: &str) -> Result<u16, Cause>
     ensures value { IfOk result (λ port. Given IsPort (λ p. p ≡ 0) port
         (member name.now (view v.now))) }
-    ensures judged { JudgesValue result (optional port_faults (member name.now (view v.now))) }
+    ensures judged { JudgesByCause result (optional port_faults (member name.now (view v.now))) }
 {
     let Some(found) = member_of(v, name) else {
         return Ok(0);
     };
     let Some(number) = found.as_u64() else {
-        return Err(Halt::Why(Cause::BadShape));
+        return Err(Cause::BadShape);
     };
     match u16::try_from(number) {
         Ok(port) => Ok(port),
-        Err(_) => Err(Halt::Why(Cause::BadShape)),
+        Err(_) => Err(Cause::BadShape),
     }
 }
 
 // A count of microseconds that come behind `start`.
-fn micros_of(v: &Value, start: u64) -> Result<u64, Halt<Cause>>
+fn micros_of(v: &Value, start: u64) -> Result<u64, Cause>
     requires { start ≤ last_micros }
     ensures value { IfOk result (λ count. IsCount count (view v.now)) }
     ensures sum { IfOk result (λ count. start + count ≤ last_micros) }
-    ensures judged { JudgesValue result (count_faults start (view v.now)) }
+    ensures judged { JudgesByCause result (count_faults start (view v.now)) }
 {
     let Some(count) = v.as_u64() else {
         if v.is_i64() {
-            return Err(Halt::Why(Cause::BadTime));
+            return Err(Cause::BadTime);
         }
-        return Err(Halt::Why(Cause::BadShape));
+        return Err(Cause::BadShape);
     };
     if count > LAST_MICROS - start {
-        return Err(Halt::Why(Cause::BadTime));
+        return Err(Cause::BadTime);
     }
     Ok(count)
 }
 
 // A count that may be absent, which is 0 then.
-pub fn micros(v: &Value, name: &str, start: u64) -> Result<u64, Halt<Cause>>
+pub fn micros(v: &Value, name: &str, start: u64) -> Result<u64, Cause>
     requires { start ≤ last_micros }
     ensures value { IfOk result (λ count. Given IsCount (λ c. c ≡ 0) count
         (member name.now (view v.now))) }
     ensures sum { IfOk result (λ count. start + count ≤ last_micros) }
-    ensures judged { JudgesValue result
+    ensures judged { JudgesByCause result
         (optional (count_faults start) (member name.now (view v.now))) }
 {
     match member_of(v, name) {
@@ -88,15 +88,15 @@ pub fn micros(v: &Value, name: &str, start: u64) -> Result<u64, Halt<Cause>>
     }
 }
 
-pub fn required_micros(v: &Value, name: &str) -> Result<u64, Halt<Cause>>
+pub fn required_micros(v: &Value, name: &str) -> Result<u64, Cause>
     ensures value { IfOk result (λ count. Given IsCount Never count
         (member name.now (view v.now))) }
     ensures sum { IfOk result (λ count. count ≤ last_micros) }
-    ensures judged { JudgesValue result
+    ensures judged { JudgesByCause result
         (required (count_faults 0) (member name.now (view v.now))) }
 {
     match member_of(v, name) {
-        None => Err(Halt::Why(Cause::Missing)),
+        None => Err(Cause::Missing),
         Some(found) => micros_of(found, 0),
     }
 }

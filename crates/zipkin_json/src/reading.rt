@@ -1,7 +1,7 @@
 //! Reading spans.
 ghost use Rattle.std.specs.Prelude.{◌≡◌, ◌+◌, ◌*◌, ◌≤◌, List, All, map, IfOk, codes};
 ghost use Rattle.serde_json.specs.View.{view};
-ghost use Rattle.span_io.specs.Paths.{each, optional, JudgesValue, JudgesInput, Given};
+ghost use Rattle.span_io.specs.Paths.{each, optional, JudgesValue, JudgesByCause, JudgesInput, Given};
 ghost use Rattle.span_io.specs.Offences.{OnlyReads};
 ghost use Rattle.std.specs.List.{AllZip};
 ghost use Rattle.span_ids.specs.Times.{last_micros};
@@ -16,8 +16,9 @@ ghost use Rattle.zipkin_json.specs.Span.{IsZSpan, HasRisingTags, span_members, s
 use crate::annotation::annotations;
 use crate::endpoint::endpoint_of;
 use crate::identifiers::{kind, parent, required_span, required_trace};
-use crate::laws::{one_list, reads_proper};
+use crate::laws::one_list;
 use crate::members::{micros, truth};
+use crate::proper::proper_span;
 use crate::span::ZSpan;
 use crate::tags::tags_of;
 use json_members::{text, unread};
@@ -27,13 +28,13 @@ use span_io::{Cause, Halt, Items, Refusal};
 use std::alloc::Global;
 
 // The duration, which is counted from the timestamp.
-fn duration(v: &Value, timestamp: u64) -> Result<u64, Halt<Cause>>
+fn duration(v: &Value, timestamp: u64) -> Result<u64, Cause>
     requires fits { timestamp ≤ last_micros }
     requires given { count_or_zero (member (codes "timestamp") (view v.now)) ≡ timestamp }
     ensures value { IfOk result (λ count. Given IsCount (λ c. c ≡ 0) count
         (member (codes "duration") (view v.now))) }
     ensures sum { IfOk result (λ count. timestamp + count ≤ last_micros) }
-    ensures judged { JudgesValue result
+    ensures judged { JudgesByCause result
         (optional (count_faults (count_or_zero (member (codes "timestamp") (view v.now))))
         (member (codes "duration") (view v.now))) }
 {
@@ -83,6 +84,7 @@ fn read_span(alloc: Global, v: &Value) -> Result<ZSpan, Halt<Cause>>
 fn read_each(alloc: Global, elements: Vec<Value>) -> Result<Items<ZSpan>, Halt<Refusal>>
     ensures value { IfOk result (λ spans. AllZip (λ d x. IsZSpan x d) (map view elements.items) spans) }
     ensures rising { IfOk result (All HasRisingTags) }
+    ensures writable { IfOk result (All IsWritableZSpan) }
     ensures judged { JudgesInput result (each span_faults (map view elements.items)) }
 {
     let mut spans = Items::new(alloc);
@@ -90,7 +92,10 @@ fn read_each(alloc: Global, elements: Vec<Value>) -> Result<Items<ZSpan>, Halt<R
     'elements: for element in elements {
         unit += 1;
         match read_span(alloc, &element) {
-            Ok(span) => spans.push(span)?,
+            Ok(span) => {
+                proper_span(&span);
+                spans.push(span)?;
+            }
             Err(halt) => return Err(halt.in_unit(unit)),
         }
     }
@@ -100,6 +105,7 @@ fn read_each(alloc: Global, elements: Vec<Value>) -> Result<Items<ZSpan>, Halt<R
 fn read_root(alloc: Global, v: Value) -> Result<Items<ZSpan>, Halt<Refusal>>
     ensures value { IfOk result (λ spans. AreSpans spans (view v)) }
     ensures rising { IfOk result (All HasRisingTags) }
+    ensures writable { IfOk result (All IsWritableZSpan) }
     ensures judged { JudgesInput result (spans_faults (view v)) }
 {
     let Value::Array(elements) = v else {
@@ -117,6 +123,8 @@ fn read_root(alloc: Global, v: Value) -> Result<Items<ZSpan>, Halt<Refusal>>
 pub fn read_spans(alloc: Global, v: Value) -> Result<Items<ZSpan>, Halt<Refusal>>
     ensures value { IfOk result (λ spans. AreSpans spans (view v)) }
     ensures rising { IfOk result (All HasRisingTags) }
+    // They can be written.
+    ensures writable { IfOk result (All IsWritableZSpan) }
     ensures judged { JudgesInput result (spans_faults (view v)) }
     // Whatever spans the value stands for are the answer.
     ensures only { (spans : List ZSpan) → AreSpans spans (view v) → OnlyReads result spans }
@@ -135,7 +143,6 @@ pub fn read_text(alloc: Global, bytes: &[u8]) -> Result<Items<ZSpan>, Halt<Refus
     // Whatever spans the bytes are a text of are the answer.
     ensures only { (spans : List ZSpan) → AreSpansText spans bytes.now → OnlyReads result spans }
 {
-    reads_proper();
     match Value::from_slice(alloc, bytes) {
         Ok(v) => read_spans(alloc, v),
         Err(error) => Err(unread(&error)),

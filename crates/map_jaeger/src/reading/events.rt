@@ -1,5 +1,6 @@
 //! Logs as events.
 ghost use Rattle.std.specs.Prelude.{◌≡◌, [], ◌∷◌, ◌++◌, map, IfOk, OnOk};
+ghost use Rattle.jaeger_model.specs.Counted.{IsCounted};
 ghost use Rattle.map_jaeger.specs.Noted.{AddsNoted, AreNumbered};
 ghost use Rattle.map_jaeger.specs.Reading as meant;
 ghost use Rattle.map_jaeger.specs.Remarks.{RepeatsOf, is_idle_event, log_remarks};
@@ -9,7 +10,7 @@ use jaeger_model::Log;
 use span_io::{Items, OutOfMemory, Text};
 use span_tags::{is_idle_text, others, remark_if, text_or_empty};
 use std::alloc::Global;
-use trace_model::{Event, Place, Remark, find, number_behind, remark_keys};
+use trace_model::{Event, Place, Remark, find, remark_keys};
 
 /// The events of a span, and the remarks on them.
 #[derive(Debug, Drop)]
@@ -38,6 +39,7 @@ pub(crate) fn events_of(
     span: u32,
     logs: Items<Log>,
 ) -> Result<ReadEvents, OutOfMemory>
+    requires counted { IsCounted logs }
     ensures events { IfOk result (λ read. read.events ≡ map meant.event_of logs) }
     ensures remarks { IfOk result (λ read. AreNumbered RepeatsOf (log_remarks span) 1 logs read.remarks) }
 {
@@ -46,9 +48,9 @@ pub(crate) fn events_of(
         events,
         remarks: Items::new(alloc),
     };
-    let mut number = 0;
+    let mut number: u32 = 0;
     'logs: for log in logs.into_vec() {
-        number = number_behind(number, 1)?;
+        number += 1;
         read.add(alloc, span, number, log)?;
     }
     Ok(read)

@@ -1,5 +1,6 @@
 //! Spans, and the scopes that they are of.
-ghost use Rattle.std.specs.Prelude.{◌≡◌, map, IfOk, OnOk};
+ghost use Rattle.std.specs.Prelude.{◌≡◌, map, All, IfOk, OnOk};
+ghost use Rattle.jaeger_model.specs.Counted.{IsCounted, IsCountedSpan};
 ghost use Rattle.span_tags.specs.ReadRuns.{one_of};
 ghost use Rattle.span_tags.specs.Runs.{runs};
 ghost use Rattle.map_jaeger.specs.Noted.{AddsNoted, AreNumbered};
@@ -19,8 +20,7 @@ use span_tags::{ReadSpan, Runs};
 use std::alloc::Global;
 use std::mem;
 use trace_model::{
-    Attrs, Event, Place, Remark, Scope, Span, number_behind, remark_all, remark_dropped,
-    remark_keys,
+    Attrs, Event, Place, Remark, Scope, Span, remark_all, remark_dropped, remark_keys,
 };
 
 /// The scopes of spans, and the remarks on them.
@@ -32,14 +32,16 @@ pub(crate) struct ReadScopes {
 
 /// The scopes of these spans.
 pub(crate) fn scopes_of(alloc: Global, spans: Items<JSpan>) -> Result<ReadScopes, OutOfMemory>
+    requires counted { IsCounted spans }
+    requires each { All IsCountedSpan spans }
     ensures scopes { IfOk result (λ read. read.scopes ≡ runs (map meant.scoped_of spans)) }
     ensures remarks { IfOk result (λ read. AreNumbered RepeatsOfSpan jspan_remarks 1 spans read.remarks) }
 {
     let mut so_far = Runs::none(alloc);
     let mut remarks = Items::new(alloc);
-    let mut number = 0;
+    let mut number: u32 = 0;
     'spans: for span in spans.into_vec() {
-        number = number_behind(number, 1)?;
+        number += 1;
         let one = read_span(alloc, &mut remarks, number, span)?;
         so_far = so_far.add(alloc, one)?;
     }
@@ -54,6 +56,7 @@ fn read_span(
     number: u32,
     span: JSpan,
 ) -> Result<ReadSpan, OutOfMemory>
+    requires counted { IsCountedSpan span }
     ensures value { IfOk result (λ read. one_of read ≡ meant.scoped_of span) }
     ensures remarks { OnOk result (AddsNoted RepeatsOfSpan jspan_remarks number span remarks.old remarks.new) }
 {

@@ -1,10 +1,11 @@
-//! Whether a double stands in a group.
+//! Whether a double stands in a group, which is the one fault of a group.
 ghost use Rattle.std.specs.Prelude.{◌≡◌};
 ghost use Rattle.std.specs.List.{list_any};
 ghost use Rattle.trace_model.specs.EventTexts.{holds_double};
 ghost use Rattle.otlp_json.specs.Doubles.{double_in_event, double_in_link, double_in_span, double_in_scope, double_in_group};
+ghost use Rattle.otlp_json.specs.Held.{IsJsonFaultOf};
 
-use trace_model::{Attrs, Event, Group, Link, Scope, Span};
+use trace_model::{Attrs, Event, Fault, Group, Link, Scope, Span};
 
 fn in_attributes(attributes: &Attrs) -> bool
     ensures { result ≡ holds_double attributes.now }
@@ -75,9 +76,19 @@ fn in_scopes(scopes: &[Scope]) -> bool
     false
 }
 
-/// Whether a double stands in the attributes of a group, or of what it has.
-pub fn has_double(group: &Group) -> bool
+// Whether a double stands in the attributes of a group, or of what it has.
+fn has_double(group: &Group) -> bool
     ensures { result ≡ double_in_group group.now }
 {
     in_attributes(&group.resource) || in_scopes(group.scopes.as_slice())
+}
+
+/// The fault of a group that OTLP/JSON as it is written here can't hold: a double stands in it.
+pub fn fault_of_group(group: &Group) -> Option<Fault>
+    ensures { IsJsonFaultOf group.now result }
+{
+    if has_double(group) {
+        return Some(Fault::DoubleInText);
+    }
+    None
 }

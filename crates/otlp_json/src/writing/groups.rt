@@ -8,7 +8,7 @@ ghost use Rattle.json_members.specs.Writing.{Appends, GrewFront, given_tokens, r
 ghost use Rattle.otlp_json.specs.Canonical.{instrumentation_scope_rows, resource_rows, json_group_text};
 ghost use Rattle.otlp_json.specs.Held.{IsJsonFaultOf};
 
-use crate::writing::doubles::has_double;
+use crate::writing::doubles::fault_of_group;
 use crate::writing::elements::{Element, list_member};
 use crate::writing::members::number_member;
 use crate::writing::values::attributes_member;
@@ -162,8 +162,8 @@ pub fn write_group(out: &mut Blob, group: &Group) -> Result<(), Halt<Fault>>
     ensures front { result ≡ Err halts.OutOfMemory
         → GrewFront out.old out.new (json_group_text group.now) }
 {
-    if has_double(group) {
-        return Err(Halt::Why(Fault::DoubleInText));
+    if let Some(fault) = fault_of_group(group) {
+        return Err(Halt::Why(fault));
     }
     Ok(write_text(out, group)?)
 }

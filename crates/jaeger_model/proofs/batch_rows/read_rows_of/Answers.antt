@@ -31,6 +31,12 @@ returns-clause-value g c =
       means = subst (λ (f : Fields). IsBatch c.in_ok-batch_of.field-0 f) all.1.are.same (c.in_ok-batch_of.ensures.value outer_levels all.1.items all.1.gathered);
     }
 
+pub returns-clause-counted : goal.returns-clause-counted
+returns-clause-counted g c =
+    let whole = ap (λ (w : Walk). w.rest) c.new-c.ensures ∙ sym (append-nil c.args.unit.now) in
+    let all = c.in_ok-rows.ensures.all c.args.unit.now [] c.requires.stands.0 whole c.requires.stands.1 in
+    c.in_ok-batch_of.ensures.counted outer_levels all.1.items all.1.gathered
+
 pub returns-clause-judged : goal.returns-clause-judged
 returns-clause-judged g c =
     let whole = ap (λ (w : Walk). w.rest) c.new-c.ensures ∙ sym (append-nil c.args.unit.now) in

@@ -16,7 +16,7 @@ returns-in_err-read_list-clause-judged g c = λ text tail trees e h earlier gave
 pub returns-clause-ok : goal.returns-clause-ok
 returns-clause-ok g c = λ text tail trees e h.
     let value = c.in_ok-read_list.ensures.value text tail trees e h in
-    (value.0, sets_first (MeansEach g.E.Element.means) (trees, text) c.args.row.now (Some c.in_ok-read_list.field-0) c.in_ok-read_list.field-0 c.in_ok-once.ensures.ok refl value.1)
+    (value.0, sets_first (MeansEach g.E.Element.means) (trees, text) c.args.row.now (Some c.in_ok-read_list.field-0) c.in_ok-read_list.field-0 c.in_ok-once.ensures.ok refl (value.1, c.in_ok-read_list.ensures.counted))
 
 pub returns-clause-judged : goal.returns-clause-judged
 returns-clause-judged g c = λ text tail trees e h earlier gave.

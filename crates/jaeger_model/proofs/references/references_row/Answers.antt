@@ -12,7 +12,7 @@ use Rattle.jaeger_model.proofs.ReferenceLemmas.{reference_laws}
 use Rattle.jaeger_model.proofs.references.references_row.Goals as goal
 
 pub read_list-requires : goal.read_list-requires
-read_list-requires g c = record { lawful = reference_laws g.P.Protocol.spells (c.args.left - 2) (struct_laws g.P.Protocol.spells _ _ _ g.met.P.Protocol.reads_exactly g.met.P.Protocol.part_laws (c.args.left - 2)) }
+read_list-requires g c = record { levels = c.requires.levels; lawful = reference_laws g.P.Protocol.spells (c.args.left - 2) (struct_laws g.P.Protocol.spells _ _ _ g.met.P.Protocol.reads_exactly g.met.P.Protocol.part_laws (c.args.left - 2)) }
 
 pub returns-in_err-all-clause-judged : goal.returns-in_err-all-clause-judged
 returns-in_err-all-clause-judged g c = λ text tail trees e h earlier gave.

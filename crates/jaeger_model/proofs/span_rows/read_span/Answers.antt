@@ -5,8 +5,8 @@ use Rattle.thrift_core.specs.Messages.{FieldItem, structs, whole_struct, AreFiel
 use Rattle.thrift_core.specs.StructLaws.{struct_laws}
 use Rattle.thrift_core.specs.Trees.{Fields}
 use Rattle.jaeger_model.specs.declared.span.JSpan.{JSpan}
-use Rattle.jaeger_model.specs.Spans.{IsJSpan, jspan_table, jspan_ends, jspan_rules}
-use Rattle.jaeger_model.specs.SpanSoFar.{GatheredJSpan}
+use Rattle.jaeger_model.specs.Spans.{jspan_table, jspan_ends, jspan_rules}
+use Rattle.jaeger_model.specs.SpanSoFar.{GatheredJSpan, IsReadJSpan}
 use Rattle.jaeger_model.proofs.SpanTable.{span_laws}
 use Rattle.jaeger_model.proofs.span_rows.read_span.Goals as goal
 
@@ -19,7 +19,7 @@ read_rows-requires-clause-lawful g c = span_laws g.P.Protocol.spells (位 (m : 鈩
 pub returns-clause-value : goal.returns-clause-value
 returns-clause-value g c = 位 text tail fields e h.
     let all = c.in_ok-rows.ensures.all text tail fields e h in
-    (all.0, subst (位 (f : Fields). IsJSpan c.in_ok-span_of_rows.field-0 f) all.1.are.same (c.in_ok-span_of_rows.ensures.value c.args.left all.1.items all.1.gathered))
+    (all.0, subst (位 (f : Fields). IsReadJSpan c.in_ok-span_of_rows.field-0 f) all.1.are.same (c.in_ok-span_of_rows.ensures.value c.args.left all.1.items all.1.gathered))
 
 pub returns-clause-judged : goal.returns-clause-judged
 returns-clause-judged g c = 位 text tail fields e h.

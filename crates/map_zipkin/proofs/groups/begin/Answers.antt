@@ -1,10 +1,9 @@
-use Rattle.std.proofs.Common.{◌++◌, ap}
-use Rattle.span_tags.specs.ReadRuns.{with_behind}
+use Rattle.std.proofs.Common.{◌++◌, map, ap}
+use Rattle.map_zipkin.specs.NotedGroups.{noted_group}
 use Rattle.map_zipkin.proofs.GroupsAtBack.{front_joins}
 use Rattle.map_zipkin.proofs.groups.begin.Goals as goal
 
 pub returns : goal.returns
-returns c groups =
-    let first = c.in_ok-first.first in
-    ap (λ l. c.args.done ++ l) (front_joins (c.args.run, c.args.span) first.resource (with_behind first.scopes) groups
-    c.in_ok-first.ensures.resource c.in_ok-first.ensures.scopes)
+returns c keys groups left_out its =
+    ap (λ l. map noted_group c.args.done ++ l)
+    (front_joins (c.args.one.run, c.args.one.span) keys c.in_ok-first.first groups left_out (c.in_ok-first.ensures keys its))

@@ -1,19 +1,17 @@
-use Rattle.std.proofs.Common.{[], ◌∷◌, ◌++◌, sym, ap, ◌∙◌}
-use Rattle.span_tags.specs.ReadRuns.{with_behind}
-use Rattle.map_zipkin.proofs.GroupsAtBack.{added_behind, joins_more}
+use Rattle.std.proofs.Common.{◌++◌, map, sym, ap, ◌∙◌}
+use Rattle.map_zipkin.specs.NotedGroups.{noted_group}
+use Rattle.map_zipkin.specs.ReadGroups.{last_alone}
+use Rattle.map_zipkin.proofs.GroupsAtBack.{added_behind, joins_more, pushed}
 use Rattle.map_zipkin.proofs.groups.behind.Goals as goal
 
 pub returns-then-same_resource : goal.returns-then-same_resource
-returns-then-same_resource c groups =
-    let last = c.args.last in
-    let more = c.in_ok-more.more in
-    ap (λ l. c.args.done ++ l) (joins_more (c.args.run, c.args.span) last.resource more.resource (with_behind last.scopes) (with_behind more.scopes) groups
-    (sym c.same_resource.ensures ∙ c.if-same_resource.true) c.in_ok-more.ensures.resource c.in_ok-more.ensures.scopes)
+returns-then-same_resource c keys groups left_out its =
+    ap (λ l. map noted_group c.args.done ++ l)
+    (joins_more (c.args.one.run, c.args.one.span) keys c.args.last c.in_ok-more.more groups left_out
+    (sym c.same_resource.ensures ∙ c.if-same_resource.true) (c.in_ok-more.ensures keys its))
 
 pub returns : goal.returns
-returns c groups =
-    let last = c.args.last in
-    let next = c.in_ok-next.next in
-    added_behind (c.args.run, c.args.span) last.resource next.resource (with_behind last.scopes) (with_behind next.scopes) c.args.done c.push.new.self groups
-    (sym c.same_resource.ensures ∙ c.if-same_resource.false) c.in_ok-next.ensures.resource c.in_ok-next.ensures.scopes
-    (c.in_ok-push.ensures.ok ∙ ap (λ g. c.args.done ++ g ∷ []) c.in_ok-group.ensures)
+returns c keys groups left_out its =
+    added_behind (c.args.one.run, c.args.one.span) keys c.args.last c.in_ok-next.next (map noted_group c.args.done) (map noted_group c.push.new.self) groups left_out
+    (sym c.same_resource.ensures ∙ c.if-same_resource.false) (c.in_ok-next.ensures keys its)
+    (pushed c.args.done c.push.new.self c.in_ok-group.field-0 (last_alone c.args.last) c.in_ok-push.ensures.ok c.in_ok-group.ensures)

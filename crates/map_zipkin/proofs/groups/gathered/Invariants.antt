@@ -1,7 +1,9 @@
-use Rattle.std.proofs.Common.{◌≡◌}
+use Rattle.std.proofs.Common.{◌≡◌, map}
+use Rattle.map_zipkin.specs.NotedGroups.{noted_groups_of}
 use Rattle.map_zipkin.specs.ReadGroups.{with_groups}
 use Rattle.map_zipkin.specs.Reading.{groups_of}
+use Rattle.map_zipkin.specs.Remarks.{zipkin_left_out}
 use Rattle.map_zipkin.proofs.groups.gathered.Given as goal
 
 abbrev pub invariant-spans : goal.invariant-spans
-invariant-spans l = with_groups l.so_far (groups_of l.span-iterator.rest.items) ≡ groups_of l.fn.spans
+invariant-spans l = with_groups l.so_far (groups_of l.span-iterator.rest.items) (map zipkin_left_out l.span-iterator.rest.items) ≡ noted_groups_of l.fn.spans

@@ -1,6 +1,7 @@
 use Rattle.std.proofs.Common.{◌≡◌, suc, true, is_some, arith, rules}
 use Rattle.serde_json.specs.Find.{as_object}
 use Rattle.serde_json.specs.View.{view}
+use Rattle.span_io.specs.declared.halt.Halt.TheVariants as halts
 use Rattle.span_io.specs.PathLaws.{clean_valued, clean_parts, clean_nothing, halts_valued, halts_first, halts_later, quiet_parts, quiet_nothing, exits}
 use Rattle.otlp_json.specs.Found.{value_found, pair_found}
 use Rattle.otlp_json.specs.Values.{many_members, key_value_members, json_value_offends, json_key_value_offends}
@@ -19,7 +20,7 @@ pub read_part-returns-in-Number-clause-judged : goal.read_part-returns-in-Number
 read_part-returns-in-Number-clause-judged t c = rw c.in-Number.is (judged_behind 2 _ _ c.number_value.ensures.judged)
 
 pub read_part-returns-in-Double-clause-judged : goal.read_part-returns-in-Double-clause-judged
-read_part-returns-in-Double-clause-judged t c = rw c.in-Double.is (halts_behind 3 c.double_value.result _ c.double_value.ensures)
+read_part-returns-in-Double-clause-judged t c = rw c.in-Double.is (halts_behind 3 (halts.Why c.double_value.result) _ c.double_value.ensures)
 
 pub read_part-returns-in-List-clause-judged : goal.read_part-returns-in-List-clause-judged
 read_part-returns-in-List-clause-judged t c = rw c.in-List.is (judged_behind 4 _ _ c.read_list.ensures.judged)

@@ -1,6 +1,6 @@
 use Rattle.std.proofs.Common.{refl}
 use Rattle.span_io.specs.Limits.{shipped_limits}
-use Rattle.span_cli.proofs.EndingLaws.{ends_no_memory}
+use Rattle.span_cli.proofs.EndingLaws.{ends_no_memory, untouched_in_vain}
 use Rattle.span_cli.proofs.InputLemmas.{reads_nothing}
 use Rattle.span_cli.proofs.input.feed_input.Goals as goal
 
@@ -12,5 +12,6 @@ returns-in_default-clause-ended g c =
     let none = reads_nothing from now in
     ends_no_memory g.K.Sink.outlet from to now now c.args.output.now c.args.output.now (record {
       reads = none;
+      in_vain = untouched_in_vain now;
       front = record { given = none.given; gave = none.gave; front = c.nothing_written.ensures from to shipped_limits none.given (g.K.Sink.outlet c.args.output.now) };
     }) refl refl

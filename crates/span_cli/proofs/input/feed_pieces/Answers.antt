@@ -1,11 +1,11 @@
-use Rattle.std.proofs.Common.{◌≤◌, Err, ◌++◌, length, take, ap, subst, ◌∙◌, arith}
+use Rattle.std.proofs.Common.{◌≤◌, Ok, Err, ◌++◌, length, take, ap, subst, ◌∙◌, arith}
 use Rattle.std.proofs.lemmas.List.{length-take}
 use Rattle.span_convert.specs.Converters.{limit_of, stop_in}
 use Rattle.span_io.specs.Limits.{shipped_limits}
 use Rattle.span_cli.specs.Inputs.{piece}
 use Rattle.span_cli.specs.Runs.{EndsRun}
 use Rattle.span_cli.proofs.EndingLaws.{ends_at_feed, same_feed, fed_within}
-use Rattle.span_cli.proofs.InputLemmas.{Consumes-then, Feeding-step, Feeding-reads}
+use Rattle.span_cli.proofs.InputLemmas.{goes_on, not_in_vain, Consumes-then, Feeding-step, Feeding-reads}
 use Rattle.span_cli.proofs.input.feed_pieces.Goals as goal
 
 pub returns-in-Err-clause-ended : goal.returns-in-Err-clause-ended
@@ -26,6 +26,7 @@ returns-in-Err-clause-ended g c =
     (Consumes-then before.left here.left now.left feeding.given more feeding.gave given)
     c.at_stop.ensures
     (Feeding-reads from to before here now c.pieces.converter more feeding given small)
+    (not_in_vain _ before.course here.course now.course (Ok c.in-Ok.given) feeding.goes c.in-Ok.ensures.course)
     (c.in-Ok.ensures.quiet ∙ feeding.quiet)
     (same_feed g.K.Sink.outlet c.pieces.converter.from from c.pieces.converter.to to c.pieces.converter.limits shipped_limits bytes c.in-Err.stop c.feed.new.self.state c.pieces.output c.feed.new.out
     feeding.forms.0 feeding.forms.1 feeding.limits
@@ -35,8 +36,7 @@ returns-in-Err-clause-ended g c =
       carried = feed.verdict feeding.given feeding.fed;
       front = feed.front feeding.given feeding.fed;
       fails = λ e. feed.fails (ap stop_in feeding.fed.going) (ap Err e);
-      quiet = λ other. feed.quiet (λ e. other (cc));
-      answers = λ steady e. feed.answers (ap stop_in feeding.fed.going) steady (ap Err e);
+      holds = λ other. feed.holds (λ e. other (cc));
     })))
 
 pub pieces-preserved : goal.pieces-preserved
@@ -50,6 +50,7 @@ pieces-preserved g c =
     record {
       room = c.read.auto.buf ∙ c.pieces.invariant.room;
       feeding = Feeding-step from to before (g.S.Source.inlet c.pieces.input) (g.S.Source.inlet c.read.new.self) c.pieces.converter c.feed.new.self more feeding c.in-Ok.ensures.bytes.0 c.in-Ok.ensures.quiet c.read.ensures.steady
+          (goes_on _ _ _ c.in-Ok.given (λ zero. absurd (omega (arith, zero))) c.in-Ok.ensures.course)
           (feed.fed feeding.given feeding.fed) feed.forms feed.limits;
       unwritten = fed_within (limit_of c.pieces.converter) (length (feeding.given ++ more)) c.pieces.output c.feed.new.out (feed.kept feeding.given feeding.fed) (feed.beyond feeding.given feeding.fed) ∙ c.pieces.invariant.unwritten;
     }

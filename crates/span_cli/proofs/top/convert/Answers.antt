@@ -15,13 +15,12 @@ returns g c =
     let bound = given_within c.feed_input.new.converter c.args.from fed.given fed.fed (fed.forms.0 ∙ c.new-converter.ensures.forms.0) fed.limits in
     ends_at_finish g.K.Sink.outlet c.args.from c.args.to (g.S.Source.inlet c.args.input.now) (g.S.Source.inlet c.feed_input.new.input) c.args.output.now c.finish.new.out
     fed.given c.at_stop.result c.in-Err-finish.stop c.finish.new.self.state fed.gave fed.all_read.told c.at_stop.ensures
-    (record { given = fed.given; gave = fed.gave; within = omega (arith, bound) }) fed.quiet
+    (record { given = fed.given; gave = fed.gave; within = omega (arith, bound) }) fed.in_vain fed.quiet
     (same_finish g.K.Sink.outlet _ c.args.from _ c.args.to _ shipped_limits fed.given c.in-Err-finish.stop c.finish.new.self.state _ c.args.output.now c.finish.new.out
     (fed.forms.0 ∙ c.new-converter.ensures.forms.0) (fed.forms.1 ∙ c.new-converter.ensures.forms.1) fed.limits c.in_default.ensures.unwritten (record {
       judged = end.judged fed.given fed.fed;
       carried = end.verdict fed.given fed.fed;
       front = end.front fed.given fed.fed;
       fails = λ e. end.fails going (ap (λ (s : Stop). Err s) e);
-      quiet = λ other. end.quiet (λ e. other (stop_of c.in-Err-finish.stop stops.Write e));
-      answers = λ steady e. end.answers going steady (ap (λ (s : Stop). Err s) e);
+      holds = λ other. end.holds (λ e. other (stop_of c.in-Err-finish.stop stops.Write e));
     }))

@@ -1,11 +1,12 @@
-use Rattle.std.proofs.Common.{◌≡◌, ℕ, List, Option, Some, None, refl, sym, subst, ◌∙◌}
+use Rattle.std.proofs.Common.{◌≡◌, ◌≢◌, ℕ, List, length, Option, Some, None, refl, sym, subst, ◌∙◌}
 use Rattle.std.specs.Prelude.{IfSome}
+use Rattle.span_io.specs.Outside.{Takes}
 use Rattle.span_convert.specs.Verdicts.{verdict_text}
 use Rattle.span_cli.specs.declared.command.Command.{Command}
 use Rattle.span_cli.specs.declared.command.Command.TheVariants.{Convert}
 use Rattle.span_cli.specs.Verdicts.{OnVerdict, CarriesOut, IsRunStatus, IsJudgedAt, AgreesWith, Writes, Notes, stage_of, status_of, line_of}
 use Rattle.span_cli.proofs.CommandLemmas.{command_read}
-use Rattle.span_cli.proofs.EndingLaws.{never_usage, is_status, on_verdict}
+use Rattle.span_cli.proofs.EndingLaws.{never_usage, is_status, on_verdict, untouched_in_vain, untouched_output_in_vain, output_in_vain, notes_in_vain}
 use Rattle.span_cli.proofs.SameRuns.{carried_out, on_same_batches}
 use Rattle.span_cli.proofs.top.run.Goals as goal
 
@@ -58,6 +59,35 @@ returns-clause-notes g c = λ from to spelled.
     subst (λ (status : ℕ). OnVerdict from to (g.S.Source.inlet c.args.input.now).left (λ verdict. Notes before now (line_of (stage_of status) verdict))) (sym c.status.ensures)
     (on_verdict from to (g.S.Source.inlet c.args.input.now).left _ (λ verdict. Notes before now (line_of (stage_of (status_of c.convert-ending.result)) verdict))
     (λ verdict line. subst (λ (l : List ℕ). Notes before now l) line c.note_ending.ensures.line) (rw same at c.convert-ending.ensures).line)
+
+pub returns-clause-output_answers : goal.returns-clause-output_answers
+returns-clause-output_answers g c = λ any e. (c.convert-ending.ensures.output.fails (sym c.status.ensures ∙ e)).unsure any
+
+pub returns-clause-output_in_vain : goal.returns-clause-output_in_vain
+returns-clause-output_in_vain g c = output_in_vain g.K.Sink.outlet c.convert-ending.result c.args.output.now c.convert-ending.new.output c.convert-ending.ensures.output
+
+pub returns-clause-notes_in_vain : goal.returns-clause-notes_in_vain
+returns-clause-notes_in_vain g c = notes_in_vain (g.N.Sink.outlet c.args.notes.now) (g.N.Sink.outlet c.note_ending.new.notes) _ c.note_ending.ensures.line
+
+pub returns-in_default-clause-input_in_vain : goal.returns-in_default-clause-input_in_vain
+returns-in_default-clause-input_in_vain g c = untouched_in_vain (g.S.Source.inlet c.args.input.now)
+
+pub returns-in_default-clause-output_in_vain : goal.returns-in_default-clause-output_in_vain
+returns-in_default-clause-output_in_vain g c = untouched_output_in_vain (g.K.Sink.outlet c.args.output.now)
+
+pub returns-in_default-clause-notes_in_vain : goal.returns-in_default-clause-notes_in_vain
+returns-in_default-clause-notes_in_vain g c = notes_in_vain (g.N.Sink.outlet c.args.notes.now) (g.N.Sink.outlet c.note_usage.new.notes) _ c.note_usage.ensures
+
+pub returns-in_default-clause-output_takes : goal.returns-in_default-clause-output_takes
+returns-in_default-clause-output_takes g c = λ from to spelled. absurd (let h : ◌≡◌ {A = Option Command} None (Some (Convert from to)) = sym c.in_default.is ∙ (c.read_words.ensures (Convert from to)).1 spelled in cc)
+
+pub returns-clause-output_takes : goal.returns-clause-output_takes
+returns-clause-output_takes g c = λ from to spelled.
+    let same = command_read c.in-Some.command (Convert from to) ((c.in-Some.ensures (Convert from to)).1 spelled) in
+    let before = g.K.Sink.outlet c.args.output.now in
+    let now = g.K.Sink.outlet c.convert-ending.new.output in
+    on_verdict from to (g.S.Source.inlet c.args.input.now).left _ (λ verdict. Takes before.sure (length (verdict_text verdict)) → c.status.result ≢ 6)
+    (λ verdict writes takes e. (subst (λ (status : ℕ). Writes (stage_of status) (verdict_text verdict) before now) (sym c.status.ensures ∙ e) writes).unsure takes) (rw same at c.convert-ending.ensures).written
 
 pub returns-in_default-clause-same : goal.returns-in_default-clause-same
 returns-in_default-clause-same g c = λ from to spelled. absurd (let h : ◌≡◌ {A = Option Command} None (Some (Convert from to)) = sym c.in_default.is ∙ (c.read_words.ensures (Convert from to)).1 spelled in cc)

@@ -1,35 +1,20 @@
 use Rattle.std.proofs.Common.{◌≡◌, ◌++◌, ◌<◌, ◌^◌, ℕ, List, length, ap, sym, subst, ◌∙◌}
 use Rattle.span_io.specs.declared.refusal.Refusal.{Refusal}
 use Rattle.span_convert.specs.Canonical.{ReadsBack}
-use Rattle.span_convert.specs.Verdicts.{good, refused, faulted, IsVerdict}
+use Rattle.span_convert.specs.Verdicts.{refused, IsVerdict}
 use Rattle.span_convert.proofs.CarryLemmas.{answers_whole, answers_refused, answers_faulted}
 use Rattle.span_convert.proofs.CutLaws.{cut_at}
 use Rattle.span_convert.proofs.all.convert_all.Goals as goal
-
-pub returns-in-Ok-clause-judged : goal.returns-in-Ok-clause-judged
-returns-in-Ok-clause-judged c =
-    let w = c.in-Ok.ensures.walk c.args.bytes.now (rw c.input_limit.ensures at c.looked_at-too_long.ensures) in
-    (good w.text c.in-Ok.field-0, w.is_good)
 
 pub returns-in-Ok-clause-verdict : goal.returns-in-Ok-clause-verdict
 returns-in-Ok-clause-verdict c = λ verdict is_verdict.
     let w = c.in-Ok.ensures.walk c.args.bytes.now (rw c.input_limit.ensures at c.looked_at-too_long.ensures) in
     answers_whole _ _ _ c.args.bytes.now c.requires.limits verdict is_verdict c.one_verdict.ensures.once _ _ c.in-Ok.field-0 w _ (w.gains.held ∙ ap (λ l. l ++ w.text) c.new.ensures)
 
-pub returns-in-Err-Refused-clause-judged : goal.returns-in-Err-Refused-clause-judged
-returns-in-Err-Refused-clause-judged c =
-    let w = (rw c.in-Err-Refused.field-0-is at c.in-Err-Refused.ensures).walk c.args.bytes.now (rw c.input_limit.ensures at c.looked_at-too_long.ensures) in
-    (refused c.in-Err-Refused.refusal w.text, w.is_refused)
-
 pub returns-in-Err-Refused-clause-verdict : goal.returns-in-Err-Refused-clause-verdict
 returns-in-Err-Refused-clause-verdict c = λ verdict is_verdict.
     answers_refused _ _ _ c.args.bytes.now c.requires.limits verdict is_verdict c.one_verdict.ensures.once _ _ c.in-Err-Refused.refusal
     ((rw c.in-Err-Refused.field-0-is at c.in-Err-Refused.ensures).walk c.args.bytes.now (rw c.input_limit.ensures at c.looked_at-too_long.ensures))
-
-pub returns-in-Err-Faulted-clause-judged : goal.returns-in-Err-Faulted-clause-judged
-returns-in-Err-Faulted-clause-judged c =
-    let w = (rw c.in-Err-Faulted.field-0-is at c.in-Err-Faulted.ensures).walk c.args.bytes.now (rw c.input_limit.ensures at c.looked_at-too_long.ensures) in
-    (faulted c.in-Err-Faulted.found w.text, w.is_faulted)
 
 pub returns-in-Err-Faulted-clause-verdict : goal.returns-in-Err-Faulted-clause-verdict
 returns-in-Err-Faulted-clause-verdict c = λ verdict is_verdict.
@@ -54,6 +39,18 @@ returns-in-Err-Refused-clause-same c = λ other others same verdict is.
 pub returns-in-Err-Faulted-clause-same : goal.returns-in-Err-Faulted-clause-same
 returns-in-Err-Faulted-clause-same c = λ other others same verdict is.
     returns-in-Err-Faulted-clause-verdict c verdict ((c.same_batches.ensures c.args.from other c.args.to c.args.limits.now c.args.bytes.now others c.requires.limits same verdict).1 is)
+
+pub returns-in-Ok-clause-same_document : goal.returns-in-Ok-clause-same_document
+returns-in-Ok-clause-same_document c = λ others same verdict is.
+    returns-in-Ok-clause-verdict c verdict ((c.same_documents.ensures c.args.from c.args.to c.args.limits.now c.args.bytes.now others same verdict).1 is)
+
+pub returns-in-Err-Refused-clause-same_document : goal.returns-in-Err-Refused-clause-same_document
+returns-in-Err-Refused-clause-same_document c = λ others same verdict is.
+    returns-in-Err-Refused-clause-verdict c verdict ((c.same_documents.ensures c.args.from c.args.to c.args.limits.now c.args.bytes.now others same verdict).1 is)
+
+pub returns-in-Err-Faulted-clause-same_document : goal.returns-in-Err-Faulted-clause-same_document
+returns-in-Err-Faulted-clause-same_document c = λ others same verdict is.
+    returns-in-Err-Faulted-clause-verdict c verdict ((c.same_documents.ensures c.args.from c.args.to c.args.limits.now c.args.bytes.now others same verdict).1 is)
 
 pub returns-in-Err-Refused-clause-cut : goal.returns-in-Err-Refused-clause-cut
 returns-in-Err-Refused-clause-cut c = λ unit e.

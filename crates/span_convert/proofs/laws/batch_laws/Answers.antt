@@ -16,4 +16,6 @@ returns g c = record {
   proper = c.reads_proper.ensures;
   again = c.written_again.ensures;
   equal = c.equal_texts.ensures;
+  once = c.attributes_once.ensures;
+  exist = c.attributes_exist.ensures;
 }

@@ -1,4 +1,4 @@
-use Rattle.span_convert.proofs.Sources.{one_trace}
+use Rattle.span_convert.proofs.Sources.{one_noted, one_trace}
 use Rattle.span_convert.proofs.TextLaws.{normal_held, normal_again, normal_spans, faultless_read, normal_read}
 use Rattle.span_convert.proofs.laws.normal_forms.Goals as goal
 
@@ -19,3 +19,6 @@ returns-clause-read c = normal_read c.read_is_normal.ensures c.input_laws.ensure
 
 pub returns-clause-once : goal.returns-clause-once
 returns-clause-once c = one_trace c.input_laws.ensures
+
+pub returns-clause-remarks : goal.returns-clause-remarks
+returns-clause-remarks c = one_noted c.input_laws.ensures

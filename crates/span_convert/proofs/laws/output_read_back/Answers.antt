@@ -2,34 +2,35 @@ use Rattle.std.proofs.Common.{◌≡◌, ◌↔◌, ◌<◌, ℕ, ◌^◌, List,
 use Rattle.span_io.specs.declared.form.Form.{Form}
 use Rattle.span_io.specs.declared.limits.Limits.{Limits}
 use Rattle.trace_model.specs.declared.trace.Group.{Group}
-use Rattle.span_convert.specs.Canonical.{ConvertsToItself, IsHeldBy, IsSized, ReadsPlainly}
-use Rattle.span_convert.specs.Units.{input_form, IsSizedGroup, normal_form, canonical_text}
+use Rattle.span_convert.specs.Canonical.{ConvertsToItself, Fits, IsHeldBy, IsSized, ReadsPlainly}
+use Rattle.span_convert.specs.Units.{groups_in, input_form, IsSizedGroup, normal_form, canonical_text}
 use Rattle.span_convert.specs.Verdicts.{IsGood}
 use Rattle.span_convert.specs.declared.tally.Tally.{Tally}
 use Rattle.span_convert.proofs.laws.output_read_back.Goals as goal
 
 module _ (c : goal.After-converts_to_itself) (from to : Form) (limits : Limits) (bytes text : List ℕ) (tally : Tally) where
-  held : (h : IsGood (input_form from) to limits bytes text tally) → All (IsSizedGroup to) h.groups → IsHeldBy to h.groups
+  held : (h : IsGood (input_form from) to limits bytes text tally) → All (IsSizedGroup to) (groups_in h.noted) → IsHeldBy to (groups_in h.noted)
   held h parts = record { can_hold = h.held; sized = parts }
 
-  sized : length text < 2 ^ 63 → (h : IsGood (input_form from) to limits bytes text tally) → IsSized to h.groups
+  sized : length text < 2 ^ 63 → (h : IsGood (input_form from) to limits bytes text tally) → IsSized to (groups_in h.noted)
   sized short h = subst (λ (l : List ℕ). length l < 2 ^ 63) h.is_text short
 
-  read : length text < 2 ^ 63 → (h : IsGood (input_form from) to limits bytes text tally) → All (IsSizedGroup to) h.groups → ReadsPlainly to text (normal_form to h.groups)
-  read short h parts = subst (λ (l : List ℕ). ReadsPlainly to l (normal_form to h.groups)) (sym h.is_text) (c.text_read_back.ensures to h.groups (held h parts) (sized short h))
+  read : length text < 2 ^ 63 → (h : IsGood (input_form from) to limits bytes text tally) → All (IsSizedGroup to) (groups_in h.noted) → ReadsPlainly to text (normal_form to (groups_in h.noted))
+  read short h parts = subst (λ (l : List ℕ). ReadsPlainly to l (normal_form to (groups_in h.noted))) (sym h.is_text) (c.text_read_back.ensures to (groups_in h.noted) (held h parts) (sized short h))
 
-  only : length text < 2 ^ 63 → (h : IsGood (input_form from) to limits bytes text tally) → All (IsSizedGroup to) h.groups → (other : List Group) → IsHeldBy to other → IsSized to other
-      → (text ≡ canonical_text to other) ↔ (normal_form to h.groups ≡ normal_form to other)
+  only : length text < 2 ^ 63 → (h : IsGood (input_form from) to limits bytes text tally) → All (IsSizedGroup to) (groups_in h.noted) → (other : List Group) → IsHeldBy to other → IsSized to other
+      → (text ≡ canonical_text to other) ↔ (normal_form to (groups_in h.noted) ≡ normal_form to other)
   only short h parts other is_held is_sized =
-      let equal = c.equal_texts.ensures to h.groups other (held h parts) (sized short h) is_held is_sized in
+      let equal = c.equal_texts.ensures to (groups_in h.noted) other (held h parts) (sized short h) is_held is_sized in
       (λ e. equal.0 (sym h.is_text ∙ e), λ e. h.is_text ∙ equal.1 e)
 
 pub returns-clause-read : goal.returns-clause-read
 returns-clause-read c = λ from to limits bytes text tally short h parts. read c from to limits bytes text tally short h parts
 
 pub returns-clause-again : goal.returns-clause-again
-returns-clause-again c = λ from to limits bytes text tally valid h parts within.
-    subst (λ (l : List ℕ). ConvertsToItself to limits l h.groups) (sym h.is_text) (c.converts_to_itself.ensures to limits h.groups valid (held c from to limits bytes text tally h parts) within)
+returns-clause-again c = λ from to limits bytes text tally valid h parts fits.
+    subst (λ (l : List ℕ). ConvertsToItself to limits l (groups_in h.noted)) (sym h.is_text)
+    (c.converts_to_itself.ensures to limits (groups_in h.noted) valid (held c from to limits bytes text tally h parts) (subst (λ (l : List ℕ). Fits to limits l) h.is_text fits))
 
 pub returns-clause-back : goal.returns-clause-back
 returns-clause-back c = λ from to limits bytes text tally valid short h parts. record {

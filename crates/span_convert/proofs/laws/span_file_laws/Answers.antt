@@ -12,4 +12,5 @@ returns c = record {
   written = c.written_is_proper.ensures;
   normal = c.zipkin_normal_forms.ensures;
   regrouped = c.regroupings.ensures;
+  noted = c.groups_noted.ensures;
 }

@@ -20,7 +20,7 @@ pub returns-in-Err-Why-clause-stop : goal.returns-in-Err-Why-clause-stop
 returns-in-Err-Why-clause-stop g c = λ groups before w.
     let why = (rw c.in-Err-Why.field-0-is at c.in-Err-Why.ensures).why in
     let here = subst (λ (p : Progress). Converted g.W.UnitWriter.form groups before (g.K.Sink.outlet c.args.out.now) p) (sym why.1) w in
-    stops_fault g.W.UnitWriter.form groups before _ c.add_group.new.self here c.gains_then.ensures.both _ c.gains_then.ensures.front c.args.group c.stop_at_fault.result
+    stops_fault g.W.UnitWriter.form groups before _ c.add_group.new.self here c.gains_then.ensures.both _ c.gains_then.ensures.fails c.args.group c.stop_at_fault.result
     (walk_stops.Faulted (record { unit = c.add_group.new.self.tally.units + 1; fault = c.in-Err-Why.fault })) (why.0, next_number g.W.UnitWriter.form groups before _ c.add_group.new.self here) c.stop_at_fault.ensures.written
 
 pub returns-in-Err-OutOfMemory-clause-stop : goal.returns-in-Err-OutOfMemory-clause-stop

@@ -1,7 +1,7 @@
-use Rattle.std.proofs.Common.{refl, ap, sym, subst, arith}
+use Rattle.std.proofs.Common.{ap, sym, subst, arith}
 use Rattle.span_convert.specs.Walks.{WalkedUnits}
 use Rattle.span_convert.specs.declared.progress.Progress.{Progress}
-use Rattle.span_convert.proofs.WalkLemmas.{walked_none, walk_ends, walk_stops_rest}
+use Rattle.span_convert.proofs.WalkLemmas.{holds_none, walked_none, walk_ends, walk_stops_rest}
 use Rattle.span_convert.proofs.walk.walk_units.Goals as goal
 
 pub frames-init : goal.frames-init
@@ -12,8 +12,7 @@ frames-init g c =
           subst (λ (p : Progress). WalkedUnits g.R.UnitReader.form g.W.UnitWriter.form c.args.limits.now whole c.args.bytes.now (g.K.Sink.outlet c.args.out.now) (g.K.Sink.outlet c.args.out.now) p) (sym none)
           (walked_none _ _ c.args.limits.now whole _ c.held_by_frames.ensures c.args.bytes.now c.args.too_long seen);
       room = omega (arith, ap (λ (p : Progress). p.tally.units) none);
-      quiet = refl;
-      steady = refl;
+      holds = holds_none (g.K.Sink.outlet c.args.out.now);
     }
 
 pub returns-in-Ok-None-clause-walk : goal.returns-in-Ok-None-clause-walk
@@ -23,5 +22,5 @@ returns-in-Ok-None-clause-walk g c = λ whole seen.
 
 pub returns-in-Err-clause-walk : goal.returns-in-Err-clause-walk
 returns-in-Err-clause-walk g c = λ whole seen.
-    walk_stops_rest g.R.UnitReader.form g.W.UnitWriter.form c.args.limits.now whole _ c.gains_then.ensures.both c.gains_then.ensures.front c.frames.rest.now _ _ c.frames.progress (c.frames.invariant.walked whole seen)
+    walk_stops_rest g.R.UnitReader.form g.W.UnitWriter.form c.args.limits.now whole _ c.gains_then.ensures.both c.gains_then.ensures.fails c.frames.rest.now _ _ c.frames.progress (c.frames.invariant.walked whole seen)
     c.refuse.result c.in-Err.cause c.args.bytes.now c.args.too_long c.in-Err.ensures.why seen c.refuse.ensures.written

@@ -8,5 +8,4 @@ returns-in-Ok-clause-ok g c = λ to groups before w.
 
 pub returns-in-Err-clause-stop : goal.returns-in-Err-clause-stop
 returns-in-Err-clause-stop g c = λ to groups group before w.
-    let failed = failed_so_far to _ before _ _ w c.gains_then.ensures.both _ c.gains_then.ensures.front c.in-Err.ensures.failed c.in-Err.ensures.front in
-    (failed.0, inr failed.1)
+    inr (failed_so_far to _ before _ _ w c.gains_then.ensures.both _ c.gains_then.ensures.fails c.in-Err.ensures.within)

@@ -1,18 +1,41 @@
-use Rattle.std.proofs.Common.{◌∙◌, arith}
+use Rattle.std.proofs.Common.{length, refl, drop, arith}
 use Rattle.std.proofs.lemmas.List.{take_rest, length-drop}
 use Rattle.std.proofs.lemmas.Result.{err_from_is_err_and}
-use Rattle.span_io.proofs.Gains.{gains_next, gains_front_here}
+use Rattle.span_io.proofs.Gains.{gains_none, holds_none, gains_next, holds_next, fails_here, fails_within_here, fails_at_here}
 use Rattle.span_io.proofs.sink.write_all.Goals as goal
 
-pub returns-in_err-done-clause-front : goal.returns-in_err-done-clause-front
-returns-in_err-done-clause-front g c = let p = err_from_is_err_and c.from_residual.result c.from_residual.ensures.1 in rw p.1 (gains_front_here _ _ _ c.args.piece.now c.writes.done c.writes.invariant.gained c.in_err-done.ensures.err)
+pub writes-init : goal.writes-init
+writes-init g c = record {
+  within = omega arith;
+  gained = gains_none (g.K.Sink.outlet c.args.sink.now);
+  holds = holds_none (g.K.Sink.outlet c.args.sink.now);
+  empty = λ none. refl;
+}
+
+pub returns-in_err-done-clause-failed : goal.returns-in_err-done-clause-failed
+returns-in_err-done-clause-failed g c =
+    let p = err_from_is_err_and c.from_residual.result c.from_residual.ensures.1 in
+    rw p.1 (fails_here _ _ _ _ c.args.piece.now c.writes.done c.in_err-done.field-0.0 c.writes-test.true c.writes.invariant.gained c.writes.invariant.holds
+    c.in_err-done.ensures.err c.in_err-done.ensures.failed (rw take_rest at c.in_err-done.ensures.answers) (rw take_rest at c.in_err-done.ensures.course))
+
+pub returns-in_err-done-clause-within : goal.returns-in_err-done-clause-within
+returns-in_err-done-clause-within g c =
+    let p = err_from_is_err_and c.from_residual.result c.from_residual.ensures.1 in
+    rw p.1 (fails_within_here _ _ _ _ c.args.piece.now c.writes.done c.in_err-done.field-0.0 c.writes-test.true c.writes.invariant.gained c.writes.invariant.holds
+    c.in_err-done.ensures.err c.in_err-done.ensures.failed (rw take_rest at c.in_err-done.ensures.answers) (rw take_rest at c.in_err-done.ensures.course))
+
+pub returns-in_err-done-clause-at : goal.returns-in_err-done-clause-at
+returns-in_err-done-clause-at g c =
+    let p = err_from_is_err_and c.from_residual.result c.from_residual.ensures.1 in
+    rw p.1 (fails_at_here _ _ _ _ c.args.piece.now c.writes.done c.in_err-done.field-0.0 c.writes-test.true c.writes.invariant.gained c.writes.invariant.holds
+    c.in_err-done.ensures.err c.in_err-done.ensures.failed (rw take_rest at c.in_err-done.ensures.answers) (rw take_rest at c.in_err-done.ensures.course))
 
 pub writes-preserved : goal.writes-preserved
 writes-preserved g c = record {
   within = let bound = rw take_rest at c.in_ok-done.ensures.bound in omega (arith, simp length-drop at bound);
   gained = gains_next _ _ _ c.args.piece.now c.writes.done c.in_ok-done.field-0 c.writes.invariant.gained
       (rw take_rest at c.in_ok-done.ensures.ok);
-  quiet = c.in_ok-done.ensures.quiet ∙ c.writes.invariant.quiet;
-  steady = c.write.ensures.steady ∙ c.writes.invariant.steady;
+  holds = holds_next _ _ _ _ (drop c.writes.done c.args.piece.now) c.in_ok-done.field-0 (omega (arith, length-drop c.writes.done c.args.piece.now)) c.writes.invariant.holds
+      (rw take_rest at c.in_ok-done.ensures.ok) c.in_ok-done.ensures.quiet (rw take_rest at c.in_ok-done.ensures.course);
   empty = λ none. absurd (omega (arith, none));
 }

@@ -1,13 +1,12 @@
 use Rattle.std.proofs.Common.{◌≡◌, ◌≤◌, ◌-◌, length, take}
-use Rattle.span_io.specs.Outside.{Gains}
+use Rattle.span_io.specs.Outside.{Gains, OutputHolds}
 use Rattle.span_io.proofs.sink.write_all.Given as goal
 
 abbrev pub invariant-writes : goal.invariant-writes
 invariant-writes g l = record {
   within : l.done ≤ length l.piece;
   gained : Gains (g.K.Sink.outlet l.initial.sink) (g.K.Sink.outlet l.sink) (take l.done l.piece);
-  quiet : (g.K.Sink.outlet l.sink).faults ≡ (g.K.Sink.outlet l.initial.sink).faults;
-  steady : (g.K.Sink.outlet l.sink).steady ≡ (g.K.Sink.outlet l.initial.sink).steady;
+  holds : OutputHolds (g.K.Sink.outlet l.initial.sink) (g.K.Sink.outlet l.sink);
   empty : length l.piece ≡ 0 → l.sink ≡ l.initial.sink;
 }
 

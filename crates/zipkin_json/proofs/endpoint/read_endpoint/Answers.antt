@@ -2,6 +2,7 @@ use Rattle.std.proofs.Common.{◌≡◌, true, is_some}
 use Rattle.std.proofs.lemmas.Result.{err_from_is_err_and}
 use Rattle.serde_json.specs.Find.{as_object}
 use Rattle.serde_json.specs.View.{view}
+use Rattle.span_io.specs.declared.halt.Halt.TheVariants as halts
 use Rattle.span_io.specs.PathLaws.{clean_valued, clean_parts, clean_nothing, halts_first, halts_later, halts_valued, quiet_nothing}
 use Rattle.zipkin_json.specs.Span.{endpoint_members}
 use Rattle.zipkin_json.proofs.endpoint.read_endpoint.Goals as goal
@@ -18,7 +19,7 @@ pub returns-in_err-port-clause-judged : goal.returns-in_err-port-clause-judged
 unfolding endpoint_members
 returns-in_err-port-clause-judged c =
     let shape : is_some (as_object (view c.args.v.now)) ≡ true = cc in
-    let halt = c.in_err-port.field-0.0 in
+    let halt = halts.Why c.in_err-port.field-0.0 in
     let members = endpoint_members (view c.args.v.now) in
     let found = halts_later halt _ _ c.in_ok-service.ensures.judged (halts_later halt _ _ c.in_ok-ipv4.ensures.judged
     (halts_later halt _ _ c.in_ok-ipv6.ensures.judged (halts_first halt _ _ quiet_nothing c.in_err-port.ensures.judged))) in

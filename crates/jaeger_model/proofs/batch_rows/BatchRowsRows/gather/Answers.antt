@@ -1,9 +1,9 @@
-use Rattle.std.proofs.Common.{ℕ, pos, refl, sym, ap, subst, ◌∙◌, ◌-◌, to_z, of_z, w16, w64, rules}
+use Rattle.std.proofs.Common.{ℕ, pos, refl, sym, ap, subst, ◌∙◌, ◌-◌, to_z, of_z, w16, w64, rules, Ok, Err}
 use Rattle.std.specs.Prelude.{◌⊎◌}
 use Rattle.std.proofs.lemmas.Int.{to_z-of_z}
-use Rattle.span_io.specs.GatheringLaws.{judged_at}
-use Rattle.span_io.specs.Offences.{HereOrInside, Judges, JudgesHere}
-use Rattle.span_io.specs.RowsSoFar.{Sets}
+use Rattle.span_io.specs.GatheringLaws.{judged_at, refused_at}
+use Rattle.span_io.specs.Offences.{HereOrInside, Judges}
+use Rattle.span_io.specs.RowsSoFar.{Sets, JudgesCause}
 use Rattle.span_io.specs.Tables.{Twice, givens, table_here, table_inside}
 use Rattle.thrift_core.specs.declared.type_code.TypeCode.TheVariants as kinds
 use Rattle.thrift_core.specs.Messages.{FieldItem, structs}
@@ -59,42 +59,56 @@ returns-in-2-List-clause-judged g c = λ item rest s first seen gathered.
     subst (λ (x : FieldItem). Judges c.structures_row.result (HereOrInside (table_here (batch_table g.P.Protocol.spells c.args.left) seen x) (table_inside (batch_table g.P.Protocol.spells c.args.left) x))) (sym w.is)
     (c.structures_row.ensures.judged item.text rest w.held s.parts value _ gathered.spans)
 
-pub returns-in-3-I64-clause-ok : goal.returns-in-3-I64-clause-ok
-returns-in-3-I64-clause-ok g c = λ item rest s.
+pub returns-in_ok-number_row-in-3-I64-clause-ok : goal.returns-in_ok-number_row-in-3-I64-clause-ok
+returns-in_ok-number_row-in-3-I64-clause-ok g c = λ item rest s.
     let id = sym (to_z-of_z w16 c.args.found.id (record { sfits = search rules })) ∙ ap (to_z w16) c.in-3-I64.is-0 in
     let w = holds g.P.Protocol.spells c.args.left c.args.found item c.args.c.now.rest rest s (pos 3) kinds.I64 id c.in-3-I64.is-1 in
     let t = c.sure_long.ensures.stands w.held rest (long_there g.P.Protocol.spells c.args.left c.args.found item c.args.c.now.rest rest w.held w.stands) in
-    ok_then _ _ c.number_row.result (λ sets. (
+    let sets = c.in_ok-number_row-in-3-I64.ensures.ok in (
       t.1,
       λ first seen gathered.
           gathered_more (structs g.P.Protocol.spells c.args.left) 0 (batch_table g.P.Protocol.spells c.args.left) (batch_shape g.P.Protocol.spells (struct_laws g.P.Protocol.spells _ _ _ g.met.P.Protocol.reads_exactly g.met.P.Protocol.part_laws) c.args.left) (λ given. GatheredBatch g.P.Protocol.spells c.args.left (record { process = c.args.self.now.process; spans = c.args.self.now.spans; sequence = c.number_row.new.row; stats = c.args.self.now.stats }) given) seen item (field_of (pos 3) kinds.I64 w.held item.text) w.is
           (record { process = gathered.process; spans = gathered.spans; sequence = subst (λ x. Sets Means x c.args.self.now.sequence c.number_row.new.row) (to_z-of_z w64 c.sure_long.result (record { sfits = search rules }) ∙ t.0) sets _ gathered.sequence; stats = gathered.stats }),
-    )) c.number_row.ensures.ok
+    )
 
-pub returns-in-3-I64-clause-judged : goal.returns-in-3-I64-clause-judged
-returns-in-3-I64-clause-judged g c = λ item rest s first seen gathered.
+pub returns-in_ok-number_row-in-3-I64-clause-judged : goal.returns-in_ok-number_row-in-3-I64-clause-judged
+returns-in_ok-number_row-in-3-I64-clause-judged g c = λ item rest s first seen gathered.
     let id = sym (to_z-of_z w16 c.args.found.id (record { sfits = search rules })) ∙ ap (to_z w16) c.in-3-I64.is-0 in
     let w = holds g.P.Protocol.spells c.args.left c.args.found item c.args.c.now.rest rest s (pos 3) kinds.I64 id c.in-3-I64.is-1 in
     let t = c.sure_long.ensures.stands w.held rest (long_there g.P.Protocol.spells c.args.left c.args.found item c.args.c.now.rest rest w.held w.stands) in
-    judged_at (batch_table g.P.Protocol.spells c.args.left) seen item (field_of (pos 3) kinds.I64 w.held item.text) w.is (λ p m h. h) c.number_row.result
-    (subst (λ x. JudgesHere c.number_row.result (λ n. Twice (givens (batch_table g.P.Protocol.spells c.args.left) seen).1.1.0 n ⊎ nothing_wrong x n)) (to_z-of_z w64 c.sure_long.result (record { sfits = search rules }) ∙ t.0) (c.number_row.ensures.judged _ gathered.sequence))
+    judged_at (batch_table g.P.Protocol.spells c.args.left) seen item (field_of (pos 3) kinds.I64 w.held item.text) w.is (λ p m h. h) (Ok tt)
+    (subst (λ x. JudgesCause {T = Unit} (Ok tt) (λ n. Twice (givens (batch_table g.P.Protocol.spells c.args.left) seen).1.1.0 n ⊎ nothing_wrong x n)) (to_z-of_z w64 c.sure_long.result (record { sfits = search rules }) ∙ t.0) (c.in_ok-number_row-in-3-I64.ensures.judged _ gathered.sequence))
 
-pub returns-in-4-Struct-clause-ok : goal.returns-in-4-Struct-clause-ok
-returns-in-4-Struct-clause-ok g c = λ item rest s.
+pub returns-in_err-number_row-in-3-I64-clause-judged : goal.returns-in_err-number_row-in-3-I64-clause-judged
+returns-in_err-number_row-in-3-I64-clause-judged g c = λ item rest s first seen gathered.
+    let id = sym (to_z-of_z w16 c.args.found.id (record { sfits = search rules })) ∙ ap (to_z w16) c.in-3-I64.is-0 in
+    let w = holds g.P.Protocol.spells c.args.left c.args.found item c.args.c.now.rest rest s (pos 3) kinds.I64 id c.in-3-I64.is-1 in
+    let t = c.sure_long.ensures.stands w.held rest (long_there g.P.Protocol.spells c.args.left c.args.found item c.args.c.now.rest rest w.held w.stands) in
+    refused_at (batch_table g.P.Protocol.spells c.args.left) seen item (field_of (pos 3) kinds.I64 w.held item.text) w.is (λ p m h. h) c.in_err-number_row-in-3-I64.field-0.0
+    (subst (λ x. JudgesCause {T = Unit} (Err c.in_err-number_row-in-3-I64.field-0.0) (λ n. Twice (givens (batch_table g.P.Protocol.spells c.args.left) seen).1.1.0 n ⊎ nothing_wrong x n)) (to_z-of_z w64 c.sure_long.result (record { sfits = search rules }) ∙ t.0) (c.in_err-number_row-in-3-I64.ensures.judged _ gathered.sequence)) c.from_residual.result c.from_residual.ensures.1
+
+pub returns-in_ok-passed_row-in-4-Struct-clause-ok : goal.returns-in_ok-passed_row-in-4-Struct-clause-ok
+returns-in_ok-passed_row-in-4-Struct-clause-ok g c = λ item rest s.
     let id = sym (to_z-of_z w16 c.args.found.id (record { sfits = search rules })) ∙ ap (to_z w16) c.in-4-Struct.is-0 in
     let w = holds g.P.Protocol.spells c.args.left c.args.found item c.args.c.now.rest rest s (pos 4) kinds.Struct id c.in-4-Struct.is-1 in
-    ok_then _ _ c.passed_row.result (λ sets. (
+    let sets = c.in_ok-passed_row-in-4-Struct.ensures.ok w.held in (
       c.pass_over.ensures.stands rest (begins_value g.P.Protocol.spells c.args.left c.args.found item c.args.c.now.rest rest s),
       λ first seen gathered.
           gathered_more (structs g.P.Protocol.spells c.args.left) 0 (batch_table g.P.Protocol.spells c.args.left) (batch_shape g.P.Protocol.spells (struct_laws g.P.Protocol.spells _ _ _ g.met.P.Protocol.reads_exactly g.met.P.Protocol.part_laws) c.args.left) (λ given. GatheredBatch g.P.Protocol.spells c.args.left (record { process = c.args.self.now.process; spans = c.args.self.now.spans; sequence = c.args.self.now.sequence; stats = c.passed_row.new.row }) given) seen item (field_of (pos 4) kinds.Struct w.held item.text) w.is
           (record { process = gathered.process; spans = gathered.spans; sequence = gathered.sequence; stats = sets _ gathered.stats }),
-    )) (c.passed_row.ensures.ok w.held)
+    )
 
-pub returns-in-4-Struct-clause-judged : goal.returns-in-4-Struct-clause-judged
-returns-in-4-Struct-clause-judged g c = λ item rest s first seen gathered.
+pub returns-in_ok-passed_row-in-4-Struct-clause-judged : goal.returns-in_ok-passed_row-in-4-Struct-clause-judged
+returns-in_ok-passed_row-in-4-Struct-clause-judged g c = λ item rest s first seen gathered.
     let id = sym (to_z-of_z w16 c.args.found.id (record { sfits = search rules })) ∙ ap (to_z w16) c.in-4-Struct.is-0 in
     let w = holds g.P.Protocol.spells c.args.left c.args.found item c.args.c.now.rest rest s (pos 4) kinds.Struct id c.in-4-Struct.is-1 in
-    judged_at (batch_table g.P.Protocol.spells c.args.left) seen item (field_of (pos 4) kinds.Struct w.held item.text) w.is (λ p m h. h) c.passed_row.result (c.passed_row.ensures.judged w.held _ gathered.stats)
+    judged_at (batch_table g.P.Protocol.spells c.args.left) seen item (field_of (pos 4) kinds.Struct w.held item.text) w.is (λ p m h. h) (Ok tt) (c.in_ok-passed_row-in-4-Struct.ensures.judged w.held _ gathered.stats)
+
+pub returns-in_err-passed_row-in-4-Struct-clause-judged : goal.returns-in_err-passed_row-in-4-Struct-clause-judged
+returns-in_err-passed_row-in-4-Struct-clause-judged g c = λ item rest s first seen gathered.
+    let id = sym (to_z-of_z w16 c.args.found.id (record { sfits = search rules })) ∙ ap (to_z w16) c.in-4-Struct.is-0 in
+    let w = holds g.P.Protocol.spells c.args.left c.args.found item c.args.c.now.rest rest s (pos 4) kinds.Struct id c.in-4-Struct.is-1 in
+    refused_at (batch_table g.P.Protocol.spells c.args.left) seen item (field_of (pos 4) kinds.Struct w.held item.text) w.is (λ p m h. h) c.in_err-passed_row-in-4-Struct.field-0.0 (c.in_err-passed_row-in-4-Struct.ensures.judged w.held _ gathered.stats) c.from_residual-in_err-passed_row-in-4-Struct.result c.from_residual-in_err-passed_row-in-4-Struct.ensures.1
 
 pub returns-in_default-clause-ok : goal.returns-in_default-clause-ok
 returns-in_default-clause-ok g c = λ item rest s.
@@ -124,4 +138,4 @@ returns-in_default-clause-judged g c = λ item rest s first seen gathered.
     free_fine (batch_table g.P.Protocol.spells c.args.left) seen item free
 
 pub structures_row-requires : goal.structures_row-requires
-structures_row-requires g c = record { lawful = span_laws g.P.Protocol.spells (λ (m : ℕ). struct_laws g.P.Protocol.spells _ _ _ g.met.P.Protocol.reads_exactly g.met.P.Protocol.part_laws m) (c.args.left - 2) }
+structures_row-requires g c = record { levels = c.requires.levels; lawful = span_laws g.P.Protocol.spells (λ (m : ℕ). struct_laws g.P.Protocol.spells _ _ _ g.met.P.Protocol.reads_exactly g.met.P.Protocol.part_laws m) (c.args.left - 2) }

@@ -1,9 +1,9 @@
-use Rattle.std.proofs.Common.{pos, refl, sym, ap, subst, ◌∙◌, to_z, of_z, w16, w64, rules}
+use Rattle.std.proofs.Common.{pos, refl, sym, ap, subst, ◌∙◌, to_z, of_z, w16, w64, rules, Ok, Err}
 use Rattle.std.specs.Prelude.{◌⊎◌}
 use Rattle.std.proofs.lemmas.Int.{to_z-of_z}
-use Rattle.span_io.specs.GatheringLaws.{judged_at}
-use Rattle.span_io.specs.Offences.{JudgesHere, Judges, HereOrInside}
-use Rattle.span_io.specs.RowsSoFar.{Sets}
+use Rattle.span_io.specs.GatheringLaws.{judged_at, refused_at}
+use Rattle.span_io.specs.Offences.{Judges, HereOrInside}
+use Rattle.span_io.specs.RowsSoFar.{Sets, JudgesCause}
 use Rattle.span_io.specs.Tables.{Twice, givens, table_here, table_inside}
 use Rattle.thrift_core.specs.declared.type_code.TypeCode.TheVariants as kinds
 use Rattle.thrift_core.specs.Messages.{FieldItem, structs}
@@ -17,25 +17,33 @@ use Rattle.jaeger_model.proofs.LogLemmas.{log_shape, log_keys, log_free, its_lis
 use Rattle.jaeger_model.proofs.log_rows.LogRowsRows.gather.Goals.{in_default-via-in-1+in-Truth-1, in_default-via-in-2+in-Truth-1, in_default-via-in_default}
 use Rattle.jaeger_model.proofs.log_rows.LogRowsRows.gather.Goals as goal
 
-pub returns-in-1-I64-clause-ok : goal.returns-in-1-I64-clause-ok
-returns-in-1-I64-clause-ok g c = λ item rest s.
+pub returns-in_ok-time_row-in-1-I64-clause-ok : goal.returns-in_ok-time_row-in-1-I64-clause-ok
+returns-in_ok-time_row-in-1-I64-clause-ok g c = λ item rest s.
     let id = sym (to_z-of_z w16 c.args.found.id (record { sfits = search rules })) ∙ ap (to_z w16) c.in-1-I64.is-0 in
     let w = holds g.P.Protocol.spells c.args.left c.args.found item c.args.c.now.rest rest s (pos 1) kinds.I64 id c.in-1-I64.is-1 in
     let t = c.sure_long.ensures.stands w.held rest (long_there g.P.Protocol.spells c.args.left c.args.found item c.args.c.now.rest rest w.held w.stands) in
-    ok_then _ _ c.time_row.result (λ sets. (
+    let sets = c.in_ok-time_row-in-1-I64.ensures.ok in (
       t.1,
       λ first seen gathered.
           gathered_more (structs g.P.Protocol.spells c.args.left) 0 (log_table g.P.Protocol.spells c.args.left) (log_shape g.P.Protocol.spells (struct_laws g.P.Protocol.spells _ _ _ g.met.P.Protocol.reads_exactly g.met.P.Protocol.part_laws) c.args.left) (λ given. GatheredLog g.P.Protocol.spells c.args.left (record { time = c.time_row.new.row; fields = c.args.self.now.fields }) given) seen item (field_of (pos 1) kinds.I64 w.held item.text) w.is
           (record { time = subst (λ x. Sets MeansTime x c.args.self.now.time c.time_row.new.row) (to_z-of_z w64 c.sure_long.result (record { sfits = search rules }) ∙ t.0) sets _ gathered.time; fields = gathered.fields }),
-    )) c.time_row.ensures.ok
+    )
 
-pub returns-in-1-I64-clause-judged : goal.returns-in-1-I64-clause-judged
-returns-in-1-I64-clause-judged g c = λ item rest s first seen gathered.
+pub returns-in_ok-time_row-in-1-I64-clause-judged : goal.returns-in_ok-time_row-in-1-I64-clause-judged
+returns-in_ok-time_row-in-1-I64-clause-judged g c = λ item rest s first seen gathered.
     let id = sym (to_z-of_z w16 c.args.found.id (record { sfits = search rules })) ∙ ap (to_z w16) c.in-1-I64.is-0 in
     let w = holds g.P.Protocol.spells c.args.left c.args.found item c.args.c.now.rest rest s (pos 1) kinds.I64 id c.in-1-I64.is-1 in
     let t = c.sure_long.ensures.stands w.held rest (long_there g.P.Protocol.spells c.args.left c.args.found item c.args.c.now.rest rest w.held w.stands) in
-    judged_at (log_table g.P.Protocol.spells c.args.left) seen item (field_of (pos 1) kinds.I64 w.held item.text) w.is (λ p m h. h) c.time_row.result
-    (subst (λ x. JudgesHere c.time_row.result (λ n. Twice (givens (log_table g.P.Protocol.spells c.args.left) seen).0 n ⊎ BadTime x n)) (to_z-of_z w64 c.sure_long.result (record { sfits = search rules }) ∙ t.0) (c.time_row.ensures.judged _ gathered.time))
+    judged_at (log_table g.P.Protocol.spells c.args.left) seen item (field_of (pos 1) kinds.I64 w.held item.text) w.is (λ p m h. h) (Ok tt)
+    (subst (λ x. JudgesCause {T = Unit} (Ok tt) (λ n. Twice (givens (log_table g.P.Protocol.spells c.args.left) seen).0 n ⊎ BadTime x n)) (to_z-of_z w64 c.sure_long.result (record { sfits = search rules }) ∙ t.0) (c.in_ok-time_row-in-1-I64.ensures.judged _ gathered.time))
+
+pub returns-in_err-time_row-in-1-I64-clause-judged : goal.returns-in_err-time_row-in-1-I64-clause-judged
+returns-in_err-time_row-in-1-I64-clause-judged g c = λ item rest s first seen gathered.
+    let id = sym (to_z-of_z w16 c.args.found.id (record { sfits = search rules })) ∙ ap (to_z w16) c.in-1-I64.is-0 in
+    let w = holds g.P.Protocol.spells c.args.left c.args.found item c.args.c.now.rest rest s (pos 1) kinds.I64 id c.in-1-I64.is-1 in
+    let t = c.sure_long.ensures.stands w.held rest (long_there g.P.Protocol.spells c.args.left c.args.found item c.args.c.now.rest rest w.held w.stands) in
+    refused_at (log_table g.P.Protocol.spells c.args.left) seen item (field_of (pos 1) kinds.I64 w.held item.text) w.is (λ p m h. h) c.in_err-time_row-in-1-I64.field-0.0
+    (subst (λ x. JudgesCause {T = Unit} (Err c.in_err-time_row-in-1-I64.field-0.0) (λ n. Twice (givens (log_table g.P.Protocol.spells c.args.left) seen).0 n ⊎ BadTime x n)) (to_z-of_z w64 c.sure_long.result (record { sfits = search rules }) ∙ t.0) (c.in_err-time_row-in-1-I64.ensures.judged _ gathered.time)) c.from_residual.result c.from_residual.ensures.1
 
 pub returns-in-2-List-clause-ok : goal.returns-in-2-List-clause-ok
 returns-in-2-List-clause-ok g c = λ item rest s.

@@ -1,4 +1,4 @@
-use Rattle.std.proofs.Common.{rules, ◌≡◌, [], ◌∷◌, sym, ◌∙◌}
+use Rattle.std.proofs.Common.{rules, ◌≡◌, ◌+◌, [], ◌∷◌, refl, sym, ◌∙◌}
 use Rattle.span_tags.specs.Moved.{none_left}
 use Rattle.map_jaeger.proofs.ReadLists.{events_begin, events_more, events_end}
 use Rattle.map_jaeger.proofs.reading.events.events_of.Goals as goal
@@ -10,8 +10,8 @@ logs-init c = events_begin c.args.span c.args.logs c.into_iter-log-iterator.resu
 pub logs-preserved : goal.logs-preserved
 logs-preserved c =
     let split : c.logs.log-iterator.rest.items ≡ c.in-Some.log ∷ c.next.new.self.rest.items = search rules in
-    events_more c.args.span c.args.logs c.logs.log-iterator.rest.items c.next.new.self.rest.items c.logs.number c.in_ok-number.number c.in-Some.log
-    c.logs.read c.add.new.self split c.in_ok-number.ensures.value c.in_ok-add.ensures.event c.in_ok-add.ensures.remarks c.logs.invariant
+    events_more c.args.span c.args.logs c.logs.log-iterator.rest.items c.next.new.self.rest.items c.logs.number (c.logs.number + 1) c.in-Some.log
+    c.logs.read c.add.new.self split refl c.in_ok-add.ensures.event c.in_ok-add.ensures.remarks c.logs.invariant
 
 pub returns-clause-events : goal.returns-clause-events
 returns-clause-events c =

@@ -1,18 +1,18 @@
-use Rattle.std.proofs.Common.{rules, ◌≡◌, [], ◌∷◌, sym, ◌∙◌}
+use Rattle.std.proofs.Common.{rules, ◌≡◌, ◌+◌, [], ◌∷◌, refl, sym, ◌∙◌}
 use Rattle.span_tags.specs.Moved.{none_left}
 use Rattle.map_jaeger.proofs.ReadLists.{spans_begin, spans_more, spans_end}
 use Rattle.map_jaeger.proofs.reading.spans.scopes_of.Goals as goal
 
 pub spans-init : goal.spans-init
 spans-init c = spans_begin c.args.spans c.into_iter-span-iterator.result.rest.items c.none-so_far.result c.new-remarks.result
-    (c.into_iter-span-iterator.ensures.into_iter_gives.0 ∙ c.into_vec-span-items.ensures) c.none-so_far.ensures c.new-remarks.ensures
+    (c.into_iter-span-iterator.ensures.into_iter_gives.0 ∙ c.into_vec-span-items.ensures) c.requires.each c.none-so_far.ensures c.new-remarks.ensures
 
 pub spans-preserved : goal.spans-preserved
 spans-preserved c =
     let split : c.spans.span-iterator.rest.items ≡ c.in-Some.span ∷ c.next.new.self.rest.items = search rules in
-    spans_more c.args.spans c.spans.span-iterator.rest.items c.next.new.self.rest.items c.spans.number c.in_ok-number.number c.in-Some.span
+    spans_more c.args.spans c.spans.span-iterator.rest.items c.next.new.self.rest.items c.spans.number (c.spans.number + 1) c.in-Some.span
     c.in_ok-one.one c.spans.so_far c.in_ok-so_far.so_far c.spans.remarks c.read_span.new.remarks split
-    c.in_ok-number.ensures.value c.in_ok-one.ensures.value c.in_ok-so_far.ensures c.in_ok-one.ensures.remarks c.spans.invariant
+    refl c.in_ok-one.ensures.value c.in_ok-so_far.ensures c.in_ok-one.ensures.remarks c.spans.invariant
 
 pub returns-clause-scopes : goal.returns-clause-scopes
 returns-clause-scopes c =

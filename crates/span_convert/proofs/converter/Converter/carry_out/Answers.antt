@@ -40,7 +40,7 @@ returns-in-Err-Faulted-clause-verdict g c = λ whole valid seen verdict is_verdi
 pub returns-in-Err-Write-clause-verdict : goal.returns-in-Err-Write-clause-verdict
 returns-in-Err-Write-clause-verdict g c = λ whole valid seen verdict is_verdict.
     let w = (rw c.in-Err-Write.field-0-is at c.in-Err-Write.ensures).walk whole (seen_there _ whole _ _ _ c.as_slice.ensures seen) in
-    carries_write _ _ _ whole valid verdict is_verdict c.one_verdict.ensures.so_far _ _ w.0 w.1
+    carries_write _ _ _ whole valid verdict is_verdict c.one_verdict.ensures.so_far _ _ w
 
 pub returns-in-Err-OutOfMemory-clause-verdict : goal.returns-in-Err-OutOfMemory-clause-verdict
 returns-in-Err-OutOfMemory-clause-verdict g c = λ whole valid seen verdict is_verdict.

@@ -1,0 +1,286 @@
+//! Conversions by a converter and in one call: limits of their own, long texts, and what stays behind a refusal.
+ghost use Rattle.std.specs.Prelude.{[]};
+ghost use Rattle.span_convert.specs.Converters.{Fed};
+ghost use Rattle.span_io.specs.Limits.{AreLimits};
+
+use span_convert::{Bad, Converter, Stop, Tally, Why, convert_all};
+use span_io::{Blob, Cause, Form, Items, Limits, MemSink, Refusal};
+use std::alloc::Global;
+use std::test::Fail;
+
+// A group with one span: its two identifiers, and its name "a".
+const SMALL: [u8; 37] = [
+    0x0a, 0x23, 0x12, 0x21, 0x12, 0x1f, 0x0a, 0x10, 0x00, 0x00, 0x00, 0x00, 0x00, 0x00, 0x00, 0x00,
+    0x00, 0x00, 0x00, 0x00, 0x00, 0x00, 0x00, 0x01, 0x12, 0x08, 0x00, 0x00, 0x00, 0x00, 0x00, 0x00,
+    0x00, 0x02, 0x2a, 0x01, 0x61,
+];
+
+// The same twice, without the last byte.
+const CUT: &[u8] =
+    b"\x0a#\x12!\x12\x1f\x0a\x10\0\0\0\0\0\0\0\0\0\0\0\0\0\0\0\x01\x12\x08\0\0\0\0\0\0\0\x02*\x01a\x0a#\x12!\x12\x1f\x0a\x10\0\0\0\0\0\0\0\0\0\0\0\0\0\0\0\x01\x12\x08\0\0\0\0\0\0\0\x02*\x01";
+
+// A group with one span whose name has 28 letters: 64 bytes.
+const NAMED: &[u8] =
+    b"\x0a>\x12<\x12:\x0a\x10\0\0\0\0\0\0\0\0\0\0\0\0\0\0\0\x01\x12\x08\0\0\0\0\0\0\0\x02*\x1caaaaaaaaaaaaaaaaaaaaaaaaaaaa";
+
+// The same with 29 letters.
+const LONGER: &[u8] =
+    b"\x0a?\x12=\x12;\x0a\x10\0\0\0\0\0\0\0\0\0\0\0\0\0\0\0\x01\x12\x08\0\0\0\0\0\0\0\x02*\x1daaaaaaaaaaaaaaaaaaaaaaaaaaaaa";
+
+const DOCUMENT: &[u8] =
+    b"{\"resourceSpans\":[{\"scopeSpans\":[{\"spans\":[{\"name\":\"a\",\"spanId\":\"0000000000000002\",\"traceId\":\"00000000000000000000000000000001\"}]}]}]}";
+
+fn refusal_of(converter: &Converter) -> Option<Refusal> {
+    match converter.why() {
+        Why::Refusal(refusal) => Some(*refusal),
+        Why::Fault(_) | Why::Nothing => None,
+    }
+}
+
+fn proto_converter(alloc: Global) -> Converter
+    ensures { Fed result [] }
+{
+    Converter::new(alloc, Form::OtlpProto, Form::OtlpProto, &Limits::shipped())
+}
+
+// What is answered for an input that is fed as one piece. A refusal is told where there is one.
+fn converted(
+    mut converter: Converter,
+    input: &[u8],
+    out: &mut MemSink,
+) -> Result<Tally, Option<Refusal>>
+    requires { Fed converter [] }
+{
+    if converter.feed(input, out).is_err() {
+        return Err(refusal_of(&converter));
+    }
+    match converter.finish(out) {
+        Ok(tally) => Ok(tally),
+        Err(_) => Err(refusal_of(&converter)),
+    }
+}
+
+// The refusal of an input in one call, if it is refused.
+fn refused_at_once(alloc: Global, from: Form, input: &[u8], limits: &Limits) -> Option<Refusal>
+    requires { AreLimits limits.now }
+{
+    match convert_all(alloc, from, Form::OtlpProto, input, limits) {
+        Err(Bad::Refused(refusal)) => Some(refusal),
+        _ => None,
+    }
+}
+
+// Which limit isn't the shipped one.
+#[derive(Clone, Copy)]
+enum Lowered {
+    None,
+    Unit,
+    Binary,
+    LongJson,
+    ShortJson,
+}
+
+fn limits_of(lowered: Lowered) -> Limits
+    ensures { AreLimits result }
+{
+    let mut limits = Limits::shipped();
+    match lowered {
+        Lowered::None => {}
+        Lowered::Unit => limits.unit = 64,
+        Lowered::Binary => limits.binary = 40,
+        Lowered::LongJson => limits.json = 100,
+        Lowered::ShortJson => limits.json = 2,
+    }
+    limits
+}
+
+// An input under limits, what is written of it, and the unit and cause of its refusal.
+type LimitRow = (
+    Form,
+    &'static [u8],
+    Lowered,
+    &'static [u8],
+    Option<(u64, Cause)>,
+);
+
+const LIMITED: [LimitRow; 7] = [
+    (Form::OtlpProto, &SMALL, Lowered::None, &SMALL, None),
+    (
+        Form::OtlpProto,
+        CUT,
+        Lowered::None,
+        &SMALL,
+        Some((2, Cause::Truncated)),
+    ),
+    (
+        Form::OtlpProto,
+        CUT,
+        Lowered::Binary,
+        &SMALL,
+        Some((2, Cause::InputTooLong)),
+    ),
+    (Form::OtlpProto, NAMED, Lowered::Unit, NAMED, None),
+    (
+        Form::OtlpProto,
+        LONGER,
+        Lowered::Unit,
+        b"",
+        Some((1, Cause::UnitTooLong)),
+    ),
+    (
+        Form::OtlpJson,
+        DOCUMENT,
+        Lowered::LongJson,
+        b"",
+        Some((0, Cause::InputTooLong)),
+    ),
+    (
+        Form::ZipkinJson,
+        b"[ ]",
+        Lowered::ShortJson,
+        b"",
+        Some((0, Cause::InputTooLong)),
+    ),
+];
+
+#[test]
+fn keeps_limits(rt: HostRuntime) -> Result<(), Fail> {
+    for (form, input, lowered, written, found) in LIMITED {
+        let limits = limits_of(lowered);
+        let refusal = found.map(|(unit, cause)| Refusal { unit, cause });
+        let mut out = MemSink::new(rt.alloc(), 100, Items::new(rt.alloc()))?;
+        let converter = Converter::new(rt.alloc(), form, Form::OtlpProto, &limits);
+        let answer = converted(converter, input, &mut out);
+        assert_eq!(rt; answer.err().flatten(), refusal);
+        assert_eq!(rt; out.bytes(), written);
+        assert_eq!(rt; refused_at_once(rt.alloc(), form, input, &limits), refusal);
+    }
+    Ok(())
+}
+
+fn digit(n: u32) -> u8 {
+    b'0' + (n % 10) as u8
+}
+
+// A group whose resource has 1,000 attributes without values, of keys k0000 to k0999, rising or
+// falling.
+fn thousand_keys(alloc: Global, falling: bool) -> Result<Blob, Fail> {
+    let mut group = Blob::new(alloc);
+    group.append(&[0x0a, 0xab, 0x46, 0x0a, 0xa8, 0x46])?;
+    for n in 0..1000_u32 {
+        let number = if falling {
+            999_u32.saturating_sub(n)
+        } else {
+            n
+        };
+        group.append(&[0x0a, 7, 0x0a, 5, b'k', b'0'])?;
+        group.append(&[digit(number / 100), digit(number / 10), digit(number)])?;
+    }
+    Ok(group)
+}
+
+// The same of one key with 1,000 numbers, the last of which is 103.
+fn thousand_values(alloc: Global) -> Result<Blob, Fail> {
+    let mut group = Blob::new(alloc);
+    group.append(&[0x0a, 0xcb, 0x65, 0x0a, 0xc8, 0x65])?;
+    for n in 0..1000_u32 {
+        let number = (n % 128) as u8;
+        group.append(&[
+            0x0a, 11, 0x0a, 5, b'k', b'0', b'0', b'0', b'0', 0x12, 2, 0x18, number,
+        ])?;
+    }
+    Ok(group)
+}
+
+#[test]
+fn keeps_the_last_of_equal_keys(rt: HostRuntime) -> Result<(), Fail> {
+    let form = Form::OtlpProto;
+    let limits = Limits::shipped();
+    let rising = thousand_keys(rt.alloc(), false)?;
+    let falling = thousand_keys(rt.alloc(), true)?;
+    for input in [rising.as_slice(), falling.as_slice()] {
+        let Ok(text) = convert_all(rt.alloc(), form, form, input, &limits) else {
+            panic!(rt; "refused");
+        };
+        assert_eq!(rt; text.as_slice(), rising.as_slice());
+    }
+    let values = thousand_values(rt.alloc())?;
+    let Ok(text) = convert_all(rt.alloc(), form, form, values.as_slice(), &limits) else {
+        panic!(rt; "refused");
+    };
+    assert_eq!(rt;
+        text.as_slice(),
+        [
+            0x0a, 15, 0x0a, 13, 0x0a, 11, 0x0a, 5, b'k', b'0', b'0', b'0', b'0', 0x12, 2, 0x18, 103
+        ]
+        .as_slice()
+    );
+    Ok(())
+}
+
+// So many groups of 9,006 bytes each.
+fn many_keys(alloc: Global, groups: u32) -> Result<Blob, Fail> {
+    let group = thousand_keys(alloc, false)?;
+    let mut input = Blob::new(alloc);
+    for _ in 0..groups {
+        input.append(group.as_slice())?;
+    }
+    Ok(input)
+}
+
+// Each eighth group fills the text that is written at once. The output fails at no call, the first or
+// the second; then it has what was written before.
+#[test]
+fn writes_long_texts(rt: HostRuntime) -> Result<(), Fail> {
+    let input = many_keys(rt.alloc(), 16)?;
+    let whole = Tally {
+        units: 16,
+        spans: 0,
+    };
+    for (call, answer, taken) in [
+        (9, Ok(whole), 144_096),
+        (1, Err(None), 0),
+        (2, Err(None), 72_048),
+    ] {
+        let mut calls = Items::new(rt.alloc());
+        calls.push(call)?;
+        let mut out = MemSink::new(rt.alloc(), 150_000, calls)?;
+        let converter = proto_converter(rt.alloc());
+        assert_eq!(rt; converted(converter, input.as_slice(), &mut out), answer);
+        assert_eq!(rt; Some(out.bytes()), input.as_slice().get(..taken));
+    }
+    // An output that grows to more than 2 ^ 20 bytes.
+    let long = many_keys(rt.alloc(), 120)?;
+    let form = Form::OtlpProto;
+    let limits = Limits::shipped();
+    let Ok(text) = convert_all(rt.alloc(), form, form, long.as_slice(), &limits) else {
+        panic!(rt; "refused");
+    };
+    assert_eq!(rt; text.as_slice(), long.as_slice());
+    Ok(())
+}
+
+// Behind a refusal each call answers the same, and writes nothing.
+#[test]
+fn stays_stopped(rt: HostRuntime) -> Result<(), Fail> {
+    let mut out = MemSink::new(rt.alloc(), 40, Items::new(rt.alloc()))?;
+    let mut converter = proto_converter(rt.alloc());
+    let fed = converter.feed(&[0x0a, 0, 0x0b], &mut out);
+    assert_eq!(rt; fed, Ok(()));
+    let Err(stop) = converter.finish(&mut out) else {
+        panic!(rt; "not refused");
+    };
+    assert_eq!(rt; stop, Stop::Refused);
+    assert_eq!(rt; converter.finish(&mut out), Err(Stop::Refused));
+    assert_eq!(rt; converter.feed(&SMALL, &mut out), Err(Stop::Refused));
+    assert_eq!(rt;
+        refusal_of(&converter),
+        Some(Refusal {
+            unit: 2,
+            cause: Cause::BadWire,
+        })
+    );
+    assert_eq!(rt; converter.ended(), false);
+    assert_eq!(rt; out.bytes(), [0x0a, 0].as_slice());
+    Ok(())
+}

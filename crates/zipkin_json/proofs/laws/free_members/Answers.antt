@@ -1,0 +1,5 @@
+use Rattle.zipkin_json.proofs.FreeMembers.{free_members}
+use Rattle.zipkin_json.proofs.laws.free_members.Goals as goal
+
+pub returns : goal.returns
+returns c = free_members
