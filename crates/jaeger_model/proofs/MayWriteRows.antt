@@ -27,7 +27,8 @@ use Rattle.jaeger_model.specs.References.{reference_number}
 use Rattle.jaeger_model.specs.Tags.{type_of}
 use Rattle.span_ids.specs.Proper.{IsProperParent}
 use Rattle.jaeger_model.specs.Proper.{IsProperTagValue, IsProperTag, IsProperLog, IsProperReference, IsProperJSpan, IsProperBatch}
-use Rattle.jaeger_model.specs.Writable.{IsShort, IsShortValue, IsWritableTag, IsWritableLog, IsWritableSpan, IsWritable, AreWritable}
+use Rattle.span_io.specs.Sizes.{IsShort}
+use Rattle.jaeger_model.specs.Writable.{IsShortValue, IsWritableTag, IsWritableLog, IsWritableSpan, IsWritable, AreWritable}
 
 is_given : (tree : Tree) → IsGiven (kind_of tree) (given tree)
 is_given (leaf (truth_value b)) = tt

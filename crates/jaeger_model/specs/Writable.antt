@@ -1,18 +1,14 @@
 -- What may be written of batches: each text and list has at most 2147483647 members, times are whole microseconds, and no end is before
 -- its start.
-use Rattle.std.specs.Prelude.{◌≤◌, List, length, All, ⊤}
+use Rattle.std.specs.Prelude.{◌≤◌, List, All, ⊤}
 use Rattle.span_ids.specs.Times.{IsWhole}
-use Rattle.thrift_core.specs.Protocols.{last_size}
+use Rattle.span_io.specs.Sizes.{IsShort}
 use Rattle.jaeger_model.specs.declared.batch.Batch.{Batch}
 use Rattle.jaeger_model.specs.declared.span.JSpan.{JSpan}
 use Rattle.jaeger_model.specs.declared.span.Log.{Log}
 use Rattle.jaeger_model.specs.declared.tag.Tag.{Tag}
 use Rattle.jaeger_model.specs.declared.tag.TagValue.{TagValue}
 use Rattle.jaeger_model.specs.declared.tag.TagValue.TheVariants as values
-
--- its size can be written
-abbrev pub IsShort : {A : Type 0} → List A → Type 0
-IsShort list = length list ≤ last_size
 
 abbrev pub IsShortValue : TagValue → Type 0
 IsShortValue (values.Text text) = IsShort text

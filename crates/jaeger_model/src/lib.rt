@@ -27,4 +27,4 @@ pub use batch_rows::read_batch;
 pub use proper::proper_batch;
 pub use span::{JSpan, Log, SpanRef};
 pub use tag::{Tag, TagValue};
-pub use writing::{has_sizes, write_batch};
+pub use writing::{proper_sizes, write_batch};

@@ -6,18 +6,16 @@ ghost use Rattle.jaeger_model.specs.Rows.{BadTime, nothing_wrong};
 ghost use Rattle.jaeger_model.specs.RowsSoFar.{JudgesBytes, JudgesField};
 
 use span_ids::Nanos;
-use span_io::{Blob, Cause, Halt, once};
+use span_io::{Bytes, Cause, Halt, once};
 use std::alloc::Global;
 
 /// Sets a row that holds bytes.
-pub fn bytes_row(alloc: Global, row: &mut Option<Blob>, held: &[u8]) -> Result<(), Halt<Cause>>
+pub fn bytes_row(alloc: Global, row: &mut Option<Bytes>, held: &[u8]) -> Result<(), Halt<Cause>>
     ensures ok { OnOk result (Sets Means held.now row.old row.new) }
     ensures judged { JudgesBytes row.old held.now result }
 {
     once(row)?;
-    let mut copy = Blob::new(alloc);
-    copy.append(held)?;
-    *row = Some(copy);
+    *row = Some(Bytes::of(alloc, held)?);
     Ok(())
 }
 

@@ -1,4 +1,4 @@
-use span_io::{Blob, Text};
+use span_io::{Bytes, Text};
 
 /// What a tag holds, by its `vType` (jaeger.thrift `TagType`). A double is kept as its eight bytes, the most significant
 /// first.
@@ -8,7 +8,7 @@ pub enum TagValue {
     Eight([u8; 8]),
     Truth(bool),
     Number(i64),
-    Bytes(Blob),
+    Bytes(Bytes),
 }
 
 /// A key and its value (jaeger.thrift `Tag`).

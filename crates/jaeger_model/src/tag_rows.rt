@@ -15,7 +15,7 @@ use crate::lists::Element;
 use crate::message::{Rows, read_rows};
 use crate::rows::{bytes_row, double_row, number_row, truth_row};
 use crate::tag::{Tag, TagValue};
-use span_io::{Blob, Cause, Cursor, Halt, Text, once, text_row};
+use span_io::{Bytes, Cause, Cursor, Halt, Text, once, text_row};
 use std::alloc::Global;
 use thrift_core::{Field, Protocol, TypeCode};
 
@@ -38,7 +38,7 @@ pub(crate) struct TagRows {
     double: Option<[u8; 8]>,
     truth: Option<bool>,
     number: Option<i64>,
-    bytes: Option<Blob>,
+    bytes: Option<Bytes>,
 }
 
 impl TagRows {
@@ -125,7 +125,7 @@ fn named_value(
     double: [u8; 8],
     truth: bool,
     number: i64,
-    bytes: Blob,
+    bytes: Bytes,
 ) -> TagValue
     ensures kind { type_of result ≡ tag_type_number kind }
     ensures named { IsNamed result (record { text = text; double = double; truth = truth; number = number; bytes = bytes }) }
@@ -165,7 +165,7 @@ fn tag_of(alloc: Global, rows: TagRows) -> Result<Tag, Cause>
         double.unwrap_or([0; 8]),
         truth.unwrap_or(false),
         number.unwrap_or(0),
-        bytes.unwrap_or(Blob::new(alloc)),
+        bytes.unwrap_or(Bytes::new(alloc)),
     );
     Ok(Tag { key, value })
 }

@@ -7,4 +7,4 @@ mod structures;
 mod tags;
 
 pub use batches::write_batch;
-pub use sizes::has_sizes;
+pub use sizes::proper_sizes;

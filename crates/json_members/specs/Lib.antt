@@ -2,6 +2,9 @@ pub mod Agreement
 pub mod AgreementLaws
 pub mod Canonical
 pub mod ChoiceLaws
+pub mod Counted
+pub mod CountedLaws
+pub mod CountedTexts
 pub mod DecisionLaws
 pub mod ElementLaws
 pub mod MeaningLaws

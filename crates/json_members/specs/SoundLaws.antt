@@ -105,11 +105,11 @@ put_sound key d (has k e ms) text value h = on (slice_cmp nat_cmp key k) refl (p
     on Equal same later = (h.0, (value, h.1.1))
     on Greater greater later = (h.0, (h.1.0, (follow_put k key d ms greater h.1.1.0, later)))
 
-holds_map : {A B : Type 0} (P : A → Type 0) (Q : B → Type 0) (f : A → B) → ((a : A) → P a → Q (f a)) → (o : Option A) → HoldsOf P o → HoldsOf Q (option_map f o)
+pub holds_map : {A B : Type 0} (P : A → Type 0) (Q : B → Type 0) (f : A → B) → ((a : A) → P a → Q (f a)) → (o : Option A) → HoldsOf P o → HoldsOf Q (option_map f o)
 holds_map P Q f on None h = tt
 holds_map P Q f on (Some a) h = on a h
 
-holds_then : {A B : Type 0} (P : A → Type 0) (Q : B → Type 0) (f : A → Option B) → ((a : A) → P a → HoldsOf Q (f a)) → (o : Option A) → HoldsOf P o → HoldsOf Q (option_and_then f o)
+pub holds_then : {A B : Type 0} (P : A → Type 0) (Q : B → Type 0) (f : A → Option B) → ((a : A) → P a → HoldsOf Q (f a)) → (o : Option A) → HoldsOf P o → HoldsOf Q (option_and_then f o)
 holds_then P Q f on None h = tt
 holds_then P Q f on (Some a) h = on a h
 

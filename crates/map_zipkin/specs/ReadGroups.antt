@@ -61,3 +61,8 @@ from_last_group (Some last) groups left_out = groups_joined last groups left_out
 -- these groups, with others behind them, of whose spans these keys are left out
 abbrev pub with_groups : Groups → List Group → List Keys → List NotedGroup
 with_groups so_far groups left_out = map noted_group so_far.done ++ from_last_group so_far.last groups left_out
+
+-- how many spans the last group has
+abbrev pub spans_of_last : Option Last → ℕ
+spans_of_last None = 0
+spans_of_last (Some last) = last.spans

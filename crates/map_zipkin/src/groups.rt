@@ -1,6 +1,6 @@
 //! The groups of spans: runs of equal resource, and in them runs of equal name and version; and the
 //! remarks on them.
-ghost use Rattle.std.specs.Prelude.{◌≡◌, [], ◌∷◌, ◌++◌, ◌&&◌, List, map, All, IfOk, OnOk};
+ghost use Rattle.std.specs.Prelude.{◌≡◌, ◌+◌, ◌<◌, ◌≤◌, ◌^◌, [], ◌∷◌, ◌++◌, ◌&&◌, List, length, map, All, IfOk, OnOk};
 ghost use Rattle.std.specs.Str.{bytes_eq};
 ghost use Rattle.trace_model.specs.Remarks.{Keys};
 ghost use Rattle.trace_model.specs.Soundness.{IsSoundGroup};
@@ -8,7 +8,7 @@ ghost use Rattle.trace_model.specs.declared.place.Place.TheVariants as places;
 ghost use Rattle.trace_model.specs.declared.trace.Group as model;
 ghost use Rattle.trace_model.specs.declared.value.Value.TheVariants as values;
 ghost use Rattle.map_zipkin.specs.NotedGroups.{left_out_remarks, noted_group, noted_groups_of, with_left_out};
-ghost use Rattle.map_zipkin.specs.ReadGroups.{groups_joined, last_alone, moved_to, with_groups, IsAdded, IsAlone};
+ghost use Rattle.map_zipkin.specs.ReadGroups.{groups_joined, last_alone, moved_to, spans_of_last, with_groups, IsAdded, IsAlone};
 ghost use Rattle.map_zipkin.specs.Reading.{groups_of};
 ghost use Rattle.map_zipkin.specs.Regrouped as told;
 
@@ -17,7 +17,7 @@ use crate::run::Run;
 use span_io::{Items, OutOfMemory, Text};
 use span_tags::{ReadSpan, Runs};
 use std::alloc::Global;
-use trace_model::{Attrs, Group, Place, Remark, Span, Value, number_behind};
+use trace_model::{Attrs, Group, Place, Remark, Span, Value};
 use zipkin_json::ZSpan;
 
 // ---- equal resources
@@ -97,8 +97,9 @@ struct Last {
 
 impl Last {
     fn of(alloc: Global, one: NotedSpan) -> Result<Last, OutOfMemory>
-        ensures { IfOk result (λ last. (keys : Keys) → one.remarks ≡ left_out_remarks 1 keys
+        ensures alone { IfOk result (λ last. (keys : Keys) → one.remarks ≡ left_out_remarks 1 keys
             → IsAlone (one.run, one.span) keys last) }
+        ensures count { IfOk result (λ last. last.spans ≡ 1) }
     {
         let NotedSpan { run, span, remarks } = one;
         let first = ReadSpan {
@@ -117,8 +118,10 @@ impl Last {
 
     // With one more span of the resource.
     fn with(self, alloc: Global, one: NotedSpan) -> Result<Last, OutOfMemory>
-        ensures { IfOk result (λ more. (keys : Keys) → one.remarks ≡ left_out_remarks 1 keys
+        requires counted { self.spans + 1 < 2 ^ 32 }
+        ensures added { IfOk result (λ more. (keys : Keys) → one.remarks ≡ left_out_remarks 1 keys
             → IsAdded (one.run, one.span) keys self more) }
+        ensures count { IfOk result (λ more. more.spans ≡ self.spans + 1) }
     {
         let NotedSpan { run, span, remarks } = one;
         let next = ReadSpan {
@@ -127,7 +130,7 @@ impl Last {
             span,
         };
         let scopes = self.scopes.add(alloc, next)?;
-        let spans = number_behind(self.spans, 1)?;
+        let spans = self.spans + 1;
         let mut all = self.remarks;
         remark_at(&mut all, Place::Span(spans), remarks)?;
         Ok(Last {
@@ -162,8 +165,9 @@ struct Groups {
 impl Groups {
     // Those of no spans.
     fn none(alloc: Global) -> Groups
-        ensures { (groups : List model.Group) (left_out : List Keys)
+        ensures groups { (groups : List model.Group) (left_out : List Keys)
             → with_groups result groups left_out ≡ with_left_out groups left_out }
+        ensures count { spans_of_last result.last ≡ 0 }
     {
         Groups {
             done: Items::new(alloc),
@@ -173,9 +177,11 @@ impl Groups {
 
     // The groups with one more span.
     fn add(self, alloc: Global, one: NotedSpan) -> Result<Groups, OutOfMemory>
-        ensures { IfOk result (λ more. (keys : Keys) (groups : List model.Group) (left_out : List Keys)
+        requires counted { spans_of_last self.last + 1 < 2 ^ 32 }
+        ensures groups { IfOk result (λ more. (keys : Keys) (groups : List model.Group) (left_out : List Keys)
             → one.remarks ≡ left_out_remarks 1 keys
             → with_groups more groups left_out ≡ with_groups self (told.before (one.run, one.span) groups) (keys ∷ left_out)) }
+        ensures count { IfOk result (λ more. spans_of_last more.last ≤ spans_of_last self.last + 1) }
     {
         let Groups { done, last } = self;
         match last {
@@ -202,9 +208,10 @@ fn begin(
     done: Items<(Group, Items<Remark>)>,
     one: NotedSpan,
 ) -> Result<Groups, OutOfMemory>
-    ensures { IfOk result (λ more. (keys : Keys) (groups : List model.Group) (left_out : List Keys)
+    ensures groups { IfOk result (λ more. (keys : Keys) (groups : List model.Group) (left_out : List Keys)
         → one.remarks ≡ left_out_remarks 1 keys → with_groups more groups left_out
         ≡ map noted_group done ++ with_left_out (told.before (one.run, one.span) groups) (keys ∷ left_out)) }
+    ensures count { IfOk result (λ more. spans_of_last more.last ≡ 1) }
 {
     let first = Last::of(alloc, one)?;
     Ok(Groups {
@@ -220,9 +227,11 @@ fn behind(
     last: Last,
     one: NotedSpan,
 ) -> Result<Groups, OutOfMemory>
-    ensures { IfOk result (λ more. (keys : Keys) (groups : List model.Group) (left_out : List Keys)
+    requires counted { last.spans + 1 < 2 ^ 32 }
+    ensures groups { IfOk result (λ more. (keys : Keys) (groups : List model.Group) (left_out : List Keys)
         → one.remarks ≡ left_out_remarks 1 keys → with_groups more groups left_out
         ≡ map noted_group done ++ groups_joined last (told.before (one.run, one.span) groups) (keys ∷ left_out)) }
+    ensures count { IfOk result (λ more. spans_of_last more.last ≤ last.spans + 1) }
 {
     let mut done = done;
     if same_resource(&last.resource, &one.run.resource) {
@@ -245,6 +254,7 @@ fn gathered(
     alloc: Global,
     spans: Items<ZSpan>,
 ) -> Result<Items<(Group, Items<Remark>)>, OutOfMemory>
+    requires counted { length spans < 2 ^ 32 }
     ensures { IfOk result (λ groups. map noted_group groups ≡ noted_groups_of spans) }
 {
     let mut so_far = Groups::none(alloc);
@@ -263,12 +273,12 @@ fn gathered(
 }
 
 /// The groups that spans of Zipkin are, with the remarks on each: maximal runs of equal resource, and
-/// in them scopes, which are those of equal name and version. A group of more spans than 32 bits
-/// number is answered as want of memory.
+/// in them scopes, which are those of equal name and version.
 pub fn groups_of_spans(
     alloc: Global,
     spans: Items<ZSpan>,
 ) -> Result<Items<(Group, Items<Remark>)>, OutOfMemory>
+    requires counted { length spans < 2 ^ 32 }
     ensures value { IfOk result (λ groups. map (λ group. group.0) groups ≡ groups_of spans) }
     ensures remarks { IfOk result (λ groups. map noted_group groups ≡ noted_groups_of spans) }
     ensures sound { IfOk result (All (λ group. IsSoundGroup group.0)) }

@@ -10,7 +10,7 @@ use Rattle.serde_json.specs.declared.value.Value.{Value}
 use Rattle.span_io.specs.declared.cause.Cause.{Cause}
 use Rattle.span_io.specs.declared.halt.Halt.{Halt}
 use Rattle.span_io.specs.Paths.{Faults, nothing, here, each, valued, NothingOffends, Counts, Halts, JudgesValue}
-use Rattle.span_io.specs.PathLaws.{clean_nothing, clean_parts, quiet_nothing, halts_first, halts_later, counts_here}
+use Rattle.span_io.specs.PathLaws.{clean_nothing, clean_parts, quiet_nothing, halts_first, halts_later, counts_here, counts_only}
 use Rattle.trace_model.specs.Remarks.{Keys}
 use Rattle.trace_model.specs.declared.value.Value.{Value as Val}
 use Rattle.trace_model.specs.OtlpParts.{NotedValue, KeyValue, entry}
@@ -36,6 +36,12 @@ judged_behind before (Ok x) Offends h = clean_behind before Offends h
 judged_behind before (Err halt) Offends h = halts_behind before halt Offends h
 
 -- ---- elements, as a loop goes through them
+
+-- no level is left below a list that holds something
+pub none_below : (Offends : Data → Faults) (vs : List Value) (i left : ℕ) → i < length vs → left ≡ 0 → Counts (values_faults left Offends (map view vs)) 5
+none_below Offends [] i left there none = absurd (omega (arith, there))
+none_below Offends (v ∷ vs) i zero there none = counts_only 5
+none_below Offends (v ∷ vs) i (suc left) there none = absurd (omega (arith, none))
 
 module _ (Offends : Data → Faults) (vs : List Value) (i : ℕ) (v : Value) (within : i < length vs) (here : v ≡ get_or vs i v) (left below : ℕ) (some : left ≡ suc below) where
   as_each : (ds : List Data) → values_faults left Offends ds ≡ each Offends ds

@@ -1,7 +1,9 @@
 //! The events of a span.
-ghost use Rattle.std.specs.Prelude.{ℕ, [], Some, map, IfOk, OnOk};
-ghost use Rattle.serde_json.specs.View.{view};
+ghost use Rattle.std.specs.Prelude.{ℕ, ◌+◌, ◌<◌, ◌^◌, [], Some, length, map, IfOk, OnOk};
+ghost use Rattle.serde_json.specs.Data.{array};
+ghost use Rattle.serde_json.specs.View.{view, items_view};
 ghost use Rattle.span_io.specs.Paths.{each, optional, JudgesValue};
+ghost use Rattle.json_members.specs.Counted.{IsCountedValue};
 ghost use Rattle.json_members.specs.Members.{member};
 ghost use Rattle.otlp_json.specs.Found.{event_found, AreFound, AreGiven, TellsMore, EventsTold};
 ghost use Rattle.otlp_json.specs.Span.{IsJsonEvent, event_faults, events_faults};
@@ -12,7 +14,7 @@ use json_members::member_of;
 use serde_json::Value;
 use span_io::{Cause, Halt, Items, OutOfMemory};
 use std::alloc::Global;
-use trace_model::{Event, Place, Remark, number_behind, remark_keys};
+use trace_model::{Event, Place, Remark, remark_keys};
 
 /// The events that were read, and the remarks on them.
 #[derive(Debug, Drop)]
@@ -44,9 +46,10 @@ impl FoundEvents {
 
     // Adds an event of the span of this number.
     fn push(&mut self, span: u32, read: FoundEvent) -> Result<(), OutOfMemory>
+        requires counted { length self.old.events + 1 < 2 ^ 32 }
         ensures { OnOk result (TellsMore (EventsTold span) (event_found read) self.old self.new) }
     {
-        let number = number_behind(1, self.events.len())?;
+        let number = 1 + self.events.len() as u32;
         self.events.push(read.event)?;
         remark_keys(&mut self.remarks, Place::Event(span, number), read.keys)?;
         Ok(())
@@ -54,6 +57,7 @@ impl FoundEvents {
 }
 
 fn read_events(alloc: Global, span: u32, elements: &Vec<Value>) -> Result<FoundEvents, Halt<Cause>>
+    requires counted { IsCountedValue (array (items_view elements.now.items)) }
     ensures value { IfOk result (λ rows. AreFound IsJsonEvent (EventsTold span) (map view elements.now.items) rows) }
     ensures judged { JudgesValue result (each event_faults (map view elements.now.items)) }
 {
@@ -66,6 +70,7 @@ fn read_events(alloc: Global, span: u32, elements: &Vec<Value>) -> Result<FoundE
 }
 
 fn events_in(alloc: Global, span: u32, v: &Value) -> Result<FoundEvents, Halt<Cause>>
+    requires counted { IsCountedValue (view v.now) }
     ensures value { IfOk result (λ rows. AreGiven IsJsonEvent (EventsTold span) (Some (view v.now)) rows) }
     ensures judged { JudgesValue result (events_faults (view v.now)) }
 {
@@ -83,6 +88,7 @@ pub fn events_of(
     v: &Value,
     name: &str,
 ) -> Result<FoundEvents, Halt<Cause>>
+    requires counted { IsCountedValue (view v.now) }
     ensures value { IfOk result (λ rows. AreGiven IsJsonEvent (EventsTold span) (member name.now (view v.now)) rows) }
     ensures judged { JudgesValue result (optional events_faults (member name.now (view v.now))) }
 {

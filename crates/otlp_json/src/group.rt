@@ -4,6 +4,7 @@ ghost use Rattle.serde_json.specs.Data.{Data};
 ghost use Rattle.serde_json.specs.Find.{as_object};
 ghost use Rattle.serde_json.specs.View.{view};
 ghost use Rattle.span_io.specs.Paths.{JudgesValue};
+ghost use Rattle.json_members.specs.Counted.{IsCountedValue};
 ghost use Rattle.otlp_json.specs.Found.{AreGroupParts};
 ghost use Rattle.otlp_json.specs.Group.{IsRemarkedGroup, group_members, group_faults};
 
@@ -25,6 +26,7 @@ struct GroupParts {
 }
 
 fn read_members(alloc: Global, v: &Value) -> Result<GroupParts, Halt<Cause>>
+    requires counted { IsCountedValue (view v.now) }
     ensures value { IfOk result (λ p. AreGroupParts p (view v.now)) }
     ensures judged { JudgesValue result (group_members (view v.now)) }
 {
@@ -57,6 +59,7 @@ fn group_of(alloc: Global, parts: GroupParts) -> Result<(Group, Items<Remark>), 
 
 /// Reads a group, and the remarks on it.
 pub fn read_group(alloc: Global, v: &Value) -> Result<(Group, Items<Remark>), Halt<Cause>>
+    requires counted { IsCountedValue (view v.now) }
     ensures value { IfOk result (λ g. IsRemarkedGroup g (view v.now)) }
     ensures judged { JudgesValue result (group_faults (view v.now)) }
 {

@@ -12,7 +12,7 @@ use base64::engine::general_purpose::STANDARD;
 use json_members::member_of;
 use serde_json::Value;
 use span_ids::{BadId, IdRule, SpanId, TraceId};
-use span_io::{Blob, Cause, Halt};
+use span_io::{Bytes, Cause, Halt};
 use std::alloc::Global;
 
 fn trace_of(text: &str) -> Result<TraceId, BadId>
@@ -169,7 +169,7 @@ pub fn optional_span(v: &Value, name: &str) -> Result<Option<SpanId>, Cause>
 }
 
 /// The bytes of a base64 text.
-pub fn bytes_in(alloc: Global, v: &Value) -> Result<Blob, Halt<Cause>>
+pub fn bytes_in(alloc: Global, v: &Value) -> Result<Bytes, Halt<Cause>>
     ensures value { IfOk result (λ held. Spelled SpellsBytes held (view v.now)) }
     ensures judged { JudgesValue result (base64_faults (view v.now)) }
 {
@@ -177,7 +177,7 @@ pub fn bytes_in(alloc: Global, v: &Value) -> Result<Blob, Halt<Cause>>
         return Err(Halt::Why(Cause::BadShape));
     };
     match STANDARD.decode(alloc, text.as_bytes()) {
-        Ok(bytes) => Ok(Blob::from_vec(bytes)),
+        Ok(bytes) => Ok(Bytes::from_vec(bytes)?),
         Err(DecodeAllocError::OutOfMemory) => Err(Halt::OutOfMemory),
         Err(DecodeAllocError::DecodeError(_)) => Err(Halt::Why(Cause::BadShape)),
     }

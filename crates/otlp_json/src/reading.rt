@@ -1,9 +1,11 @@
 //! Reading groups.
-ghost use Rattle.std.specs.Prelude.{List, All, map, IfOk};
+ghost use Rattle.std.specs.Prelude.{◌<◌, ◌^◌, List, All, length, map, IfOk};
 ghost use Rattle.std.specs.List.{AllZip};
-ghost use Rattle.serde_json.specs.View.{view};
+ghost use Rattle.serde_json.specs.Data.{array};
+ghost use Rattle.serde_json.specs.View.{view, items_view};
 ghost use Rattle.span_io.specs.Offences.{OnlyReads};
 ghost use Rattle.span_io.specs.Paths.{each, JudgesInput};
+ghost use Rattle.json_members.specs.Counted.{IsCountedValue};
 ghost use Rattle.trace_model.specs.Soundness.{IsSoundGroup};
 ghost use Rattle.otlp_json.specs.Group.{RemarkedGroup, IsRemarkedGroup, AreRemarkedGroups, AreJsonGroups, group_faults, groups_faults, json_groups_faults};
 ghost use Rattle.otlp_json.specs.Held.{IsHeldByJson};
@@ -22,6 +24,7 @@ fn read_each(
     alloc: Global,
     elements: Vec<Value>,
 ) -> Result<Items<(Group, Items<Remark>)>, Halt<Refusal>>
+    requires counted { IsCountedValue (array (items_view elements.items)) }
     ensures value { IfOk result (λ groups. AllZip (λ d x. IsRemarkedGroup x d) (map view elements.items) groups) }
     ensures judged { JudgesInput result (each group_faults (map view elements.items)) }
 {
@@ -38,6 +41,7 @@ fn read_each(
 }
 
 fn read_array(alloc: Global, v: Value) -> Result<Items<(Group, Items<Remark>)>, Halt<Refusal>>
+    requires counted { IsCountedValue (view v) }
     ensures value { IfOk result (λ groups. AreRemarkedGroups groups (view v)) }
     ensures judged { JudgesInput result (groups_faults (view v)) }
 {
@@ -52,6 +56,7 @@ fn read_array(alloc: Global, v: Value) -> Result<Items<(Group, Items<Remark>)>, 
 }
 
 fn read_root(alloc: Global, v: Value) -> Result<Items<(Group, Items<Remark>)>, Halt<Refusal>>
+    requires counted { IsCountedValue (view v) }
     ensures value { IfOk result (λ groups. AreJsonGroups groups (view v)) }
     ensures judged { JudgesInput result (json_groups_faults (view v)) }
 {
@@ -71,6 +76,7 @@ fn read_root(alloc: Global, v: Value) -> Result<Items<(Group, Items<Remark>)>, H
 /// Reads the groups of a JSON value in OTLP/JSON, with the remarks on each, or refuses it by its
 /// least offence. The value is given back group by group, while it is near.
 pub fn read_groups(alloc: Global, v: Value) -> Result<Items<(Group, Items<Remark>)>, Halt<Refusal>>
+    requires counted { IsCountedValue (view v) }
     ensures value { IfOk result (λ groups. AreJsonGroups groups (view v)) }
     ensures sound { IfOk result (All (λ g. IsSoundGroup g.0)) }
     ensures judged { JudgesInput result (json_groups_faults (view v)) }
@@ -87,6 +93,7 @@ pub fn read_text(
     alloc: Global,
     bytes: &[u8],
 ) -> Result<Items<(Group, Items<Remark>)>, Halt<Refusal>>
+    requires counted { length bytes.now < 2 ^ 32 }
     ensures value { IfOk result (λ groups. AreGroupsText groups bytes.now) }
     // They can be written.
     ensures held { IfOk result (All (λ g. IsHeldByJson g.0)) }

@@ -1,9 +1,10 @@
 //! `ScopeSpans` (OTLP trace.proto).
-ghost use Rattle.std.specs.Prelude.{◌≡◌, ℕ, true, is_some, IfOk};
+ghost use Rattle.std.specs.Prelude.{◌≡◌, ◌+◌, ◌<◌, ◌^◌, ℕ, true, is_some, IfOk};
 ghost use Rattle.serde_json.specs.Data.{Data};
 ghost use Rattle.serde_json.specs.Find.{as_object};
 ghost use Rattle.serde_json.specs.View.{view};
 ghost use Rattle.span_io.specs.Paths.{JudgesValue};
+ghost use Rattle.json_members.specs.Counted.{values_in};
 ghost use Rattle.otlp_json.specs.Found.{AreScopeParts, IsScopeFound};
 ghost use Rattle.otlp_json.specs.Group.{scope_members, scope_faults};
 
@@ -26,6 +27,7 @@ struct ScopeParts {
 
 // The members of a scope, whose first span has this number in its group.
 fn read_members(alloc: Global, first: u32, v: &Value) -> Result<ScopeParts, Halt<Cause>>
+    requires counted { first + values_in (view v.now) < 2 ^ 32 }
     ensures value { IfOk result (λ p. AreScopeParts first p (view v.now)) }
     ensures judged { JudgesValue result (scope_members (view v.now)) }
 {
@@ -66,6 +68,7 @@ pub fn read_scope(
     first: u32,
     v: &Value,
 ) -> Result<FoundScope, Halt<Cause>>
+    requires counted { first + values_in (view v.now) < 2 ^ 32 }
     ensures value { IfOk result (λ r. IsScopeFound number first r (view v.now)) }
     ensures judged { JudgesValue result (scope_faults (view v.now)) }
 {

@@ -1,7 +1,9 @@
 //! The scopes of a group.
-ghost use Rattle.std.specs.Prelude.{[], Some, map, IfOk, OnOk};
-ghost use Rattle.serde_json.specs.View.{view};
+ghost use Rattle.std.specs.Prelude.{◌+◌, ◌<◌, ◌^◌, [], Some, length, map, IfOk, OnOk};
+ghost use Rattle.serde_json.specs.Data.{array};
+ghost use Rattle.serde_json.specs.View.{view, items_view};
 ghost use Rattle.span_io.specs.Paths.{each, optional, JudgesValue};
+ghost use Rattle.json_members.specs.Counted.{values_in, IsCountedValue};
 ghost use Rattle.json_members.specs.Members.{member};
 ghost use Rattle.otlp_json.specs.Found.{AreFound, AreGiven, FindsMore, ScopesTold};
 ghost use Rattle.otlp_json.specs.Group.{IsJsonScope, scope_faults, scopes_faults};
@@ -11,7 +13,7 @@ use json_members::member_of;
 use serde_json::Value;
 use span_io::{Cause, Halt, Items, OutOfMemory};
 use std::alloc::Global;
-use trace_model::{Remark, Scope, number_behind, remark_all};
+use trace_model::{Remark, Scope, remark_all};
 
 /// The scopes that were read, and the remarks on them.
 #[derive(Debug, Drop)]
@@ -47,12 +49,14 @@ impl FoundScopes {
 
     // Reads one more scope.
     fn add(&mut self, alloc: Global, v: &Value) -> Result<(), Halt<Cause>>
+        requires number { length self.old.scopes + 1 < 2 ^ 32 }
+        requires spans { self.old.next_span + values_in (view v.now) < 2 ^ 32 }
         ensures ok { OnOk result (FindsMore IsJsonScope ScopesTold (view v.now) self.old self.new) }
         ensures judged { JudgesValue result (scope_faults (view v.now)) }
     {
-        let number = number_behind(1, self.scopes.len())?;
+        let number = 1 + self.scopes.len() as u32;
         let read = read_scope(alloc, number, self.next_span, v)?;
-        self.next_span = number_behind(self.next_span, read.scope.spans.len())?;
+        self.next_span += read.scope.spans.len() as u32;
         remark_all(&mut self.remarks, read.remarks)?;
         self.scopes.push(read.scope)?;
         Ok(())
@@ -60,6 +64,7 @@ impl FoundScopes {
 }
 
 fn read_scopes(alloc: Global, elements: &Vec<Value>) -> Result<FoundScopes, Halt<Cause>>
+    requires counted { IsCountedValue (array (items_view elements.now.items)) }
     ensures value { IfOk result (λ rows. AreFound IsJsonScope ScopesTold (map view elements.now.items) rows) }
     ensures judged { JudgesValue result (each scope_faults (map view elements.now.items)) }
 {
@@ -71,6 +76,7 @@ fn read_scopes(alloc: Global, elements: &Vec<Value>) -> Result<FoundScopes, Halt
 }
 
 fn scopes_in(alloc: Global, v: &Value) -> Result<FoundScopes, Halt<Cause>>
+    requires counted { IsCountedValue (view v.now) }
     ensures value { IfOk result (λ rows. AreGiven IsJsonScope ScopesTold (Some (view v.now)) rows) }
     ensures judged { JudgesValue result (scopes_faults (view v.now)) }
 {
@@ -83,6 +89,7 @@ fn scopes_in(alloc: Global, v: &Value) -> Result<FoundScopes, Halt<Cause>>
 
 // Scopes that may be absent, which are none then.
 pub fn scopes_of(alloc: Global, v: &Value, name: &str) -> Result<FoundScopes, Halt<Cause>>
+    requires counted { IsCountedValue (view v.now) }
     ensures value { IfOk result (λ rows. AreGiven IsJsonScope ScopesTold (member name.now (view v.now)) rows) }
     ensures judged { JudgesValue result (optional scopes_faults (member name.now (view v.now))) }
 {

@@ -4,6 +4,7 @@ ghost use Rattle.serde_json.specs.Data.{Data};
 ghost use Rattle.serde_json.specs.Find.{as_object};
 ghost use Rattle.serde_json.specs.View.{view};
 ghost use Rattle.span_io.specs.Paths.{JudgesValue};
+ghost use Rattle.json_members.specs.Counted.{IsCountedValue};
 ghost use Rattle.trace_model.specs.Remarks.{equal_keys, link_dropped};
 ghost use Rattle.trace_model.specs.declared.place.Place.TheVariants as places;
 ghost use Rattle.otlp_json.specs.Found.{AreSpanParts, IsSpanFound};
@@ -49,6 +50,7 @@ struct SpanParts {
 
 // The members of the span of this number.
 fn read_members(alloc: Global, number: u32, v: &Value) -> Result<SpanParts, Halt<Cause>>
+    requires counted { IsCountedValue (view v.now) }
     ensures value { IfOk result (λ p. AreSpanParts number p (view v.now)) }
     ensures judged { JudgesValue result (json_span_members (view v.now)) }
 {
@@ -146,6 +148,7 @@ fn span_of(alloc: Global, number: u32, parts: SpanParts) -> Result<FoundSpan, Ou
 
 /// Reads the span of this number in its group.
 pub fn read_span(alloc: Global, number: u32, v: &Value) -> Result<FoundSpan, Halt<Cause>>
+    requires counted { IsCountedValue (view v.now) }
     ensures value { IfOk result (λ r. IsSpanFound number r (view v.now)) }
     ensures judged { JudgesValue result (otlp_span_faults (view v.now)) }
 {

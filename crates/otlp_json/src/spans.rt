@@ -1,7 +1,9 @@
 //! The spans of a scope.
-ghost use Rattle.std.specs.Prelude.{ℕ, [], Some, map, IfOk, OnOk};
-ghost use Rattle.serde_json.specs.View.{view};
+ghost use Rattle.std.specs.Prelude.{ℕ, ◌+◌, ◌<◌, ◌^◌, [], Some, length, map, IfOk, OnOk};
+ghost use Rattle.serde_json.specs.Data.{array};
+ghost use Rattle.serde_json.specs.View.{view, items_view};
 ghost use Rattle.span_io.specs.Paths.{each, optional, JudgesValue};
+ghost use Rattle.json_members.specs.Counted.{values_in, IsCountedValue};
 ghost use Rattle.json_members.specs.Members.{member};
 ghost use Rattle.otlp_json.specs.Found.{AreFound, AreGiven, FindsMore, SpansTold};
 ghost use Rattle.otlp_json.specs.Group.{otlp_spans_faults};
@@ -12,7 +14,7 @@ use json_members::member_of;
 use serde_json::Value;
 use span_io::{Cause, Halt, Items, OutOfMemory};
 use std::alloc::Global;
-use trace_model::{Remark, Span, number_behind, remark_all};
+use trace_model::{Remark, Span, remark_all};
 
 /// The spans that were read, and the remarks on them.
 #[derive(Debug, Drop)]
@@ -44,10 +46,12 @@ impl FoundSpans {
 
     // Reads one more span, of which the first has this number.
     fn add(&mut self, alloc: Global, first: u32, v: &Value) -> Result<(), Halt<Cause>>
+        requires number { first + length self.old.spans < 2 ^ 32 }
+        requires counted { IsCountedValue (view v.now) }
         ensures ok { OnOk result (FindsMore IsJsonSpan (SpansTold first) (view v.now) self.old self.new) }
         ensures judged { JudgesValue result (otlp_span_faults (view v.now)) }
     {
-        let number = number_behind(first, self.spans.len())?;
+        let number = first + self.spans.len() as u32;
         let read = read_span(alloc, number, v)?;
         remark_all(&mut self.remarks, read.remarks)?;
         self.spans.push(read.span)?;
@@ -56,6 +60,7 @@ impl FoundSpans {
 }
 
 fn read_spans(alloc: Global, first: u32, elements: &Vec<Value>) -> Result<FoundSpans, Halt<Cause>>
+    requires counted { first + values_in (array (items_view elements.now.items)) < 2 ^ 32 }
     ensures value { IfOk result (λ rows. AreFound IsJsonSpan (SpansTold first) (map view elements.now.items) rows) }
     ensures judged { JudgesValue result (each otlp_span_faults (map view elements.now.items)) }
 {
@@ -67,6 +72,7 @@ fn read_spans(alloc: Global, first: u32, elements: &Vec<Value>) -> Result<FoundS
 }
 
 fn spans_in(alloc: Global, first: u32, v: &Value) -> Result<FoundSpans, Halt<Cause>>
+    requires counted { first + values_in (view v.now) < 2 ^ 32 }
     ensures value { IfOk result (λ rows. AreGiven IsJsonSpan (SpansTold first) (Some (view v.now)) rows) }
     ensures judged { JudgesValue result (otlp_spans_faults (view v.now)) }
 {
@@ -79,6 +85,7 @@ fn spans_in(alloc: Global, first: u32, v: &Value) -> Result<FoundSpans, Halt<Cau
 
 // Spans that may be absent, which are none then. The first has this number in its group.
 pub fn spans_of(alloc: Global, first: u32, v: &Value, name: &str) -> Result<FoundSpans, Halt<Cause>>
+    requires counted { first + values_in (view v.now) < 2 ^ 32 }
     ensures value { IfOk result (λ rows. AreGiven IsJsonSpan (SpansTold first) (member name.now (view v.now)) rows) }
     ensures judged { JudgesValue result (optional otlp_spans_faults (member name.now (view v.now))) }
 {

@@ -14,6 +14,7 @@ pub mod LinkMessage
 pub mod ListTexts
 pub mod MessageProofs
 pub mod NextRecord
+pub mod NumberingLemmas
 pub mod PaddedValues
 pub mod ProperLemmas
 pub mod Ranges

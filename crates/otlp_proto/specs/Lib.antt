@@ -8,6 +8,7 @@ pub mod Identifiers
 pub mod Laws
 pub mod Link
 pub mod LinkSoFar
+pub mod Numbering
 pub mod PaddedValues
 pub mod ReadParts
 pub mod Rows

@@ -43,6 +43,7 @@ impl EventRows {
 }
 
 impl Rows for EventRows {
+    ghost use Rattle.std.specs.Prelude.{[]};
     ghost use Rattle.span_io.specs.Tables.{givens, no_ends};
     ghost use Rattle.otlp_proto.specs.Event.{event_table};
     ghost use Rattle.otlp_proto.specs.EventSoFar.{GatheredEvent};
@@ -52,6 +53,8 @@ impl Rows for EventRows {
     ghost ends = { no_ends };
 
     ghost gathered = { λ first rows seen. GatheredEvent rows (givens event_table seen) };
+
+    ghost counts = { λ rows. [] };
 
     fn gather(&mut self, alloc: Global, found: &WireRecord<'_>) -> Result<(), Halt<Cause>> {
         match found.payload {

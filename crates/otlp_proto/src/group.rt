@@ -1,5 +1,5 @@
 //! Groups of spans: OTLP `ResourceSpans`.
-ghost use Rattle.std.specs.Prelude.{◌≡◌, [], ℕ, List, IfOk, OnOk};
+ghost use Rattle.std.specs.Prelude.{◌≡◌, ◌+◌, ◌<◌, ◌≤◌, ◌^◌, [], ℕ, List, length, IfOk, OnOk};
 ghost use Rattle.span_io.specs.Offences.{Offence, Judges, OnlyReads};
 ghost use Rattle.span_io.specs.Tables.{givens};
 ghost use Rattle.proto_wire.specs.Messages.{messages};
@@ -19,7 +19,7 @@ use crate::scope::read_scope;
 use proto_wire::{Payload, WireRecord};
 use span_io::{Cause, Halt, Items, OutOfMemory, Text, once, text_row};
 use std::alloc::Global;
-use trace_model::{Attrs, Group, Place, Remark, Scope, number_behind, remark_all, remark_keys};
+use trace_model::{Attrs, Group, Place, Remark, Scope, remark_all, remark_keys};
 
 /// The scopes that were read of a group, and the remarks on them.
 #[derive(Debug, Drop)]
@@ -55,7 +55,9 @@ fn resource_row(
 impl ScopeList {
     // Nothing was read.
     fn none(alloc: Global) -> ScopeList
-        ensures { GatheredScopes [] result }
+        ensures nothing { GatheredScopes [] result }
+        ensures no_scopes { result.scopes ≡ [] }
+        ensures next_span { result.next_span ≡ 1 }
     {
         ScopeList {
             scopes: Items::new(alloc),
@@ -66,12 +68,16 @@ impl ScopeList {
 
     // Reads one more scope.
     fn add(&mut self, alloc: Global, held: &[u8]) -> Result<(), Halt<Cause>>
+        requires scopes { 1 + length self.old.scopes < 2 ^ 32 }
+        requires spans { self.old.next_span + length held.now < 2 ^ 32 }
         ensures ok { OnOk result (Adds GatheredScopes held.now self.old self.new) }
         ensures judged { Judges result (Offence messages scope_rules held.now) }
+        ensures scopes { OnOk result (length self.new.scopes ≡ length self.old.scopes + 1) }
+        ensures spans { OnOk result (self.new.next_span ≤ self.old.next_span + length held.now) }
     {
-        let number = number_behind(1, self.scopes.len())?;
+        let number = 1 + self.scopes.len() as u32;
         let read = read_scope(alloc, number, self.next_span, held)?;
-        self.next_span = number_behind(self.next_span, read.scope.spans.len())?;
+        self.next_span += read.scope.spans.len() as u32;
         remark_all(&mut self.remarks, read.remarks)?;
         self.scopes.push(read.scope)?;
         Ok(())
@@ -81,7 +87,9 @@ impl ScopeList {
 impl GroupRows {
     // Nothing was read.
     fn none(alloc: Global) -> GroupRows
-        ensures { GatheredGroup result (givens group_table []) }
+        ensures nothing { GatheredGroup result (givens group_table []) }
+        ensures no_scopes { result.scopes.scopes ≡ [] }
+        ensures next_span { result.scopes.next_span ≡ 1 }
     {
         GroupRows {
             resource: None,
@@ -92,6 +100,7 @@ impl GroupRows {
 }
 
 impl Rows for GroupRows {
+    ghost use Rattle.std.specs.Prelude.{[], ◌∷◌, length};
     ghost use Rattle.span_io.specs.Tables.{givens, no_ends};
     ghost use Rattle.otlp_proto.specs.Group.{group_table};
     ghost use Rattle.otlp_proto.specs.GroupSoFar.{GatheredGroup};
@@ -101,6 +110,8 @@ impl Rows for GroupRows {
     ghost ends = { no_ends };
 
     ghost gathered = { λ first rows seen. GatheredGroup rows (givens group_table seen) };
+
+    ghost counts = { λ rows. length rows.scopes.scopes ∷ rows.scopes.next_span ∷ [] };
 
     fn gather(&mut self, alloc: Global, found: &WireRecord<'_>) -> Result<(), Halt<Cause>> {
         match found.payload {
@@ -147,6 +158,7 @@ fn group_of(alloc: Global, rows: GroupRows) -> Result<(Group, Items<Remark>), Ou
 
 // Reads the rows of a group, and makes it of them.
 fn read_rows_of(alloc: Global, unit: &[u8]) -> Result<(Group, Items<Remark>), Halt<Cause>>
+    requires counted { length unit.now < 2 ^ 32 }
     ensures value { IfOk result (λ parts. IsGroupText parts.0 parts.1 unit.now) }
     ensures judged { Judges result (Offence messages group_rules unit.now) }
 {
@@ -159,6 +171,7 @@ fn read_rows_of(alloc: Global, unit: &[u8]) -> Result<(Group, Items<Remark>), Ha
 /// Reads a group from the payload of one `resource_spans`, with the remarks on it in the order of
 /// their places.
 pub fn read_group(alloc: Global, unit: &[u8]) -> Result<(Group, Items<Remark>), Halt<Cause>>
+    requires counted { length unit.now < 2 ^ 32 }
     ensures value { IfOk result (λ parts. IsGroupText parts.0 parts.1 unit.now) }
     ensures judged { Judges result (Offence messages group_rules unit.now) }
 

@@ -41,6 +41,7 @@ impl InstrumentationScopeRows {
 }
 
 impl Rows for InstrumentationScopeRows {
+    ghost use Rattle.std.specs.Prelude.{[]};
     ghost use Rattle.span_io.specs.Tables.{givens, no_ends};
     ghost use Rattle.otlp_proto.specs.Scope.{instrumentation_scope_table};
     ghost use Rattle.otlp_proto.specs.ScopeSoFar.{GatheredInstrumentationScope};
@@ -50,6 +51,8 @@ impl Rows for InstrumentationScopeRows {
     ghost ends = { no_ends };
 
     ghost gathered = { λ first rows seen. GatheredInstrumentationScope rows (givens instrumentation_scope_table seen) };
+
+    ghost counts = { λ rows. [] };
 
     fn gather(&mut self, alloc: Global, found: &WireRecord<'_>) -> Result<(), Halt<Cause>> {
         match found.payload {

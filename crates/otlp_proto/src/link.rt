@@ -47,6 +47,7 @@ impl LinkRows {
 }
 
 impl Rows for LinkRows {
+    ghost use Rattle.std.specs.Prelude.{[]};
     ghost use Rattle.span_io.specs.Tables.{givens, no_ends};
     ghost use Rattle.otlp_proto.specs.Link.{link_table};
     ghost use Rattle.otlp_proto.specs.LinkSoFar.{GatheredLink};
@@ -56,6 +57,8 @@ impl Rows for LinkRows {
     ghost ends = { no_ends };
 
     ghost gathered = { λ first rows seen. GatheredLink rows (givens link_table seen) };
+
+    ghost counts = { λ rows. [] };
 
     fn gather(&mut self, alloc: Global, found: &WireRecord<'_>) -> Result<(), Halt<Cause>> {
         match found.payload {

@@ -37,6 +37,7 @@ impl ResourceRows {
 }
 
 impl Rows for ResourceRows {
+    ghost use Rattle.std.specs.Prelude.{[]};
     ghost use Rattle.span_io.specs.Tables.{givens, no_ends};
     ghost use Rattle.otlp_proto.specs.Group.{resource_table};
     ghost use Rattle.otlp_proto.specs.GroupSoFar.{GatheredResource};
@@ -46,6 +47,8 @@ impl Rows for ResourceRows {
     ghost ends = { no_ends };
 
     ghost gathered = { λ first rows seen. GatheredResource rows (givens resource_table seen) };
+
+    ghost counts = { λ rows. [] };
 
     fn gather(&mut self, alloc: Global, found: &WireRecord<'_>) -> Result<(), Halt<Cause>> {
         match found.payload {

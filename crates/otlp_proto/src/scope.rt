@@ -1,5 +1,5 @@
 //! `ScopeSpans` (OTLP trace.proto).
-ghost use Rattle.std.specs.Prelude.{◌≡◌, [], ℕ, List, IfOk, OnOk};
+ghost use Rattle.std.specs.Prelude.{◌≡◌, ◌+◌, ◌<◌, ◌≤◌, ◌^◌, [], ℕ, List, length, IfOk, OnOk};
 ghost use Rattle.span_io.specs.Offences.{Offence, Judges};
 ghost use Rattle.span_io.specs.Tables.{givens};
 ghost use Rattle.proto_wire.specs.Messages.{messages};
@@ -18,7 +18,7 @@ use crate::span::read_span;
 use proto_wire::{Payload, WireRecord};
 use span_io::{Cause, Halt, Items, OutOfMemory, Text, once, text_row};
 use std::alloc::Global;
-use trace_model::{Attrs, Place, Remark, Scope, Span, number_behind, remark_all, remark_keys};
+use trace_model::{Attrs, Place, Remark, Scope, Span, remark_all, remark_keys};
 
 /// The spans that were read of a scope, and the remarks on them.
 #[derive(Debug, Drop)]
@@ -54,7 +54,8 @@ fn instrumentation_row(
 impl SpanList {
     // Nothing was read.
     fn none(alloc: Global, first: u32) -> SpanList
-        ensures { GatheredSpans first [] result }
+        ensures nothing { GatheredSpans first [] result }
+        ensures empty { result.spans ≡ [] }
     {
         SpanList {
             first,
@@ -65,10 +66,13 @@ impl SpanList {
 
     // Reads one more span.
     fn add(&mut self, alloc: Global, held: &[u8]) -> Result<(), Halt<Cause>>
+        requires counted { self.old.first + length self.old.spans + length held.now < 2 ^ 32 }
         ensures ok { OnOk result ((first : ℕ) → Adds (GatheredSpans first) held.now self.old self.new) }
         ensures judged { Judges result (Offence messages span_rules held.now) }
+        ensures first { OnOk result (self.new.first ≡ self.old.first) }
+        ensures one_more { OnOk result (length self.new.spans ≡ length self.old.spans + 1) }
     {
-        let number = number_behind(self.first, self.spans.len())?;
+        let number = self.first + self.spans.len() as u32;
         let read = read_span(alloc, number, held)?;
         remark_all(&mut self.remarks, read.remarks)?;
         self.spans.push(read.span)?;
@@ -80,6 +84,7 @@ impl ScopeRows {
     // Nothing was read.
     fn none(alloc: Global, first: u32) -> ScopeRows
         ensures at { result.spans.first ≡ first }
+        ensures no_spans { result.spans.spans ≡ [] }
         ensures nothing { GatheredScope first result (givens scope_table []) }
     {
         ScopeRows {
@@ -91,6 +96,7 @@ impl ScopeRows {
 }
 
 impl Rows for ScopeRows {
+    ghost use Rattle.std.specs.Prelude.{◌+◌, [], ◌∷◌, length};
     ghost use Rattle.span_io.specs.Tables.{givens, no_ends};
     ghost use Rattle.otlp_proto.specs.Scope.{scope_table};
     ghost use Rattle.otlp_proto.specs.ScopeSoFar.{GatheredScope};
@@ -100,6 +106,8 @@ impl Rows for ScopeRows {
     ghost ends = { no_ends };
 
     ghost gathered = { λ first rows seen. GatheredScope first.spans.first rows (givens scope_table seen) };
+
+    ghost counts = { λ rows. (rows.spans.first + length rows.spans.spans) ∷ [] };
 
     fn gather(&mut self, alloc: Global, found: &WireRecord<'_>) -> Result<(), Halt<Cause>> {
         match found.payload {
@@ -129,7 +137,8 @@ fn empty_instrumentation_scope(alloc: Global) -> ReadInstrumentationScope
 
 // The scope of the rows, which has this number in its group.
 fn scope_of(alloc: Global, number: u32, rows: ScopeRows) -> Result<ReadScope, OutOfMemory>
-    ensures { IfOk result (λ read. MakesScope number rows read) }
+    ensures value { IfOk result (λ read. MakesScope number rows read) }
+    ensures spans { IfOk result (λ read. read.scope.spans ≡ rows.spans.spans) }
 {
     let empty = empty_instrumentation_scope(alloc);
     let instrumentation = rows.instrumentation.unwrap_or(empty);
@@ -156,8 +165,12 @@ pub fn read_scope(
     first: u32,
     bytes: &[u8],
 ) -> Result<ReadScope, Halt<Cause>>
+    requires counted { first + length bytes.now < 2 ^ 32 }
     ensures value { IfOk result (λ read. IsReadScope number first read bytes.now) }
     ensures judged { Judges result (Offence messages scope_rules bytes.now) }
+
+    // Each span takes bytes.
+    ensures spans { IfOk result (λ read. length read.scope.spans ≤ length bytes.now) }
 {
     message_rules();
     let rows = read_rows(alloc, ScopeRows::none(alloc, first), bytes)?;

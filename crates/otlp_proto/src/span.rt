@@ -1,5 +1,5 @@
 //! `Span` (OTLP trace.proto).
-ghost use Rattle.std.specs.Prelude.{◌≡◌, ℕ, List, [], IfOk, OnOk};
+ghost use Rattle.std.specs.Prelude.{◌≡◌, ◌<◌, ◌^◌, ℕ, List, [], length, IfOk, OnOk};
 ghost use Rattle.span_io.specs.Offences.{Offence, Judges, JudgesHere};
 ghost use Rattle.span_io.specs.Tables.{givens};
 ghost use Rattle.proto_wire.specs.Messages.{messages};
@@ -83,7 +83,9 @@ fn status_row(alloc: Global, row: &mut Option<Status>, held: &[u8]) -> Result<()
 impl SpanRows {
     // Nothing was read of the span of this number.
     fn none(alloc: Global, number: u32) -> SpanRows
-        ensures { GatheredSpan number result (givens span_table []) }
+        ensures nothing { GatheredSpan number result (givens span_table []) }
+        ensures no_events { result.events.events ≡ [] }
+        ensures no_links { result.links.links ≡ [] }
     {
         SpanRows {
             number,
@@ -123,6 +125,7 @@ impl SpanRows {
 }
 
 impl Rows for SpanRows {
+    ghost use Rattle.std.specs.Prelude.{[], ◌∷◌, length};
     ghost use Rattle.span_io.specs.Tables.{givens};
     ghost use Rattle.otlp_proto.specs.Span.{span_ends, span_table};
     ghost use Rattle.otlp_proto.specs.SpanSoFar.{GatheredSpan};
@@ -132,6 +135,8 @@ impl Rows for SpanRows {
     ghost ends = { span_ends };
 
     ghost gathered = { λ first rows seen. GatheredSpan first.number rows (givens span_table seen) };
+
+    ghost counts = { λ rows. length rows.events.events ∷ length rows.links.links ∷ [] };
 
     fn gather(&mut self, alloc: Global, found: &WireRecord<'_>) -> Result<(), Halt<Cause>> {
         match found.payload {
@@ -216,6 +221,7 @@ fn span_of(alloc: Global, rows: SpanRows) -> Result<ReadSpan, Halt<Cause>>
 
 /// Reads the span of this number in its group from its message.
 pub fn read_span(alloc: Global, number: u32, bytes: &[u8]) -> Result<ReadSpan, Halt<Cause>>
+    requires counted { length bytes.now < 2 ^ 32 }
     ensures value { IfOk result (λ read. IsReadSpan number read bytes.now) }
     ensures judged { Judges result (Offence messages span_rules bytes.now) }
 {

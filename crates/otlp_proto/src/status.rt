@@ -51,7 +51,7 @@ impl StatusRows {
 }
 
 impl Rows for StatusRows {
-    ghost use Rattle.std.specs.Prelude.{List};
+    ghost use Rattle.std.specs.Prelude.{[], List};
     ghost use Rattle.span_io.specs.Tables.{givens, no_ends};
     ghost use Rattle.proto_wire.specs.Records.{Record};
     ghost use Rattle.otlp_proto.specs.Status.{status_table};
@@ -62,6 +62,8 @@ impl Rows for StatusRows {
     ghost ends = { no_ends };
 
     ghost gathered = { λ first rows seen. GatheredStatus rows (givens status_table seen) };
+
+    ghost counts = { λ rows. [] };
 
     fn gather(&mut self, alloc: Global, found: &WireRecord<'_>) -> Result<(), Halt<Cause>> {
         match found.payload {

@@ -8,7 +8,7 @@ ghost use Rattle.trace_model.specs.OtlpParts.{leaf, entry};
 ghost use Rattle.otlp_proto.specs.ValuesSoFar.{GatheredList, GatheredMap, GatheredMembers, GatheredValue, GatheredKeyValue, JudgesMember, SetsLeaf, GivesRead, GivesField};
 
 use crate::noted::{ReadKeyValue, ReadValue};
-use span_io::{Blob, Cause, Halt, Items, OutOfMemory, Text, once, text_of};
+use span_io::{Bytes, Cause, Halt, Items, OutOfMemory, Text, once, text_of};
 use std::alloc::Global;
 use trace_model::{Value, attrs_of};
 
@@ -141,9 +141,7 @@ pub fn bytes_member(
     ensures judged { (left : ℕ) → JudgesMember left row.old (bytes_value held.now) result }
 {
     once(row)?;
-    let mut bytes = Blob::new(alloc);
-    bytes.append(held)?;
-    *row = Some(leaf_of(alloc, Value::Bytes(bytes)));
+    *row = Some(leaf_of(alloc, Value::Bytes(Bytes::of(alloc, held)?)));
     Ok(())
 }
 

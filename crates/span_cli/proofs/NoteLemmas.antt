@@ -4,18 +4,18 @@ use Rattle.std.proofs.lemmas.List.{append-nil, take_more}
 use Rattle.std.proofs.lemmas.List.Concat.{flat_map-append, flat_map-cons}
 use Rattle.std.specs.Borrow.{Bor}
 use Rattle.span_io.specs.Outside.{Outlet, FailsAt}
-use Rattle.span_cli.specs.Verdicts.{joined}
+use Rattle.span_cli.specs.Verdicts.{pieces_text}
 
 -- with the next piece
-pub joined_more : (pieces : List (Bor (List ℕ))) (i : ℕ) (none : Bor (List ℕ)) → i < length pieces → joined (take (i + 1) pieces) ≡ joined (take i pieces) ++ (get_or pieces i none).now
+pub joined_more : (pieces : List (Bor (List ℕ))) (i : ℕ) (none : Bor (List ℕ)) → i < length pieces → pieces_text (take (i + 1) pieces) ≡ pieces_text (take i pieces) ++ (get_or pieces i none).now
 joined_more pieces i none lt =
-    ap joined (take_more pieces i none lt)
+    ap pieces_text (take_more pieces i none lt)
     ∙ flat_map-append (λ (p : Bor (List ℕ)). p.now) (take i pieces) (get_or pieces i none ∷ [])
-    ∙ ap (λ (l : List ℕ). joined (take i pieces) ++ l) (flat_map-cons (λ (p : Bor (List ℕ)). p.now) (get_or pieces i none) [] ∙ append-nil (get_or pieces i none).now)
+    ∙ ap (λ (l : List ℕ). pieces_text (take i pieces) ++ l) (flat_map-cons (λ (p : Bor (List ℕ)). p.now) (get_or pieces i none) [] ∙ append-nil (get_or pieces i none).now)
 
 -- the first pieces, and the others
-joined_parts : (pieces : List (Bor (List ℕ))) (i : ℕ) → joined (take i pieces) ++ joined (drop i pieces) ≡ joined pieces
-joined_parts pieces i = sym (flat_map-append (λ (p : Bor (List ℕ)). p.now) (take i pieces) (drop i pieces)) ∙ ap joined (take-append-drop i pieces)
+joined_parts : (pieces : List (Bor (List ℕ))) (i : ℕ) → pieces_text (take i pieces) ++ pieces_text (drop i pieces) ≡ pieces_text pieces
+joined_parts pieces i = sym (flat_map-append (λ (p : Bor (List ℕ)). p.now) (take i pieces) (drop i pieces)) ∙ ap pieces_text (take-append-drop i pieces)
 
 fails_before : (before now : Outlet) (line more : List ℕ) → FailsAt before now line → FailsAt before now (line ++ more)
 fails_before before now line more at = record {
@@ -30,7 +30,7 @@ fails_before before now line more at = record {
 
 -- a failure within the first pieces is one within all
 pub fails_within_pieces : (before now : Outlet) (pieces : List (Bor (List ℕ))) (i : ℕ) (none : Bor (List ℕ)) → i < length pieces
-    → FailsAt before now (joined (take i pieces) ++ (get_or pieces i none).now) → FailsAt before now (joined pieces)
+    → FailsAt before now (pieces_text (take i pieces) ++ (get_or pieces i none).now) → FailsAt before now (pieces_text pieces)
 fails_within_pieces before now pieces i none lt at =
     subst (λ (l : List ℕ). FailsAt before now l) (joined_parts pieces (i + 1))
-    (fails_before before now (joined (take (i + 1) pieces)) (joined (drop (i + 1) pieces)) (subst (λ (l : List ℕ). FailsAt before now l) (sym (joined_more pieces i none lt)) at))
+    (fails_before before now (pieces_text (take (i + 1) pieces)) (pieces_text (drop (i + 1) pieces)) (subst (λ (l : List ℕ). FailsAt before now l) (sym (joined_more pieces i none lt)) at))

@@ -1,12 +1,14 @@
--- What a run says of the verdict on its input it says of the verdicts on inputs that hold the same batches.
+-- What a run says of the verdict on its input it says of the verdicts on inputs that hold the same batches, or that differ in unknown
+-- members alone.
 use Rattle.std.proofs.Common.{◌↔◌, ℕ, List, Option, Some, None, arith}
 use Rattle.span_io.specs.Limits.{AreLimits, shipped_limits}
 use Rattle.span_io.specs.Outside.{Outlet}
 use Rattle.span_io.specs.declared.form.Form.{Form}
 use Rattle.span_io.specs.declared.limits.Limits.{Limits}
 use Rattle.span_convert.specs.SameBatches.{SameBatches}
+use Rattle.span_convert.specs.SameDocuments.{AgreeingDocuments}
 use Rattle.span_convert.specs.Verdicts.{Verdict, IsVerdict, verdict_text}
-use Rattle.span_cli.specs.Verdicts.{OnVerdict, OnSameBatches, CarriesOut, AgreesWith, Writes, Notes, stage_of, line_of}
+use Rattle.span_cli.specs.Verdicts.{OnVerdict, OnSameBatches, OnAgreeingDocuments, CarriesOut, AgreesWith, Writes, Notes, stage_of, line_of}
 
 shipped_valid : AreLimits shipped_limits
 shipped_valid = record {
@@ -23,6 +25,12 @@ pub on_same_batches : ((from other to : Form) (limits : Limits) (bytes others : 
     → (from to : Form) (left : Option (List ℕ)) (P : Verdict → Type 0) → OnVerdict from to left P → OnSameBatches from to left P
 on_same_batches law from to None P h = tt
 on_same_batches law from to (Some bytes) P h = λ other others same verdict is. h verdict ((law from other to shipped_limits bytes others shipped_valid same verdict).1 is)
+
+pub on_agreeing_documents : ((from to : Form) (limits : Limits) (bytes others : List ℕ) → AgreeingDocuments limits from bytes others
+    → (verdict : Verdict) → IsVerdict from to limits bytes verdict ↔ IsVerdict from to limits others verdict)
+    → (from to : Form) (left : Option (List ℕ)) (P : Verdict → Type 0) → OnVerdict from to left P → OnAgreeingDocuments from to left P
+on_agreeing_documents law from to None P h = tt
+on_agreeing_documents law from to (Some bytes) P h = λ others agree verdict is. h verdict ((law from to shipped_limits bytes others agree verdict).1 is)
 
 -- its status, its output and its note together
 pub carried_out : (from to : Form) (left : Option (List ℕ)) (status : ℕ) (output_before output_now notes_before notes_now : Outlet)

@@ -13,6 +13,7 @@ use Rattle.trace_model.specs.Faults.{fault_number, fault_name}
 use Rattle.trace_model.specs.declared.fault.Fault.{Fault}
 use Rattle.trace_model.specs.declared.fault.Fault.TheVariants as faults
 use Rattle.span_convert.specs.SameBatches.{SameBatches}
+use Rattle.span_convert.specs.SameDocuments.{AgreeingDocuments}
 use Rattle.span_convert.specs.Verdicts.{Verdict, good, refused, faulted, IsVerdict, verdict_text}
 use Rattle.span_convert.specs.declared.target_fault.TargetFault.{TargetFault}
 use Rattle.span_cli.specs.declared.ending.Ending.{Ending}
@@ -27,6 +28,11 @@ OnVerdict from to left P = IfSome left (λ bytes. (verdict : Verdict) → IsVerd
 abbrev pub OnSameBatches : Form → Form → Option (List ℕ) → (Verdict → Type 0) → Type 0
 OnSameBatches from to left P = IfSome left (λ bytes.
     (other : Form) (others : List ℕ) → SameBatches shipped_limits from bytes other others → OnVerdict other to (Some others) P)
+
+-- The same of each verdict on other bytes that differ in members alone that the form doesn't know, if it is one in JSON.
+abbrev pub OnAgreeingDocuments : Form → Form → Option (List ℕ) → (Verdict → Type 0) → Type 0
+OnAgreeingDocuments from to left P = IfSome left (λ bytes.
+    (others : List ℕ) → AgreeingDocuments shipped_limits from bytes others → OnVerdict from to (Some others) P)
 
 -- ---- how a run ends
 
@@ -161,8 +167,8 @@ abbrev pub Notes : Outlet → Outlet → List ℕ → Type 0
 Notes before now line = Gains before now line × OutputHolds before now ⊎ FailsAt before now line
 
 -- pieces, one after the other
-abbrev pub joined : List (Bor (List ℕ)) → List ℕ
-joined pieces = flat_map (λ (piece : Bor (List ℕ)). piece.now) pieces
+abbrev pub pieces_text : List (Bor (List ℕ)) → List ℕ
+pieces_text pieces = flat_map (λ (piece : Bor (List ℕ)). piece.now) pieces
 
 -- The run that ended with this status did what the verdict asks for, as far as its stage says: its status tells it, the output
 -- gained its text, and the notes its line.

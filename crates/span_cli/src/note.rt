@@ -1,6 +1,6 @@
 //! The line that tells on the notes how a run ended.
 ghost use Rattle.std.specs.Prelude.{◌≡◌, ◌++◌, [], codes};
-ghost use Rattle.span_cli.specs.Verdicts.{Notes, ending_line, joined, noted_line, refusal_line, usage_line};
+ghost use Rattle.span_cli.specs.Verdicts.{Notes, ending_line, pieces_text, noted_line, refusal_line, usage_line};
 
 use crate::ending::Ending;
 use crate::noted_fault::NotedFault;
@@ -103,7 +103,7 @@ fn note_fault_in<'a, N: Sink>(
 
 // Notes pieces one after the other, up to the first that fails.
 fn note_pieces<N: Sink>(notes: &mut N, pieces: &[&[u8]])
-    ensures { Notes (N.outlet notes.old) (N.outlet notes.new) (joined pieces.now) }
+    ensures { Notes (N.outlet notes.old) (N.outlet notes.new) (pieces_text pieces.now) }
 {
     gains_then();
     'pieces: for piece in pieces {

@@ -5,7 +5,7 @@ ghost use Rattle.span_cli.specs.Commands.{texts, Spells, OnConversion};
 ghost use Rattle.span_convert.specs.Verdicts.{verdict_text};
 ghost use Rattle.span_cli.specs.Inputs.{ReadsInput, IsAllRead};
 ghost use Rattle.span_cli.specs.Runs.{EndsRun, WritesRead};
-ghost use Rattle.span_cli.specs.Verdicts.{OnVerdict, OnSameBatches, CarriesOut, IsRunStatus, IsJudgedAt, AgreesWith, Writes, Notes, stage_of, stage_line, line_of};
+ghost use Rattle.span_cli.specs.Verdicts.{OnVerdict, OnSameBatches, OnAgreeingDocuments, CarriesOut, IsRunStatus, IsJudgedAt, AgreesWith, Writes, Notes, stage_of, stage_line, line_of};
 ghost use Rattle.span_cli.specs.declared.command.Command.{Command};
 
 use crate::command::{Command, read_words};
@@ -13,7 +13,7 @@ use crate::ending::Ending;
 use crate::input::feed_input;
 use crate::note::{note_ending, note_usage};
 use span_convert::Converter;
-use span_convert::laws::same_batches;
+use span_convert::laws::{free_members, same_batches};
 use span_io::{Form, Limits, Sink, Source};
 use std::alloc::Global;
 
@@ -72,6 +72,10 @@ pub fn run<S: Source, K: Sink, N: Sink>(
     ensures same { OnConversion (texts words.now) (λ from to. OnSameBatches from to (S.inlet input.old).left
         (CarriesOut result (K.outlet output.old) (K.outlet output.new) (N.outlet notes.old) (N.outlet notes.new))) }
 
+    // So do the verdicts on other bytes that differ in members alone that a form in JSON doesn't know.
+    ensures free_members { OnConversion (texts words.now) (λ from to. OnAgreeingDocuments from to (S.inlet input.old).left
+        (CarriesOut result (K.outlet output.old) (K.outlet output.new) (N.outlet notes.old) (N.outlet notes.new))) }
+
     // The line of each status but 3 and 4 doesn't hang on the input. After the whole text nothing is noted.
     ensures line { result ≢ 3 → result ≢ 4 → Notes (N.outlet notes.old) (N.outlet notes.new) (stage_line (stage_of result)) }
     ensures silent { result ≡ 0 → notes.new ≡ notes.old }
@@ -85,6 +89,7 @@ pub fn run<S: Source, K: Sink, N: Sink>(
     };
     note_ending(notes, &ending);
     same_batches();
+    free_members();
     ending.status()
 }
 

@@ -1,5 +1,5 @@
 -- Each batch has one list of remarks.
-use Rattle.std.proofs.Common.{◌≡◌, ◌++◌, ◌∷◌, ℕ, List, [], map, is_some, refl, ap, sym, ◌∙◌}
+use Rattle.std.proofs.Common.{◌≡◌, ◌++◌, ◌∷◌, List, [], map, is_some, refl, sym, ◌∙◌}
 use Rattle.std.specs.List.{AllZip, zip}
 use Rattle.span_io.specs.RowLaws.{all_zip_once}
 use Rattle.jaeger_model.specs.declared.batch.Batch.{Batch}

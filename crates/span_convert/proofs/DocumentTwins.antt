@@ -11,11 +11,13 @@ use Rattle.trace_model.specs.OtlpParts.{NotedGroup}
 use Rattle.json_members.specs.ReadingLaws.{same_value}
 use Rattle.json_members.specs.Texts.{IsJsonText, document_faults}
 use Rattle.otlp_json.specs.Group.{RemarkedGroup, AreJsonGroups, json_groups_faults}
+use Rattle.otlp_json.specs.Laws.{FreeGroupMembers}
+use Rattle.zipkin_json.specs.Laws.{FreeMembers}
 use Rattle.zipkin_json.specs.Span.{AreSpans, spans_faults}
 use Rattle.zipkin_json.specs.declared.span.ZSpan.{ZSpan}
 use Rattle.span_convert.specs.Documents.{DocumentForm, IsDocument, DocumentBegins, IsTooLongDocument, OffendsInDocument, DocumentRefused}
 use Rattle.span_convert.specs.GroupFiles.{remarked_group, ReadsGroups, group_document}
-use Rattle.span_convert.specs.SameDocuments.{HoldSameDocument, SameDocuments}
+use Rattle.span_convert.specs.SameDocuments.{AgreeingDocuments, HoldSameDocument, SameDocuments}
 use Rattle.span_convert.specs.SpanFiles.{ReadsSpans, span_document}
 use Rattle.span_convert.specs.Units.{document_input}
 use Rattle.span_convert.specs.Verdicts.{Verdict, good, refused, faulted, IsVerdict, IsVerdictOn}
@@ -126,3 +128,29 @@ same_documents forms.OtlpJson to limits bytes others h verdict = same_groups lim
 same_documents forms.JaegerBinary to limits bytes others h verdict = absurd h
 same_documents forms.JaegerCompact to limits bytes others h verdict = absurd h
 same_documents forms.ZipkinJson to limits bytes others h verdict = same_spans limits bytes others h to verdict
+
+-- ---- values whose known members agree say the same
+
+pub agreeing_say_the_same : FreeGroupMembers → FreeMembers → (from : Form) (limits : Limits) (bytes others : List ℕ)
+    → AgreeingDocuments limits from bytes others → SameDocuments limits from bytes others
+agreeing_say_the_same groups spans forms.OtlpProto limits bytes others h = absurd h
+agreeing_say_the_same groups spans forms.OtlpJson limits bytes others h = record {
+  value = h.value;
+  other = h.other;
+  text = h.text;
+  other_text = h.other_text;
+  within = h.within;
+  other_within = h.other_within;
+  same = record { means = groups.means h.value h.other h.agree; offends = groups.offends h.value h.other h.agree };
+}
+agreeing_say_the_same groups spans forms.JaegerBinary limits bytes others h = absurd h
+agreeing_say_the_same groups spans forms.JaegerCompact limits bytes others h = absurd h
+agreeing_say_the_same groups spans forms.ZipkinJson limits bytes others h = record {
+  value = h.value;
+  other = h.other;
+  text = h.text;
+  other_text = h.other_text;
+  within = h.within;
+  other_within = h.other_within;
+  same = record { means = spans.means h.value h.other h.agree; offends = spans.offends h.value h.other h.agree };
+}

@@ -4,19 +4,21 @@ use Rattle.std.proofs.lemmas.List.{append-nil, map-append, length-map, take_at, 
 use Rattle.std.proofs.lemmas.List.Concat.{flat_map-append, flat_map-cons}
 use Rattle.std.proofs.lemmas.List.Elements.{All-nil, All-cons, All-append}
 use Rattle.std.proofs.KnownBytes.{Appends-nil}
+use Rattle.std.specs.Prelude.{◌==◌, if◌then◌else◌}
 use Rattle.std.specs.List.{flat_map}
 use Rattle.span_io.specs.RowLaws.{all_zip_push}
 use Rattle.span_io.specs.TableLaws.{flat_more}
 use Rattle.span_io.specs.Causes.{cause_number}
 use Rattle.span_io.specs.Frames.{Framing, BeginsFrame, ItemsThen}
 use Rattle.span_io.specs.Offences.{Least}
-use Rattle.span_io.specs.Outside.{Outlet, Sure, so_many, any_number, less, Gains, GainsFront, OutputHolds, FailsWithin, Rises, last_count}
+use Rattle.span_io.specs.Outside.{Outlet, Sure, so_many, any_number, less, Gains, OutputHolds, FailsWithin, Rises, last_count}
 use Rattle.span_io.specs.declared.cause.Cause.{Cause}
 use Rattle.span_io.specs.declared.form.Form.{Form}
 use Rattle.span_io.specs.declared.limits.Limits.{Limits}
 use Rattle.proto_wire.specs.FirstFrames.{IsFirst}
+use Rattle.proto_wire.specs.Records as wire
 use Rattle.proto_wire.specs.Records.{Record, plain_record}
-use Rattle.proto_wire.specs.Wire.{SpellsRecord, records}
+use Rattle.proto_wire.specs.Wire.{SpellsHeld, SpellsRecord, records}
 use Rattle.proto_wire.specs.declared.record.Frame.{Frame}
 use Rattle.trace_model.specs.Proper.{IsProperGroup}
 use Rattle.trace_model.specs.Soundness.{IsSoundGroup}
@@ -116,13 +118,38 @@ batch_next : (protocol : ProtocolWords) (limits : Limits) (whole rest behind : L
 batch_next protocol limits whole rest behind units more cut held =
     subst (λ (l : List (List ℕ)). HoldsBatches protocol limits whole (units ++ l) behind) (sym cut.holds) (items_push (batches protocol) limits.unit units cut.frame behind rest (take limits.binary whole) cut.whole cut.within cut.parts held)
 
+-- how long the first of some units is
+abbrev first_size : List (List ℕ) → ℕ
+first_size [] = 0
+first_size (unit ∷ units) = length unit
+
+-- a unit is shorter than the record that holds it
+held_shorter : (number : ℕ) (held : wire.Held) (payload unit : List ℕ) → SpellsHeld payload held → unit ∷ [] ≡ bytes_in 1 (record { number = number; held = held }) → length unit ≤ length payload
+held_shorter number (wire.bytes held) payload unit (size, spelled, parts) is = chosen (number == 1) is
+  where
+    chosen : (b : Bool) → unit ∷ [] ≡ (if b then held ∷ [] else []) → length unit ≤ length payload
+    chosen true e = let same : length unit ≡ length held = ap first_size e in omega (arith, same, ap length parts, length-append size held)
+    chosen false e = let never : 1 ≡ 0 = ap length e in omega (arith, never)
+held_shorter number (wire.varint n) payload unit spelled is = let never : 1 ≡ 0 = ap length is in omega (arith, never)
+held_shorter number (wire.fixed64 n) payload unit spelled is = let never : 1 ≡ 0 = ap length is in omega (arith, never)
+held_shorter number (wire.fixed32 n) payload unit spelled is = let never : 1 ≡ 0 = ap length is in omega (arith, never)
+
+request_within : (limit : ℕ) (rest behind unit : List ℕ) → Cuts records HoldsUnit limit rest (unit ∷ []) behind → length unit ≤ limit
+request_within limit rest behind unit cut =
+    let spelled = cut.holds.spelled in
+    let shorter : length unit ≤ length spelled.payload = held_shorter cut.holds.this.number cut.holds.this.held spelled.payload unit spelled.payload_spelled cut.holds.holds in
+    omega (arith, shorter, ap length spelled.parts, length-append spelled.key spelled.payload, cut.within)
+
+batch_within : (protocol : ProtocolWords) (limit : ℕ) (rest behind unit : List ℕ) → Cuts (batches protocol) IsOwnUnit limit rest (unit ∷ []) behind → length unit ≤ limit
+batch_within protocol limit rest behind unit cut = let same : length unit ≡ length cut.frame = ap first_size cut.holds in omega (arith, same, cut.within)
+
 pub request_frames : HeldByFrames request_form
 unfolding ItemsThen AreRequestUnits
-request_frames = record { none = λ limits whole looked front. record { frames = []; framed = front; are_units = refl }; next = request_next }
+request_frames = record { none = λ limits whole looked front. record { frames = []; framed = front; are_units = refl }; next = request_next; within = request_within }
 
 pub batch_frames : (protocol : ProtocolWords) → HeldByFrames (batch_form protocol)
 unfolding ItemsThen
-batch_frames protocol = record { none = λ limits whole looked front. front; next = batch_next protocol }
+batch_frames protocol = record { none = λ limits whole looked front. front; next = batch_next protocol; within = batch_within protocol }
 
 -- ---- what was converted so far
 

@@ -1,7 +1,6 @@
 -- A file of OTLP/JSON: an object with groups in an array. Its units are these groups.
 use Rattle.std.specs.Prelude.{ℕ, List, codes, map}
 use Rattle.trace_model.specs.OtlpParts.{NotedGroup}
-use Rattle.trace_model.specs.declared.trace.Group.{Group}
 use Rattle.otlp_json.specs.Canonical.{json_group_text}
 use Rattle.otlp_json.specs.Group.{RemarkedGroup}
 use Rattle.otlp_json.specs.Texts.{AreGroupsText, groups_document_faults}

@@ -1,12 +1,16 @@
--- When two inputs of one form in JSON are texts of values that say the same: what becomes of the one becomes of the other.
+-- When two inputs of one form in JSON are texts of values that say the same: what becomes of the one becomes of the other. So it is where
+-- they differ in no member that the form knows.
 use Rattle.std.specs.Prelude.{◌↔◌, ℕ, ◌≤◌, List, length}
 use Rattle.serde_json.specs.Data.{Data}
 use Rattle.span_io.specs.Paths.{Faults}
 use Rattle.span_io.specs.declared.form.Form.{Form}
 use Rattle.span_io.specs.declared.form.Form.TheVariants as forms
 use Rattle.span_io.specs.declared.limits.Limits.{Limits}
+use Rattle.json_members.specs.Agreement.{Agreement}
 use Rattle.json_members.specs.Texts.{IsJsonText}
 use Rattle.otlp_json.specs.Group.{AreJsonGroups, json_groups_faults}
+use Rattle.otlp_json.specs.Known.{groups_agree}
+use Rattle.zipkin_json.specs.Known.{spans_agree}
 use Rattle.zipkin_json.specs.Span.{AreSpans, spans_faults}
 
 -- the two values mean the same, and the same offends in them
@@ -31,3 +35,21 @@ SameDocuments limits forms.OtlpJson bytes others = HoldSameDocument AreJsonGroup
 SameDocuments limits forms.JaegerBinary bytes others = ⊥
 SameDocuments limits forms.JaegerCompact bytes others = ⊥
 SameDocuments limits forms.ZipkinJson bytes others = HoldSameDocument AreSpans spans_faults limits bytes others
+
+-- the bytes are texts of two values which agree so, each within the limit
+pub record HoldAgreeingValues (Agree : Agreement) (limits : Limits) (bytes others : List ℕ) : Type 0 where
+  pub value : Data
+  pub other : Data
+  pub text : IsJsonText value bytes
+  pub other_text : IsJsonText other others
+  pub within : length bytes ≤ limits.json
+  pub other_within : length others ≤ limits.json
+  pub agree : Agree value other
+
+-- The form is one in JSON, and the two texts have the same members of those that it knows, at every depth.
+abbrev pub AgreeingDocuments : Limits → Form → List ℕ → List ℕ → Type 0
+AgreeingDocuments limits forms.OtlpProto bytes others = ⊥
+AgreeingDocuments limits forms.OtlpJson bytes others = HoldAgreeingValues groups_agree limits bytes others
+AgreeingDocuments limits forms.JaegerBinary bytes others = ⊥
+AgreeingDocuments limits forms.JaegerCompact bytes others = ⊥
+AgreeingDocuments limits forms.ZipkinJson bytes others = HoldAgreeingValues spans_agree limits bytes others

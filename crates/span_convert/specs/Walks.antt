@@ -44,13 +44,14 @@ lent_bytes (Some held) = held.now ∷ []
 abbrev pub CutsFrame : FramedForm → ℕ → List ℕ → List (List ℕ) → List ℕ → Type 0
 CutsFrame from limit rest units behind = Cuts from.frames from.FrameHolds limit rest units behind
 
--- An input begins with no unit, and behind a frame its units are held as well.
+-- An input begins with no unit, and behind a frame its units are held as well. A unit is no longer than its frame.
 pub record HeldByFrames (from : FramedForm) : Type 0 where
   pub none : (limits : Limits) (whole looked : List ℕ) → take limits.binary whole ≡ looked
       → from.HoldsUnits limits whole [] looked
   pub next : (limits : Limits) (whole rest behind : List ℕ) (units more : List (List ℕ))
       → CutsFrame from limits.unit rest more behind → from.HoldsUnits limits whole units rest
       → from.HoldsUnits limits whole (units ++ more) behind
+  pub within : (limit : ℕ) (rest behind unit : List ℕ) → CutsFrame from limit rest (unit ∷ []) behind → length unit ≤ limit
 
 -- why no frame begins at a rest behind which the input has other bytes, or hasn't
 abbrev pub StopsFrames : FramedForm → ℕ → Bool → List ℕ → Cause → Type 0

@@ -6,13 +6,14 @@ ghost use Rattle.span_io.specs.declared.form.Form.{Form};
 ghost use Rattle.span_convert.specs.Canonical.{ReadsBack};
 ghost use Rattle.span_convert.specs.CutBatches.{EndsInBatch, IfJaeger};
 ghost use Rattle.span_convert.specs.SameBatches.{SameBatches};
-ghost use Rattle.span_convert.specs.SameDocuments.{SameDocuments};
+ghost use Rattle.span_convert.specs.SameDocuments.{AgreeingDocuments, SameDocuments};
 ghost use Rattle.span_convert.specs.Verdicts.{Verdict, IsVerdict, Answers};
 ghost use Rattle.span_convert.specs.Walks.{IsLookedAt};
 
 use crate::bad::Bad;
 use crate::laws::{
-    cut_batches, one_verdict, output_read_back, same_batches, same_documents, some_verdict,
+    cut_batches, free_members, one_verdict, output_read_back, same_batches, same_documents,
+    some_verdict,
 };
 use crate::progress::WalkStop;
 use crate::units::input_limit;
@@ -90,6 +91,10 @@ pub fn convert_all(
     ensures same_document { (others : List ℕ) → SameDocuments limits.now from bytes.now others
         → (verdict : Verdict) → IsVerdict from to limits.now others verdict → Answers verdict result }
 
+    // So is one that differs in members alone that the form doesn't know, at whatever depth.
+    ensures free_members { (others : List ℕ) → AgreeingDocuments limits.now from bytes.now others
+        → (verdict : Verdict) → IsVerdict from to limits.now others verdict → Answers verdict result }
+
     // Where an input of Jaeger ends too early, more bytes make its last batch whole.
     ensures cut { (unit : ℕ) → result ≡ Err (Bad.Refused (record { unit = unit; cause = causes.Truncated }))
         → IfJaeger from (λ protocol. EndsInBatch protocol limits.now bytes.now unit) }
@@ -103,6 +108,7 @@ pub fn convert_all(
     output_read_back();
     same_batches();
     same_documents();
+    free_members();
     cut_batches();
     let (looked, too_long) = looked_at(bytes, input_limit(from, limits));
     let mut out = GrowingSink {

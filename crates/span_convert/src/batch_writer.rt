@@ -13,7 +13,7 @@ ghost use Rattle.trace_model.specs.Soundness.{IsSoundGroup};
 use crate::batch_file::{BinaryBatches, CompactBatches};
 use crate::tally::Tally;
 use crate::units::UnitWriter;
-use jaeger_model::{Batch, has_sizes, write_batch};
+use jaeger_model::{Batch, proper_sizes, write_batch};
 use map_jaeger::batch_of_group;
 use map_jaeger::laws::normal_forms;
 use span_io::{Blob, Halt, OutOfMemory};
@@ -23,18 +23,15 @@ use thrift_compact::Compact;
 use thrift_core::Protocol;
 use trace_model::{Fault, Group, proper_group};
 
-// The batch of a group. Memory is wanted where a text or list is longer than Thrift can tell.
+// The batch of a group.
 fn writable_batch(alloc: Global, group: Group) -> Result<Batch, Halt<Fault>>
     requires sound { IsSoundGroup group }
     ensures value { IfOk result (λ batch. (batch ≡ batch_of group) × IsWritable batch × HasNoFault group) }
     ensures why { IfWhy result (λ fault. IsFaultOf group (Some fault)) }
 {
     let batch = batch_of_group(alloc, group)?;
-    if has_sizes(&batch) {
-        Ok(batch)
-    } else {
-        Err(Halt::OutOfMemory)
-    }
+    proper_sizes(&batch);
+    Ok(batch)
 }
 
 // Appends the batch of a group, or answers the fault in it, and leaves `out` as it was.

@@ -1,8 +1,8 @@
 //! Conversion of an input that comes in pieces.
-ghost use Rattle.std.specs.Prelude.{◌≡◌, ◌≢◌, ◌++◌, [], ℕ, List, length, ◌≤◌, ◌<◌, true, Err, None, OnOk, OnErr, IsErr};
+ghost use Rattle.std.specs.Prelude.{◌≡◌, ◌≢◌, ◌+◌, ◌++◌, [], ℕ, List, length, ◌≤◌, ◌<◌, true, Err, None, OnOk, OnErr, IsErr};
 ghost use Rattle.span_io.specs.Limits.{AreLimits};
 ghost use Rattle.span_io.specs.Outside.{OutputFails, OutputHolds};
-ghost use Rattle.span_convert.specs.Converters.{HasForms, IsVerdictBy, IsJudgedBy, WritesFrontBy, Fed, KeepsWhy, SameStop, KeepsStop, OnlyWants, Stopped, IsWhy, limit_of, stop_in, is_ended};
+ghost use Rattle.span_convert.specs.Units as told;
 ghost use Rattle.span_convert.specs.Verdicts.{Verdict, Carries, Stops};
 ghost use Rattle.span_convert.specs.Walks.{IsLookedAt};
 ghost use Rattle.span_convert.specs.declared.converter.State.TheVariants as states;
@@ -32,6 +32,8 @@ enum State {
 }
 
 impl State {
+    ghost use Rattle.span_convert.specs.Converters.{stop_in};
+
     // The stop that was answered, if one was.
     fn stop(&self) -> Option<Stop>
         ensures { result ≡ stop_in self.now }
@@ -56,9 +58,13 @@ pub struct Converter {
     limits: Limits,
     held: Blob,
     state: State,
+    ghost valid: { AreLimits limits },
+    ghost within: { length held ≤ told.input_limit from limits },
 }
 
 impl Converter {
+    ghost use Rattle.span_convert.specs.Converters.{HasForms, IsVerdictBy, IsJudgedBy, WritesFrontBy, Fed, KeepsWhy, SameStop, KeepsStop, OnlyWants, Stopped, IsWhy, limit_of, stop_in, is_ended};
+
     /// A converter that was fed nothing.
     pub fn new(alloc: Global, from: Form, to: Form, limits: &Limits) -> Converter
         requires limits { AreLimits limits.now }
@@ -78,6 +84,7 @@ impl Converter {
 
     // Adds bytes to those that are held.
     fn hold(&mut self, piece: &[u8]) -> Result<(), Stop>
+        requires within { length self.old.held + length piece.now ≤ limit_of self.old }
         ensures forms { HasForms self.new self.old.from self.old.to }
         ensures limits { self.new.limits ≡ self.old.limits }
         ensures ok { OnOk result ((self.new.held ≡ self.old.held ++ piece.now) × (self.new.state ≡ self.old.state)) }
@@ -147,6 +154,7 @@ impl Converter {
     // Takes the last bytes that are looked at of an input that has others, and writes what it comes
     // to.
     fn refuse_longer<K: Sink>(&mut self, piece: &[u8], out: &mut K) -> Result<(), Stop>
+        requires within { length self.old.held + length piece.now ≤ limit_of self.old }
         ensures stays { KeepsStop result self.new.state }
         ensures forms { HasForms self.new self.old.from self.old.to }
         ensures limits { self.new.limits ≡ self.old.limits }

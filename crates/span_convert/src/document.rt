@@ -1,5 +1,5 @@
 //! The walk over a document, which is read whole. Its groups are its units.
-ghost use Rattle.std.specs.Prelude.{◌≡◌, ◌≢◌, ℕ, List, true, map, All, IfOk, IfErr, IsErr, Err};
+ghost use Rattle.std.specs.Prelude.{◌≡◌, ◌≢◌, ◌<◌, ◌^◌, ℕ, List, length, true, map, All, IfOk, IfErr, IsErr, Err};
 ghost use Rattle.span_io.specs.Outside.{Outlet, OutputFails, OutputHolds};
 ghost use Rattle.span_io.specs.declared.form.Form.{Form};
 ghost use Rattle.span_io.specs.declared.limits.Limits.{Limits};
@@ -29,6 +29,7 @@ fn units_in<R: DocumentReader>(
     bytes: &[u8],
     too_long: bool,
 ) -> Result<Items<(Group, Items<Remark>)>, WalkStop>
+    requires counted { length bytes.now < 2 ^ 32 }
     ensures whole { IfOk result (λ units. (limits : Limits) (whole : List ℕ) → IsLookedAt limits.json whole bytes.now too_long
         → IsDocument R.form limits whole (map noted_group units)) }
     ensures sound { IfOk result (All (λ unit. IsSoundGroup unit.0)) }
@@ -78,6 +79,7 @@ fn walk_document<R: DocumentReader, W: UnitWriter, K: Sink>(
     too_long: bool,
     out: &mut K,
 ) -> Result<Tally, WalkStop>
+    requires counted { length bytes.now < 2 ^ 32 }
     ensures walk { (limits : Limits) (whole : List ℕ) → IsLookedAt limits.json whole bytes.now too_long
         → EndsWalk (document_input R.form) W.form limits whole result (K.outlet out.old) (K.outlet out.new) }
     ensures fails { result ≡ Err WalkStop.Write → OutputFails (K.outlet out.old) (K.outlet out.new) }
@@ -96,6 +98,7 @@ pub(crate) fn write_document_to<R: DocumentReader, K: Sink>(
     too_long: bool,
     out: &mut K,
 ) -> Result<Tally, WalkStop>
+    requires counted { length bytes.now < 2 ^ 32 }
     ensures walk { (limits : Limits) (whole : List ℕ) → IsLookedAt limits.json whole bytes.now too_long
         → EndsWalk (document_input R.form) to limits whole result (K.outlet out.old) (K.outlet out.new) }
     ensures fails { result ≡ Err WalkStop.Write → OutputFails (K.outlet out.old) (K.outlet out.new) }

@@ -12,7 +12,7 @@ ghost use Rattle.span_convert.specs.BatchFiles.{words};
 ghost use Rattle.span_convert.specs.CutBatches.{EndsInBatch, IfJaeger};
 ghost use Rattle.span_convert.specs.InputLaws.{BatchLaws, GroupFileLaws, InputLaws, SpanFileLaws, TextLaws, TreeLaws};
 ghost use Rattle.span_convert.specs.SameBatches.{SameBatches};
-ghost use Rattle.span_convert.specs.SameDocuments.{SameDocuments};
+ghost use Rattle.span_convert.specs.SameDocuments.{AgreeingDocuments, SameDocuments};
 ghost use Rattle.span_convert.specs.Units.{groups_in, input_form, IsSizedGroup, normal_form, canonical_text, partial_text, closing_text, span_count};
 ghost use Rattle.span_convert.specs.Verdicts.{Verdict, refused, IsFaultless, IsVerdict, IsGood, IsTextSoFar, WritesFront, verdict_text};
 
@@ -124,6 +124,18 @@ pub fn same_documents()
         → IsVerdict from to limits bytes verdict ↔ IsVerdict from to limits others verdict }
 {
     // The clause is the law.
+}
+
+/// Members that a form in JSON doesn't know change nothing: two inputs whose values have the same of all
+/// others, at every depth, have the same verdicts.
+pub fn free_members()
+    ensures { (from to : Form) (limits : Limits) (bytes others : List ℕ)
+        → AgreeingDocuments limits from bytes others → (verdict : Verdict)
+        → IsVerdict from to limits bytes verdict ↔ IsVerdict from to limits others verdict }
+{
+    same_documents();
+    otlp_json::laws::free_members();
+    zipkin_json::laws::free_members();
 }
 
 /// An input of Jaeger that is refused because it ends too early ends inside a batch, which more bytes make

@@ -1,5 +1,5 @@
 //! What the walk over an input asks of its form, and of the form of its target.
-ghost use Rattle.std.specs.Prelude.{◌≡◌, ◌<◌, ◌++◌, false, if◌then◌else◌, [], length, map, All, IfOk, IfErr, IfSome, OnOk, MatchOption};
+ghost use Rattle.std.specs.Prelude.{◌≡◌, ◌<◌, ◌^◌, ◌++◌, false, if◌then◌else◌, [], length, map, All, IfOk, IfErr, IfSome, OnOk, MatchOption};
 ghost use Rattle.span_io.specs.Causes.{cause_number};
 ghost use Rattle.span_io.specs.Offences.{Least};
 ghost use Rattle.span_io.specs.Paths.{RefusesInput};
@@ -38,7 +38,7 @@ pub(crate) struct Cut<'a> {
 pub(crate) trait UnitReader {
     ghost form: { FramedForm };
 
-    /// The units of an input are those that its frames hold.
+    /// The units of an input are those that its frames hold, and none is longer than its frame.
     fn held_by_frames()
         ensures { HeldByFrames form };
 
@@ -58,6 +58,7 @@ pub(crate) trait UnitReader {
     /// The group that a unit is a text of, with the remarks on it, or the least offence in the unit.
     fn read(alloc: Global, unit: &[u8]) -> Result<(Group, Items<Remark>), Halt<Cause>>
         requires framed { form.Tells unit.now }
+        requires counted { length unit.now < 2 ^ 32 }
         ensures value { IfOk result (λ read. form.IsUnit unit.now (noted_group read)) }
         ensures sound { IfOk result (λ read. IsSoundGroup read.0) }
         ensures why { IfWhy result (λ cause. Least (form.Offends unit.now) (cause_number cause)) };
@@ -70,6 +71,7 @@ pub(crate) trait DocumentReader {
     /// The groups that the bytes are a text of, with the remarks on each, or the least offence in
     /// the bytes.
     fn read(alloc: Global, bytes: &[u8]) -> Result<Items<(Group, Items<Remark>)>, Halt<Refusal>>
+        requires counted { length bytes.now < 2 ^ 32 }
         ensures value { IfOk result (λ read. form.Reads bytes.now (map noted_group read)) }
         ensures sound { IfOk result (All (λ unit. IsSoundGroup unit.0)) }
         ensures why { IfWhy result (λ refusal. RefusesInput (form.Offends bytes.now) refusal) };

@@ -1,5 +1,6 @@
 //! The walk over the units of an input, which writes the text of each.
-ghost use Rattle.std.specs.Prelude.{◌≡◌, ◌≢◌, ◌≤◌, ◌+◌, ◌<◌, ◌++◌, ◌∷◌, [], ℕ, List, true, OnOk, IfErr, IfSome, IsErr, Err};
+ghost use Rattle.std.specs.Prelude.{◌≡◌, ◌≢◌, ◌≤◌, ◌+◌, ◌<◌, ◌^◌, ◌++◌, ◌∷◌, [], ℕ, List, length, true, OnOk, IfErr, IfSome, IsErr, Err};
+ghost use Rattle.span_io.specs.Limits.{AreLimits};
 ghost use Rattle.span_io.specs.Outside.{Outlet, OutputFails, OutputHolds, last_count};
 ghost use Rattle.span_io.specs.declared.form.Form.{Form};
 ghost use Rattle.span_io.specs.declared.limits.Limits.{Limits};
@@ -112,6 +113,7 @@ fn convert_frame<R: UnitReader, W: UnitWriter, K: Sink>(
 ) -> Result<(), WalkStop>
     requires room { progress.old.tally.units < last_count }
     requires framed { IfSome cut.now.unit (λ unit. R.form.Tells unit.now) }
+    requires counted { IfSome cut.now.unit (λ unit. length unit.now < 2 ^ 32) }
     ensures ok { OnOk result ((limits : Limits) (whole rest : List ℕ) (before : Outlet)
         → CutsFrame R.form limits.unit rest (lent_bytes cut.now.unit) cut.now.behind.now
         → WalkedUnits R.form W.form limits whole rest before (K.outlet out.old) progress.old
@@ -144,6 +146,7 @@ fn walk_units<R: UnitReader, W: UnitWriter, K: Sink>(
     limits: &Limits,
     out: &mut K,
 ) -> Result<Tally, WalkStop>
+    requires limits { AreLimits limits.now }
     ensures walk { (whole : List ℕ) → IsLookedAt limits.now.binary whole bytes.now too_long
         → EndsWalk (framed_input R.form) W.form limits.now whole result (K.outlet out.old) (K.outlet out.new) }
     ensures fails { result ≡ Err WalkStop.Write → OutputFails (K.outlet out.old) (K.outlet out.new) }
@@ -175,6 +178,7 @@ fn write_to<R: UnitReader, K: Sink>(
     limits: &Limits,
     out: &mut K,
 ) -> Result<Tally, WalkStop>
+    requires limits { AreLimits limits.now }
     ensures walk { (whole : List ℕ) → IsLookedAt limits.now.binary whole bytes.now too_long
         → EndsWalk (framed_input R.form) to limits.now whole result (K.outlet out.old) (K.outlet out.new) }
     ensures fails { result ≡ Err WalkStop.Write → OutputFails (K.outlet out.old) (K.outlet out.new) }
@@ -204,6 +208,8 @@ pub(crate) fn write_units<K: Sink>(
     limits: &Limits,
     out: &mut K,
 ) -> Result<Tally, WalkStop>
+    requires limits { AreLimits limits.now }
+    requires within { length bytes.now ≤ input_limit from limits.now }
     ensures walk { (whole : List ℕ) → IsLookedAt (input_limit from limits.now) whole bytes.now too_long
         → EndsWalk (input_form from) to limits.now whole result (K.outlet out.old) (K.outlet out.new) }
     ensures fails { result ≡ Err WalkStop.Write → OutputFails (K.outlet out.old) (K.outlet out.new) }

@@ -22,6 +22,7 @@ pub mod Paths
 pub mod RowLaws
 pub mod RowsSoFar
 pub mod ShortestVarints
+pub mod Sizes
 pub mod Steps
 pub mod TableDecisions
 pub mod TableLaws

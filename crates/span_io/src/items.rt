@@ -1,11 +1,16 @@
 ghost use Rattle.std.specs.Prelude.{◌≡◌, [], ◌∷◌, ◌++◌, length, IfOk, OnOk, OnErr};
 ghost use Rattle.span_io.specs.Clones.{ClonesEqual};
+ghost use Rattle.span_io.specs.Sizes.{IsShort};
 
 use crate::halt::OutOfMemory;
 use std::alloc::Global;
 use std::marker::Model;
 
-/// A growing list, which contracts see as the list of its elements.
+/// The most elements of a list, and the most bytes of a text: what 31 bits tell, as the sizes of Thrift
+/// do (i32). What grows beyond wants memory.
+pub const LONGEST: usize = 2_147_483_647;
+
+/// A growing list, which contracts see as the list of its elements. It has at most `LONGEST`.
 #[derive(Debug, Drop)]
 pub struct Items<T> {
     items: Vec<T>,
@@ -14,12 +19,15 @@ pub struct Items<T> {
 impl<T> Model for Items<T> {
     ghost use Rattle.std.specs.Prelude.{List};
     ghost use Rattle.std.specs.Coded.{coded_list};
+    ghost use Rattle.span_io.specs.Sizes.{IsShort};
 
     ghost Value = { List T };
 
     ghost coded = { coded_list T.code };
 
     ghost view = { λ i. i.items.items };
+
+    ghost invariant = { λ i. IsShort i.items.items };
 }
 
 impl<T> Items<T> {
@@ -42,13 +50,15 @@ impl<T> Items<T> {
 
     /// The elements of a vector, with its room.
     pub fn from_vec(items: Vec<T>) -> Items<T>
+        requires { IsShort items.items }
         ensures { result ≡ items.items }
     {
         Items { items }
     }
 
     pub fn len(&self) -> usize
-        ensures { result ≡ length self.now }
+        ensures count { result ≡ length self.now }
+        ensures short { IsShort self.now }
     {
         self.items.len()
     }
@@ -61,7 +71,8 @@ impl<T> Items<T> {
 
     /// The elements, in the vector that holds them.
     pub fn into_vec(self) -> Vec<T>
-        ensures { result.items ≡ self }
+        ensures items { result.items ≡ self }
+        ensures short { IsShort self }
     {
         self.items
     }
@@ -84,6 +95,9 @@ impl<T: Drop> Items<T> {
         ensures ok { OnOk result (self.new ≡ self.old ++ item ∷ []) }
         ensures err { OnErr result (self.new ≡ self.old) }
     {
+        if self.items.len() >= LONGEST {
+            return Err(OutOfMemory);
+        }
         self.items.push(item)?;
         Ok(())
     }

@@ -3,6 +3,7 @@
 #![tactic(auto)]
 
 mod blob;
+mod bytes;
 mod cause;
 mod count_sink;
 mod course;
@@ -25,13 +26,14 @@ mod varint;
 mod writer_sink;
 
 pub use blob::Blob;
+pub use bytes::Bytes;
 pub use cause::Cause;
 pub use count_sink::CountSink;
 pub use course::{ReadCourse, WriteCourse};
 pub use cursor::{Cursor, Lack, Short};
 pub use form::Form;
 pub use halt::{Halt, OutOfMemory};
-pub use items::Items;
+pub use items::{Items, LONGEST};
 pub use limits::Limits;
 pub use mem_sink::MemSink;
 pub use mem_source::MemSource;

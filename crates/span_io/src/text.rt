@@ -1,6 +1,8 @@
 ghost use Rattle.std.specs.Prelude.{◌≡◌, [], ◌++◌, length, IfOk, OnOk, OnErr, IsUtf8, string_bytes};
+ghost use Rattle.span_io.specs.Sizes.{IsShort};
 
 use crate::halt::OutOfMemory;
+use crate::items::LONGEST;
 use arrayvec::ArrayString;
 use std::alloc::Global;
 use std::marker::Model;
@@ -16,8 +18,8 @@ enum Kept {
     Long(String),
 }
 
-/// A growing text in UTF-8, which contracts see as the list of its bytes. Most names, keys and values
-/// of attributes are short: they are kept in the value itself.
+/// A growing text in UTF-8 of at most `LONGEST` bytes, which contracts see as the list of its bytes.
+/// Most names, keys and values of attributes are short: they are kept in the value itself.
 #[derive(Debug, Drop)]
 pub struct Text {
     kept: Kept,
@@ -26,6 +28,7 @@ pub struct Text {
 impl Model for Text {
     ghost use Rattle.std.specs.Prelude.{ℕ, List};
     ghost use Rattle.std.specs.Coded.{coded_ℕ, coded_list};
+    ghost use Rattle.span_io.specs.Sizes.{IsShort};
     ghost use Rattle.span_io.specs.Texts.{kept_bytes};
 
     ghost Value = { List ℕ };
@@ -33,6 +36,8 @@ impl Model for Text {
     ghost coded = { coded_list coded_ℕ };
 
     ghost view = { λ t. kept_bytes t.kept };
+
+    ghost invariant = { λ t. IsShort (kept_bytes t.kept) };
 }
 
 // Two texts, one behind the other, in memory of their own.
@@ -58,6 +63,9 @@ impl Text {
     pub fn of(alloc: Global, piece: &str) -> Result<Text, OutOfMemory>
         ensures { IfOk result (λ text. text ≡ piece.now) }
     {
+        if piece.len() > LONGEST {
+            return Err(OutOfMemory);
+        }
         let kept = match ArrayString::from(piece) {
             Ok(text) => Kept::Short(text, alloc),
             Err(_) => Kept::Long(String::from_str(alloc, piece)?),
@@ -66,18 +74,24 @@ impl Text {
     }
 
     /// The text of a string, which is taken over.
-    pub fn from_string(text: String) -> Text
-        ensures { result ≡ string_bytes text }
+    pub fn from_string(text: String) -> Result<Text, OutOfMemory>
+        ensures { IfOk result (λ held. held ≡ string_bytes text) }
     {
-        Text {
-            kept: Kept::Long(text),
+        if text.len() > LONGEST {
+            return Err(OutOfMemory);
         }
+        Ok(Text {
+            kept: Kept::Long(text),
+        })
     }
 
     /// The number of bytes.
     pub fn len(&self) -> usize
-        ensures { result ≡ length self.now }
+        ensures count { result ≡ length self.now }
+        ensures short { IsShort self.now }
     {
+        // its invariant is known where a field is used
+        let _ = &self.kept;
         self.as_str().len()
     }
 
@@ -106,6 +120,9 @@ impl Text {
         ensures ok { OnOk result (self.new ≡ self.old ++ piece.now) }
         ensures err { OnErr result (self.new ≡ self.old) }
     {
+        if piece.len() > LONGEST - self.len() {
+            return Err(OutOfMemory);
+        }
         let long = match &mut self.kept {
             Kept::Long(text) => {
                 text.push_str(piece)?;

@@ -4,7 +4,7 @@ ghost use Rattle.jaeger_model.specs.Batches.{IsBatchText};
 ghost use Rattle.thrift_binary.specs.Spelling.{binary_spells};
 
 use jaeger_model::laws::reads_times;
-use jaeger_model::{Batch, SpanRef, TagValue, has_sizes, read_batch, write_batch};
+use jaeger_model::{Batch, SpanRef, TagValue, proper_sizes, read_batch, write_batch};
 use span_ids::{SpanId, TraceId};
 use span_io::{Blob, Cause, Halt, OutOfMemory, Step};
 use std::alloc::Global;
@@ -47,9 +47,7 @@ fn read_text(alloc: Global, bytes: &[u8]) -> Result<Batch, Halt<Cause>>
 // Reads a batch, and writes it.
 fn written(alloc: Global, bytes: &[u8]) -> Result<Blob, Halt<Cause>> {
     let batch = read_text(alloc, bytes)?;
-    if !has_sizes(&batch) {
-        return Err(Halt::Why(Cause::BadSize));
-    }
+    proper_sizes(&batch);
     reads_times::<Binary>();
     let mut out = Blob::new(alloc);
     write_batch::<Binary>(&mut out, &batch)?;
@@ -253,20 +251,23 @@ fn first_cause_counts(rt: HostRuntime) -> Result<(), Fail> {
     Ok(())
 }
 
+// The field of the references of a span, of which two of four point to no span.
+const REFERENCES: &[u8] =
+    b"\x0f\0\x06\x0c\0\0\0\x04\x08\0\x01\0\0\0\x01\x0a\0\x02\0\0\0\0\0\0\0\0\x0a\0\x03\xff\
+\xff\xff\xff\xff\xff\xff\xff\x0a\0\x04\xff\xff\xff\xff\xff\xff\xff\xfe\0\x08\0\x01\0\
+\0\0\0\x0a\0\x02\0\0\0\0\0\0\0\0\x0a\0\x03\0\0\0\0\0\0\0\0\x0a\0\x04\0\0\0\0\0\0\0\
+\x03\0\x08\0\x01\0\0\0\0\x0a\0\x02\0\0\0\0\0\0\0\x01\x0a\0\x03\0\0\0\0\0\0\0\0\x0a\0\
+\x04\0\0\0\0\0\0\0\0\0\x0a\0\x04\0\0\0\0\0\0\0\x03\x0a\0\x03\0\0\0\0\0\0\0\0\x0a\0\
+\x02\0\0\0\0\0\0\0\x01\x08\0\x01\0\0\0\0\0";
+
+// The field of the logs of a span.
+const LOGS: &[u8] =
+    b"\x0f\0\x0b\x0c\0\0\0\x01\x0f\0\x02\x0c\0\0\0\x01\x0b\0\x01\0\0\0\x01k\x08\0\x02\0\0\
+\0\x03\x0a\0\x06\0\0\0\0\0\0\0\x05\0\x0a\0\x01\0A\x897K\xc6\xa7\xef\0";
+
 #[test]
 fn reads_each_part(rt: HostRuntime) -> Result<(), Fail> {
-    // Of the four references two point to no span.
-    let references: &[u8] =
-        b"\x0f\0\x06\x0c\0\0\0\x04\x08\0\x01\0\0\0\x01\x0a\0\x02\0\0\0\0\0\0\0\0\x0a\0\x03\xff\
-    \xff\xff\xff\xff\xff\xff\xff\x0a\0\x04\xff\xff\xff\xff\xff\xff\xff\xfe\0\x08\0\x01\0\
-    \0\0\0\x0a\0\x02\0\0\0\0\0\0\0\0\x0a\0\x03\0\0\0\0\0\0\0\0\x0a\0\x04\0\0\0\0\0\0\0\
-    \x03\0\x08\0\x01\0\0\0\0\x0a\0\x02\0\0\0\0\0\0\0\x01\x0a\0\x03\0\0\0\0\0\0\0\0\x0a\0\
-    \x04\0\0\0\0\0\0\0\0\0\x0a\0\x04\0\0\0\0\0\0\0\x03\x0a\0\x03\0\0\0\0\0\0\0\0\x0a\0\
-    \x02\0\0\0\0\0\0\0\x01\x08\0\x01\0\0\0\0\0";
-    let log: &[u8] =
-        b"\x0f\0\x0b\x0c\0\0\0\x01\x0f\0\x02\x0c\0\0\0\x01\x0b\0\x01\0\0\0\x01k\x08\0\x02\0\0\
-    \0\x03\x0a\0\x06\0\0\0\0\0\0\0\x05\0\x0a\0\x01\0A\x897K\xc6\xa7\xef\0";
-    let text = with_span(rt.alloc(), &[references, SPAN, log])?;
+    let text = with_span(rt.alloc(), &[REFERENCES, SPAN, LOGS])?;
     let batch = read_text(rt.alloc(), text.as_slice())?;
     assert_eq!(rt;
         (batch.service.as_str(), batch.tags.len(), batch.spans.len()),

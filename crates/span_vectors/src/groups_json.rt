@@ -54,6 +54,9 @@ const ROWS: [Row; 6] = [
 
 // The text of the groups that a text holds, and how many remarks there are on each.
 fn written_again(alloc: Global, text: &[u8]) -> Result<(Blob, Vec<usize>), Fail> {
+    if text.len() > u32::MAX as usize {
+        return Err(Fail::new("a text of 4 GiB or more"));
+    }
     let groups = read_text(alloc, text)?;
     let mut remarked = Vec::new(alloc);
     let mut out = Blob::new(alloc);

@@ -8,7 +8,7 @@ use span_ids::{Nanos, SpanId, TraceId};
 use span_io::{Items, OutOfMemory, Text};
 use std::alloc::Global;
 use std::test::Fail;
-use trace_model::{Attrs, Code, Group, Kind, Remark, RemarkKind, Span, Value};
+use trace_model::{Attrs, Code, Group, Kind, Place, Remark, RemarkKind, Span, Value};
 
 fn one<T: Drop>(alloc: Global, item: T) -> Result<Items<T>, OutOfMemory>
     ensures { IfOk result (λ items. items ≡ item ∷ []) }
@@ -62,10 +62,14 @@ fn are_texts(attributes: &Attrs, list: &[(&str, &str)]) -> bool {
     same
 }
 
+// These are the remarks, all of them on the first span.
 fn are_remarks(remarks: &Items<Remark>, list: &[(RemarkKind, &str)]) -> bool {
     let mut same = remarks.len() == list.len();
     for (remark, (kind, key)) in remarks.as_slice().iter().zip(list) {
-        same = same && remark.kind == *kind && remark.key.as_str() == *key;
+        same = same
+            && remark.place == Place::Span(1)
+            && remark.kind == *kind
+            && remark.key.as_str() == *key;
     }
     same
 }

@@ -3,7 +3,7 @@ use otlp_proto::{read_group, write_group};
 use span_io::{Blob, Cause, Halt, Items, OutOfMemory};
 use std::alloc::Global;
 use std::test::Fail;
-use trace_model::{Place, Remark, RemarkKind};
+use trace_model::{Group, Place, Remark, RemarkKind};
 
 /// Where in a group a message stands: from the inside, what stands in front of it in its record, and the record's key.
 type Around = &'static [(&'static [u8], u8)];
@@ -266,11 +266,19 @@ fn are_remarks(remarks: &Items<Remark>, wanted: &[(Place, RemarkKind, &str)]) ->
     same
 }
 
+// Reads a unit of fewer bytes than 32 bits number.
+fn group_in(alloc: Global, unit: &[u8]) -> Result<(Group, Items<Remark>), Halt<Cause>> {
+    if unit.len() > u32::MAX as usize {
+        return Err(Halt::Why(Cause::UnitTooLong));
+    }
+    read_group(alloc, unit)
+}
+
 #[test]
 fn reads_groups(rt: HostRuntime) -> Result<(), Fail> {
     for row in &READ {
         let unit = enclosed(rt.alloc(), row.around, row.held)?;
-        let (group, remarks) = read_group(rt.alloc(), unit.as_slice())?;
+        let (group, remarks) = group_in(rt.alloc(), unit.as_slice())?;
         assert!(rt; are_remarks(&remarks, row.remarks), "of {:?}", row.held);
         let mut out = Blob::new(rt.alloc());
         write_group(&mut out, &group)?;
@@ -309,7 +317,7 @@ const VALUES: [(&[u8], &str); 8] = [
     ),
     (
         b"\x12\x04\x3a\x02\x09\xff",
-        "Bytes(Blob { bytes: [9, 255] })",
+        "Bytes(Bytes { bytes: [9, 255] })",
     ),
     // a member of another wire type
     (b"\x12\x02\x08\x01", "Nothing"),
@@ -319,7 +327,7 @@ const VALUES: [(&[u8], &str); 8] = [
 fn reads_values(rt: HostRuntime) -> Result<(), Fail> {
     for (pair, wanted) in VALUES {
         let unit = enclosed(rt.alloc(), PAIR, pair)?;
-        let (group, _) = read_group(rt.alloc(), unit.as_slice())?;
+        let (group, _) = group_in(rt.alloc(), unit.as_slice())?;
         assert_eq!(rt; group.resource.len(), 1);
         for (_, found) in group.resource.as_slice() {
             assert_eq!(rt; format!(in rt.alloc(); "{found:?}")?.as_str(), wanted);
@@ -430,7 +438,7 @@ const REFUSED: [(Around, &[u8], Cause); 40] = [
 ];
 
 fn refusal(alloc: Global, unit: &[u8]) -> Option<Cause> {
-    match read_group(alloc, unit) {
+    match group_in(alloc, unit) {
         Err(Halt::Why(cause)) => Some(cause),
         _ => None,
     }
@@ -459,7 +467,7 @@ fn lists_end_at_level_16(rt: HostRuntime) -> Result<(), Fail> {
         value = enclosed(rt.alloc(), LIST, value.as_slice())?;
     }
     let unit = enclosed(rt.alloc(), VALUE, value.as_slice())?;
-    assert!(rt; read_group(rt.alloc(), unit.as_slice()).is_ok());
+    assert!(rt; group_in(rt.alloc(), unit.as_slice()).is_ok());
     value = enclosed(rt.alloc(), LIST, value.as_slice())?;
     let unit = enclosed(rt.alloc(), VALUE, value.as_slice())?;
     assert_eq!(rt; refusal(rt.alloc(), unit.as_slice()), Some(Cause::TooDeep));
@@ -475,7 +483,7 @@ fn spans_have_many_events_and_links(rt: HostRuntime) -> Result<(), Fail> {
         held.append(link.as_slice())?;
     }
     let unit = enclosed(rt.alloc(), SPAN, held.as_slice())?;
-    let (group, _) = read_group(rt.alloc(), unit.as_slice())?;
+    let (group, _) = group_in(rt.alloc(), unit.as_slice())?;
     for scope in group.scopes.as_slice() {
         for span in scope.spans.as_slice() {
             assert_eq!(rt; (span.events.len(), span.links.len()), (130, 130));
@@ -494,7 +502,7 @@ fn long_texts_are_kept(rt: HostRuntime) -> Result<(), Fail> {
         }
         let value = enclosed(rt.alloc(), &[(b"", 0x0a)], text.as_slice())?;
         let unit = enclosed(rt.alloc(), VALUE, value.as_slice())?;
-        let (group, _) = read_group(rt.alloc(), unit.as_slice())?;
+        let (group, _) = group_in(rt.alloc(), unit.as_slice())?;
         let mut out = Blob::new(rt.alloc());
         write_group(&mut out, &group)?;
         let wanted = enclosed(rt.alloc(), WRITTEN, unit.as_slice())?;

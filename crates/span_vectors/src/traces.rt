@@ -1,12 +1,12 @@
 //! Attributes and values of traces, and their texts.
-use span_io::{Blob, Halt, Items, OutOfMemory, Text};
+use span_io::{Bytes, Halt, Items, OutOfMemory, Text};
 use std::alloc::Global;
 use std::test::Fail;
 use trace_model::{
     Attrs, Fault, Value, attrs_copy, attrs_of, find, keys_in_order, value_json, value_text,
 };
 
-pub fn numbers(alloc: Global, list: &[(&str, i64)]) -> Result<Attrs, OutOfMemory> {
+pub(crate) fn numbers(alloc: Global, list: &[(&str, i64)]) -> Result<Attrs, OutOfMemory> {
     let mut pairs = Items::new(alloc);
     for (key, number) in list {
         pairs.push((Text::of(alloc, key)?, Value::Number(*number)))?;
@@ -14,16 +14,14 @@ pub fn numbers(alloc: Global, list: &[(&str, i64)]) -> Result<Attrs, OutOfMemory
     Ok(pairs)
 }
 
-pub fn one<T: Drop>(alloc: Global, item: T) -> Result<Items<T>, OutOfMemory> {
+pub(crate) fn one<T: Drop>(alloc: Global, item: T) -> Result<Items<T>, OutOfMemory> {
     let mut items = Items::new(alloc);
     items.push(item)?;
     Ok(items)
 }
 
-pub fn bytes(alloc: Global, bytes: &[u8]) -> Result<Value, OutOfMemory> {
-    let mut blob = Blob::new(alloc);
-    blob.append(bytes)?;
-    Ok(Value::Bytes(blob))
+pub(crate) fn bytes(alloc: Global, bytes: &[u8]) -> Result<Value, OutOfMemory> {
+    Ok(Value::Bytes(Bytes::of(alloc, bytes)?))
 }
 
 fn are_numbers(attributes: &Attrs, list: &[(&str, i64)]) -> bool {

@@ -2,7 +2,7 @@
 use crate::traces::{numbers, one};
 use otlp_proto::write_group;
 use span_ids::{Nanos, SpanId, TraceId};
-use span_io::{Blob, Items, OutOfMemory, Text};
+use span_io::{Blob, Bytes, Items, OutOfMemory, Text};
 use std::alloc::Global;
 use std::test::Fail;
 use trace_model::{Code, Event, Group, Kind, Link, Scope, Span, Status, Value};
@@ -218,7 +218,7 @@ fn writes_values(rt: HostRuntime) -> Result<(), Fail> {
             "tenth",
             Value::Eight([63, 185, 153, 153, 153, 153, 153, 154]),
         ),
-        ("bytes", Value::Bytes(Blob::new(alloc))),
+        ("bytes", Value::Bytes(Bytes::new(alloc))),
         ("list", Value::List(Items::new(alloc))),
         ("map", Value::Map(Items::new(alloc))),
         ("nested", nested(alloc)?),

@@ -1,5 +1,6 @@
 ghost use Rattle.std.specs.Prelude.{◌≡◌, All, IfOk, OnOk, IsSortedBy, IsTrue};
 ghost use Rattle.std.specs.List.Sorted.{IsStableBy};
+ghost use Rattle.span_io.specs.Sizes.{IsShort};
 ghost use Rattle.trace_model.specs.Attributes.{AreAttributes, AreKeysInOrder, AreRepeated, Rise, attrs, keys};
 ghost use Rattle.trace_model.specs.Gathering.{key_above, ends_with, kept_with, repeated_with};
 ghost use Rattle.trace_model.specs.Values.{IsSound, AreSound};
@@ -67,6 +68,7 @@ fn gathered(alloc: Global, list: Items<(Text, Value)>) -> Result<(Attrs, Items<T
 
 /// The pairs by falling key; those of one key keep their order.
 fn falling(list: Items<(Text, Value)>) -> Result<Vec<(Text, Value)>, OutOfMemory>
+    ensures short { IfOk result (λ pairs. IsShort pairs.items) }
     ensures sorted { IfOk result (λ pairs. IsSortedBy key_above pairs.items) }
     ensures stable { IfOk result (λ pairs. IsStableBy key_above list pairs.items) }
 {

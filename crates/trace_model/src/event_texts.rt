@@ -47,7 +47,7 @@ fn member_text(alloc: Global, name: &Text, attributes: &Attrs) -> Result<Text, O
     out.key(name.as_str())?;
     write_map(alloc, &mut out, attributes.as_slice())?;
     match String::from_utf8(out.into_inner()) {
-        Ok(text) => Ok(Text::from_string(text)),
+        Ok(text) => Text::from_string(text),
         Err(_) => unreachable!(),
     }
 }

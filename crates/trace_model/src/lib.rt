@@ -27,7 +27,7 @@ pub use lookup::find;
 pub use place::Place;
 pub use proper::proper_group;
 pub use remark::{Remark, RemarkKind};
-pub use remarks::{number_behind, remark_all, remark_dropped, remark_keys, remark_tag};
+pub use remarks::{remark_all, remark_dropped, remark_keys, remark_tag};
 pub use span::{Code, Event, Kind, Link, Span, Status};
 pub use texts::value_text;
 pub use trace::{Group, Scope};

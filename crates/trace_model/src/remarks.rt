@@ -1,23 +1,11 @@
-//! Remarks on what was read, at their places in a group. A place whose number takes more than 32
-//! bits is answered as want of memory: no unit below 4 GiB has so many scopes or spans.
-ghost use Rattle.std.specs.Prelude.{◌≡◌, [], ◌∷◌, ◌+◌, ◌++◌, ◌<◌, ◌^◌, ◌↔◌, IfOk, IsOk, OnOk};
+//! Remarks on what was read, at their places in a group.
+ghost use Rattle.std.specs.Prelude.{◌≡◌, [], ◌∷◌, ◌++◌, OnOk};
 ghost use Rattle.trace_model.specs.Remarks.{equal_keys, link_dropped, tags_dropped};
 
 use crate::place::Place;
 use crate::remark::{Remark, RemarkKind};
 use span_io::{Items, OutOfMemory, Text};
 use std::alloc::Global;
-
-/// The number of a member behind so many others, of which the first has that number.
-pub fn number_behind(first: u32, before: usize) -> Result<u32, OutOfMemory>
-    ensures value { IfOk result (λ number. number ≡ first + before) }
-    ensures fits { IsOk result ↔ (first + before < 2 ^ 32) }
-{
-    let Ok(before) = u32::try_from(before) else {
-        return Err(OutOfMemory);
-    };
-    first.checked_add(before).ok_or(OutOfMemory)
-}
 
 /// Adds remarks at the end.
 pub fn remark_all(remarks: &mut Items<Remark>, more: Items<Remark>) -> Result<(), OutOfMemory>

@@ -54,5 +54,5 @@ fn number_text(alloc: Global, number: &i64) -> Result<Text, OutOfMemory>
 fn bytes_text(alloc: Global, bytes: &[u8]) -> Result<Text, OutOfMemory>
     ensures { IfOk result (λ text. text ≡ encode_of standard bytes.now) }
 {
-    Ok(Text::from_string(STANDARD.encode(alloc, bytes)?))
+    Text::from_string(STANDARD.encode(alloc, bytes)?)
 }

@@ -20,7 +20,7 @@ pub fn json_of_value(alloc: Global, value: &Value) -> Result<Text, OutOfMemory>
     let mut out = Writer::new(Vec::new(alloc));
     write_value(alloc, &mut out, value)?;
     match String::from_utf8(out.into_inner()) {
-        Ok(text) => Ok(Text::from_string(text)),
+        Ok(text) => Text::from_string(text),
         Err(_) => unreachable!(),
     }
 }

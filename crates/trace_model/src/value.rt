@@ -2,7 +2,7 @@ ghost use Rattle.std.specs.Prelude.{◌≡◌, IfOk};
 ghost use Rattle.std.specs.List.{list_any};
 ghost use Rattle.trace_model.specs.ValueTexts.{has_double};
 
-use span_io::{Blob, Items, OutOfMemory, Text};
+use span_io::{Bytes, Items, OutOfMemory, Text};
 use std::alloc::Global;
 
 /// The value of an attribute (OTLP `AnyValue`).
@@ -13,7 +13,7 @@ pub enum Value {
     Number(i64),
     /// The eight bytes of a double, the most significant one first.
     Eight([u8; 8]),
-    Bytes(Blob),
+    Bytes(Bytes),
     List(Items<Value>),
     Map(Attrs),
     Nothing,

@@ -1,10 +1,11 @@
 //! Reading spans.
-ghost use Rattle.std.specs.Prelude.{◌≡◌, ◌+◌, ◌*◌, ◌≤◌, List, All, map, IfOk, codes};
+ghost use Rattle.std.specs.Prelude.{◌≡◌, ◌+◌, ◌*◌, ◌<◌, ◌≤◌, List, All, length, map, IfOk, codes};
 ghost use Rattle.serde_json.specs.View.{view};
 ghost use Rattle.span_io.specs.Paths.{each, optional, JudgesValue, JudgesByCause, JudgesInput, Given};
 ghost use Rattle.span_io.specs.Offences.{OnlyReads};
 ghost use Rattle.std.specs.List.{AllZip};
 ghost use Rattle.span_ids.specs.Times.{last_micros};
+ghost use Rattle.json_members.specs.Counted.{values_in};
 ghost use Rattle.json_members.specs.Members.{member, IsCount};
 ghost use Rattle.json_members.specs.Texts.{document_faults};
 ghost use Rattle.zipkin_json.specs.Members.{count_or_zero, count_faults};
@@ -125,6 +126,8 @@ pub fn read_spans(alloc: Global, v: Value) -> Result<Items<ZSpan>, Halt<Refusal>
     ensures rising { IfOk result (All HasRisingTags) }
     // They can be written.
     ensures writable { IfOk result (All IsWritableZSpan) }
+    // The array is a value itself.
+    ensures counted { IfOk result (λ spans. length spans < values_in (view v)) }
     ensures judged { JudgesInput result (spans_faults (view v)) }
     // Whatever spans the value stands for are the answer.
     ensures only { (spans : List ZSpan) → AreSpans spans (view v) → OnlyReads result spans }
@@ -139,6 +142,8 @@ pub fn read_text(alloc: Global, bytes: &[u8]) -> Result<Items<ZSpan>, Halt<Refus
     ensures rising { IfOk result (All HasRisingTags) }
     // They can be written.
     ensures writable { IfOk result (All IsWritableZSpan) }
+    // Each takes a byte at least.
+    ensures counted { IfOk result (λ spans. length spans < length bytes.now) }
     ensures judged { JudgesInput result (document_faults spans_faults bytes.now) }
     // Whatever spans the bytes are a text of are the answer.
     ensures only { (spans : List ZSpan) → AreSpansText spans bytes.now → OnlyReads result spans }

@@ -1,6 +1,6 @@
-//! Whether all of a batch has a size that can be written.
-ghost use Rattle.std.specs.Prelude.{◌↔◌, ◌≤◌, ℕ, IsTrue, All};
-ghost use Rattle.thrift_core.specs.Protocols.{last_size};
+//! Each text and list of a batch in hand has a size that can be written (Thrift: sizes are i32), as
+//! its type keeps it. The functions read their argument, and do nothing else.
+ghost use Rattle.std.specs.Prelude.{ℕ, All};
 ghost use Rattle.jaeger_model.specs.Writable.{IsShortValue, AreWritable, HasSizes};
 
 use crate::batch::Batch;
@@ -8,48 +8,41 @@ use crate::span::{JSpan, Log};
 use crate::tag::{Tag, TagValue};
 use span_io::Items;
 
-/// The size of the longest text or list (Thrift: sizes are i32).
-const LAST_SIZE: usize = 2_147_483_647;
-
-fn is_size(count: usize) -> bool
-    ensures { IsTrue result ↔ (count ≤ last_size) }
-{
-    count <= LAST_SIZE
-}
-
 // What has parts with sizes.
 trait Measured {
     // Each of them can be written.
     ghost sizes: { Self → Type 0 };
 
-    fn fits(&self) -> bool
-        ensures { IsTrue result ↔ sizes self.now };
+    fn proper_parts(&self)
+        ensures { sizes self.now };
 }
 
-fn each_fits<M: Measured>(items: &[M]) -> bool
-    ensures { IsTrue result ↔ All M.sizes items.now }
+fn proper_each<M: Measured>(items: &[M])
+    ensures { All M.sizes items.now }
 {
     'items: for item in items {
-        if !item.fits() {
-            return false;
-        }
+        item.proper_parts();
     }
-    true
 }
 
-fn list_fits<M: Measured>(list: &Items<M>) -> bool
-    ensures { IsTrue result ↔ AreWritable M.sizes list.now }
+fn proper_list<M: Measured>(list: &Items<M>)
+    ensures { AreWritable M.sizes list.now }
 {
-    is_size(list.len()) && each_fits(list.as_slice())
+    list.len();
+    proper_each(list.as_slice());
 }
 
-fn value_fits(value: &TagValue) -> bool
-    ensures { IsTrue result ↔ IsShortValue value.now }
+fn proper_value(value: &TagValue)
+    ensures { IsShortValue value.now }
 {
     match value {
-        TagValue::Text(text) => is_size(text.len()),
-        TagValue::Bytes(bytes) => is_size(bytes.len()),
-        TagValue::Eight(_) | TagValue::Truth(_) | TagValue::Number(_) => true,
+        TagValue::Text(text) => {
+            text.len();
+        }
+        TagValue::Bytes(bytes) => {
+            bytes.len();
+        }
+        TagValue::Eight(_) | TagValue::Truth(_) | TagValue::Number(_) => {}
     }
 }
 
@@ -58,8 +51,9 @@ impl Measured for Tag {
 
     ghost sizes = { IsWritableTag };
 
-    fn fits(&self) -> bool {
-        is_size(self.key.len()) && value_fits(&self.value)
+    fn proper_parts(&self) {
+        self.key.len();
+        proper_value(&self.value);
     }
 }
 
@@ -68,8 +62,8 @@ impl Measured for Log {
 
     ghost sizes = { HasLogSizes };
 
-    fn fits(&self) -> bool {
-        list_fits(&self.fields)
+    fn proper_parts(&self) {
+        proper_list(&self.fields);
     }
 }
 
@@ -78,17 +72,20 @@ impl Measured for JSpan {
 
     ghost sizes = { HasSpanSizes };
 
-    fn fits(&self) -> bool {
-        is_size(self.name.len())
-            && is_size(self.references.len())
-            && list_fits(&self.tags)
-            && list_fits(&self.logs)
+    fn proper_parts(&self) {
+        self.name.len();
+        self.references.len();
+        proper_list(&self.tags);
+        proper_list(&self.logs);
     }
 }
 
-/// Whether each text and list of a batch has a size that can be written (Thrift: at most 2,147,483,647).
-pub fn has_sizes(batch: &Batch) -> bool
-    ensures { IsTrue result ↔ HasSizes batch.now }
+/// Each text and list of a batch in hand has a size that can be written. It is read as a whole, and
+/// nothing else is done.
+pub fn proper_sizes(batch: &Batch)
+    ensures { HasSizes batch.now }
 {
-    is_size(batch.service.len()) && list_fits(&batch.tags) && list_fits(&batch.spans)
+    batch.service.len();
+    proper_list(&batch.tags);
+    proper_list(&batch.spans);
 }

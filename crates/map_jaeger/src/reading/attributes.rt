@@ -9,7 +9,7 @@ ghost use Rattle.map_jaeger.specs.ReadColumns.{ArePartsOf, own_tags};
 use crate::keys::is_reserved;
 use crate::writing::attributes_but;
 use jaeger_model::JSpan;
-use span_io::{Items, OutOfMemory, Text};
+use span_io::{Items, LONGEST, OutOfMemory, Text};
 use span_tags::{put_row, text_kept};
 use std::alloc::Global;
 use trace_model::{Attrs, Value};
@@ -58,6 +58,9 @@ fn with_row(
     }
     let mut pairs = attributes.into_vec();
     put_row(alloc, &mut pairs, key, value)?;
+    if pairs.len() > LONGEST {
+        return Err(OutOfMemory);
+    }
     Ok(Items::from_vec(pairs))
 }
 

@@ -1,5 +1,5 @@
 //! The links of a span.
-ghost use Rattle.std.specs.Prelude.{[], ℕ, OnOk};
+ghost use Rattle.std.specs.Prelude.{◌≡◌, ◌+◌, ◌<◌, ◌≤◌, ◌^◌, [], ℕ, length, OnOk};
 ghost use Rattle.span_io.specs.Offences.{Offence, Judges};
 ghost use Rattle.proto_wire.specs.Messages.{messages};
 ghost use Rattle.otlp_proto.specs.Link.{link_rules};
@@ -9,7 +9,7 @@ ghost use Rattle.otlp_proto.specs.SpanSoFar.{GatheredLinks};
 use crate::link::read_link;
 use span_io::{Cause, Halt, Items};
 use std::alloc::Global;
-use trace_model::{Link, Place, Remark, number_behind, remark_keys};
+use trace_model::{Link, Place, Remark, remark_keys};
 
 /// The links that were read, whether one was dropped, and the remarks on the others.
 #[derive(Debug, Drop)]
@@ -22,7 +22,8 @@ pub struct LinkList {
 impl LinkList {
     /// Nothing was read.
     pub fn none(alloc: Global) -> LinkList
-        ensures { (span : ℕ) → GatheredLinks span [] result }
+        ensures nothing { (span : ℕ) → GatheredLinks span [] result }
+        ensures empty { result.links ≡ [] }
     {
         LinkList {
             links: Items::new(alloc),
@@ -33,14 +34,16 @@ impl LinkList {
 
     /// Reads one more link of the span of this number.
     pub fn add(&mut self, alloc: Global, span: u32, held: &[u8]) -> Result<(), Halt<Cause>>
+        requires counted { 1 + length self.old.links < 2 ^ 32 }
         ensures ok { OnOk result (Adds (GatheredLinks span) held.now self.old self.new) }
         ensures judged { Judges result (Offence messages link_rules held.now) }
+        ensures one_more { OnOk result (length self.new.links ≤ length self.old.links + 1) }
     {
         let Some(read) = read_link(alloc, held)? else {
             self.dropped = true;
             return Ok(());
         };
-        let number = number_behind(1, self.links.len())?;
+        let number = 1 + self.links.len() as u32;
         self.links.push(read.link)?;
         remark_keys(&mut self.remarks, Place::Link(span, number), read.keys)?;
         Ok(())

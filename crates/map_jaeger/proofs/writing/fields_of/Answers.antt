@@ -13,7 +13,7 @@ pub tags_in_order-requires : goal.tags_in_order-requires
 tags_in_order-requires c =
     let attributes = c.args.attributes in
     let put : c.put_row.new.pairs.items ≡ attrs (row event_key (text_given c.args.name) ++ attributes) =
-    c.in_ok-put_row.ensures attributes (starts attributes _ c.requires.rising c.into_vec-pairs.ensures)
+    c.in_ok-put_row.ensures attributes (starts attributes _ c.requires.rising c.into_vec-pairs.ensures.items)
     ∙ ap (λ value. attrs (row event_key value ++ attributes)) c.text_kept.ensures in
     ap doubles_inside put ∙ attrs_plain (row event_key (text_given c.args.name) ++ attributes) (event_pairs_plain c.args.name attributes c.requires.plain)
 
@@ -21,6 +21,6 @@ pub returns : goal.returns
 returns c =
     let attributes = c.args.attributes in
     let put : c.put_row.new.pairs.items ≡ attrs (row event_key (text_given c.args.name) ++ attributes) =
-    c.in_ok-put_row.ensures attributes (starts attributes _ c.requires.rising c.into_vec-pairs.ensures)
+    c.in_ok-put_row.ensures attributes (starts attributes _ c.requires.rising c.into_vec-pairs.ensures.items)
     ∙ ap (λ value. attrs (row event_key value ++ attributes)) c.text_kept.ensures in
     IfOk-weaker c.tags_in_order.result _ _ (λ tags is. is ∙ ap (map tag_of) put) c.tags_in_order.ensures

@@ -14,7 +14,7 @@ pub tags_in_order-requires : goal.tags_in_order-requires
 tags_in_order-requires c =
     let attributes = c.args.attributes in
     ap doubles_inside (c.in_ok-put_columns.ensures (without flags_key attributes)
-    (starts_but flags_key attributes _ _ c.requires.rising c.attributes_but.ensures c.into_vec-pairs.ensures))
+    (starts_but flags_key attributes _ _ c.requires.rising c.attributes_but.ensures c.into_vec-pairs.ensures.items))
     ∙ attrs_plain (rows (columns_held c.args.name.now c.args.version.now c.args.held) ++ without flags_key attributes)
     (span_pairs_plain c.args.name.now c.args.version.now c.args.held attributes c.requires.plain)
 
@@ -22,5 +22,5 @@ pub returns : goal.returns
 returns c =
     let attributes = c.args.attributes in
     let put = c.in_ok-put_columns.ensures (without flags_key attributes)
-    (starts_but flags_key attributes _ _ c.requires.rising c.attributes_but.ensures c.into_vec-pairs.ensures) in
+    (starts_but flags_key attributes _ _ c.requires.rising c.attributes_but.ensures c.into_vec-pairs.ensures.items) in
     IfOk-weaker c.tags_in_order.result _ _ (λ tags is. is ∙ ap (map tag_of) put) c.tags_in_order.ensures

@@ -1,4 +1,4 @@
-use Rattle.std.proofs.Common.{All, List, map, sym, ap, ◌∙◌, subst}
+use Rattle.std.proofs.Common.{All, map, sym, ap, ◌∙◌, subst}
 use Rattle.trace_model.specs.OtlpParts.{NotedGroup}
 use Rattle.trace_model.specs.Soundness.{IsSoundGroup}
 use Rattle.map_zipkin.specs.Reading.{groups_of}

@@ -4,6 +4,7 @@ use Rattle.json_members.specs.ElementLaws.{clean_on, halts_here}
 use Rattle.otlp_json.specs.Found.{event_found, EventsTold}
 use Rattle.otlp_json.specs.Span.{IsJsonEvent, event_faults}
 use Rattle.otlp_json.proofs.ListLemmas.{found_next}
+use Rattle.otlp_json.proofs.CountedLists.{event_fits}
 use Rattle.otlp_json.proofs.events.read_events.Goals as goal
 
 pub elements-init : goal.elements-init
@@ -22,3 +23,6 @@ elements-preserved c = record {
   clean = clean_on c.deref-element-items.result.now c.elements.element-index c.element-item.result c.elements-test.true c.element-item.is
       event_faults c.elements.invariant.clean c.in_ok-read.ensures.judged;
 }
+
+pub push-requires : goal.push-requires
+push-requires c = record { counted = event_fits c.args.elements.now.items c.elements.element-index (search rules) c.args.span c.elements.rows (search rules) c.requires.counted }

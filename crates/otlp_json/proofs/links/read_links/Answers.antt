@@ -5,6 +5,7 @@ use Rattle.std.specs.Option.{option_map}
 use Rattle.otlp_json.specs.Found.{link_found, LinksTold}
 use Rattle.otlp_json.specs.Span.{IsJsonLink, link_faults}
 use Rattle.otlp_json.proofs.ListLemmas.{found_next}
+use Rattle.otlp_json.proofs.CountedLists.{link_fits}
 use Rattle.otlp_json.proofs.links.read_links.Goals as goal
 
 pub elements-init : goal.elements-init
@@ -23,3 +24,6 @@ elements-preserved c = record {
   clean = clean_on c.deref-element-items.result.now c.elements.element-index c.element-item.result c.elements-test.true c.element-item.is
       link_faults c.elements.invariant.clean c.in_ok-read.ensures.judged;
 }
+
+pub push-requires : goal.push-requires
+push-requires c = record { counted = link_fits c.args.elements.now.items c.elements.element-index (search rules) c.args.span c.elements.rows (search rules) c.requires.counted }

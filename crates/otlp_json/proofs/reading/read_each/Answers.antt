@@ -1,6 +1,7 @@
-use Rattle.std.proofs.Common.{rules, ◌≡◌, ◌∷◌, sym, ◌∙◌}
+use Rattle.std.proofs.Common.{rules, ◌≡◌, ◌∷◌, ◌++◌, ap, sym, ◌∙◌}
 use Rattle.json_members.specs.ElementLaws.{elements_begin, elements_more, elements_refuse, elements_end}
 use Rattle.otlp_json.specs.Group.{IsRemarkedGroup, group_faults}
+use Rattle.json_members.specs.CountedLaws.{fewer_left}
 use Rattle.otlp_json.proofs.reading.read_each.Goals as goal
 
 pub elements-init : goal.elements-init
@@ -28,3 +29,9 @@ pub returns-clause-judged : goal.returns-clause-judged
 returns-clause-judged c =
     (elements_end IsRemarkedGroup group_faults c.args.elements.items c.elements.element-iterator.rest.items c.elements.unit c.elements.groups
     (sym c.elements.element-iterator.rest.ok.0 ∙ c.in-None.ensures.steps.0) c.elements.invariant).1
+
+pub read_group-requires : goal.read_group-requires
+read_group-requires c =
+    let split : c.elements.element-iterator.rest.items ≡ c.in-Some.element ∷ c.next.new.self.rest.items = search rules in
+    let seen = c.elements.invariant.seen in
+    record { counted = fewer_left c.args.elements.items seen c.next.new.self.rest.items c.in-Some.element (c.elements.invariant.split ∙ ap (λ l. seen ++ l) split) c.requires.counted }

@@ -4,6 +4,7 @@ use Rattle.json_members.specs.ElementLaws.{clean_on, halts_here}
 use Rattle.otlp_json.specs.Found.{SpansTold}
 use Rattle.otlp_json.specs.Span.{IsJsonSpan, otlp_span_faults}
 use Rattle.otlp_json.proofs.ListLemmas.{found_on}
+use Rattle.otlp_json.proofs.CountedLists.{element_counted_from, span_fits}
 use Rattle.otlp_json.proofs.spans.read_spans.Goals as goal
 
 pub elements-init : goal.elements-init
@@ -22,3 +23,9 @@ elements-preserved c = record {
   clean = clean_on c.deref-element-items.result.now c.elements.element-index c.element-item.result c.elements-test.true c.element-item.is
       otlp_span_faults c.elements.invariant.clean c.in_ok-add.ensures.judged;
 }
+
+pub add-requires-clause-number : goal.add-requires-clause-number
+add-requires-clause-number c = span_fits c.args.elements.now.items c.elements.element-index (search rules) c.args.first c.elements.rows (search rules) c.requires.counted
+
+pub add-requires-clause-counted : goal.add-requires-clause-counted
+add-requires-clause-counted c = element_counted_from c.args.first c.args.elements.now.items c.elements.element-index c.element-item.result (search rules) (search rules) c.requires.counted

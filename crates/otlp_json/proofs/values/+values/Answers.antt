@@ -1,11 +1,11 @@
-use Rattle.std.proofs.Common.{◌≡◌, suc, true, is_some, arith, rules}
+use Rattle.std.proofs.Common.{◌≡◌, suc, length, ap, true, is_some, arith, rules}
 use Rattle.serde_json.specs.Find.{as_object}
 use Rattle.serde_json.specs.View.{view}
 use Rattle.span_io.specs.declared.halt.Halt.TheVariants as halts
 use Rattle.span_io.specs.PathLaws.{clean_valued, clean_parts, clean_nothing, halts_valued, halts_first, halts_later, quiet_parts, quiet_nothing, exits}
 use Rattle.otlp_json.specs.Found.{value_found, pair_found}
 use Rattle.otlp_json.specs.Values.{many_members, key_value_members, json_value_offends, json_key_value_offends}
-use Rattle.otlp_json.proofs.ValueLemmas.{judged_behind, halts_behind, clean_next, halts_next, clean_held, halts_held, value_deeper, pair_deeper, value_clean_deeper, value_halts_deeper, pair_clean_deeper, pair_halts_deeper, values_next, pairs_next, values_given, pairs_given}
+use Rattle.otlp_json.proofs.ValueLemmas.{none_below, judged_behind, halts_behind, clean_next, halts_next, clean_held, halts_held, value_deeper, pair_deeper, value_clean_deeper, value_halts_deeper, pair_clean_deeper, pair_halts_deeper, values_next, pairs_next, values_given, pairs_given}
 use Rattle.otlp_json.proofs.values.+values.Goals as goal
 
 -- ---- the parts of a value
@@ -61,6 +61,11 @@ read_elements-returns-in_err-read-clause-judged t c =
     exits c.in_err-read.field-0.0 _ _ (search rules)
     (halts_next (json_value_offends c.args.left) c.args.elements.now.items c.elements.element-index c.element-item.result (search rules) (search rules)
     c.args.left c.in-Some.below some c.in_err-read.field-0.0 (search rules) (value_halts_deeper c.args.left c.in-Some.below some _ _ c.in_err-read.ensures.judged))
+
+pub read_elements-returns-in_default-clause-judged : goal.read_elements-returns-in_default-clause-judged
+read_elements-returns-in_default-clause-judged t c =
+    none_below (json_value_offends c.args.left) c.args.elements.now.items c.elements.element-index c.args.left
+    (omega (arith, c.elements-test.true, ap length c.deref-element-items.ensures.value)) (omega (arith, c.in_default.ensures))
 
 pub read_elements-elements-preserved : goal.read_elements-elements-preserved
 read_elements-elements-preserved t c =

@@ -16,7 +16,7 @@ pub returns-clause-value : goal.returns-clause-value
 returns-clause-value c =
     let all = c.in_ok-rows.ensures.all in
     IfOk-weaker c.span_of.result (λ read. ReadsSpan c.none.result.number read all.items) (λ read. IsReadSpan c.args.number read c.args.bytes.now)
-    (λ read reads. subst (λ (n : ℕ). IsReadSpan n read c.args.bytes.now) c.none.ensures.number (span_read c.none.result.number read all.items c.args.bytes.now all.are reads))
+    (λ read reads. subst (λ (n : ℕ). IsReadSpan n read c.args.bytes.now) c.none.ensures.nothing.number (span_read c.none.result.number read all.items c.args.bytes.now all.are reads))
     (c.span_of.ensures.value c.none.result.number all.items all.gathered)
 
 pub returns-clause-judged : goal.returns-clause-judged

@@ -2,7 +2,7 @@ use Rattle.std.proofs.Common.{List, ℕ, inl, inr, sym, subst, arith}
 use Rattle.std.specs.Borrow.{Bor}
 use Rattle.std.proofs.lemmas.List.{take_all}
 use Rattle.span_io.specs.Outside.{Gains}
-use Rattle.span_cli.specs.Verdicts.{joined}
+use Rattle.span_cli.specs.Verdicts.{pieces_text}
 use Rattle.span_cli.proofs.NoteLemmas.{joined_more, fails_within_pieces}
 use Rattle.span_cli.proofs.EndingLaws.{gains_nothing, holds_nothing}
 use Rattle.span_cli.proofs.note.note_pieces.Goals as goal
@@ -23,4 +23,4 @@ returns-in-Err g c =
 
 pub returns : goal.returns
 returns g c =
-    inl (subst (λ (l : List (Bor (List ℕ))). Gains (g.N.Sink.outlet c.args.notes.now) (g.N.Sink.outlet c.pieces.notes) (joined l)) (take_all c.pieces.piece-index c.args.pieces.now (omega arith)) c.pieces.invariant.gained, c.pieces.invariant.holds)
+    inl (subst (λ (l : List (Bor (List ℕ))). Gains (g.N.Sink.outlet c.args.notes.now) (g.N.Sink.outlet c.pieces.notes) (pieces_text l)) (take_all c.pieces.piece-index c.args.pieces.now (omega arith)) c.pieces.invariant.gained, c.pieces.invariant.holds)

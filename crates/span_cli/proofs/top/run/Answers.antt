@@ -7,7 +7,7 @@ use Rattle.span_cli.specs.declared.command.Command.TheVariants.{Convert}
 use Rattle.span_cli.specs.Verdicts.{OnVerdict, CarriesOut, IsRunStatus, IsJudgedAt, AgreesWith, Writes, Notes, stage_of, status_of, line_of}
 use Rattle.span_cli.proofs.CommandLemmas.{command_read}
 use Rattle.span_cli.proofs.EndingLaws.{never_usage, is_status, on_verdict, untouched_in_vain, untouched_output_in_vain, output_in_vain, notes_in_vain}
-use Rattle.span_cli.proofs.SameRuns.{carried_out, on_same_batches}
+use Rattle.span_cli.proofs.SameRuns.{carried_out, on_agreeing_documents, on_same_batches}
 use Rattle.span_cli.proofs.top.run.Goals as goal
 
 pub returns-clause-usage : goal.returns-clause-usage
@@ -100,5 +100,19 @@ returns-clause-same g c = λ from to spelled.
     let notes_before = g.N.Sink.outlet c.args.notes.now in
     let notes_now = g.N.Sink.outlet c.note_ending.new.notes in
     on_same_batches c.same_batches.ensures from to left (CarriesOut c.status.result output_before output_now notes_before notes_now)
+    (carried_out from to left c.status.result output_before output_now notes_before notes_now
+    (returns-clause-verdict g c from to spelled) (returns-clause-output g c from to spelled) (returns-clause-notes g c from to spelled))
+
+pub returns-in_default-clause-free_members : goal.returns-in_default-clause-free_members
+returns-in_default-clause-free_members g c = λ from to spelled. absurd (let h : ◌≡◌ {A = Option Command} None (Some (Convert from to)) = sym c.in_default.is ∙ (c.read_words.ensures (Convert from to)).1 spelled in cc)
+
+pub returns-clause-free_members : goal.returns-clause-free_members
+returns-clause-free_members g c = λ from to spelled.
+    let left = (g.S.Source.inlet c.args.input.now).left in
+    let output_before = g.K.Sink.outlet c.args.output.now in
+    let output_now = g.K.Sink.outlet c.convert-ending.new.output in
+    let notes_before = g.N.Sink.outlet c.args.notes.now in
+    let notes_now = g.N.Sink.outlet c.note_ending.new.notes in
+    on_agreeing_documents c.free_members.ensures from to left (CarriesOut c.status.result output_before output_now notes_before notes_now)
     (carried_out from to left c.status.result output_before output_now notes_before notes_now
     (returns-clause-verdict g c from to spelled) (returns-clause-output g c from to spelled) (returns-clause-notes g c from to spelled))

@@ -52,6 +52,18 @@ pub returns-in-Err-Faulted-clause-same_document : goal.returns-in-Err-Faulted-cl
 returns-in-Err-Faulted-clause-same_document c = λ others same verdict is.
     returns-in-Err-Faulted-clause-verdict c verdict ((c.same_documents.ensures c.args.from c.args.to c.args.limits.now c.args.bytes.now others same verdict).1 is)
 
+pub returns-in-Ok-clause-free_members : goal.returns-in-Ok-clause-free_members
+returns-in-Ok-clause-free_members c = λ others agree verdict is.
+    returns-in-Ok-clause-verdict c verdict ((c.free_members.ensures c.args.from c.args.to c.args.limits.now c.args.bytes.now others agree verdict).1 is)
+
+pub returns-in-Err-Refused-clause-free_members : goal.returns-in-Err-Refused-clause-free_members
+returns-in-Err-Refused-clause-free_members c = λ others agree verdict is.
+    returns-in-Err-Refused-clause-verdict c verdict ((c.free_members.ensures c.args.from c.args.to c.args.limits.now c.args.bytes.now others agree verdict).1 is)
+
+pub returns-in-Err-Faulted-clause-free_members : goal.returns-in-Err-Faulted-clause-free_members
+returns-in-Err-Faulted-clause-free_members c = λ others agree verdict is.
+    returns-in-Err-Faulted-clause-verdict c verdict ((c.free_members.ensures c.args.from c.args.to c.args.limits.now c.args.bytes.now others agree verdict).1 is)
+
 pub returns-in-Err-Refused-clause-cut : goal.returns-in-Err-Refused-clause-cut
 returns-in-Err-Refused-clause-cut c = λ unit e.
     let w = (rw c.in-Err-Refused.field-0-is at c.in-Err-Refused.ensures).walk c.args.bytes.now (rw c.input_limit.ensures at c.looked_at-too_long.ensures) in

@@ -11,7 +11,7 @@ use Rattle.span_convert.proofs.document.write_groups.Goals as goal
 
 pub units-init : goal.units-init
 units-init g c =
-    let same = c.into_iter-unit-iterator.ensures.into_iter_gives.0 ∙ c.into_vec-unit-items.ensures in
+    let same = c.into_iter-unit-iterator.ensures.into_iter_gives.0 ∙ c.into_vec-unit-items.ensures.items in
     record {
       walked = walked_none g.W.UnitWriter.form c.args.units c.into_iter-unit-iterator.result.rest.items (g.K.Sink.outlet c.args.out.now) c.none-progress.result same c.none-progress.ensures;
       sound = subst (All (λ (u : ReadUnit). IsSoundGroup u.0)) (sym same) c.requires.sound;
@@ -34,7 +34,7 @@ convert_unit-requires-clause-room g c =
     let split : c.units.unit-iterator.rest.items ≡ c.in-Some.unit ∷ c.next.new.self.rest.items = search rules in
     let done = walked_units g.W.UnitWriter.form c.args.units c.units.unit-iterator.rest.items (g.K.Sink.outlet c.args.out.now) (g.K.Sink.outlet c.units.out) c.units.progress c.units.invariant.walked in
     let all = c.into_vec-unit-items.result in
-    omega (arith, done, ap length split, ap length c.into_vec-unit-items.ensures, all.ok.0, all.ok.1, all.small)
+    omega (arith, done, ap length split, ap length c.into_vec-unit-items.ensures.items, all.ok.0, all.ok.1, all.small)
 
 pub returns-in_err-convert_unit-clause-walk : goal.returns-in_err-convert_unit-clause-walk
 returns-in_err-convert_unit-clause-walk g c = λ limits whole document.

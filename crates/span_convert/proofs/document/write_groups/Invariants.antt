@@ -1,4 +1,4 @@
-use Rattle.std.proofs.Common.{◌≡◌, All}
+use Rattle.std.proofs.Common.{All}
 use Rattle.span_io.specs.Outside.{OutputHolds}
 use Rattle.trace_model.specs.Soundness.{IsSoundGroup}
 use Rattle.span_convert.proofs.DocumentWalks.{ReadUnit, WalkedGroups}

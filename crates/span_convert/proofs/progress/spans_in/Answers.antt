@@ -14,7 +14,7 @@ loop-scope-preserved c =
     let same = c.as_slice-scope-items.ensures in
     scopes_push c.loop-scope.count c.saturating_add-count.result c.args.group.now.scopes c.loop-scope.scope-index c.scope-item.result
     (omega (arith, ap length same)) (subst (λ (l : List Scope). c.scope-item.result ≡ get_or l c.loop-scope.scope-index c.scope-item.result) same c.scope-item.is) c.loop-scope.invariant
-    (c.saturating_add-count.ensures ∙ ap (λ n. min (c.loop-scope.count + n) last_count) c.len.ensures)
+    (c.saturating_add-count.ensures ∙ ap (λ n. min (c.loop-scope.count + n) last_count) c.len.ensures.count)
 
 pub returns : goal.returns
 returns c =

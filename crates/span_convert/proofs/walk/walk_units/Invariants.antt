@@ -1,4 +1,4 @@
-use Rattle.std.proofs.Common.{◌≡◌, ◌+◌, ◌≤◌, ℕ, List, length}
+use Rattle.std.proofs.Common.{◌+◌, ◌≤◌, ℕ, List, length}
 use Rattle.span_io.specs.Outside.{OutputHolds}
 use Rattle.span_convert.specs.Walks.{IsLookedAt, WalkedUnits}
 use Rattle.span_convert.proofs.walk.walk_units.Given as goal

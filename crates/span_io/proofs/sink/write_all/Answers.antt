@@ -1,4 +1,4 @@
-use Rattle.std.proofs.Common.{length, refl, drop, arith}
+use Rattle.std.proofs.Common.{refl, drop, arith}
 use Rattle.std.proofs.lemmas.List.{take_rest, length-drop}
 use Rattle.std.proofs.lemmas.Result.{err_from_is_err_and}
 use Rattle.span_io.proofs.Gains.{gains_none, holds_none, gains_next, holds_next, fails_here, fails_within_here, fails_at_here}

@@ -1,5 +1,5 @@
 -- A type may hold itself in a list: how `Items` stores its elements.
-use mathlib.Core.Path.{◌≡◌, refl, sym}
+use mathlib.Core.Path.{◌≡◌, refl, sym, subst}
 use mathlib.Core.List.{List, []}
 use mathlib.Core.Former.{Former, this, list, via, children}
 use base.Stored.{code_map}
@@ -10,12 +10,16 @@ use denote.Hole.Carrier.{listed, list-listed}
 use denote.Hole.Fix.{over}
 use denote.Param.Weighed.{Weighed, w_list}
 use denote.Model.Placed.{view_places}
+use native.Mathlib.Bridge.{le_prop}
+use Rattle.std.specs.Prelude.{◌≤◌, length, map}
+use Rattle.std.proofs.lemmas.List.{length-map}
 use Rattle.std.specs.formers.vec.Vec as vec
 use Rattle.std.specs.declared.alloc.Global.{Global}
 use Rattle.std.specs.contracts.alloc.Global as heap
 use Rattle.std.specs.contracts.impls.GlobalAllocator.TheImpl.{ghosts}
 use Rattle.span_io.specs.declared.items.Items.TheInside.{Inside}
 use Rattle.span_io.specs.declared.items.Items.TheView.{view, invariant}
+use Rattle.span_io.specs.Sizes.{IsShort, longest}
 use Rattle.span_io.specs.contracts.items.Items as C
 use Rattle.span_io.specs.contracts.items.Items.TheInside as I
 
@@ -37,10 +41,21 @@ the_items_listed X d = list-listed X d
 abbrev fields : Former {0}
 fields = via (vec.the_former this Global) Inside (λ X a. a.items) (λ X v. record { items = v }) (λ X a. refl) (λ X v. refl)
 
+module _ {X Y : Type 0} (h : X → Y) where
+  same_length : (l : List X) → length (map h l) ≡ length l
+  same_length l = length-map l h
+
+  -- as many elements before and after
+  short_over : (l : List X) → IsShort l → IsShort (map h l)
+  short_over l short = subst (λ n. n ≤ longest) (sym (same_length l)) short
+
+  short_under : (l : List X) → IsShort (map h l) → IsShort l
+  short_under l short = subst (λ n. n ≤ longest) (same_length l) short
+
 module _ (R S : RattleType) (h : R.Denot → S.Denot) where
   pub the_places : Alike R S h → Alike (C.the_row R) (C.the_row S) ((the_former this).map R.Denot S.Denot h)
   the_places a = view_places fields (list this) view (λ X Y k u. refl) (λ X u. refl) R.Denot S.Denot h (C.the_row R).coded (C.the_row S).coded
-      (invariant R.Denot) (invariant S.Denot) (λ u p q. refl) (λ u p q. refl) (λ u e. tt) (λ u e. tt)
+      (invariant R.Denot) (invariant S.Denot) (λ u p q. le_prop p q) (λ u p q. le_prop p q) (λ u e. short_over h u.items.items e) (λ u e. short_under h u.items.items e)
       (over (I.the_row R)) (over (I.the_row S))
       (struct_places (I.the_type R) (I.the_type S) (vec.mapped h, tt) _ (λ d. refl) refl (laid _ _ _ (vec.the_places heap.the_row ghosts R S h a), tt))
 

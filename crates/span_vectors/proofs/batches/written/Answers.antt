@@ -1,8 +1,7 @@
-use Rattle.std.proofs.Common.{refl}
 use Rattle.jaeger_model.specs.WritableLaws.{writable}
 use Rattle.span_vectors.proofs.batches.written.Goals as goal
 
 pub write_batch-requires : goal.write_batch-requires
 write_batch-requires c =
     let times = c.reads_times.ensures c.in_ok-batch.batch c.in_ok-batch.ensures.0 c.in_ok-batch.ensures.1 in
-    writable c.in_ok-batch.batch (c.if-not-has_sizes.ensures.0 refl) times
+    writable c.in_ok-batch.batch c.proper_sizes.ensures times

@@ -1,10 +1,8 @@
-use Rattle.std.proofs.Common.{◌≡◌, [], ◌++◌, List, sym, ap, ◌∙◌, subst, arith}
-use Rattle.std.specs.Prelude.{reverse, IsSortedBy}
-use Rattle.std.specs.List.Sorted.{IsStableBy}
+use Rattle.std.proofs.Common.{◌≡◌, [], ◌++◌, sym, ap, ◌∙◌, subst, arith}
+use Rattle.std.specs.Prelude.{reverse}
 use Rattle.std.proofs.lemmas.Grind.{common_steps}
 use Rattle.std.proofs.lemmas.List.{reverse-reverse}
 use Rattle.trace_model.specs.Attributes.{Rise, AreAttributes, AreRepeated, keys}
-use Rattle.trace_model.specs.Gathering.{key_above}
 use Rattle.trace_model.proofs.Gathered.{kept_of, repeated_of, attributes_from, repeated_from}
 use Rattle.trace_model.proofs.RisingGathered.{all_kept}
 use Rattle.trace_model.proofs.attributes.gathered.Goals as goal

@@ -21,7 +21,7 @@ pub returns : goal.returns
 returns c =
     let all : c.from_vec.result ≡ dedup bytes_eq c.sort_by.new.self.items = c.from_vec.ensures ∙ once c in
     let moved = c.in_ok-sort_by.ensures.permutation in
-    let came : c.into_vec-sorted.result.items ≡ c.args.keys = c.into_vec-sorted.ensures in record {
+    let came : c.into_vec-sorted.result.items ≡ c.args.keys = c.into_vec-sorted.ensures.items in record {
       rising = subst Rise (sym all) (IsStrictlySortedBy-dedup nat_list_cmp_total (λ x y. sym (is_eq-slice_cmp x y)) c.sort_by.new.self.items
           (c.in_ok-sort_by.ensures.sorted (λ x y. is_lt (slice_cmp nat_cmp x y)) (ranks_by nat_list_cmp_total (λ (x : List ℕ). x)) (answers_always _ _ _ (λ f a r g called. search rules))));
       same = λ key. (

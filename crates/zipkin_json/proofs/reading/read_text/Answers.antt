@@ -1,6 +1,6 @@
 use Rattle.serde_json.specs.View.{view}
 use Rattle.json_members.specs.ReadingLaws.{judged_text, unread_halts}
-use Rattle.zipkin_json.proofs.ReadingLemmas.{value_text, only_text, unread_only}
+use Rattle.zipkin_json.proofs.ReadingLemmas.{value_text, text_within, only_text, unread_only}
 use Rattle.json_members.specs.Texts.{IsJsonText}
 use Rattle.zipkin_json.specs.Span.{spans_faults}
 use Rattle.zipkin_json.proofs.reading.read_text.Goals as goal
@@ -14,6 +14,11 @@ pub returns-in-Ok-clause-value : goal.returns-in-Ok-clause-value
 returns-in-Ok-clause-value c =
     let is : IsJsonText (view c.in-Ok.v) c.args.bytes.now = record { utf8 = c.in-Ok.ensures.ok.0; reading = c.in-Ok.ensures.ok.1 } in
     value_text c.args.bytes.now (view c.in-Ok.v) is c.read_spans.result c.read_spans.ensures.value
+
+pub returns-in-Ok-clause-counted : goal.returns-in-Ok-clause-counted
+returns-in-Ok-clause-counted c =
+    let is : IsJsonText (view c.in-Ok.v) c.args.bytes.now = record { utf8 = c.in-Ok.ensures.ok.0; reading = c.in-Ok.ensures.ok.1 } in
+    text_within c.args.bytes.now (view c.in-Ok.v) is c.read_spans.result c.read_spans.ensures.counted
 
 pub returns-in-Ok-clause-only : goal.returns-in-Ok-clause-only
 returns-in-Ok-clause-only c =

@@ -13,4 +13,4 @@ returns-in_err-put_list g c = λ left.
 pub returns : goal.returns
 returns g c = λ left.
     field_seq g.P.Protocol.keeps g.P.Protocol.writes (list_tree g.S.Structure.rows c.args.items.now) left c.write_elements.result c.args.last c.args.id c.ranges.last c.ranges.id _ _ _ (c.in_ok-put_field.ensures.ok left)
-    (list_seq g.P.Protocol.keeps g.P.Protocol.writes g.S.Structure.rows c.args.items.now left _ c.write_elements.result _ _ _ (rw c.len.ensures at (c.in_ok-put_list.ensures.ok (pred left))) (rw c.as_slice.ensures at (c.write_elements.ensures (pred left))))
+    (list_seq g.P.Protocol.keeps g.P.Protocol.writes g.S.Structure.rows c.args.items.now left _ c.write_elements.result _ _ _ (rw c.len.ensures.count at (c.in_ok-put_list.ensures.ok (pred left))) (rw c.as_slice.ensures at (c.write_elements.ensures (pred left))))

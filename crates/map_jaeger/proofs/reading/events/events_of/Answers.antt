@@ -5,7 +5,7 @@ use Rattle.map_jaeger.proofs.reading.events.events_of.Goals as goal
 
 pub logs-init : goal.logs-init
 logs-init c = events_begin c.args.span c.args.logs c.into_iter-log-iterator.result.rest.items (record { events = c.in_ok-events.events; remarks = c.new.result })
-    (c.into_iter-log-iterator.ensures.into_iter_gives.0 ∙ c.into_vec-log-items.ensures) c.in_ok-events.ensures c.new.ensures
+    (c.into_iter-log-iterator.ensures.into_iter_gives.0 ∙ c.into_vec-log-items.ensures.items) c.in_ok-events.ensures c.new.ensures
 
 pub logs-preserved : goal.logs-preserved
 logs-preserved c =

@@ -5,7 +5,7 @@ use Rattle.map_jaeger.proofs.reading.spans.scopes_of.Goals as goal
 
 pub spans-init : goal.spans-init
 spans-init c = spans_begin c.args.spans c.into_iter-span-iterator.result.rest.items c.none-so_far.result c.new-remarks.result
-    (c.into_iter-span-iterator.ensures.into_iter_gives.0 ∙ c.into_vec-span-items.ensures) c.requires.each c.none-so_far.ensures c.new-remarks.ensures
+    (c.into_iter-span-iterator.ensures.into_iter_gives.0 ∙ c.into_vec-span-items.ensures.items) c.requires.each c.none-so_far.ensures c.new-remarks.ensures
 
 pub spans-preserved : goal.spans-preserved
 spans-preserved c =

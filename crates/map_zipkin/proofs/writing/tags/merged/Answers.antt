@@ -12,7 +12,7 @@ use Rattle.map_zipkin.proofs.writing.tags.merged.Goals as goal
 pub attributes-init : goal.attributes-init
 attributes-init c =
     let rows = c.args.rows.now in
-    let whole : c.into_iter-pair-iterator.result.rest.items ≡ c.args.attributes = c.into_iter-pair-iterator.ensures.into_iter_gives.0 ∙ c.into_vec-pair-items.ensures in record {
+    let whole : c.into_iter-pair-iterator.result.rest.items ≡ c.args.attributes = c.into_iter-pair-iterator.ensures.into_iter_gives.0 ∙ c.into_vec-pair-items.ensures.items in record {
       written = ap (λ l. l ++ map zipkin_tag_of (attrs (rows ++ told_pairs c.into_iter-pair-iterator.result.rest.items))) c.in_ok-tags.ensures
           ∙ ap (λ l. map zipkin_tag_of (attrs (rows ++ told_pairs l))) whole;
       rising = c.requires.rising;

@@ -7,4 +7,4 @@ pub returns : goal.returns
 returns c =
     let shared = c.args.shared.now in
     let copied : c.add_copies.new.pairs.items ≡ shared = c.in_ok-add_copies.ensures ∙ ap (λ l. l ++ shared) c.in_ok-rows.ensures.items in
-    c.in_ok-put_rows.ensures shared (copied ∙ sym (attrs_itself shared c.requires)) ∙ ap (λ l. attrs (l ++ shared)) c.into_vec.ensures
+    c.in_ok-put_rows.ensures shared (copied ∙ sym (attrs_itself shared c.requires)) ∙ ap (λ l. attrs (l ++ shared)) c.into_vec.ensures.items

@@ -14,7 +14,7 @@ merged-requires-clause-plain c = attrs_plain c.args.attributes c.in_ok-attribute
 
 pub returns-then-len-eq0 : goal.returns-then-len-eq0
 returns-then-len-eq0 c =
-    let none : c.args.own ≡ [] = none_left c.args.own (sym c.len.ensures ∙ c.if-len-eq0.true) in
+    let none : c.args.own ≡ [] = none_left c.args.own (sym c.len.ensures.count ∙ c.if-len-eq0.true) in
     let shared = c.args.shared.now in
     IfOk-weaker c.merged.result _ _
     (λ tags is. is ∙ (ap (map zipkin_tag_of) (all_in_order [] shared c.args.attributes c.in_ok-attributes.attributes c.in_ok-attributes.ensures.same)

@@ -1,10 +1,21 @@
-use Rattle.std.proofs.Common.{ℕ, ap, ◌+◌, ◌∙◌}
+use Rattle.std.proofs.Common.{ℕ, ap, ◌+◌, arith}
 use Rattle.serde_json.specs.View.{view}
+use Rattle.otlp_json.proofs.CountedLists.{fewer_read}
 use Rattle.otlp_json.proofs.ScopeLemmas.{scope_more}
 use Rattle.otlp_json.proofs.scopes.FoundScopes.add.Goals as goal
 
 pub returns-clause-ok : goal.returns-clause-ok
 returns-clause-ok c = λ ds h.
-    scope_more c.in_ok-number.number c.args.self.now (record { scopes = c.push.new.self; remarks = c.remark_all.new.remarks; next_span = c.in_ok-self.field-0 }) c.in_ok-read.read ds (view c.args.v.now)
-    (c.in_ok-number.ensures.value ∙ ap (λ (n : ℕ). 1 + n) c.len.ensures) c.in_ok-push.ensures.ok c.in_ok-remark_all.ensures
-    (c.in_ok-self.ensures.value ∙ ap (λ (n : ℕ). c.args.self.now.next_span + n) c.len-2.ensures) c.in_ok-read.ensures.value h
+    scope_more (1 + c.len.result) c.args.self.now (record { scopes = c.push.new.self; remarks = c.remark_all.new.remarks; next_span = c.args.self.now.next_span + c.len-2.result }) c.in_ok-read.read ds (view c.args.v.now)
+    (ap (λ (n : ℕ). 1 + n) c.len.ensures.count) c.in_ok-push.ensures.ok c.in_ok-remark_all.ensures
+    (ap (λ (n : ℕ). c.args.self.now.next_span + n) c.len-2.ensures.count) c.in_ok-read.ensures.value h
+
+pub overflow_cast-self : goal.overflow_cast-self
+overflow_cast-self c =
+    let fewer = fewer_read (1 + c.len.result) c.args.self.now.next_span c.in_ok-read.read (view c.args.v.now) c.in_ok-read.ensures.value in
+    record { fits = omega (arith, c.requires.spans, fewer, c.len-2.ensures.count) }
+
+pub overflow_add-self : goal.overflow_add-self
+overflow_add-self c =
+    let fewer = fewer_read (1 + c.len.result) c.args.self.now.next_span c.in_ok-read.read (view c.args.v.now) c.in_ok-read.ensures.value in
+    record { fits = omega (arith, c.requires.spans, fewer, c.len-2.ensures.count) }

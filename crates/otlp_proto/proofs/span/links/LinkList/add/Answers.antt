@@ -1,4 +1,4 @@
-use Rattle.std.proofs.Common.{◌∙◌, ap, ◌+◌, refl, true, Option, subst}
+use Rattle.std.proofs.Common.{ℕ, ap, ◌+◌, refl, true, Option, subst}
 use Rattle.otlp_proto.specs.declared.noted.ReadLink.{ReadLink}
 use Rattle.otlp_proto.specs.Link.{IsLink}
 use Rattle.otlp_proto.specs.ReadParts.{link_read}
@@ -14,6 +14,6 @@ returns-in_default-clause-ok c = λ earlier gathered.
 pub returns-clause-ok : goal.returns-clause-ok
 returns-clause-ok c = λ earlier gathered.
     link_push c.args.span earlier c.args.held.now c.args.self.now (record { links = c.push.new.self; dropped = c.args.self.now.dropped; remarks = c.remark_keys.new.remarks })
-    (record { means = c.in-Some.read.link; notes = c.in-Some.read.keys }) c.in_ok-number.number
+    (record { means = c.in-Some.read.link; notes = c.in-Some.read.keys }) (1 + c.len.result)
     (subst (λ (read : Option ReadLink). MeansMessage IsLink c.args.held.now (link_read read)) c.in-Some.is c.in_ok-read.ensures.value)
-    (c.in_ok-number.ensures.value ∙ ap (λ n. 1 + n) c.len.ensures) c.in_ok-push.ensures.ok refl c.in_ok-remark_keys.ensures gathered
+    (ap (λ (n : ℕ). 1 + n) c.len.ensures.count) c.in_ok-push.ensures.ok refl c.in_ok-remark_keys.ensures gathered
