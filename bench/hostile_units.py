@@ -396,6 +396,12 @@ def many_nothings():
     return text_of_value(list_value(b"\x0a\0" * count), b"[" + b",".join([b"null"] * count) + b"]")
 
 
+def listed_controls():
+    """A list of one text of control characters: no other text grows as much."""
+    text = b"\1" * room(room(LIST_ROOM))
+    return text_of_value(list_value(bytes_field(1, bytes_field(1, text))), b'["' + b"\\u0001" * len(text) + b'"]')
+
+
 def many_chains():
     """A list of lists 16 deep."""
     count = LIST_ROOM // len(DEEP_LIST)
@@ -499,6 +505,7 @@ def batch_cases():
         ("batches of one span, the last cut", BATCHES, cut_batches),
         ("a list of empty values, as a tag's text", TO_BATCHES, many_nothings),
         ("chains of lists 16 deep, as a tag's text", TO_BATCHES, many_chains),
+        ("a list of a text of control characters", TO_BATCHES, listed_controls),
         ("a double in the last of many lists", TO_BATCHES, lambda: faulted(one_value(list_value(filled(DEEP_LIST, LIST_ROOM - 11) + LAST_DOUBLE)), 1, "25 DoubleInText")),
         ("a reserved key behind many others", TO_BATCHES, lambda: faulted(reserved_last(), 1, '21 Reserved "error"')),
         ("empty events", TO_BATCHES, lambda: writes(one_span(filled(b"\x5a\0", REST_ROOM)), batch(spans=[field(LIST, 11, list_of(REST_ROOM // 2, LOG * (REST_ROOM // 2)))]))),

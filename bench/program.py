@@ -36,6 +36,12 @@ def convert(text, source="otlp-proto", target="otlp-proto"):
     return done.returncode, done.stdout, done.stderr.decode(errors="replace")
 
 
+def headers(block, form):
+    """The status, the output and the note for a block of header lines."""
+    done = subprocess.run([PROGRAM, "headers", "--to", form], input=block, capture_output=True)
+    return done.returncode, done.stdout, done.stderr.decode(errors="replace")
+
+
 def seconds_of(command, path):
     """How long a command takes over a file, with the output thrown away, and how much of it is user time."""
     with open(path, "rb") as source, open(os.devnull, "wb") as sink:

@@ -1,5 +1,6 @@
 #!/usr/bin/python3
-"""Writes examples/checkout_batch.bin with Apache Thrift's Python library: a checkout as a Jaeger client sends it.
+"""Writes two files with Apache Thrift's Python library: examples/checkout_batch.bin, a checkout as a Jaeger client posts it to a
+collector, and examples/checkout_datagram.bin, the same as it sends it to an agent.
 
 It needs Debian's thrift-compiler and python3-thrift, and is run as examples/write_checkout_batch.py at the top.
 """
@@ -10,6 +11,9 @@ import subprocess
 import sys
 import tempfile
 
+from thrift.protocol.TCompactProtocol import TCompactProtocolFactory
+from thrift.Thrift import TMessageType, TType
+from thrift.transport.TTransport import TMemoryBuffer
 from thrift.TSerialization import serialize
 
 HERE = os.path.dirname(os.path.abspath(__file__))
@@ -74,6 +78,27 @@ def batch(types):
     return types.Batch(process, spans, seqNo=1, stats=types.ClientStats(0, 0, 0))
 
 
+def datagram(batch, factory, kind=TMessageType.ONEWAY):
+    """The message in which a client sends a batch: a call of the agent's emitBatch."""
+    transport = TMemoryBuffer()
+    protocol = factory.getProtocol(transport)
+    protocol.writeMessageBegin("emitBatch", kind, 1)
+    protocol.writeStructBegin("emitBatch_args")
+    protocol.writeFieldBegin("batch", TType.STRUCT, 1)
+    batch.write(protocol)
+    protocol.writeFieldEnd()
+    protocol.writeFieldStop()
+    protocol.writeStructEnd()
+    protocol.writeMessageEnd()
+    return transport.getvalue()
+
+
+def main():
+    made = batch(classes())
+    for name, text in [("checkout_batch.bin", serialize(made)), ("checkout_datagram.bin", datagram(made, TCompactProtocolFactory()))]:
+        with open(os.path.join(HERE, name), "wb") as out:
+            out.write(text)
+
+
 if __name__ == "__main__":
-    with open(os.path.join(HERE, "checkout_batch.bin"), "wb") as out:
-        out.write(serialize(batch(classes())))
+    main()

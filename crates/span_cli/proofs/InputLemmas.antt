@@ -13,7 +13,9 @@ use Rattle.span_io.specs.declared.limits.Limits.{Limits}
 use Rattle.span_convert.specs.Converters.{Fed, HasForms}
 use Rattle.span_convert.specs.Units.{input_limit}
 use Rattle.span_convert.specs.declared.converter.Converter.{Converter}
-use Rattle.span_cli.specs.Inputs.{GaveInput, ReadsInput, IsFed, piece}
+use Rattle.span_cli.specs.Inputs.{GaveInput, ReadsInput, IsAllRead, IsFed, piece}
+use Rattle.span_cli.specs.declared.command.Command.{Command}
+use Rattle.span_cli.specs.declared.command.Command.TheVariants.{Convert}
 
 Consumes-nothing : (left : Option (List ℕ)) → Consumes left left []
 Consumes-nothing None = tt
@@ -39,64 +41,82 @@ not_in_vain E before now after result goes is going vain =
     never_in_vain (is_last result) (sym (is ∙ ap (λ (o : Option ReadCourse). course_of_reads o result) (goes going)) ∙ vain)
 
 -- nothing was read
-pub reads_nothing : (from : Form) (now : Inlet) → ReadsInput from now now
-reads_nothing from now = record { given = []; gave = Consumes-nothing now.left; within = omega arith }
+pub reads_nothing : (command : Command) (now : Inlet) → ReadsInput command now now
+reads_nothing command now = record { given = []; gave = Consumes-nothing now.left; within = omega arith }
 
 -- a converter was fed no more than the limit of its form
 pub given_within : (c : Converter) (from : Form) (given : List ℕ) → Fed c given → c.from ≡ from → c.limits ≡ shipped_limits → length given ≤ input_limit from shipped_limits
 given_within c from given fed form limits = subst (λ (f : Form). length given ≤ input_limit f shipped_limits) form (subst (λ (l : Limits). length given ≤ input_limit c.from l) limits fed.within)
 
--- the source gave some bytes so far without a fault, and the converter was fed them
-pub record Feeding (from to : Form) (before now : Inlet) (c : Converter) : Type 0 where
-  pub given : List ℕ
+-- the source gave these bytes so far without a fault
+pub record Reading (before now : Inlet) (given : List ℕ) : Type 0 where
   pub gave : GaveInput before now given
   pub quiet : now.faults ≡ before.faults
   pub steady : now.steady ≡ before.steady
   pub goes : before.course ≡ Some reads.Going → now.course ≡ Some reads.Going
+
+pub Reading-start : (now : Inlet) → Reading now now []
+Reading-start now = record { gave = Consumes-nothing now.left; quiet = refl; steady = refl; goes = λ going. going }
+
+pub Reading-step : (before now after : Inlet) (given more : List ℕ) → Reading before now given → Consumes now.left after.left more → after.faults ≡ now.faults → after.steady ≡ now.steady → (now.course ≡ Some reads.Going → after.course ≡ Some reads.Going) → Reading before after (given ++ more)
+Reading-step before now after given more reading here quiet steady goes = record {
+  gave = Consumes-then before.left now.left after.left given more reading.gave here;
+  quiet = quiet ∙ reading.quiet;
+  steady = steady ∙ reading.steady;
+  goes = λ going. goes (reading.goes going);
+}
+
+told_end : (before now : Option (List ℕ)) (given : List ℕ) → Consumes before now given → IsAtEnd now → IfSome before (λ bytes. now ≡ Some [])
+told_end None now given gave ended = tt
+told_end (Some xs) None given gave ended = absurd gave
+told_end (Some xs) (Some ys) given gave ended = ap (λ (l : List ℕ). Some l) ended
+
+-- and then all its bytes
+pub Reading-end : (before now after : Inlet) (given : List ℕ) → Reading before now given → Consumes now.left after.left [] → IsAtEnd after.left → GaveInput before after given × IsAllRead before after
+Reading-end before now after given reading here ended =
+    let all = Consumes-then before.left now.left after.left given [] reading.gave here in
+    (subst (λ (l : List ℕ). GaveInput before after l) (append-nil given) all, record { ended = ended; told = told_end before.left after.left (given ++ []) all ended })
+
+-- the source gave some bytes so far without a fault, and the converter was fed them
+pub record Feeding (from to : Form) (before now : Inlet) (c : Converter) : Type 0 where
+  pub given : List ℕ
+  pub reading : Reading before now given
   pub fed : Fed c given
   pub forms : HasForms c from to
   pub limits : c.limits ≡ shipped_limits
 
 module _ (from to : Form) where
   pub Feeding-start : (now : Inlet) (c : Converter) → Fed c [] → HasForms c from to → c.limits ≡ shipped_limits → Feeding from to now now c
-  Feeding-start now c fresh forms limits = record { given = []; gave = Consumes-nothing now.left; quiet = refl; steady = refl; goes = λ going. going; fed = fresh; forms = forms; limits = limits }
+  Feeding-start now c fresh forms limits = record { given = []; reading = Reading-start now; fed = fresh; forms = forms; limits = limits }
 
   pub Feeding-step : (before now after : Inlet) (old new : Converter) (more : List ℕ) (feeding : Feeding from to before now old) → Consumes now.left after.left more → after.faults ≡ now.faults → after.steady ≡ now.steady → (now.course ≡ Some reads.Going → after.course ≡ Some reads.Going)
       → Fed new (feeding.given ++ more) → HasForms new old.from old.to → new.limits ≡ old.limits → Feeding from to before after new
   Feeding-step before now after old new more feeding here quiet steady goes fed forms limits = record {
     given = feeding.given ++ more;
-    gave = Consumes-then before.left now.left after.left feeding.given more feeding.gave here;
-    quiet = quiet ∙ feeding.quiet;
-    steady = steady ∙ feeding.steady;
-    goes = λ going. goes (feeding.goes going);
+    reading = Reading-step before now after feeding.given more feeding.reading here quiet steady goes;
     fed = fed;
     forms = (forms.0 ∙ feeding.forms.0, forms.1 ∙ feeding.forms.1);
     limits = limits ∙ feeding.limits;
   }
 
   -- what was read so far, and another piece that the converter took or not
-  pub Feeding-reads : (before now after : Inlet) (c : Converter) (more : List ℕ) (feeding : Feeding from to before now c) → Consumes now.left after.left more → length more ≤ piece → ReadsInput from before after
+  pub Feeding-reads : (before now after : Inlet) (c : Converter) (more : List ℕ) (feeding : Feeding from to before now c) → Consumes now.left after.left more → length more ≤ piece → ReadsInput (Convert from to) before after
   Feeding-reads before now after c more feeding here small =
       let bound = given_within c from feeding.given feeding.fed feeding.forms.0 feeding.limits in
       record {
         given = feeding.given ++ more;
-        gave = Consumes-then before.left now.left after.left feeding.given more feeding.gave here;
+        gave = Consumes-then before.left now.left after.left feeding.given more feeding.reading.gave here;
         within = omega (arith, length-append feeding.given more);
       }
 
-  Feeding-told : (before now : Option (List ℕ)) (given : List ℕ) → Consumes before now given → IsAtEnd now → IfSome before (λ bytes. now ≡ Some [])
-  Feeding-told None now given gave ended = tt
-  Feeding-told (Some xs) None given gave ended = absurd gave
-  Feeding-told (Some xs) (Some ys) given gave ended = ap (λ (l : List ℕ). Some l) ended
-
   pub Feeding-end : (before now after : Inlet) (c : Converter) → Feeding from to before now c → Consumes now.left after.left [] → after.faults ≡ now.faults → NoReadInVain before after → IsAtEnd after.left → IsFed from to before after c
   Feeding-end before now after c feeding here quiet in_vain ended =
-      let all = Consumes-then before.left now.left after.left feeding.given [] feeding.gave here in
+      let all = Reading-end before now after feeding.given feeding.reading here ended in
       record {
         given = feeding.given;
-        gave = subst (λ (l : List ℕ). GaveInput before after l) (append-nil feeding.given) all;
-        all_read = record { ended = ended; told = Feeding-told before.left after.left (feeding.given ++ []) all ended };
-        quiet = quiet ∙ feeding.quiet;
+        gave = all.0;
+        all_read = all.1;
+        quiet = quiet ∙ feeding.reading.quiet;
         in_vain = in_vain;
         fed = feeding.fed;
         forms = feeding.forms;

@@ -1,6 +1,10 @@
+pub mod BlockLemmas
 pub mod CommandLemmas
+pub mod ConversionEndings
 pub mod EndingLaws
 pub mod FrontVerdicts
+pub mod HeadersEndings
 pub mod InputLemmas
+pub mod LinesBack
 pub mod NoteLemmas
 pub mod SameRuns

@@ -4,7 +4,7 @@ use Rattle.std.proofs.lemmas.List.{append-nil, take_more}
 use Rattle.std.proofs.lemmas.List.Concat.{flat_map-append, flat_map-cons}
 use Rattle.std.specs.Borrow.{Bor}
 use Rattle.span_io.specs.Outside.{Outlet, FailsAt}
-use Rattle.span_cli.specs.Verdicts.{pieces_text}
+use Rattle.span_cli.specs.Lines.{pieces_text}
 
 -- with the next piece
 pub joined_more : (pieces : List (Bor (List ℕ))) (i : ℕ) (none : Bor (List ℕ)) → i < length pieces → pieces_text (take (i + 1) pieces) ≡ pieces_text (take i pieces) ++ (get_or pieces i none).now

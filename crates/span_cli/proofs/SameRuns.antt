@@ -7,8 +7,11 @@ use Rattle.span_io.specs.declared.form.Form.{Form}
 use Rattle.span_io.specs.declared.limits.Limits.{Limits}
 use Rattle.span_convert.specs.SameBatches.{SameBatches}
 use Rattle.span_convert.specs.SameDocuments.{AgreeingDocuments}
-use Rattle.span_convert.specs.Verdicts.{Verdict, IsVerdict, verdict_text}
-use Rattle.span_cli.specs.Verdicts.{OnVerdict, OnSameBatches, OnAgreeingDocuments, CarriesOut, AgreesWith, Writes, Notes, stage_of, line_of}
+use Rattle.span_convert.specs.Verdicts.{Verdict, IsVerdict}
+use Rattle.span_cli.specs.Lines.{Notes, stage_of}
+use Rattle.span_cli.specs.Outcomes.{Outcome, OnOutcome, OnSameBatches, OnAgreeingDocuments, CarriesOut, AgreesWith, Writes, line_of}
+use Rattle.span_cli.specs.declared.command.Command.{Command}
+use Rattle.span_cli.specs.declared.command.Command.TheVariants.{Convert}
 
 shipped_valid : AreLimits shipped_limits
 shipped_valid = record {
@@ -22,22 +25,24 @@ shipped_valid = record {
 
 pub on_same_batches : ((from other to : Form) (limits : Limits) (bytes others : List ℕ) → AreLimits limits → SameBatches limits from bytes other others
     → (verdict : Verdict) → IsVerdict from to limits bytes verdict ↔ IsVerdict other to limits others verdict)
-    → (from to : Form) (left : Option (List ℕ)) (P : Verdict → Type 0) → OnVerdict from to left P → OnSameBatches from to left P
+    → (from to : Form) (left : Option (List ℕ)) (P : Outcome → Type 0) → OnOutcome (Convert from to) left P → OnSameBatches from to left P
 on_same_batches law from to None P h = tt
-on_same_batches law from to (Some bytes) P h = λ other others same verdict is. h verdict ((law from other to shipped_limits bytes others shipped_valid same verdict).1 is)
+on_same_batches law from to (Some bytes) P h = λ other others same outcome (verdict, is, outcome_is).
+    h outcome (verdict, (law from other to shipped_limits bytes others shipped_valid same verdict).1 is, outcome_is)
 
 pub on_agreeing_documents : ((from to : Form) (limits : Limits) (bytes others : List ℕ) → AgreeingDocuments limits from bytes others
     → (verdict : Verdict) → IsVerdict from to limits bytes verdict ↔ IsVerdict from to limits others verdict)
-    → (from to : Form) (left : Option (List ℕ)) (P : Verdict → Type 0) → OnVerdict from to left P → OnAgreeingDocuments from to left P
+    → (from to : Form) (left : Option (List ℕ)) (P : Outcome → Type 0) → OnOutcome (Convert from to) left P → OnAgreeingDocuments from to left P
 on_agreeing_documents law from to None P h = tt
-on_agreeing_documents law from to (Some bytes) P h = λ others agree verdict is. h verdict ((law from to shipped_limits bytes others agree verdict).1 is)
+on_agreeing_documents law from to (Some bytes) P h = λ others agree outcome (verdict, is, outcome_is).
+    h outcome (verdict, (law from to shipped_limits bytes others agree verdict).1 is, outcome_is)
 
 -- its status, its output and its note together
-pub carried_out : (from to : Form) (left : Option (List ℕ)) (status : ℕ) (output_before output_now notes_before notes_now : Outlet)
-    → OnVerdict from to left (AgreesWith (stage_of status) status)
-    → OnVerdict from to left (λ verdict. Writes (stage_of status) (verdict_text verdict) output_before output_now)
-    → OnVerdict from to left (λ verdict. Notes notes_before notes_now (line_of (stage_of status) verdict))
-    → OnVerdict from to left (CarriesOut status output_before output_now notes_before notes_now)
-carried_out from to None status output_before output_now notes_before notes_now agrees writes notes = tt
-carried_out from to (Some bytes) status output_before output_now notes_before notes_now agrees writes notes =
-    λ verdict is. record { agrees = agrees verdict is; writes = writes verdict is; notes = notes verdict is }
+pub carried_out : (command : Command) (left : Option (List ℕ)) (status : ℕ) (output_before output_now notes_before notes_now : Outlet)
+    → OnOutcome command left (AgreesWith (stage_of status) status)
+    → OnOutcome command left (λ outcome. Writes (stage_of status) outcome.text output_before output_now)
+    → OnOutcome command left (λ outcome. Notes notes_before notes_now (line_of (stage_of status) outcome))
+    → OnOutcome command left (CarriesOut status output_before output_now notes_before notes_now)
+carried_out command None status output_before output_now notes_before notes_now agrees writes notes = tt
+carried_out command (Some bytes) status output_before output_now notes_before notes_now agrees writes notes =
+    λ outcome is. record { agrees = agrees outcome is; writes = writes outcome is; notes = notes outcome is }

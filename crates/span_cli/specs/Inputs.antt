@@ -1,12 +1,16 @@
--- What reading an input and feeding it to a converter leave of both.
-use Rattle.std.specs.Prelude.{◌≡◌, ℕ, ◌+◌, ◌≤◌, List, [], length, Some, IfSome}
+-- What reading an input leaves of it, and what a converter was fed or a block of header lines holds then.
+use Rattle.std.specs.Prelude.{◌≡◌, ℕ, ◌+◌, ◌≤◌, ◌<◌, List, [], length, Some, IfSome, IsTrue}
 use Rattle.std.specs.Io.KnownBytes.{Consumes, IsAtEnd}
 use Rattle.span_io.specs.Limits.{shipped_limits}
-use Rattle.span_io.specs.Outside.{Inlet, NoReadInVain}
+use Rattle.span_io.specs.Outside.{Inlet, InputFails, NoReadInVain}
 use Rattle.span_io.specs.declared.form.Form.{Form}
 use Rattle.span_convert.specs.Converters.{Fed, HasForms}
 use Rattle.span_convert.specs.Units.{input_limit}
 use Rattle.span_convert.specs.declared.converter.Converter.{Converter}
+use Rattle.span_cli.specs.declared.command.Command.{Command}
+use Rattle.span_cli.specs.declared.command.Command.TheVariants.{Convert, Headers}
+use Rattle.span_cli.specs.declared.ending.Ending.{Ending}
+use Rattle.span_cli.specs.declared.ending.Ending.TheVariants as endings
 
 -- the source gave these bytes
 abbrev pub GaveInput : Inlet → Inlet → List ℕ → Type 0
@@ -16,11 +20,20 @@ GaveInput before now bytes = Consumes before.left now.left bytes
 abbrev pub piece : ℕ
 piece = 65536
 
--- Reading stopped at the first stop: at most so many bytes were read as the limit of the form allows, and one piece.
-pub record ReadsInput (from : Form) (before now : Inlet) : Type 0 where
+-- the most bytes of header lines
+abbrev pub header_limit : ℕ
+header_limit = 16384
+
+-- the most bytes that a command takes as its input
+abbrev pub command_limit : Command → ℕ
+command_limit (Convert from to) = input_limit from shipped_limits
+command_limit (Headers form) = header_limit
+
+-- Reading stopped at the first stop: at most so many bytes were read as the limit allows, and one piece.
+pub record ReadsInput (command : Command) (before now : Inlet) : Type 0 where
   pub given : List ℕ
   pub gave : GaveInput before now given
-  pub within : length given ≤ input_limit from shipped_limits + piece
+  pub within : length given ≤ command_limit command + piece
 
 -- nothing is left, where the source tells it: it does if it told its bytes before
 pub record IsAllRead (before now : Inlet) : Type 0 where
@@ -37,3 +50,25 @@ pub record IsFed (from to : Form) (before now : Inlet) (c : Converter) : Type 0 
   pub fed : Fed c given
   pub forms : HasForms c from to
   pub limits : c.limits ≡ shipped_limits
+
+-- the source gave all its bytes without a fault and without a read in vain, and these are they
+pub record IsReadWhole (before now : Inlet) (given : List ℕ) : Type 0 where
+  pub gave : GaveInput before now given
+  pub all_read : IsAllRead before now
+  pub quiet : now.faults ≡ before.faults
+  pub in_vain : NoReadInVain before now
+
+-- why a block of header lines wasn't read to the end of the input
+abbrev pub HaltsBlock : Ending → Inlet → Inlet → List ℕ → Type 0
+HaltsBlock endings.InputFailed before now given = InputFails before now × (IsTrue before.steady → ⊥)
+HaltsBlock endings.TooLong before now given = (now.faults ≡ before.faults) × (header_limit < length given)
+HaltsBlock endings.NoMemory before now given = now.faults ≡ before.faults
+HaltsBlock ending before now given = ⊥
+
+-- the source gave these bytes of it before
+pub record BlockHalts (ending : Ending) (before now : Inlet) : Type 0 where
+  pub given : List ℕ
+  pub gave : GaveInput before now given
+  pub within : length given ≤ header_limit + piece
+  pub in_vain : NoReadInVain before now
+  pub why : HaltsBlock ending before now given

@@ -1,4 +1,5 @@
 pub mod Commands
 pub mod Inputs
+pub mod Lines
+pub mod Outcomes
 pub mod Runs
-pub mod Verdicts

@@ -1,16 +1,22 @@
--- How a conversion ends, and what it does to its input and output.
-use Rattle.std.specs.Prelude.{◌≡◌, ◌≢◌, ◌⊎◌, ℕ, List, IfSome, IsTrue, Result, Ok, Err}
+-- How a run ends, and what it does to its input and output.
+use Rattle.std.specs.Prelude.{◌≡◌, ◌≢◌, ◌⊎◌, ℕ, Bool, List, [], IfSome, IsTrue, Result, Ok, Err}
+use Rattle.propagation.specs.Heads.{Head, IsHeaderCause}
+use Rattle.propagation.specs.NormalContexts.{CannotTell, context_lines}
+use Rattle.propagation.specs.declared.context.Context.{Context}
+use Rattle.propagation.specs.declared.header_form.HeaderForm.{HeaderForm}
 use Rattle.span_io.specs.Limits.{shipped_limits}
-use Rattle.span_io.specs.Outside.{Inlet, Outlet, InputFails, NoReadInVain, OutputFails, OutputHolds}
-use Rattle.span_io.specs.declared.form.Form.{Form}
-use Rattle.span_convert.specs.Verdicts.{WritesFront, verdict_text}
+use Rattle.span_io.specs.Outside.{Inlet, Outlet, Gains, GainsFront, InputFails, NoReadInVain, OutputFails, OutputHolds}
+use Rattle.span_convert.specs.Verdicts.{WritesFront}
 use Rattle.span_convert.specs.declared.converter.State.{State}
 use Rattle.span_convert.specs.declared.converter.State.TheVariants as states
 use Rattle.span_convert.specs.declared.stop.Stop.{Stop}
 use Rattle.span_convert.specs.declared.stop.Stop.TheVariants as stops
 use Rattle.span_convert.specs.declared.target_fault.TargetFault.{TargetFault}
 use Rattle.span_cli.specs.Inputs.{GaveInput, ReadsInput, IsAllRead}
-use Rattle.span_cli.specs.Verdicts.{OnVerdict, IsJudgedAt, AgreesWith, Writes, HasKey, stage_of, status_of, line_of, fault_line, noted_line, ending_line}
+use Rattle.span_cli.specs.Lines.{HasKey, stage_of, status_of, fault_line, noted_line, ending_line}
+use Rattle.span_cli.specs.Outcomes.{OnOutcome, IsJudgedAt, AgreesWith, Writes, line_of}
+use Rattle.span_cli.specs.declared.command.Command.{Command}
+use Rattle.span_cli.specs.declared.command.Command.TheVariants.{Convert, Headers}
 use Rattle.span_cli.specs.declared.ending.Ending.{Ending}
 use Rattle.span_cli.specs.declared.ending.Ending.TheVariants as endings
 use Rattle.span_cli.specs.declared.noted_fault.NotedFault.{NotedFault}
@@ -34,18 +40,21 @@ abbrev pub IsEndingAt : Ending → Stop → State → Type 0
 IsEndingAt endings.Whole stop state = ⊥
 IsEndingAt (endings.Refused refusal) stop state = (stop ≡ stops.Refused) × (state ≡ states.Refused refusal)
 IsEndingAt (endings.Faulted noted) stop state = IsFaultAt noted stop state
+IsEndingAt (endings.BadHeaders cause) stop state = ⊥
+IsEndingAt endings.TooLong stop state = ⊥
+IsEndingAt endings.NoIds stop state = ⊥
 IsEndingAt endings.InputFailed stop state = ⊥
 IsEndingAt endings.OutputFailed stop state = stop ≡ stops.Write
 IsEndingAt endings.NoMemory stop state = (stop ≡ stops.OutOfMemory) ⊎ IsKeyAt stop state
 
 -- What a run that ends with this status did to its input. The input failed where its count rose, and only there, and no read
 -- was in vain.
-pub record EndsInput (from : Form) (status : ℕ) (before now : Inlet) : Type 0 where
+pub record EndsInput (command : Command) (status : ℕ) (before now : Inlet) : Type 0 where
   pub fails : status ≡ 5 → InputFails before now
   pub quiet : status ≢ 5 → now.faults ≡ before.faults
   pub answers : IsTrue before.steady → status ≢ 5
   pub in_vain : NoReadInVain before now
-  pub reads : ReadsInput from before now
+  pub reads : ReadsInput command before now
   pub all_read : status ≡ 0 → IsAllRead before now
 
 -- The same of its output, which a failure of the input leaves as it was.
@@ -54,27 +63,63 @@ pub record EndsOutput {K : Type 0} (outlet : K → Outlet) (status : ℕ) (befor
   pub holds : status ≢ 6 → OutputHolds (outlet before) (outlet now)
   pub unwritten : status ≡ 5 → now ≡ before
 
--- what was written is a front of the canonical text of the first units of what was read
-pub record WritesRead (from to : Form) (input_before input_now : Inlet) (output_before output_now : Outlet) : Type 0 where
+-- what was written is nothing, or a front of the lines of a context that these bytes tell
+pub data IsContextFront (form : HeaderForm) (given : List ℕ) (before now : Outlet) : Type 0 where
+  none : Gains before now [] → IsContextFront form given before now
+  some : (c : Context) (dropped : Bool) → Head c dropped given → GainsFront before now (context_lines form c)
+      → IsContextFront form given before now
+
+-- what was written is a front of the canonical text of the first units of these bytes, or of the lines of their context
+abbrev pub IsFrontOf : Command → List ℕ → Outlet → Outlet → Type 0
+IsFrontOf (Convert from to) given before now = WritesFront from to shipped_limits given before now
+IsFrontOf (Headers form) given before now = IsContextFront form given before now
+
+-- what was written is such a front of what was read
+pub record WritesRead (command : Command) (input_before input_now : Inlet) (output_before output_now : Outlet) : Type 0 where
   pub given : List ℕ
   pub gave : GaveInput input_before input_now given
-  pub front : WritesFront from to shipped_limits given output_before output_now
+  pub front : IsFrontOf command given output_before output_now
 
--- The ending is true of an input and an output as they were before and are now. Where the input told its bytes, the verdict on
+-- The ending is true of an input and an output as they were before and are now. Where the input told its bytes, the outcome on
 -- them was carried out as the ending says.
-pub record EndsRun {K : Type 0} (outlet : K → Outlet) (from to : Form) (ending : Ending)
+pub record EndsRun {K : Type 0} (outlet : K → Outlet) (command : Command) (ending : Ending)
     (input_before input_now : Inlet) (output_before output_now : K) : Type 0 where
-  pub input : EndsInput from (status_of ending) input_before input_now
+  pub input : EndsInput command (status_of ending) input_before input_now
   pub output : EndsOutput outlet (status_of ending) output_before output_now
-  pub front : WritesRead from to input_before input_now (outlet output_before) (outlet output_now)
-  pub judged : IfSome input_before.left (IsJudgedAt from to (stage_of (status_of ending)))
-  pub verdict : OnVerdict from to input_before.left (AgreesWith (stage_of (status_of ending)) (status_of ending))
-  pub written : OnVerdict from to input_before.left
-      (λ verdict. Writes (stage_of (status_of ending)) (verdict_text verdict) (outlet output_before) (outlet output_now))
-  pub line : OnVerdict from to input_before.left (λ verdict. ending_line ending ≡ line_of (stage_of (status_of ending)) verdict)
+  pub front : WritesRead command input_before input_now (outlet output_before) (outlet output_now)
+  pub judged : IfSome input_before.left (IsJudgedAt command (stage_of (status_of ending)))
+  pub agrees : OnOutcome command input_before.left (AgreesWith (stage_of (status_of ending)) (status_of ending))
+  pub written : OnOutcome command input_before.left
+      (λ outcome. Writes (stage_of (status_of ending)) outcome.text (outlet output_before) (outlet output_now))
+  pub line : OnOutcome command input_before.left
+      (λ outcome. ending_line ending ≡ line_of (stage_of (status_of ending)) outcome)
 
 -- a call that didn't come to the end says how the run ended
-abbrev pub EndsEarly : {K T : Type 0} → (K → Outlet) → Form → Form → Result T Ending → Inlet → Inlet → K → K → Type 0
-EndsEarly outlet from to (Ok x) input_before input_now output_before output_now = Unit {0}
-EndsEarly outlet from to (Err ending) input_before input_now output_before output_now =
-    EndsRun outlet from to ending input_before input_now output_before output_now
+abbrev pub EndsEarly : {K T : Type 0} → (K → Outlet) → Command → Result T Ending → Inlet → Inlet → K → K → Type 0
+EndsEarly outlet command (Ok x) input_before input_now output_before output_now = Unit {0}
+EndsEarly outlet command (Err ending) input_before input_now output_before output_now =
+    EndsRun outlet command ending input_before input_now output_before output_now
+
+-- ---- the lines of a context
+
+-- the block tells a context, these are its lines in the form, and the form can tell it
+pub record TellsLines (form : HeaderForm) (block lines : List ℕ) : Type 0 where
+  pub context : Context
+  pub dropped : Bool
+  pub told : Head context dropped block
+  pub can_tell : ¬ (CannotTell form context)
+  pub are_lines : lines ≡ context_lines form context
+
+-- the block tells a context that the form can't tell
+pub record TellsNoIds (form : HeaderForm) (block : List ℕ) : Type 0 where
+  pub context : Context
+  pub dropped : Bool
+  pub told : Head context dropped block
+  pub cannot : CannotTell form context
+
+-- why there are no lines
+abbrev pub HaltsLines : Ending → HeaderForm → List ℕ → Type 0
+HaltsLines (endings.BadHeaders cause) form block = IsHeaderCause cause block
+HaltsLines endings.NoIds form block = TellsNoIds form block
+HaltsLines endings.NoMemory form block = Unit {0}
+HaltsLines ending form block = ⊥

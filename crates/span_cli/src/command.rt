@@ -4,6 +4,7 @@ ghost use Rattle.span_cli.specs.Commands.{texts, Spells, ConvertsBetween, side_w
 ghost use Rattle.span_cli.specs.declared.command.Command.{Command};
 ghost use Rattle.span_cli.specs.declared.command.Side.{Side};
 
+use propagation::HeaderForm;
 use span_io::Form;
 
 /// What a run is asked to do.
@@ -11,6 +12,8 @@ use span_io::Form;
 pub enum Command {
     /// Reads spans in the first form and writes them in the second.
     Convert(Form, Form),
+    /// Reads header lines and writes their context in this form.
+    Headers(HeaderForm),
 }
 
 /// Which form an option is of.
@@ -26,6 +29,7 @@ pub fn read_words(words: &[String]) -> Option<Command>
     ensures { (command : Command) → (result ≡ Some command) ↔ Spells command (texts words.now) }
 {
     match words {
+        [mode, option, word] => { one_option(mode.as_bytes(), option.as_bytes(), word.as_bytes()) }
         [mode, first, first_word, second, second_word] => command_of(
             mode.as_bytes(),
             first.as_bytes(),
@@ -35,6 +39,20 @@ pub fn read_words(words: &[String]) -> Option<Command>
         ),
         _ => None,
     }
+}
+
+// The command that a mode and one option with its word spell.
+fn one_option(mode: &[u8], option: &[u8], word: &[u8]) -> Option<Command>
+    ensures { (command : Command) → (result ≡ Some command) ↔ Spells command (mode.now ∷ option.now ∷ word.now ∷ []) }
+{
+    if mode != b"headers".as_slice() {
+        return None;
+    }
+    if option != b"--to".as_slice() {
+        return None;
+    }
+    let form = HeaderForm::of_word(word)?;
+    Some(Command::Headers(form))
 }
 
 // The command that a mode and two options with their words spell.

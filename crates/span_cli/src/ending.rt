@@ -1,15 +1,16 @@
 //! How a run ends.
 ghost use Rattle.std.specs.Prelude.{◌≡◌, Some};
 ghost use Rattle.span_convert.specs.Converters.{stop_in};
-ghost use Rattle.span_cli.specs.Verdicts.{status_of};
+ghost use Rattle.span_cli.specs.Lines.{status_of};
 ghost use Rattle.span_cli.specs.Runs.{IsEndingAt};
 
 use crate::noted_fault::NotedFault;
+use propagation::HeaderCause;
 use span_convert::{Converter, Stop, Why};
 use span_io::{OutOfMemory, Refusal};
 use std::alloc::Global;
 
-/// How a run of `convert` ends.
+/// How a run ends.
 #[derive(Debug, Drop)]
 pub enum Ending {
     /// The whole text was written.
@@ -17,6 +18,12 @@ pub enum Ending {
     Refused(Refusal),
     /// The target can't hold a unit.
     Faulted(NotedFault),
+    /// The header lines tell no context.
+    BadHeaders(HeaderCause),
+    /// There are more bytes of header lines than are read.
+    TooLong,
+    /// The form of headers can't tell a context without identifiers.
+    NoIds,
     InputFailed,
     OutputFailed,
     NoMemory,
@@ -50,6 +57,9 @@ impl Ending {
             Ending::Whole => 0,
             Ending::Refused(_) => 3,
             Ending::Faulted(_) => 4,
+            Ending::BadHeaders(_) => 3,
+            Ending::TooLong => 3,
+            Ending::NoIds => 4,
             Ending::InputFailed => 5,
             Ending::OutputFailed => 6,
             Ending::NoMemory => 7,

@@ -4,6 +4,7 @@ ghost use Rattle.span_io.specs.Limits.{shipped_limits};
 ghost use Rattle.span_convert.specs.Converters.{Fed};
 ghost use Rattle.span_cli.specs.Inputs.{IsFed, piece};
 ghost use Rattle.span_cli.specs.Runs.{EndsEarly};
+ghost use Rattle.span_cli.specs.declared.command.Command.{Command};
 
 use crate::ending::Ending;
 use span_convert::Converter;
@@ -12,7 +13,7 @@ use span_io::{OutOfMemory, Sink, Source};
 use std::alloc::Global;
 
 /// The most bytes that one read asks for.
-const PIECE: usize = 65_536;
+pub(crate) const PIECE: usize = 65_536;
 
 /// Feeds an input to a converter, piece by piece, to the end of the input. Where the run ends before,
 /// the answer is how.
@@ -26,7 +27,7 @@ pub fn feed_input<S: Source, K: Sink>(
     requires limits { converter.old.limits ≡ shipped_limits }
     ensures fed { OnOk result (IsFed converter.old.from converter.old.to (S.inlet input.old) (S.inlet input.new) converter.new) }
     ensures unwritten { OnOk result (output.new ≡ output.old) }
-    ensures ended { EndsEarly K.outlet converter.old.from converter.old.to result
+    ensures ended { EndsEarly K.outlet (Command.Convert converter.old.from converter.old.to) result
         (S.inlet input.old) (S.inlet input.new) output.old output.new }
 {
     nothing_written();
@@ -37,7 +38,7 @@ pub fn feed_input<S: Source, K: Sink>(
 }
 
 // So many bytes of room.
-fn room(alloc: Global, size: usize) -> Result<Vec<u8>, OutOfMemory>
+pub(crate) fn room(alloc: Global, size: usize) -> Result<Vec<u8>, OutOfMemory>
     ensures { IfOk result (λ buffer. vec_len buffer ≡ size) }
 {
     Ok(Vec::from_elem(alloc, 0u8, size)?)
@@ -56,7 +57,7 @@ fn feed_pieces<S: Source, K: Sink>(
     requires limits { converter.old.limits ≡ shipped_limits }
     ensures fed { OnOk result (IsFed converter.old.from converter.old.to (S.inlet input.old) (S.inlet input.new) converter.new) }
     ensures unwritten { OnOk result (output.new ≡ output.old) }
-    ensures ended { EndsEarly K.outlet converter.old.from converter.old.to result
+    ensures ended { EndsEarly K.outlet (Command.Convert converter.old.from converter.old.to) result
         (S.inlet input.old) (S.inlet input.new) output.old output.new }
 {
     nothing_written();

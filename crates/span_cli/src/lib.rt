@@ -1,8 +1,10 @@
 //! The command line of `spanx`: its words, and what a run does with them.
 #![tactic(auto)]
 
+mod block;
 mod command;
 mod ending;
+mod headers;
 mod input;
 mod note;
 mod noted_fault;

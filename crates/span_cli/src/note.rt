@@ -1,12 +1,12 @@
 //! The line that tells on the notes how a run ended.
 ghost use Rattle.std.specs.Prelude.{◌≡◌, ◌++◌, [], codes};
-ghost use Rattle.span_cli.specs.Verdicts.{Notes, ending_line, pieces_text, noted_line, refusal_line, usage_line};
+ghost use Rattle.span_cli.specs.Lines.{Notes, ending_line, named_cause_line, pieces_text, noted_line, refusal_line, usage_line};
 
 use crate::ending::Ending;
 use crate::noted_fault::NotedFault;
 use itoa::Buffer;
 use span_io::laws::gains_then;
-use span_io::{Failed, Refusal, Sink, write_all};
+use span_io::{Cause, Failed, Refusal, Sink, write_all};
 
 /// Notes that the words are no command. What the notes refuse changes nothing.
 pub fn note_usage<N: Sink>(notes: &mut N)
@@ -27,6 +27,13 @@ pub fn note_ending<N: Sink>(notes: &mut N, ending: &Ending)
         Ending::Whole => note_line(notes, b""),
         Ending::Refused(refusal) => note_refusal(notes, *refusal),
         Ending::Faulted(noted) => note_fault(notes, noted),
+        Ending::BadHeaders(cause) => note_cause(notes, cause.number(), cause.name()),
+        Ending::TooLong => note_cause(
+            notes,
+            Cause::InputTooLong.number(),
+            Cause::InputTooLong.name(),
+        ),
+        Ending::NoIds => note_line(notes, b"fault 36 NoIds\n"),
         Ending::InputFailed => note_line(notes, b"input failed\n"),
         Ending::OutputFailed => note_line(notes, b"output failed\n"),
         Ending::NoMemory => note_line(notes, b"out of memory\n"),
@@ -55,6 +62,23 @@ fn note_refusal<N: Sink>(notes: &mut N, refusal: Refusal)
             number.format(refusal.cause.number()).as_bytes(),
             b" ".as_slice(),
             refusal.cause.name().as_bytes(),
+            b"\n".as_slice(),
+        ],
+    );
+}
+
+// Notes a cause of header lines, which have no units.
+fn note_cause<N: Sink>(notes: &mut N, number: u8, name: &'static str)
+    ensures { Notes (N.outlet notes.old) (N.outlet notes.new) (named_cause_line number name.now) }
+{
+    let mut digits = Buffer::new();
+    note_pieces(
+        notes,
+        &[
+            b"cause ".as_slice(),
+            digits.format(number).as_bytes(),
+            b" ".as_slice(),
+            name.as_bytes(),
             b"\n".as_slice(),
         ],
     );

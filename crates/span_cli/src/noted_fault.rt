@@ -2,7 +2,7 @@
 ghost use Rattle.std.specs.Prelude.{◌≡◌, ◌++◌, ◌∷◌, [], codes, IfOk, IsErr};
 ghost use Rattle.json.specs.Print.{print};
 ghost use Rattle.json.specs.Token.{string};
-ghost use Rattle.span_cli.specs.Verdicts.{HasKey, fault_line, key_part, noted_key, noted_line};
+ghost use Rattle.span_cli.specs.Lines.{HasKey, fault_line, key_part, noted_key, noted_line};
 
 use json::Writer;
 use span_convert::TargetFault;

@@ -1,27 +1,29 @@
 //! The top call.
 ghost use Rattle.std.specs.Prelude.{◌≡◌, ◌≢◌, ◌↔◌, IfSome, IsTrue, length};
 ghost use Rattle.span_io.specs.Outside.{InputFails, NoReadInVain, NoWriteInVain, OutputFails, OutputHolds, Takes, any_number};
-ghost use Rattle.span_cli.specs.Commands.{texts, Spells, OnConversion};
-ghost use Rattle.span_convert.specs.Verdicts.{verdict_text};
+ghost use Rattle.span_cli.specs.Commands.{texts, Spells, OnCommand, OnConversion, OnHeaders};
 ghost use Rattle.span_cli.specs.Inputs.{ReadsInput, IsAllRead};
 ghost use Rattle.span_cli.specs.Runs.{EndsRun, WritesRead};
-ghost use Rattle.span_cli.specs.Verdicts.{OnVerdict, OnSameBatches, OnAgreeingDocuments, CarriesOut, IsRunStatus, IsJudgedAt, AgreesWith, Writes, Notes, stage_of, stage_line, line_of};
+ghost use Rattle.span_cli.specs.Lines.{IsRunStatus, Notes, stage_of, stage_line};
+ghost use Rattle.span_cli.specs.Outcomes.{OnOutcome, OnSameBatches, OnAgreeingDocuments, CarriesOut, WritesLinesOf, IsJudgedAt, AgreesWith, Writes, line_of};
 ghost use Rattle.span_cli.specs.declared.command.Command.{Command};
 
 use crate::command::{Command, read_words};
 use crate::ending::Ending;
+use crate::headers::headers;
 use crate::input::feed_input;
 use crate::note::{note_ending, note_usage};
+use propagation::laws::{contexts_are_normal, headers_read_back, heads_are_sound};
 use span_convert::Converter;
 use span_convert::laws::{free_members, same_batches};
 use span_io::{Form, Limits, Sink, Source};
 use std::alloc::Global;
 
 /// Runs the command that the words after the program's name spell: it reads the input to its end,
-/// writes its canonical text to the output, and notes a refusal or a fault in one line. The answer is
-/// the exit status: 0 the whole text was written, 2 the words are no command, 3 the input is refused,
-/// 4 the target can't hold a unit (in both the text of the groups before was written), 5 the input
-/// failed, 6 the output failed, 7 no memory was found.
+/// writes its canonical text to the output, or the lines of its context, and notes a refusal or a fault
+/// in one line. The answer is the exit status: 0 the whole text was written, 2 the words are no command,
+/// 3 the input is refused, 4 the target can't hold a unit or a context (in both the text of the units
+/// before was written), 5 the input failed, 6 the output failed, 7 no memory was found.
 pub fn run<S: Source, K: Sink, N: Sink>(
     alloc: Global,
     words: &[String],
@@ -49,32 +51,36 @@ pub fn run<S: Source, K: Sink, N: Sink>(
     ensures notes_in_vain { NoWriteInVain (N.outlet notes.old) (N.outlet notes.new) }
 
     // Reading stops at the first stop. After the whole text nothing of the input is left.
-    ensures reads { OnConversion (texts words.now) (λ from to. ReadsInput from (S.inlet input.old) (S.inlet input.new)) }
+    ensures reads { OnCommand (texts words.now) (λ command. ReadsInput command (S.inlet input.old) (S.inlet input.new)) }
     ensures all_read { result ≡ 0 → IsAllRead (S.inlet input.old) (S.inlet input.new) }
 
-    // Whatever the status, only text of the first units of what was read was written.
-    ensures front { OnConversion (texts words.now)
-        (λ from to. WritesRead from to (S.inlet input.old) (S.inlet input.new) (K.outlet output.old) (K.outlet output.new)) }
+    // Whatever the status, only text of the first units of what was read was written, or lines of its context.
+    ensures front { OnCommand (texts words.now)
+        (λ command. WritesRead command (S.inlet input.old) (S.inlet input.new) (K.outlet output.old) (K.outlet output.new)) }
 
-    // Where the input tells its bytes, the verdict on them says the status, the output and the note.
-    ensures judged { OnConversion (texts words.now)
-        (λ from to. IfSome (S.inlet input.old).left (IsJudgedAt from to (stage_of result))) }
-    ensures verdict { OnConversion (texts words.now)
-        (λ from to. OnVerdict from to (S.inlet input.old).left (AgreesWith (stage_of result) result)) }
-    ensures output { OnConversion (texts words.now) (λ from to. OnVerdict from to (S.inlet input.old).left
-        (λ verdict. Writes (stage_of result) (verdict_text verdict) (K.outlet output.old) (K.outlet output.new))) }
-    ensures output_takes { OnConversion (texts words.now) (λ from to. OnVerdict from to (S.inlet input.old).left
-        (λ verdict. Takes (K.outlet output.old).sure (length (verdict_text verdict)) → result ≢ 6)) }
-    ensures notes { OnConversion (texts words.now) (λ from to. OnVerdict from to (S.inlet input.old).left
-        (λ verdict. Notes (N.outlet notes.old) (N.outlet notes.new) (line_of (stage_of result) verdict))) }
+    // Where the input tells its bytes, the outcome of the command on them says the status, the output and the note.
+    ensures judged { OnCommand (texts words.now)
+        (λ command. IfSome (S.inlet input.old).left (IsJudgedAt command (stage_of result))) }
+    ensures verdict { OnCommand (texts words.now)
+        (λ command. OnOutcome command (S.inlet input.old).left (AgreesWith (stage_of result) result)) }
+    ensures output { OnCommand (texts words.now) (λ command. OnOutcome command (S.inlet input.old).left
+        (λ outcome. Writes (stage_of result) outcome.text (K.outlet output.old) (K.outlet output.new))) }
+    ensures output_takes { OnCommand (texts words.now) (λ command. OnOutcome command (S.inlet input.old).left
+        (λ outcome. Takes (K.outlet output.old).sure (length outcome.text) → result ≢ 6)) }
+    ensures notes { OnCommand (texts words.now) (λ command. OnOutcome command (S.inlet input.old).left
+        (λ outcome. Notes (N.outlet notes.old) (N.outlet notes.new) (line_of (stage_of result) outcome))) }
 
-    // So do the verdicts on other bytes that hold the same batches of Jaeger, in whichever protocol.
+    // So do the outcomes of a conversion on other bytes that hold the same batches of Jaeger, in whichever protocol.
     ensures same { OnConversion (texts words.now) (λ from to. OnSameBatches from to (S.inlet input.old).left
         (CarriesOut result (K.outlet output.old) (K.outlet output.new) (N.outlet notes.old) (N.outlet notes.new))) }
 
-    // So do the verdicts on other bytes that differ in members alone that a form in JSON doesn't know.
+    // So do those on other bytes that differ in members alone that a form in JSON doesn't know.
     ensures free_members { OnConversion (texts words.now) (λ from to. OnAgreeingDocuments from to (S.inlet input.old).left
         (CarriesOut result (K.outlet output.old) (K.outlet output.new) (N.outlet notes.old) (N.outlet notes.new))) }
+
+    // Header lines that were written tell the normal form of what was read, and equal lines come of equal normal forms alone.
+    ensures read_back { OnHeaders (texts words.now) (λ form. result ≡ 0 → IfSome (S.inlet input.old).left
+        (WritesLinesOf form (K.outlet output.old) (K.outlet output.new))) }
 
     // The line of each status but 3 and 4 doesn't hang on the input. After the whole text nothing is noted.
     ensures line { result ≢ 3 → result ≢ 4 → Notes (N.outlet notes.old) (N.outlet notes.new) (stage_line (stage_of result)) }
@@ -84,13 +90,29 @@ pub fn run<S: Source, K: Sink, N: Sink>(
         note_usage(notes);
         return 2;
     };
-    let ending = match command {
-        Command::Convert(from, to) => convert(alloc, from, to, input, output),
-    };
+    let ending = carry_out(alloc, command, input, output);
     note_ending(notes, &ending);
     same_batches();
     free_members();
+    contexts_are_normal();
+    heads_are_sound();
+    headers_read_back();
     ending.status()
+}
+
+// Does what a command asks for.
+fn carry_out<S: Source, K: Sink>(
+    alloc: Global,
+    command: Command,
+    input: &mut S,
+    output: &mut K,
+) -> Ending
+    ensures { EndsRun K.outlet command result (S.inlet input.old) (S.inlet input.new) output.old output.new }
+{
+    match command {
+        Command::Convert(from, to) => convert(alloc, from, to, input, output),
+        Command::Headers(form) => headers(alloc, form, input, output),
+    }
 }
 
 // Feeds the input to a converter, and then ends it.
@@ -101,7 +123,7 @@ fn convert<S: Source, K: Sink>(
     input: &mut S,
     output: &mut K,
 ) -> Ending
-    ensures { EndsRun K.outlet from to result (S.inlet input.old) (S.inlet input.new) output.old output.new }
+    ensures { EndsRun K.outlet (Command.Convert from to) result (S.inlet input.old) (S.inlet input.new) output.old output.new }
 {
     let mut converter = Converter::new(alloc, from, to, &Limits::shipped());
     if let Err(ending) = feed_input(alloc, &mut converter, input, output) {

@@ -10,6 +10,11 @@ mod groups;
 mod groups_again;
 mod groups_numbers;
 mod groups_stops;
+mod headers;
+mod headers_multi;
+mod headers_states;
+mod headers_stops;
+mod headers_stops_b3;
 mod long;
 mod requests;
 mod spans;
@@ -19,7 +24,7 @@ mod to_groups;
 mod to_spans;
 mod trace;
 
-use devices::{CASES, Fails, NO_FAILS};
+use devices::{CASES, Case, Fails, HEADER_CASES, NO_FAILS};
 use documents::{DOCUMENTS, Documents};
 use span_cli::run;
 use span_io::{Blob, Items, MemSink, MemSource};
@@ -61,6 +66,17 @@ pub struct Stop {
     pub note: &'static str,
 }
 
+/// A block of header lines, the form of headers in which its context is written, and what is answered.
+#[derive(Clone, Copy)]
+pub struct HeaderRow {
+    pub name: &'static str,
+    pub to: &'static str,
+    pub input: &'static str,
+    pub status: u8,
+    pub output: &'static str,
+    pub note: &'static str,
+}
+
 const CONVERSIONS: [&[Row]; 13] = [
     &requests::WRITTEN,
     &batches::PROCESSES,
@@ -86,6 +102,21 @@ const STOPS: [&[Stop]; 8] = [
     &spans_stops::CAUSES,
     &groups_stops::FAULTS,
     &groups_stops::CAUSES,
+];
+
+const HEADERS: [&[HeaderRow]; 12] = [
+    &headers::TRACEPARENTS,
+    &headers::B3,
+    &headers::UBER,
+    &headers::LINES,
+    &headers_multi::MULTI,
+    &headers_states::STATES,
+    &headers_states::DROPPED,
+    &headers_stops::LINES,
+    &headers_stops::TRACEPARENTS,
+    &headers_stops::UBER,
+    &headers_stops_b3::B3,
+    &headers_stops_b3::MULTI,
 ];
 
 // The most bytes that a source gives at a call.
@@ -220,6 +251,39 @@ fn converts_each_form_to_each(rt: HostRuntime) -> Result<(), Fail> {
     Ok(())
 }
 
+// Reads the block of a row, in pieces of each size, and looks at each answer.
+fn expect_headers(rt: &impl Abort, alloc: Global, row: &HeaderRow) -> Result<(), Fail> {
+    let words = ["headers", "--to", row.to];
+    let name = row.name;
+    for cut in CUTS {
+        let mut input = Blob::new(alloc);
+        input.append(row.input.as_bytes())?;
+        let answer = run_cut(alloc, &words, input, cut, NO_FAILS)?;
+        assert_eq!(rt; answer.status, row.status, "status of {name}");
+        assert_eq!(rt;
+            answer.output.as_slice(),
+            row.output.as_bytes(),
+            "output of {name}"
+        );
+        assert_eq!(rt;
+            answer.note.as_slice(),
+            row.note.as_bytes(),
+            "note of {name}"
+        );
+    }
+    Ok(())
+}
+
+#[test]
+fn reads_headers(rt: HostRuntime) -> Result<(), Fail> {
+    for rows in HEADERS {
+        for row in rows {
+            expect_headers(&rt, rt.alloc(), row)?;
+        }
+    }
+    Ok(())
+}
+
 // The document with this text where documents differ.
 fn document_of(alloc: Global, around: (&str, &str), text: &str) -> Result<Blob, Fail> {
     let mut document = Blob::new(alloc);
@@ -253,24 +317,38 @@ fn reads_documents(rt: HostRuntime) -> Result<(), Fail> {
     Ok(())
 }
 
+// Runs a case, and looks at its answer.
+fn expect_case(rt: &impl Abort, alloc: Global, case: &Case) -> Result<(), Fail> {
+    let name = case.name;
+    let input = bytes_in(alloc, REQUESTS, case.input)?;
+    let output = bytes_in(alloc, REQUESTS, case.output)?;
+    let answer = run_cut(alloc, case.words, input, 65_536, case.fails)?;
+    assert_eq!(rt; answer.status, case.status, "status of {name}");
+    assert_eq!(rt;
+        answer.output.as_slice(),
+        output.as_slice(),
+        "output of {name}"
+    );
+    assert_eq!(rt;
+        answer.note.as_slice(),
+        case.note.as_bytes(),
+        "note of {name}"
+    );
+    Ok(())
+}
+
 #[test]
 fn answers_of_devices(rt: HostRuntime) -> Result<(), Fail> {
     for case in &CASES {
-        let name = case.name;
-        let input = bytes_in(rt.alloc(), REQUESTS, case.input)?;
-        let output = bytes_in(rt.alloc(), REQUESTS, case.output)?;
-        let answer = run_cut(rt.alloc(), case.words, input, 65_536, case.fails)?;
-        assert_eq!(rt; answer.status, case.status, "status of {name}");
-        assert_eq!(rt;
-            answer.output.as_slice(),
-            output.as_slice(),
-            "output of {name}"
-        );
-        assert_eq!(rt;
-            answer.note.as_slice(),
-            case.note.as_bytes(),
-            "note of {name}"
-        );
+        expect_case(&rt, rt.alloc(), case)?;
+    }
+    Ok(())
+}
+
+#[test]
+fn answers_of_devices_to_headers(rt: HostRuntime) -> Result<(), Fail> {
+    for case in &HEADER_CASES {
+        expect_case(&rt, rt.alloc(), case)?;
     }
     Ok(())
 }

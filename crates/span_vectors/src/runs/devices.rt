@@ -1,6 +1,6 @@
 //! Words, and devices that fail: what a run answers.
-use super::REQUESTS;
 use super::texts::ONE_SPAN;
+use super::{REQUESTS, SPANS};
 
 /// The calls that fail, of the input, the output and the notes.
 #[derive(Clone, Copy)]
@@ -17,7 +17,7 @@ pub const NO_FAILS: Fails = Fails {
     notes: &[],
 };
 
-/// A run on a request: its words and the calls that fail, and its status, output and note.
+/// A run on bytes in hexadecimal: its words and the calls that fail, and its status, output and note.
 #[derive(Clone, Copy)]
 pub struct Case {
     pub name: &'static str,
@@ -30,6 +30,14 @@ pub struct Case {
 }
 
 const CONVERT: [&str; 5] = ["convert", "--from", REQUESTS, "--to", REQUESTS];
+
+const TO_B3: [&str; 3] = ["headers", "--to", "b3"];
+
+// The line "b3: 1".
+const SAMPLED: &str = "62333a20310a";
+
+// A line "b3", without a colon.
+const NO_HEADER: &str = "62330a";
 
 const USAGE: &str = "usage: spanx convert|losses|show|check|headers|gauge|serve OPTIONS\n";
 
@@ -329,5 +337,178 @@ pub const CASES: [Case; 23] = [
         status: 2,
         output: "",
         note: USAGE,
+    },
+];
+
+/// The same of header lines.
+pub const HEADER_CASES: [Case; 13] = [
+    Case {
+        name: "no option for headers",
+        words: &["headers"],
+        input: ONE_SPAN,
+        fails: Fails {
+            input: &[1],
+            output: &[1],
+            notes: &[],
+        },
+        status: 2,
+        output: "",
+        note: USAGE,
+    },
+    Case {
+        name: "no form of headers",
+        words: &["headers", "--to"],
+        input: ONE_SPAN,
+        fails: Fails {
+            input: &[1],
+            output: &[1],
+            notes: &[],
+        },
+        status: 2,
+        output: "",
+        note: USAGE,
+    },
+    Case {
+        name: "a form of spans for headers",
+        words: &["headers", "--to", SPANS],
+        input: ONE_SPAN,
+        fails: Fails {
+            input: &[1],
+            output: &[1],
+            notes: &[],
+        },
+        status: 2,
+        output: "",
+        note: USAGE,
+    },
+    Case {
+        name: "a form of headers in other letters",
+        words: &["headers", "--to", "B3"],
+        input: ONE_SPAN,
+        fails: Fails {
+            input: &[1],
+            output: &[1],
+            notes: &[],
+        },
+        status: 2,
+        output: "",
+        note: USAGE,
+    },
+    Case {
+        name: "a source for headers",
+        words: &["headers", "--from", "w3c", "--to", "b3"],
+        input: ONE_SPAN,
+        fails: Fails {
+            input: &[1],
+            output: &[1],
+            notes: &[],
+        },
+        status: 2,
+        output: "",
+        note: USAGE,
+    },
+    Case {
+        name: "an option of headers twice",
+        words: &["headers", "--to", "b3", "--to", "b3"],
+        input: ONE_SPAN,
+        fails: Fails {
+            input: &[1],
+            output: &[1],
+            notes: &[],
+        },
+        status: 2,
+        output: "",
+        note: USAGE,
+    },
+    Case {
+        name: "a form of headers for spans",
+        words: &["convert", "--from", REQUESTS, "--to", "b3"],
+        input: ONE_SPAN,
+        fails: Fails {
+            input: &[1],
+            output: &[1],
+            notes: &[],
+        },
+        status: 2,
+        output: "",
+        note: USAGE,
+    },
+    Case {
+        name: "the first read of headers fails",
+        words: &TO_B3,
+        input: SAMPLED,
+        fails: Fails {
+            input: &[1],
+            output: &[],
+            notes: &[],
+        },
+        status: 5,
+        output: "",
+        note: "input failed\n",
+    },
+    Case {
+        name: "the second read of headers fails",
+        words: &TO_B3,
+        input: NO_HEADER,
+        fails: Fails {
+            input: &[2],
+            output: &[],
+            notes: &[],
+        },
+        status: 5,
+        output: "",
+        note: "input failed\n",
+    },
+    Case {
+        name: "the write of headers fails",
+        words: &TO_B3,
+        input: SAMPLED,
+        fails: Fails {
+            input: &[],
+            output: &[1],
+            notes: &[],
+        },
+        status: 6,
+        output: "",
+        note: "output failed\n",
+    },
+    Case {
+        name: "no write of headers that are refused",
+        words: &TO_B3,
+        input: NO_HEADER,
+        fails: Fails {
+            input: &[],
+            output: &[1],
+            notes: &[],
+        },
+        status: 3,
+        output: "",
+        note: "cause 30 HeaderLine\n",
+    },
+    Case {
+        name: "the notes on headers fail",
+        words: &TO_B3,
+        input: NO_HEADER,
+        fails: Fails {
+            input: &[],
+            output: &[],
+            notes: &[1],
+        },
+        status: 3,
+        output: "",
+        note: "",
+    },
+    Case {
+        name: "headers, and nothing to note",
+        words: &TO_B3,
+        input: SAMPLED,
+        fails: Fails {
+            input: &[],
+            output: &[],
+            notes: &[1],
+        },
+        status: 0,
+        output: SAMPLED,
+        note: "",
     },
 ];

@@ -12,6 +12,11 @@ const TO_SPANS: [&str; 5] = ["convert", "--from", REQUESTS, "--to", SPANS];
 
 const OF_SPANS: [&str; 5] = ["convert", "--from", SPANS, "--to", REQUESTS];
 
+const TO_B3: [&str; 3] = ["headers", "--to", "b3"];
+
+// An empty line, and what makes a line bad.
+const FILLERS: [&[u8]; 2] = [b"\n", b"."];
+
 // The bytes so many times.
 fn repeated(alloc: Global, bytes: &[u8], times: usize) -> Result<Blob, Fail> {
     let mut text = Blob::new(alloc);
@@ -107,5 +112,35 @@ fn keeps_a_long_name(rt: HostRuntime) -> Result<(), Fail> {
     let back = run_cut(alloc, &TO_SPANS, request, 65_536, NO_FAILS)?;
     assert_eq!(rt; back.status, 0);
     assert!(rt; back.output.as_slice() == text.as_slice());
+    Ok(())
+}
+
+// A block of header lines that has 16,384 bytes.
+#[test]
+fn reads_the_longest_block(rt: HostRuntime) -> Result<(), Fail> {
+    let mut input = repeated(rt.alloc(), b"\n", 16_378)?;
+    input.append(b"b3: 0\n")?;
+    assert_eq!(rt; input.len(), 16_384);
+    let answer = run_cut(rt.alloc(), &TO_B3, input, 65_536, NO_FAILS)?;
+    assert_eq!(rt; answer.status, 0);
+    assert_eq!(rt; answer.output.as_slice(), b"b3: 0\n".as_slice());
+    assert_eq!(rt; answer.note.as_slice(), b"".as_slice());
+    Ok(())
+}
+
+// A longer one is refused by its length, also where a line of it is bad.
+#[test]
+fn refuses_a_longer_block(rt: HostRuntime) -> Result<(), Fail> {
+    for filler in FILLERS {
+        let mut input = repeated(rt.alloc(), filler, 16_379)?;
+        input.append(b"b3: 0\n")?;
+        let answer = run_cut(rt.alloc(), &TO_B3, input, 65_536, NO_FAILS)?;
+        assert_eq!(rt; answer.status, 3);
+        assert_eq!(rt; answer.output.as_slice(), b"".as_slice());
+        assert_eq!(rt;
+            answer.note.as_slice(),
+            b"cause 17 InputTooLong\n".as_slice()
+        );
+    }
     Ok(())
 }

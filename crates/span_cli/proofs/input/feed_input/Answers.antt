@@ -1,5 +1,6 @@
 use Rattle.std.proofs.Common.{refl}
 use Rattle.span_io.specs.Limits.{shipped_limits}
+use Rattle.span_cli.specs.declared.command.Command.TheVariants.{Convert}
 use Rattle.span_cli.proofs.EndingLaws.{ends_no_memory, untouched_in_vain}
 use Rattle.span_cli.proofs.InputLemmas.{reads_nothing}
 use Rattle.span_cli.proofs.input.feed_input.Goals as goal
@@ -9,8 +10,8 @@ returns-in_default-clause-ended g c =
     let now = g.S.Source.inlet c.args.input.now in
     let from = c.args.converter.now.from in
     let to = c.args.converter.now.to in
-    let none = reads_nothing from now in
-    ends_no_memory g.K.Sink.outlet from to now now c.args.output.now c.args.output.now (record {
+    let none = reads_nothing (Convert from to) now in
+    ends_no_memory g.K.Sink.outlet (Convert from to) now now c.args.output.now c.args.output.now (record {
       reads = none;
       in_vain = untouched_in_vain now;
       front = record { given = none.given; gave = none.gave; front = c.nothing_written.ensures from to shipped_limits none.given (g.K.Sink.outlet c.args.output.now) };

@@ -4,7 +4,8 @@ use Rattle.span_convert.specs.Converters.{limit_of, stop_in}
 use Rattle.span_io.specs.Limits.{shipped_limits}
 use Rattle.span_cli.specs.Inputs.{piece}
 use Rattle.span_cli.specs.Runs.{EndsRun}
-use Rattle.span_cli.proofs.EndingLaws.{ends_at_feed, same_feed, fed_within}
+use Rattle.span_cli.specs.declared.command.Command.TheVariants.{Convert}
+use Rattle.span_cli.proofs.ConversionEndings.{ends_at_feed, same_feed, fed_within}
 use Rattle.span_cli.proofs.InputLemmas.{goes_on, not_in_vain, Consumes-then, Feeding-step, Feeding-reads}
 use Rattle.span_cli.proofs.input.feed_pieces.Goals as goal
 
@@ -21,13 +22,13 @@ returns-in-Err-clause-ended g c =
     let feed = c.in-Err.ensures in
     let given = c.in-Ok.ensures.bytes.0 in
     let small : length more ≤ piece = omega (arith, length-take c.in-Ok.given c.read.new.buf, c.read.auto.buf, c.pieces.invariant.room) in
-    subst (λ x. EndsRun g.K.Sink.outlet from to c.at_stop.result before now x c.feed.new.out) c.pieces.invariant.unwritten
+    subst (λ x. EndsRun g.K.Sink.outlet (Convert from to) c.at_stop.result before now x c.feed.new.out) c.pieces.invariant.unwritten
     (ends_at_feed g.K.Sink.outlet from to before now c.pieces.output c.feed.new.out bytes c.at_stop.result c.in-Err.stop c.feed.new.self.state
-    (Consumes-then before.left here.left now.left feeding.given more feeding.gave given)
+    (Consumes-then before.left here.left now.left feeding.given more feeding.reading.gave given)
     c.at_stop.ensures
     (Feeding-reads from to before here now c.pieces.converter more feeding given small)
-    (not_in_vain _ before.course here.course now.course (Ok c.in-Ok.given) feeding.goes c.in-Ok.ensures.course)
-    (c.in-Ok.ensures.quiet ∙ feeding.quiet)
+    (not_in_vain _ before.course here.course now.course (Ok c.in-Ok.given) feeding.reading.goes c.in-Ok.ensures.course)
+    (c.in-Ok.ensures.quiet ∙ feeding.reading.quiet)
     (same_feed g.K.Sink.outlet c.pieces.converter.from from c.pieces.converter.to to c.pieces.converter.limits shipped_limits bytes c.in-Err.stop c.feed.new.self.state c.pieces.output c.feed.new.out
     feeding.forms.0 feeding.forms.1 feeding.limits
     (record {

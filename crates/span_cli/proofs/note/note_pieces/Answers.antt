@@ -2,7 +2,7 @@ use Rattle.std.proofs.Common.{List, ℕ, inl, inr, sym, subst, arith}
 use Rattle.std.specs.Borrow.{Bor}
 use Rattle.std.proofs.lemmas.List.{take_all}
 use Rattle.span_io.specs.Outside.{Gains}
-use Rattle.span_cli.specs.Verdicts.{pieces_text}
+use Rattle.span_cli.specs.Lines.{pieces_text}
 use Rattle.span_cli.proofs.NoteLemmas.{joined_more, fails_within_pieces}
 use Rattle.span_cli.proofs.EndingLaws.{gains_nothing, holds_nothing}
 use Rattle.span_cli.proofs.note.note_pieces.Goals as goal

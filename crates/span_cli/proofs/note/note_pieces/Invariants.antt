@@ -1,6 +1,6 @@
 use Rattle.std.proofs.Common.{take}
 use Rattle.span_io.specs.Outside.{Gains, OutputHolds}
-use Rattle.span_cli.specs.Verdicts.{pieces_text}
+use Rattle.span_cli.specs.Lines.{pieces_text}
 use Rattle.span_cli.proofs.note.note_pieces.Given as goal
 
 abbrev pub invariant-pieces : goal.invariant-pieces

@@ -1,70 +1,71 @@
 use Rattle.std.proofs.Common.{◌≡◌, ◌≢◌, ℕ, List, length, Option, Some, None, refl, sym, subst, ◌∙◌}
 use Rattle.std.specs.Prelude.{IfSome}
 use Rattle.span_io.specs.Outside.{Takes}
-use Rattle.span_convert.specs.Verdicts.{verdict_text}
 use Rattle.span_cli.specs.declared.command.Command.{Command}
-use Rattle.span_cli.specs.declared.command.Command.TheVariants.{Convert}
-use Rattle.span_cli.specs.Verdicts.{OnVerdict, CarriesOut, IsRunStatus, IsJudgedAt, AgreesWith, Writes, Notes, stage_of, status_of, line_of}
+use Rattle.span_cli.specs.declared.command.Command.TheVariants.{Convert, Headers}
+use Rattle.span_cli.specs.Lines.{IsRunStatus, Notes, stage_of, status_of}
+use Rattle.span_cli.specs.Outcomes.{OnOutcome, CarriesOut, IsJudgedAt, AgreesWith, Writes, line_of}
 use Rattle.span_cli.proofs.CommandLemmas.{command_read}
-use Rattle.span_cli.proofs.EndingLaws.{never_usage, is_status, on_verdict, untouched_in_vain, untouched_output_in_vain, output_in_vain, notes_in_vain}
+use Rattle.span_cli.proofs.EndingLaws.{never_usage, is_status, on_outcome, untouched_in_vain, untouched_output_in_vain, output_in_vain, notes_in_vain}
+use Rattle.span_cli.proofs.LinesBack.{lines_back}
 use Rattle.span_cli.proofs.SameRuns.{carried_out, on_agreeing_documents, on_same_batches}
 use Rattle.span_cli.proofs.top.run.Goals as goal
 
 pub returns-clause-usage : goal.returns-clause-usage
 returns-clause-usage g c = (
-  λ e. absurd (never_usage c.convert-ending.result (sym c.status.ensures ∙ e)),
+  λ e. absurd (never_usage c.carry_out-ending.result (sym c.status.ensures ∙ e)),
   λ none. absurd (none c.in-Some.command ((c.in-Some.ensures c.in-Some.command).0 refl)),
 )
 
 pub returns-clause-statuses : goal.returns-clause-statuses
-returns-clause-statuses g c = subst (λ (status : ℕ). IsRunStatus status) (sym c.status.ensures) (is_status c.convert-ending.result)
+returns-clause-statuses g c = subst (λ (status : ℕ). IsRunStatus status) (sym c.status.ensures) (is_status c.carry_out-ending.result)
 
 pub returns-in_default-clause-reads : goal.returns-in_default-clause-reads
-returns-in_default-clause-reads g c = λ from to spelled. absurd (let h : ◌≡◌ {A = Option Command} None (Some (Convert from to)) = sym c.in_default.is ∙ (c.read_words.ensures (Convert from to)).1 spelled in cc)
+returns-in_default-clause-reads g c = λ command spelled. absurd (let h : ◌≡◌ {A = Option Command} None (Some command) = sym c.in_default.is ∙ (c.read_words.ensures command).1 spelled in cc)
 
 pub returns-clause-reads : goal.returns-clause-reads
-returns-clause-reads g c = λ from to spelled.
-    let same = command_read c.in-Some.command (Convert from to) ((c.in-Some.ensures (Convert from to)).1 spelled) in
-    (rw same at c.convert-ending.ensures).input.reads
+returns-clause-reads g c = λ command spelled.
+    let same = command_read c.in-Some.command command ((c.in-Some.ensures command).1 spelled) in
+    (rw same at c.carry_out-ending.ensures).input.reads
 
 pub returns-in_default-clause-front : goal.returns-in_default-clause-front
-returns-in_default-clause-front g c = λ from to spelled. absurd (let h : ◌≡◌ {A = Option Command} None (Some (Convert from to)) = sym c.in_default.is ∙ (c.read_words.ensures (Convert from to)).1 spelled in cc)
+returns-in_default-clause-front g c = λ command spelled. absurd (let h : ◌≡◌ {A = Option Command} None (Some command) = sym c.in_default.is ∙ (c.read_words.ensures command).1 spelled in cc)
 
 pub returns-clause-front : goal.returns-clause-front
-returns-clause-front g c = λ from to spelled.
-    let same = command_read c.in-Some.command (Convert from to) ((c.in-Some.ensures (Convert from to)).1 spelled) in
-    (rw same at c.convert-ending.ensures).front
+returns-clause-front g c = λ command spelled.
+    let same = command_read c.in-Some.command command ((c.in-Some.ensures command).1 spelled) in
+    (rw same at c.carry_out-ending.ensures).front
 
 pub returns-clause-judged : goal.returns-clause-judged
-returns-clause-judged g c = λ from to spelled.
-    let same = command_read c.in-Some.command (Convert from to) ((c.in-Some.ensures (Convert from to)).1 spelled) in
-    subst (λ (status : ℕ). IfSome (g.S.Source.inlet c.args.input.now).left (IsJudgedAt from to (stage_of status))) (sym c.status.ensures) (rw same at c.convert-ending.ensures).judged
+returns-clause-judged g c = λ command spelled.
+    let same = command_read c.in-Some.command command ((c.in-Some.ensures command).1 spelled) in
+    subst (λ (status : ℕ). IfSome (g.S.Source.inlet c.args.input.now).left (IsJudgedAt command (stage_of status))) (sym c.status.ensures) (rw same at c.carry_out-ending.ensures).judged
 
 pub returns-clause-verdict : goal.returns-clause-verdict
-returns-clause-verdict g c = λ from to spelled.
-    let same = command_read c.in-Some.command (Convert from to) ((c.in-Some.ensures (Convert from to)).1 spelled) in
-    subst (λ (status : ℕ). OnVerdict from to (g.S.Source.inlet c.args.input.now).left (AgreesWith (stage_of status) status)) (sym c.status.ensures) (rw same at c.convert-ending.ensures).verdict
+returns-clause-verdict g c = λ command spelled.
+    let same = command_read c.in-Some.command command ((c.in-Some.ensures command).1 spelled) in
+    subst (λ (status : ℕ). OnOutcome command (g.S.Source.inlet c.args.input.now).left (AgreesWith (stage_of status) status)) (sym c.status.ensures) (rw same at c.carry_out-ending.ensures).agrees
 
 pub returns-clause-output : goal.returns-clause-output
-returns-clause-output g c = λ from to spelled.
-    let same = command_read c.in-Some.command (Convert from to) ((c.in-Some.ensures (Convert from to)).1 spelled) in
-    subst (λ (status : ℕ). OnVerdict from to (g.S.Source.inlet c.args.input.now).left (λ verdict. Writes (stage_of status) (verdict_text verdict) (g.K.Sink.outlet c.args.output.now) (g.K.Sink.outlet c.convert-ending.new.output)))
-    (sym c.status.ensures) (rw same at c.convert-ending.ensures).written
+returns-clause-output g c = λ command spelled.
+    let same = command_read c.in-Some.command command ((c.in-Some.ensures command).1 spelled) in
+    subst (λ (status : ℕ). OnOutcome command (g.S.Source.inlet c.args.input.now).left (λ outcome. Writes (stage_of status) outcome.text (g.K.Sink.outlet c.args.output.now) (g.K.Sink.outlet c.carry_out-ending.new.output)))
+    (sym c.status.ensures) (rw same at c.carry_out-ending.ensures).written
 
 pub returns-clause-notes : goal.returns-clause-notes
-returns-clause-notes g c = λ from to spelled.
-    let same = command_read c.in-Some.command (Convert from to) ((c.in-Some.ensures (Convert from to)).1 spelled) in
+returns-clause-notes g c = λ command spelled.
+    let same = command_read c.in-Some.command command ((c.in-Some.ensures command).1 spelled) in
     let before = g.N.Sink.outlet c.args.notes.now in
     let now = g.N.Sink.outlet c.note_ending.new.notes in
-    subst (λ (status : ℕ). OnVerdict from to (g.S.Source.inlet c.args.input.now).left (λ verdict. Notes before now (line_of (stage_of status) verdict))) (sym c.status.ensures)
-    (on_verdict from to (g.S.Source.inlet c.args.input.now).left _ (λ verdict. Notes before now (line_of (stage_of (status_of c.convert-ending.result)) verdict))
-    (λ verdict line. subst (λ (l : List ℕ). Notes before now l) line c.note_ending.ensures.line) (rw same at c.convert-ending.ensures).line)
+    subst (λ (status : ℕ). OnOutcome command (g.S.Source.inlet c.args.input.now).left (λ outcome. Notes before now (line_of (stage_of status) outcome))) (sym c.status.ensures)
+    (on_outcome command (g.S.Source.inlet c.args.input.now).left _ (λ outcome. Notes before now (line_of (stage_of (status_of c.carry_out-ending.result)) outcome))
+    (λ outcome line. subst (λ (l : List ℕ). Notes before now l) line c.note_ending.ensures.line) (rw same at c.carry_out-ending.ensures).line)
 
 pub returns-clause-output_answers : goal.returns-clause-output_answers
-returns-clause-output_answers g c = λ any e. (c.convert-ending.ensures.output.fails (sym c.status.ensures ∙ e)).unsure any
+returns-clause-output_answers g c = λ any e. (c.carry_out-ending.ensures.output.fails (sym c.status.ensures ∙ e)).unsure any
 
 pub returns-clause-output_in_vain : goal.returns-clause-output_in_vain
-returns-clause-output_in_vain g c = output_in_vain g.K.Sink.outlet c.convert-ending.result c.args.output.now c.convert-ending.new.output c.convert-ending.ensures.output
+returns-clause-output_in_vain g c = output_in_vain g.K.Sink.outlet c.carry_out-ending.result c.args.output.now c.carry_out-ending.new.output c.carry_out-ending.ensures.output
 
 pub returns-clause-notes_in_vain : goal.returns-clause-notes_in_vain
 returns-clause-notes_in_vain g c = notes_in_vain (g.N.Sink.outlet c.args.notes.now) (g.N.Sink.outlet c.note_ending.new.notes) _ c.note_ending.ensures.line
@@ -79,15 +80,15 @@ pub returns-in_default-clause-notes_in_vain : goal.returns-in_default-clause-not
 returns-in_default-clause-notes_in_vain g c = notes_in_vain (g.N.Sink.outlet c.args.notes.now) (g.N.Sink.outlet c.note_usage.new.notes) _ c.note_usage.ensures
 
 pub returns-in_default-clause-output_takes : goal.returns-in_default-clause-output_takes
-returns-in_default-clause-output_takes g c = λ from to spelled. absurd (let h : ◌≡◌ {A = Option Command} None (Some (Convert from to)) = sym c.in_default.is ∙ (c.read_words.ensures (Convert from to)).1 spelled in cc)
+returns-in_default-clause-output_takes g c = λ command spelled. absurd (let h : ◌≡◌ {A = Option Command} None (Some command) = sym c.in_default.is ∙ (c.read_words.ensures command).1 spelled in cc)
 
 pub returns-clause-output_takes : goal.returns-clause-output_takes
-returns-clause-output_takes g c = λ from to spelled.
-    let same = command_read c.in-Some.command (Convert from to) ((c.in-Some.ensures (Convert from to)).1 spelled) in
+returns-clause-output_takes g c = λ command spelled.
+    let same = command_read c.in-Some.command command ((c.in-Some.ensures command).1 spelled) in
     let before = g.K.Sink.outlet c.args.output.now in
-    let now = g.K.Sink.outlet c.convert-ending.new.output in
-    on_verdict from to (g.S.Source.inlet c.args.input.now).left _ (λ verdict. Takes before.sure (length (verdict_text verdict)) → c.status.result ≢ 6)
-    (λ verdict writes takes e. (subst (λ (status : ℕ). Writes (stage_of status) (verdict_text verdict) before now) (sym c.status.ensures ∙ e) writes).unsure takes) (rw same at c.convert-ending.ensures).written
+    let now = g.K.Sink.outlet c.carry_out-ending.new.output in
+    on_outcome command (g.S.Source.inlet c.args.input.now).left _ (λ outcome. Takes before.sure (length outcome.text) → c.status.result ≢ 6)
+    (λ outcome writes takes e. (subst (λ (status : ℕ). Writes (stage_of status) outcome.text before now) (sym c.status.ensures ∙ e) writes).unsure takes) (rw same at c.carry_out-ending.ensures).written
 
 pub returns-in_default-clause-same : goal.returns-in_default-clause-same
 returns-in_default-clause-same g c = λ from to spelled. absurd (let h : ◌≡◌ {A = Option Command} None (Some (Convert from to)) = sym c.in_default.is ∙ (c.read_words.ensures (Convert from to)).1 spelled in cc)
@@ -96,12 +97,12 @@ pub returns-clause-same : goal.returns-clause-same
 returns-clause-same g c = λ from to spelled.
     let left = (g.S.Source.inlet c.args.input.now).left in
     let output_before = g.K.Sink.outlet c.args.output.now in
-    let output_now = g.K.Sink.outlet c.convert-ending.new.output in
+    let output_now = g.K.Sink.outlet c.carry_out-ending.new.output in
     let notes_before = g.N.Sink.outlet c.args.notes.now in
     let notes_now = g.N.Sink.outlet c.note_ending.new.notes in
     on_same_batches c.same_batches.ensures from to left (CarriesOut c.status.result output_before output_now notes_before notes_now)
-    (carried_out from to left c.status.result output_before output_now notes_before notes_now
-    (returns-clause-verdict g c from to spelled) (returns-clause-output g c from to spelled) (returns-clause-notes g c from to spelled))
+    (carried_out (Convert from to) left c.status.result output_before output_now notes_before notes_now
+    (returns-clause-verdict g c (Convert from to) spelled) (returns-clause-output g c (Convert from to) spelled) (returns-clause-notes g c (Convert from to) spelled))
 
 pub returns-in_default-clause-free_members : goal.returns-in_default-clause-free_members
 returns-in_default-clause-free_members g c = λ from to spelled. absurd (let h : ◌≡◌ {A = Option Command} None (Some (Convert from to)) = sym c.in_default.is ∙ (c.read_words.ensures (Convert from to)).1 spelled in cc)
@@ -110,9 +111,18 @@ pub returns-clause-free_members : goal.returns-clause-free_members
 returns-clause-free_members g c = λ from to spelled.
     let left = (g.S.Source.inlet c.args.input.now).left in
     let output_before = g.K.Sink.outlet c.args.output.now in
-    let output_now = g.K.Sink.outlet c.convert-ending.new.output in
+    let output_now = g.K.Sink.outlet c.carry_out-ending.new.output in
     let notes_before = g.N.Sink.outlet c.args.notes.now in
     let notes_now = g.N.Sink.outlet c.note_ending.new.notes in
     on_agreeing_documents c.free_members.ensures from to left (CarriesOut c.status.result output_before output_now notes_before notes_now)
-    (carried_out from to left c.status.result output_before output_now notes_before notes_now
-    (returns-clause-verdict g c from to spelled) (returns-clause-output g c from to spelled) (returns-clause-notes g c from to spelled))
+    (carried_out (Convert from to) left c.status.result output_before output_now notes_before notes_now
+    (returns-clause-verdict g c (Convert from to) spelled) (returns-clause-output g c (Convert from to) spelled) (returns-clause-notes g c (Convert from to) spelled))
+
+pub returns-in_default-clause-read_back : goal.returns-in_default-clause-read_back
+returns-in_default-clause-read_back g c = λ form spelled. absurd (let h : ◌≡◌ {A = Option Command} None (Some (Headers form)) = sym c.in_default.is ∙ (c.read_words.ensures (Headers form)).1 spelled in cc)
+
+pub returns-clause-read_back : goal.returns-clause-read_back
+returns-clause-read_back g c = λ form spelled.
+    lines_back c.contexts_are_normal.ensures c.heads_are_sound.ensures c.headers_read_back.ensures form (g.S.Source.inlet c.args.input.now).left c.status.result
+    (g.K.Sink.outlet c.args.output.now) (g.K.Sink.outlet c.carry_out-ending.new.output)
+    (returns-clause-judged g c (Headers form) spelled) (returns-clause-verdict g c (Headers form) spelled) (returns-clause-output g c (Headers form) spelled)

@@ -1,0 +1,8 @@
+use Rattle.propagation.proofs.FoundLemmas.{one_more, twice_more}
+use Rattle.propagation.proofs.found.Once.and.Goals as goal
+
+pub returns-in-At : goal.returns-in-At
+returns-in-At c = λ values held. one_more c.args.self c.in-At.field-0 values c.args.value.now c.in-At.is held
+
+pub returns-in-Twice : goal.returns-in-Twice
+returns-in-Twice c = λ values held. twice_more c.args.self values c.args.value.now c.in-Twice.is held

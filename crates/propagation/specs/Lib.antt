@@ -1,0 +1,15 @@
+pub mod B3
+pub mod Blocks
+pub mod Digits
+pub mod FoundHeaders
+pub mod Fronts
+pub mod HeaderCauses
+pub mod HeaderForms
+pub mod HeaderLines
+pub mod HeadAnswers
+pub mod Heads
+pub mod Laws
+pub mod NormalContexts
+pub mod Traceparent
+pub mod Tracestate
+pub mod Uber
