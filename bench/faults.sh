@@ -39,6 +39,12 @@ expect "a pipe whose reader has gone" 6 "output failed"
 rm -f "$notes.status"
 ./spanx $words </ >/dev/null 2>"$notes"
 expect "a directory as input" 5 "input failed"
+for mode in show check; do
+    ./spanx $mode --from otlp-proto <$sample >/dev/full 2>"$notes"
+    expect "a full device, $mode" 6 "output failed"
+    ./spanx $mode --from otlp-proto </ >/dev/null 2>"$notes"
+    expect "a directory as input, $mode" 5 "input failed"
+done
 ./spanx $words </ >/dev/null 2>&-
 expect_status "closed notes, a directory as input" 5
 ./spanx $words <$sample >/dev/null 2>&-

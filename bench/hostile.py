@@ -19,11 +19,22 @@ if SMALL:
     otlp.UNIT = 40_000
 
 import forms
+import reports
 from hostile_documents import document_cases, to_document_cases, groups_cases, to_groups_cases
+from hostile_reports import report_cases
 from hostile_units import SAME_FORM, cases, batch_cases, compact_cases
-from program import BUILD, PROGRAM, Measured, command
+from program import BUILD, PROGRAM, Measured, command, report_command
 
 SLOW = 5.0
+
+
+def words_of(source, target):
+    """The words that convert a form into another, or report of it in a mode."""
+    return report_command(target, source) if target in reports.MODES else command(source, target)
+
+
+def verdict(text, source, target):
+    return (reports if target in reports.MODES else forms).verdict(text, source, target)
 
 
 def judge(name, pair, make):
@@ -33,7 +44,7 @@ def judge(name, pair, make):
     except AssertionError:
         print(f"left out: {name}, {' to '.join(pair)}: larger than a small unit")
         return True
-    got = forms.verdict(text, *pair)[:3]
+    got = verdict(text, *pair)[:3]
     right = got == (status, note and note + "\n", output)
     print(f"{'ok' if right else 'WRONG'}: {name}, {' to '.join(pair)}: {len(text)} bytes, status {got[0]} {got[1].strip()!r}, wrote {len(got[2])}")
     return right
@@ -44,7 +55,7 @@ def run(name, pair, text, status, note, output):
     with tempfile.NamedTemporaryFile() as file:
         file.write(text)
         file.flush()
-        ran = Measured(command(*pair), file.name, 60)
+        ran = Measured(words_of(*pair), file.name, 60)
     wrong = []
     if (ran.status, ran.note) != (status, note):
         wrong.append(f"wanted status {status} '{note}'")
@@ -63,6 +74,7 @@ def run(name, pair, text, status, note, output):
 def main():
     words = [word for word in sys.argv[1:] if not word.startswith("--")]
     every = [(name, SAME_FORM, make) for name, make in cases()] + batch_cases() + compact_cases() + document_cases() + to_document_cases() + groups_cases() + to_groups_cases()
+    every += report_cases()
     chosen = [(name, pair, make) for name, pair, make in every if not words or any(word in f"{name}, {' to '.join(pair)}" for word in words)]
     if "--list" in sys.argv:
         for name, pair, make in chosen:

@@ -1,6 +1,6 @@
 #!/usr/bin/env python3
 """Checks that the man page docs/spanx.1 and the pages say what the specification files say: the numbers and names of causes and
-faults, the statuses, the lines on standard error, the words and the limits. It checks the man page's own form by `mandoc`, too.
+faults, the statuses, the lines on standard error, the words, those of reports too, and the limits. It checks the man page's own form by `mandoc`, too.
 
 The words are looked up by their names in all files under crates/*/specs, whichever file they stand in. It ends with 0 where
 all agree. Another folder of crates can be named: bench/manual.py FOLDER. It needs Debian's `mandoc`.
@@ -50,16 +50,18 @@ def number_of(text):
 
 
 class Manual:
-    """The lists of the man page, by section and subsection."""
+    """The lists of the man page, by section and subsection, and the words in capitals of its lines of reports."""
 
     def __init__(self, path):
-        self.items, at = {}, ""
+        self.items, self.capitals, at = {}, set(), ""
         for line in open(path, encoding="utf-8"):
             word, _, rest = line.rstrip("\n").partition(" ")
             if word in [".Sh", ".Ss"]:
                 at = rest
             if word == ".It":
                 self.items.setdefault(at, []).append(rest.replace(r"\(dq", '"'))
+            if word == ".Ql" and at == "REPORT LINES" and rest.isupper():
+                self.capitals.add(rest.split(" ")[0])
 
     def table(self, at):
         rows = [item.split(" ") for item in self.items[at]]
@@ -96,6 +98,10 @@ def checks(lines, manual):
 
     yield "forms", set(texts(lines, "form_word").values()), manual.words("Forms")
     yield "forms of headers", set(texts(lines, "header_form_word").values()), manual.words("Headers")
+
+    remarks = {re.match('codes "(.*?)"', held)[1].strip() for held in equations(lines, "remarked").values()}
+    yield "remarks", remarks, {item.removeprefix("Li ").removesuffix(' "k"') for item in manual.items["REPORT LINES"]}
+    yield "kinds and codes", set(texts(lines, "kind_word").values()) | set(texts(lines, "code_word").values()), manual.capitals
 
     limits = next(line for line in lines if line.startswith("shipped_limits ="))
     wanted = {number_of(re.search(rf"\b{word} = ([\d ^]+\d)", limits)[1]) for word in ["unit", "json", "binary"]}

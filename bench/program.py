@@ -27,12 +27,23 @@ def command(source, target):
     return [PROGRAM, "convert", "--from", source, "--to", target]
 
 
+def report_command(mode, source):
+    """The words that report of a form, by the mode `show` or `check`."""
+    return [PROGRAM, mode, "--from", source]
+
+
 CONVERT = command("otlp-proto", "otlp-proto")
 
 
 def convert(text, source="otlp-proto", target="otlp-proto"):
     """The status, the output and the note for an input."""
     done = subprocess.run(command(source, target), input=text, capture_output=True)
+    return done.returncode, done.stdout, done.stderr.decode(errors="replace")
+
+
+def report(text, source, mode):
+    """The same of a report."""
+    done = subprocess.run(report_command(mode, source), input=text, capture_output=True)
     return done.returncode, done.stdout, done.stderr.decode(errors="replace")
 
 

@@ -1,11 +1,11 @@
 #!/usr/bin/env python3
 """Times the built program on spans as exporters write them, as a trace request in protobuf and in JSON, as Jaeger batches and as a
-Zipkin document, beside `cat`.
+Zipkin document, beside `cat`, and beside `jq` where it counts the spans of a document.
 
 Run it at the top as bench/speed.py, after ./spanx has built the program. It makes requests of about 1 MB and 25 MB and the
-batches and documents of the same spans, which takes a minute, runs each pair of forms five times over them, and prints the
-best time of each with its user time, and the peak of memory. Words that are given choose the pairs whose names, as in
-`otlp-proto to zipkin-json`, hold one of them. These figures are no test: they hang on the machine and its load. With
+batches and documents of the same spans, which takes a minute, runs each pair of forms and both reports of each form five times
+over them, and prints the best time of each with its user time, and the peak of memory. Words that are given choose the pairs and
+reports whose names, as in `otlp-proto to zipkin-json` and `otlp-proto to show`, hold one of them. These figures are no test: they hang on the machine and its load. With
 `--write FILE MEGABYTES` it only writes such a request, and with the word of another form behind it the text of that form.
 """
 import os
@@ -15,7 +15,8 @@ import sys
 import tempfile
 
 import forms
-from program import BUILD, PROGRAM, Measured, command, seconds_of
+import reports
+from program import BUILD, PROGRAM, Measured, command, report, report_command, seconds_of
 from protocols import PROTOCOLS
 from wire import bytes_field, fixed32_field, fixed64_field, number_field
 
@@ -27,6 +28,9 @@ DIFFERENT = 4_000
 ROUTES = ["/", "/cart", "/checkout", "/orders/{id}", "/products/{sku}", "/users/{id}/addresses", "/health", "/search"]
 METHODS = ["GET", "GET", "GET", "POST", "PUT", "DELETE"]
 TABLES = ["orders", "customers", "shipments", "inventory", "prices"]
+# What counts the spans of a document besides.
+PEERS = {forms.JSON: "[.resourceSpans[].scopeSpans[].spans[]] | length", forms.ZIPKIN: "length"}
+EXACT = 2_000_000
 
 
 def text_value(text):
@@ -171,6 +175,17 @@ def check(texts):
         sys.exit("the program doesn't write the document of the input")
 
 
+def check_reports(texts, spans):
+    """A line for each span, and no remark; of smaller inputs the lines of the readers beside this."""
+    for source, text in texts.items():
+        shown, checked = (report(text, source, mode) for mode in reports.MODES)
+        is_right = (shown[0], checked[0]) == (0, 0) and shown[1].count(b"\n") == spans and checked[1].endswith(b", spans %d, remarks 0\n" % spans)
+        if is_right and len(text) < EXACT:
+            is_right = [shown[1], checked[1]] == [reports.verdict(text, source, mode)[2] for mode in reports.MODES]
+        if not is_right:
+            sys.exit(f"the program doesn't report the spans of the input, {source}")
+
+
 def show(name, words, path, size):
     """Prints what a command costs over a file."""
     seconds, user = min(seconds_of(words, path) for _ in range(RUNS))
@@ -182,15 +197,22 @@ def show(name, words, path, size):
 def measure(size, words):
     texts, spans = inputs(size)
     check(texts)
+    check_reports(texts, spans)
+    is_chosen = lambda source, what: not words or any(word in f"{source} to {what}" for word in words)
     for source, text in texts.items():
         print(f"{source}: {len(text) / 1e6:.2f} MB, {spans} spans")
         with tempfile.NamedTemporaryFile() as file:
             file.write(text)
             file.flush()
             show("cat", ["cat"], file.name, len(text))
+            if source in PEERS and any(is_chosen(source, mode) for mode in reports.MODES):
+                show("jq, which counts the spans", ["jq", PEERS[source]], file.name, len(text))
             for target in texts:
-                if not words or any(word in f"{source} to {target}" for word in words):
+                if is_chosen(source, target):
                     show(f"spanx to {target}", command(source, target), file.name, len(text))
+            for mode in reports.MODES:
+                if is_chosen(source, mode):
+                    show(f"spanx {mode}", report_command(mode, source), file.name, len(text))
 
 
 def main():

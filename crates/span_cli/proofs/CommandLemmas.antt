@@ -1,13 +1,14 @@
 -- A command is spelled by the mode, and its options in any order.
-use Rattle.std.proofs.Common.{◌≡◌, ◌↔◌, Option, Some, ℕ, ◌<◌, ◌≤◌, List, [], ◌∷◌, length, get_or, inl, inr, refl, sym, ap, subst, ◌∙◌, arith}
+use Rattle.std.proofs.Common.{◌≡◌, ◌↔◌, Option, Some, ℕ, ◌<◌, ◌≤◌, List, [], ◌∷◌, length, get_or, inl, inr, sym, ap, ◌∙◌, arith}
 use Rattle.std.specs.Prelude.{codes}
-use Rattle.propagation.specs.HeaderForms.{header_form_word}
-use Rattle.propagation.specs.declared.header_form.HeaderForm.{HeaderForm}
+use Rattle.span_io.specs.declared.form.Form.{Form}
 use Rattle.span_cli.specs.declared.command.Command.{Command}
-use Rattle.span_cli.specs.declared.command.Command.TheVariants.{Convert, Headers}
+use Rattle.span_cli.specs.declared.command.Command.TheVariants.{Convert, Show, Check, Headers}
+use Rattle.span_cli.specs.declared.command.Short.{Short}
+use Rattle.span_cli.specs.declared.command.Short.TheVariants as shorts
 use Rattle.span_cli.specs.declared.command.Side.{Side}
 use Rattle.span_cli.specs.declared.command.Side.TheVariants.{From, To}
-use Rattle.span_cli.specs.Commands.{Spells, ConvertsBetween, side_word, other_side}
+use Rattle.span_cli.specs.Commands.{Spells, ConvertsBetween, ShowsForm, ChecksForm, WritesHeaders, side_word, other_side, short_word, short_side}
 
 -- the words that stand on the two sides
 abbrev pub Between : Side → Command → List ℕ → List ℕ → Type 0
@@ -41,28 +42,61 @@ other_count a b c d e a' b' c' h = let lengths : ◌≡◌ {A = ℕ} 5 3 = ap le
 
 -- ---- one option
 
--- the word of three equal words
-third : (a b c a' b' c' : List ℕ) → a ∷ b ∷ c ∷ [] ≡ a' ∷ b' ∷ c' ∷ [] → c ≡ c'
-third a b c a' b' c' h = cc
+-- the words of two equal lists of three
+record SameThree (a b c a' b' c' : List ℕ) : Type 0 where
+  first : a ≡ a'
+  second : b ≡ b'
+  third : c ≡ c'
 
-same_form : (form other : HeaderForm) → ◌≡◌ {A = Option HeaderForm} (Some form) (Some other) → form ≡ other
-same_form form other h = cc
+same_three : (a b c a' b' c' : List ℕ) → a ∷ b ∷ c ∷ [] ≡ a' ∷ b' ∷ c' ∷ [] → SameThree a b c a' b' c'
+same_three a b c a' b' c' h = record { first = cc; second = cc; third = cc }
 
-module _ (mode option word : List ℕ) (form : HeaderForm) (is_mode : mode ≡ codes "headers") (is_option : option ≡ side_word To)
-    (of_word : (other : HeaderForm) → ◌≡◌ {A = Option HeaderForm} (Some form) (Some other) ↔ (word ≡ header_form_word other)) where
-  spelled_headers : Spells (Headers form) (mode ∷ option ∷ word ∷ [])
-  spelled_headers = λ i. is_mode i ∷ is_option i ∷ (of_word form).0 refl i ∷ []
+listed_three : (a b c a' b' c' : List ℕ) → a ≡ a' → b ≡ b' → c ≡ c' → a ∷ b ∷ c ∷ [] ≡ a' ∷ b' ∷ c' ∷ []
+listed_three a b c a' b' c' p q r = cc
 
-  only_headers : (command : Command) → Spells command (mode ∷ option ∷ word ∷ []) → Headers form ≡ command
-  only_headers (Convert source target) (inl h) = absurd (other_count _ _ _ _ _ mode option word (sym h))
-  only_headers (Convert source target) (inr h) = absurd (other_count _ _ _ _ _ mode option word (sym h))
-  only_headers (Headers other) h = ap (λ (f : HeaderForm). Headers f) (same_form form other ((of_word other).1 (third mode option word _ _ _ h)))
+show_or_check : codes "show" ≡ codes "check" → ⊥
+show_or_check e = let lengths : ◌≡◌ {A = ℕ} 4 5 = ap length e in absurd (omega arith)
 
-  pub spells_headers : (command : Command) → ◌≡◌ {A = Option Command} (Some (Headers form)) (Some command) ↔ Spells command (mode ∷ option ∷ word ∷ [])
-  spells_headers command = (
-    λ same. subst (λ (c : Command). Spells c (mode ∷ option ∷ word ∷ [])) (command_read (Headers form) command same) spelled_headers,
-    λ spelled. ap (λ (c : Command). Some c) (only_headers command spelled),
+module _ (mode option word : List ℕ) where
+  -- a conversion has two options
+  no_conversion : (from to : Form) → Spells (Convert from to) (mode ∷ option ∷ word ∷ []) → ⊥
+  no_conversion from to (inl h) = other_count _ _ _ _ _ mode option word (sym h)
+  no_conversion from to (inr h) = other_count _ _ _ _ _ mode option word (sym h)
+
+  pub spells_show : (command : Command) → mode ≡ codes "show" → option ≡ side_word From → ShowsForm command word ↔ Spells command (mode ∷ option ∷ word ∷ [])
+  spells_show (Convert from to) is_mode is_option = (λ on. absurd on, λ spelled. absurd (no_conversion from to spelled))
+  spells_show (Show from) is_mode is_option = (
+    λ on. listed_three mode option word _ _ _ is_mode is_option on,
+    λ spelled. (same_three mode option word _ _ _ spelled).third,
   )
+  spells_show (Check from) is_mode is_option = (λ on. absurd on, λ spelled. absurd (show_or_check (sym is_mode ∙ (same_three mode option word _ _ _ spelled).first)))
+  spells_show (Headers form) is_mode is_option = (λ on. absurd on, λ spelled. absurd (other_word (sym is_option ∙ (same_three mode option word _ _ _ spelled).second)))
+
+  pub spells_check : (command : Command) → mode ≡ codes "check" → option ≡ side_word From → ChecksForm command word ↔ Spells command (mode ∷ option ∷ word ∷ [])
+  spells_check (Convert from to) is_mode is_option = (λ on. absurd on, λ spelled. absurd (no_conversion from to spelled))
+  spells_check (Show from) is_mode is_option = (λ on. absurd on, λ spelled. absurd (show_or_check (sym (same_three mode option word _ _ _ spelled).first ∙ is_mode)))
+  spells_check (Check from) is_mode is_option = (
+    λ on. listed_three mode option word _ _ _ is_mode is_option on,
+    λ spelled. (same_three mode option word _ _ _ spelled).third,
+  )
+  spells_check (Headers form) is_mode is_option = (λ on. absurd on, λ spelled. absurd (other_word (sym is_option ∙ (same_three mode option word _ _ _ spelled).second)))
+
+  pub spells_headers : (command : Command) → mode ≡ codes "headers" → option ≡ side_word To → WritesHeaders command word ↔ Spells command (mode ∷ option ∷ word ∷ [])
+  spells_headers (Convert from to) is_mode is_option = (λ on. absurd on, λ spelled. absurd (no_conversion from to spelled))
+  spells_headers (Show from) is_mode is_option = (λ on. absurd on, λ spelled. absurd (other_word (sym (same_three mode option word _ _ _ spelled).second ∙ is_option)))
+  spells_headers (Check from) is_mode is_option = (λ on. absurd on, λ spelled. absurd (other_word (sym (same_three mode option word _ _ _ spelled).second ∙ is_option)))
+  spells_headers (Headers form) is_mode is_option = (
+    λ on. listed_three mode option word _ _ _ is_mode is_option on,
+    λ spelled. (same_three mode option word _ _ _ spelled).third,
+  )
+
+  -- where the words are no mode with its option, no command is spelled
+  pub spells_short : (command : Command) → ((short : Short) → mode ≡ short_word short → option ≡ side_word (short_side short) → ⊥)
+      → Spells command (mode ∷ option ∷ word ∷ []) → ⊥
+  spells_short (Convert from to) none spelled = no_conversion from to spelled
+  spells_short (Show from) none spelled = let s = same_three mode option word _ _ _ spelled in none shorts.Show s.first s.second
+  spells_short (Check from) none spelled = let s = same_three mode option word _ _ _ spelled in none shorts.Check s.first s.second
+  spells_short (Headers form) none spelled = let s = same_three mode option word _ _ _ spelled in none shorts.Headers s.first s.second
 
 -- ---- two options
 
@@ -71,6 +105,10 @@ module _ (mode first first_word second second_word : List ℕ) where
       → Between side command first_word second_word ↔ Spells command (mode ∷ first ∷ first_word ∷ second ∷ second_word ∷ [])
   spells_between From (Headers form) is_mode is_first is_second = (λ between. absurd between, λ spelled. absurd (other_count mode first first_word second second_word _ _ _ spelled))
   spells_between To (Headers form) is_mode is_first is_second = (λ between. absurd between, λ spelled. absurd (other_count mode first first_word second second_word _ _ _ spelled))
+  spells_between From (Show source) is_mode is_first is_second = (λ between. absurd between, λ spelled. absurd (other_count mode first first_word second second_word _ _ _ spelled))
+  spells_between From (Check source) is_mode is_first is_second = (λ between. absurd between, λ spelled. absurd (other_count mode first first_word second second_word _ _ _ spelled))
+  spells_between To (Show source) is_mode is_first is_second = (λ between. absurd between, λ spelled. absurd (other_count mode first first_word second second_word _ _ _ spelled))
+  spells_between To (Check source) is_mode is_first is_second = (λ between. absurd between, λ spelled. absurd (other_count mode first first_word second second_word _ _ _ spelled))
   spells_between From (Convert source target) is_mode is_first is_second = (
     λ between. inl (listed mode first first_word second second_word _ _ _ _ _ is_mode is_first between.0 is_second between.1),
     λ spelled. elim spelled [
@@ -89,6 +127,8 @@ module _ (mode first first_word second second_word : List ℕ) where
   -- where the options are not one of each side, no command is spelled
   pub spells_sides : (command : Command) → ((side : Side) → first ≡ side_word side → second ≡ side_word (other_side side) → ⊥)
       → Spells command (mode ∷ first ∷ first_word ∷ second ∷ second_word ∷ []) → ⊥
+  spells_sides (Show source) none spelled = other_count mode first first_word second second_word _ _ _ spelled
+  spells_sides (Check source) none spelled = other_count mode first first_word second second_word _ _ _ spelled
   spells_sides (Headers form) none spelled = other_count mode first first_word second second_word _ _ _ spelled
   spells_sides (Convert source target) none (inl h) = let s = same mode first first_word second second_word _ _ _ _ _ h in none From s.second s.fourth
   spells_sides (Convert source target) none (inr h) = let s = same mode first first_word second second_word _ _ _ _ _ h in none To s.second s.fourth

@@ -6,10 +6,10 @@ use Rattle.span_io.specs.Outside.{Inlet, Outlet, Sure, so_many, any_number, less
 use Rattle.span_io.specs.declared.course.ReadCourse.TheVariants as reads
 use Rattle.span_io.specs.declared.course.WriteCourse.TheVariants as writes
 use Rattle.span_cli.specs.Inputs.{ReadsInput, IsAllRead}
+use Rattle.span_cli.specs.Jobs.{Job}
 use Rattle.span_cli.specs.Lines.{Stage, said, input_failed, output_failed, no_memory, IsRunStatus, Notes, status_of, stage_of, ending_line}
 use Rattle.span_cli.specs.Outcomes.{Outcome, IsOutcome, OnOutcome, AgreesWith, Writes, line_of, IsJudgedAt}
 use Rattle.span_cli.specs.Runs.{EndsInput, EndsOutput, WritesRead, EndsRun}
-use Rattle.span_cli.specs.declared.command.Command.{Command}
 use Rattle.span_cli.specs.declared.ending.Ending.{Ending}
 use Rattle.span_cli.specs.declared.ending.Ending.TheVariants as endings
 
@@ -47,9 +47,9 @@ pub always : {A : Type 0} (told : Option A) (P : A → Type 0) → ((x : A) → 
 always None P holds = tt
 always (Some x) P holds = holds x
 
-pub on_outcome : (command : Command) (left : Option (List ℕ)) (P Q : Outcome → Type 0) → ((outcome : Outcome) → P outcome → Q outcome) → OnOutcome command left P → OnOutcome command left Q
-on_outcome command None P Q holds p = tt
-on_outcome command (Some bytes) P Q holds p = λ outcome is. holds outcome (p outcome is)
+pub on_outcome : (job : Job) (left : Option (List ℕ)) (P Q : Outcome → Type 0) → ((outcome : Outcome) → P outcome → Q outcome) → OnOutcome job left P → OnOutcome job left Q
+on_outcome job None P Q holds p = tt
+on_outcome job (Some bytes) P Q holds p = λ outcome is. holds outcome (p outcome is)
 
 -- ---- a sink that took nothing
 
@@ -103,15 +103,15 @@ all_told (Some bytes) (Some rest) given P gave told holds =
     let none : rest ≡ [] = cc in
     subst P (sym (gave ∙ ap (λ (l : List ℕ). given ++ l) none ∙ append-nil given)) holds
 
-module _ {K : Type 0} (outlet : K → Outlet) (command : Command) (before now : Inlet) (old new : K) where
+module _ {K : Type 0} (outlet : K → Outlet) (job : Job) (before now : Inlet) (old new : K) where
   -- whatever stopped the run
   pub record RunCourse : Type 0 where
-    pub reads : ReadsInput command before now
+    pub reads : ReadsInput job before now
     pub in_vain : NoReadInVain before now
-    pub front : WritesRead command before now (outlet old) (outlet new)
+    pub front : WritesRead job before now (outlet old) (outlet new)
 
   -- the input had no fault
-  input_quiet : (status : ℕ) → status ≢ 5 → (status ≡ 0 → IsAllRead before now) → now.faults ≡ before.faults → RunCourse → EndsInput command status before now
+  input_quiet : (status : ℕ) → status ≢ 5 → (status ≡ 0 → IsAllRead before now) → now.faults ≡ before.faults → RunCourse → EndsInput job status before now
   input_quiet status other all quiet course = record {
     fails = λ e. absurd (other e);
     quiet = λ e. quiet;
@@ -122,7 +122,7 @@ module _ {K : Type 0} (outlet : K → Outlet) (command : Command) (before now : 
   }
 
   -- and it wasn't read to its end
-  input_left : (status : ℕ) → status ≢ 5 → status ≢ 0 → now.faults ≡ before.faults → RunCourse → EndsInput command status before now
+  input_left : (status : ℕ) → status ≢ 5 → status ≢ 0 → now.faults ≡ before.faults → RunCourse → EndsInput job status before now
   input_left status other some quiet course = input_quiet status other (λ e. absurd (some e)) quiet course
 
   output_holds : (status : ℕ) → status ≢ 6 → (status ≡ 5 → new ≡ old) → OutputHolds (outlet old) (outlet new) → EndsOutput outlet status old new
@@ -135,13 +135,13 @@ module _ {K : Type 0} (outlet : K → Outlet) (command : Command) (before now : 
   output_same : (status : ℕ) → status ≢ 6 → new ≡ old → EndsOutput outlet status old new
   output_same status other same = output_holds status other (λ e. same) (held_same same)
 
-  same_front : new ≡ old → OnOutcome command before.left (λ o. GainsFront (outlet old) (outlet new) o.text)
-  same_front same = always before.left (λ bytes. (o : Outcome) → IsOutcome command bytes o → GainsFront (outlet old) (outlet new) o.text)
+  same_front : new ≡ old → OnOutcome job before.left (λ o. GainsFront (outlet old) (outlet new) o.text)
+  same_front same = always before.left (λ bytes. (o : Outcome) → IsOutcome job bytes o → GainsFront (outlet old) (outlet new) o.text)
       (λ bytes o is. subst (λ (k : K). GainsFront (outlet old) (outlet k) o.text) (sym same) (front_nothing (outlet old) o.text))
 
   -- ---- each ending
 
-  pub ends_input_failed : RunCourse → InputFails before now → (IsTrue before.steady → ⊥) → new ≡ old → EndsRun outlet command endings.InputFailed before now old new
+  pub ends_input_failed : RunCourse → InputFails before now → (IsTrue before.steady → ⊥) → new ≡ old → EndsRun outlet job endings.InputFailed before now old new
   ends_input_failed course fails unsteady same = record {
     input = record {
       fails = λ e. fails;
@@ -153,28 +153,28 @@ module _ {K : Type 0} (outlet : K → Outlet) (command : Command) (before now : 
     };
     output = output_same 5 (unlike 5 6 (inl (omega arith))) same;
     front = course.front;
-    judged = always before.left (λ bytes. IsJudgedAt command input_failed bytes) (λ bytes. tt);
-    agrees = always before.left (λ bytes. (o : Outcome) → IsOutcome command bytes o → AgreesWith input_failed 5 o) (λ bytes o is. tt);
-    written = always before.left (λ bytes. (o : Outcome) → IsOutcome command bytes o → Writes input_failed o.text (outlet old) (outlet new))
+    judged = always before.left (λ bytes. IsJudgedAt job input_failed bytes) (λ bytes. tt);
+    agrees = always before.left (λ bytes. (o : Outcome) → IsOutcome job bytes o → AgreesWith input_failed 5 o) (λ bytes o is. tt);
+    written = always before.left (λ bytes. (o : Outcome) → IsOutcome job bytes o → Writes input_failed o.text (outlet old) (outlet new))
         (λ bytes o is. subst (λ (k : K). Gains (outlet old) (outlet k) []) (sym same) (gains_nothing (outlet old)));
-    line = always before.left (λ bytes. (o : Outcome) → IsOutcome command bytes o → codes "input failed\n" ≡ line_of input_failed o) (λ bytes o is. refl);
+    line = always before.left (λ bytes. (o : Outcome) → IsOutcome job bytes o → codes "input failed\n" ≡ line_of input_failed o) (λ bytes o is. refl);
   }
 
-  pub wants : RunCourse → now.faults ≡ before.faults → OutputHolds (outlet old) (outlet new) → OnOutcome command before.left (λ o. GainsFront (outlet old) (outlet new) o.text) → EndsRun outlet command endings.NoMemory before now old new
+  pub wants : RunCourse → now.faults ≡ before.faults → OutputHolds (outlet old) (outlet new) → OnOutcome job before.left (λ o. GainsFront (outlet old) (outlet new) o.text) → EndsRun outlet job endings.NoMemory before now old new
   wants course still holds gains = record {
     input = input_left 7 (unlike 7 5 (inr (omega arith))) (unlike 7 0 (inr (omega arith))) still course;
     output = output_holds 7 (unlike 7 6 (inr (omega arith))) (λ e. absurd (unlike 7 5 (inr (omega arith)) e)) holds;
     front = course.front;
-    judged = always before.left (λ bytes. IsJudgedAt command no_memory bytes) (λ bytes. tt);
-    agrees = always before.left (λ bytes. (o : Outcome) → IsOutcome command bytes o → AgreesWith no_memory 7 o) (λ bytes o is. tt);
+    judged = always before.left (λ bytes. IsJudgedAt job no_memory bytes) (λ bytes. tt);
+    agrees = always before.left (λ bytes. (o : Outcome) → IsOutcome job bytes o → AgreesWith no_memory 7 o) (λ bytes o is. tt);
     written = gains;
-    line = always before.left (λ bytes. (o : Outcome) → IsOutcome command bytes o → codes "out of memory\n" ≡ line_of no_memory o) (λ bytes o is. refl);
+    line = always before.left (λ bytes. (o : Outcome) → IsOutcome job bytes o → codes "out of memory\n" ≡ line_of no_memory o) (λ bytes o is. refl);
   }
 
-  pub ends_no_memory : RunCourse → now.faults ≡ before.faults → new ≡ old → EndsRun outlet command endings.NoMemory before now old new
+  pub ends_no_memory : RunCourse → now.faults ≡ before.faults → new ≡ old → EndsRun outlet job endings.NoMemory before now old new
   ends_no_memory course still same = wants course still (held_same same) (same_front same)
 
-  pub ends_output_failed : RunCourse → now.faults ≡ before.faults → OutputFails (outlet old) (outlet new) → OnOutcome command before.left (λ o. FailsWithin (outlet old) (outlet new) o.text) → EndsRun outlet command endings.OutputFailed before now old new
+  pub ends_output_failed : RunCourse → now.faults ≡ before.faults → OutputFails (outlet old) (outlet new) → OnOutcome job before.left (λ o. FailsWithin (outlet old) (outlet new) o.text) → EndsRun outlet job endings.OutputFailed before now old new
   ends_output_failed course still fails within = record {
     input = input_left 6 (unlike 6 5 (inr (omega arith))) (unlike 6 0 (inr (omega arith))) still course;
     output = record {
@@ -183,10 +183,10 @@ module _ {K : Type 0} (outlet : K → Outlet) (command : Command) (before now : 
       unwritten = λ e. absurd (unlike 6 5 (inr (omega arith)) e);
     };
     front = course.front;
-    judged = always before.left (λ bytes. IsJudgedAt command output_failed bytes) (λ bytes. tt);
-    agrees = always before.left (λ bytes. (o : Outcome) → IsOutcome command bytes o → AgreesWith output_failed 6 o) (λ bytes o is. tt);
+    judged = always before.left (λ bytes. IsJudgedAt job output_failed bytes) (λ bytes. tt);
+    agrees = always before.left (λ bytes. (o : Outcome) → IsOutcome job bytes o → AgreesWith output_failed 6 o) (λ bytes o is. tt);
     written = within;
-    line = always before.left (λ bytes. (o : Outcome) → IsOutcome command bytes o → codes "output failed\n" ≡ line_of output_failed o) (λ bytes o is. refl);
+    line = always before.left (λ bytes. (o : Outcome) → IsOutcome job bytes o → codes "output failed\n" ≡ line_of output_failed o) (λ bytes o is. refl);
   }
 
   -- ---- an outcome that was carried out
@@ -198,18 +198,18 @@ module _ {K : Type 0} (outlet : K → Outlet) (command : Command) (before now : 
     pub line : ending_line ending ≡ outcome.line
 
   pub ends_said : (ending : Ending) → stage_of (status_of ending) ≡ said → status_of ending ≢ 5 → status_of ending ≢ 6 → (status_of ending ≡ 0 → IsAllRead before now) → RunCourse → now.faults ≡ before.faults
-      → OutputHolds (outlet old) (outlet new) → IfSome before.left (IsJudgedAt command said) → OnOutcome command before.left (SaidBy ending) → EndsRun outlet command ending before now old new
+      → OutputHolds (outlet old) (outlet new) → IfSome before.left (IsJudgedAt job said) → OnOutcome job before.left (SaidBy ending) → EndsRun outlet job ending before now old new
   ends_said ending stage fifth sixth all course still holds judged on = record {
     input = input_quiet (status_of ending) fifth all still course;
     output = output_holds (status_of ending) sixth (λ e. absurd (fifth e)) holds;
     front = course.front;
-    judged = subst (λ (s : Stage). IfSome before.left (IsJudgedAt command s)) (sym stage) judged;
-    agrees = subst (λ (s : Stage). OnOutcome command before.left (AgreesWith s (status_of ending))) (sym stage)
-        (on_outcome command before.left (SaidBy ending) (λ o. AgreesWith said (status_of ending) o) (λ o by. by.agrees) on);
-    written = subst (λ (s : Stage). OnOutcome command before.left (λ o. Writes s o.text (outlet old) (outlet new))) (sym stage)
-        (on_outcome command before.left (SaidBy ending) (λ o. Writes said o.text (outlet old) (outlet new)) (λ o by. by.writes) on);
-    line = subst (λ (s : Stage). OnOutcome command before.left (λ o. ending_line ending ≡ line_of s o)) (sym stage)
-        (on_outcome command before.left (SaidBy ending) (λ o. ending_line ending ≡ line_of said o) (λ o by. by.line) on);
+    judged = subst (λ (s : Stage). IfSome before.left (IsJudgedAt job s)) (sym stage) judged;
+    agrees = subst (λ (s : Stage). OnOutcome job before.left (AgreesWith s (status_of ending))) (sym stage)
+        (on_outcome job before.left (SaidBy ending) (λ o. AgreesWith said (status_of ending) o) (λ o by. by.agrees) on);
+    written = subst (λ (s : Stage). OnOutcome job before.left (λ o. Writes s o.text (outlet old) (outlet new))) (sym stage)
+        (on_outcome job before.left (SaidBy ending) (λ o. Writes said o.text (outlet old) (outlet new)) (λ o by. by.writes) on);
+    line = subst (λ (s : Stage). OnOutcome job before.left (λ o. ending_line ending ≡ line_of s o)) (sym stage)
+        (on_outcome job before.left (SaidBy ending) (λ o. ending_line ending ≡ line_of said o) (λ o by. by.line) on);
   }
 
 -- whatever the ending, no write was in vain

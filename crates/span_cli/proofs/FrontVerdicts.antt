@@ -16,10 +16,13 @@ use Rattle.span_convert.specs.Documents.{DocumentForm, DocumentRefused}
 use Rattle.span_convert.specs.FramedForms.{FramedForm, RestCause, UnitsThen, UnitsRefused}
 use Rattle.span_convert.specs.GroupFiles.{group_document}
 use Rattle.span_convert.specs.SpanFiles.{span_document}
+use Rattle.span_convert.specs.Reports.{IsVerdictAs, IsJudgedAs, written_target}
+use Rattle.span_convert.specs.Targets.{Target}
 use Rattle.span_convert.specs.Units.{InputForm, request_form, batch_form, framed_input, document_input, input_form, input_limit}
-use Rattle.span_convert.specs.Verdicts.{Verdict, good, refused, faulted, IsVerdict, IsVerdictOn, IsJudged}
+use Rattle.span_convert.specs.Verdicts.{Verdict, good, refused, faulted, IsVerdictOn}
 use Rattle.span_convert.specs.declared.stop.Stop.{Stop}
 use Rattle.span_convert.specs.declared.stop.Stop.TheVariants as stops
+use Rattle.span_convert.specs.declared.written.Written.{Written}
 
 -- what a form says of the one input short of all of it, it says of the other
 record SaysOfBoth (from : InputForm) (limits : Limits) (bytes others : List ℕ) : Type 0 where
@@ -27,7 +30,7 @@ record SaysOfBoth (from : InputForm) (limits : Limits) (bytes others : List ℕ)
   refuses : (noted : List NotedGroup) (refusal : Refusal) → from.Refuses limits bytes noted refusal → from.Refuses limits others noted refusal
   never_whole : (noted : List NotedGroup) → from.IsWhole limits bytes noted → ⊥
 
-same_verdict : (from : InputForm) (to : Form) (limits : Limits) (bytes others : List ℕ) → SaysOfBoth from limits bytes others → (verdict : Verdict) → IsVerdictOn from to limits bytes verdict → IsVerdictOn from to limits others verdict
+same_verdict : (from : InputForm) (to : Target) (limits : Limits) (bytes others : List ℕ) → SaysOfBoth from limits bytes others → (verdict : Verdict) → IsVerdictOn from to limits bytes verdict → IsVerdictOn from to limits others verdict
 same_verdict from to limits bytes others both (good text tally) is = absurd (both.never_whole is.noted is.whole)
 same_verdict from to limits bytes others both (refused refusal text) is = record { noted = is.noted; refuses = both.refuses is.noted refusal is.refuses; held = is.held; is_text = is.is_text }
 same_verdict from to limits bytes others both (faulted found text) is = record {
@@ -108,7 +111,7 @@ says_of_both forms.JaegerBinary limits bytes others long longer same = batches_b
 says_of_both forms.JaegerCompact limits bytes others long longer same = batches_both limits bytes others long longer same compact
 says_of_both forms.ZipkinJson limits bytes others long longer same = documents_both span_document limits bytes others long longer
 
-module _ (from to : Form) (limits : Limits) (fed rest : List ℕ) (long : input_limit from limits < length fed) where
+module _ (from : Form) (what : Written) (limits : Limits) (fed rest : List ℕ) (long : input_limit from limits < length fed) where
   longer_whole : input_limit from limits < length (fed ++ rest)
   longer_whole = omega (arith, length-append fed rest)
 
@@ -116,26 +119,26 @@ module _ (from to : Form) (limits : Limits) (fed rest : List ℕ) (long : input_
   same_front = take-append-le (input_limit from limits) fed rest (omega arith)
 
   -- a verdict on a front that is too long is one on the whole, and the other way round
-  pub front_whole : (verdict : Verdict) → IsVerdict from to limits fed verdict → IsVerdict from to limits (fed ++ rest) verdict
-  front_whole = same_verdict (input_form from) to limits fed (fed ++ rest) (says_of_both from limits fed (fed ++ rest) long longer_whole (sym same_front))
+  pub front_whole : (verdict : Verdict) → IsVerdictAs from what limits fed verdict → IsVerdictAs from what limits (fed ++ rest) verdict
+  front_whole = same_verdict (input_form from) (written_target what) limits fed (fed ++ rest) (says_of_both from limits fed (fed ++ rest) long longer_whole (sym same_front))
 
-  pub whole_front : (verdict : Verdict) → IsVerdict from to limits (fed ++ rest) verdict → IsVerdict from to limits fed verdict
-  whole_front = same_verdict (input_form from) to limits (fed ++ rest) fed (says_of_both from limits (fed ++ rest) fed longer_whole long same_front)
+  pub whole_front : (verdict : Verdict) → IsVerdictAs from what limits (fed ++ rest) verdict → IsVerdictAs from what limits fed verdict
+  whole_front = same_verdict (input_form from) (written_target what) limits (fed ++ rest) fed (says_of_both from limits (fed ++ rest) fed longer_whole long same_front)
 
-  pub judged_whole : (stop : Stop) → IsJudged {T = Unit} from to limits fed (Err stop) → IsJudged {T = Unit} from to limits (fed ++ rest) (Err stop)
+  pub judged_whole : (stop : Stop) → IsJudgedAs {T = Unit} from what limits fed (Err stop) → IsJudgedAs {T = Unit} from what limits (fed ++ rest) (Err stop)
   judged_whole stops.Refused (verdict, is) = (verdict, front_whole verdict is)
   judged_whole stops.Faulted (verdict, is) = (verdict, front_whole verdict is)
   judged_whole stops.Write judged = tt
   judged_whole stops.OutOfMemory judged = tt
 
-module _ (from to : Form) (limits : Limits) (fed : List ℕ) (long : input_limit from limits < length fed) where
+module _ (from : Form) (what : Written) (limits : Limits) (fed : List ℕ) (long : input_limit from limits < length fed) where
   -- the same of the bytes that a source tells
-  pub judged_told : (left now : Option (List ℕ)) (stop : Stop) → Consumes left now fed → IsJudged {T = Unit} from to limits fed (Err stop) → IfSome left (λ bytes. IsJudged {T = Unit} from to limits bytes (Err stop))
+  pub judged_told : (left now : Option (List ℕ)) (stop : Stop) → Consumes left now fed → IsJudgedAs {T = Unit} from what limits fed (Err stop) → IfSome left (λ bytes. IsJudgedAs {T = Unit} from what limits bytes (Err stop))
   judged_told None now stop gave judged = tt
   judged_told (Some bytes) None stop gave judged = absurd gave
-  judged_told (Some bytes) (Some rest) stop gave judged = subst (λ (l : List ℕ). IsJudged {T = Unit} from to limits l (Err stop)) (sym gave) (judged_whole from to limits fed rest long stop judged)
+  judged_told (Some bytes) (Some rest) stop gave judged = subst (λ (l : List ℕ). IsJudgedAs {T = Unit} from what limits l (Err stop)) (sym gave) (judged_whole from what limits fed rest long stop judged)
 
-  pub verdict_told : (left now : Option (List ℕ)) (P : Verdict → Type 0) → Consumes left now fed → ((verdict : Verdict) → IsVerdict from to limits fed verdict → P verdict) → IfSome left (λ bytes. (verdict : Verdict) → IsVerdict from to limits bytes verdict → P verdict)
+  pub verdict_told : (left now : Option (List ℕ)) (P : Verdict → Type 0) → Consumes left now fed → ((verdict : Verdict) → IsVerdictAs from what limits fed verdict → P verdict) → IfSome left (λ bytes. (verdict : Verdict) → IsVerdictAs from what limits bytes verdict → P verdict)
   verdict_told None now P gave on = tt
   verdict_told (Some bytes) None P gave on = absurd gave
-  verdict_told (Some bytes) (Some rest) P gave on = λ verdict is. on verdict (whole_front from to limits fed rest long verdict (subst (λ (l : List ℕ). IsVerdict from to limits l verdict) gave is))
+  verdict_told (Some bytes) (Some rest) P gave on = λ verdict is. on verdict (whole_front from what limits fed rest long verdict (subst (λ (l : List ℕ). IsVerdictAs from what limits l verdict) gave is))

@@ -10,10 +10,10 @@ use Rattle.propagation.specs.declared.header_cause.HeaderCause.{HeaderCause}
 use Rattle.propagation.specs.declared.header_form.HeaderForm.{HeaderForm}
 use Rattle.span_io.specs.Outside.{Inlet, Outlet, Gains, GainsFront, NoReadInVain, OutputFails, OutputHolds, FailsWithin}
 use Rattle.span_cli.specs.Inputs.{GaveInput, IsReadWhole, BlockHalts, header_limit, piece}
+use Rattle.span_cli.specs.Jobs.{HeaderLines}
 use Rattle.span_cli.specs.Lines.{said, header_cause_line, too_long_line}
 use Rattle.span_cli.specs.Outcomes.{Outcome, IsHeadersOutcome, too_long, bad, no_ids, written, OnOutcome, IsJudgedAt}
 use Rattle.span_cli.specs.Runs.{none, some, EndsRun, TellsLines, HaltsLines}
-use Rattle.span_cli.specs.declared.command.Command.TheVariants.{Headers}
 use Rattle.span_cli.specs.declared.ending.Ending.{Ending}
 use Rattle.span_cli.specs.declared.ending.Ending.TheVariants as endings
 use Rattle.span_cli.proofs.EndingLaws.{RunCourse, SaidBy, all_told, ends_input_failed, ends_no_memory, ends_output_failed, ends_said, gains_nothing, holds_nothing, unlike}
@@ -53,11 +53,11 @@ module _ (law : OneHeaderVerdict) (form : HeaderForm) where
       e ∙ ap (λ (x : Context). record { status = 0; text = context_lines form x; line = [] }) (same_context c c' d d' (law.one bytes (told c d) (told c' d') head head')) ∙ sym e'
 
   -- what holds of the outcome that was found holds of each
-  on_told : (left : Option (List ℕ)) (found : Outcome) (P : Outcome → Type 0) → IfSome left (λ bytes. IsHeadersOutcome form bytes found) → P found → OnOutcome (Headers form) left P
+  on_told : (left : Option (List ℕ)) (found : Outcome) (P : Outcome → Type 0) → IfSome left (λ bytes. IsHeadersOutcome form bytes found) → P found → OnOutcome (HeaderLines form) left P
   on_told None found P is holds = tt
   on_told (Some bytes) found P is holds = λ outcome is'. subst P (one_outcome bytes found outcome is is') holds
 
-judged_told : (form : HeaderForm) (left : Option (List ℕ)) (found : Outcome) → IfSome left (λ bytes. IsHeadersOutcome form bytes found) → IfSome left (IsJudgedAt (Headers form) said)
+judged_told : (form : HeaderForm) (left : Option (List ℕ)) (found : Outcome) → IfSome left (λ bytes. IsHeadersOutcome form bytes found) → IfSome left (IsJudgedAt (HeaderLines form) said)
 judged_told form None found is = tt
 judged_told form (Some bytes) found is = (found, is)
 
@@ -72,7 +72,7 @@ too_long_told form (Some bytes) (Some rest) given gave long =
 module _ {K : Type 0} (outlet : K → Outlet) (law : OneHeaderVerdict) (form : HeaderForm) (before now : Inlet) (old : K) where
   -- ---- nothing was written
 
-  course_unwritten : (given : List ℕ) → GaveInput before now given → length given ≤ header_limit + piece → NoReadInVain before now → RunCourse outlet (Headers form) before now old old
+  course_unwritten : (given : List ℕ) → GaveInput before now given → length given ≤ header_limit + piece → NoReadInVain before now → RunCourse outlet (HeaderLines form) before now old old
   course_unwritten given gave within in_vain = record {
     reads = record { given = given; gave = gave; within = within };
     in_vain = in_vain;
@@ -80,20 +80,20 @@ module _ {K : Type 0} (outlet : K → Outlet) (law : OneHeaderVerdict) (form : H
   }
 
   -- an outcome of which nothing is written
-  says_nothing : (ending : Ending) (found : Outcome) → IfSome before.left (λ bytes. IsHeadersOutcome form bytes found) → SaidBy outlet (Headers form) before now old old ending found
-      → OnOutcome (Headers form) before.left (SaidBy outlet (Headers form) before now old old ending)
-  says_nothing ending found is by = on_told law form before.left found (SaidBy outlet (Headers form) before now old old ending) is by
+  says_nothing : (ending : Ending) (found : Outcome) → IfSome before.left (λ bytes. IsHeadersOutcome form bytes found) → SaidBy outlet (HeaderLines form) before now old old ending found
+      → OnOutcome (HeaderLines form) before.left (SaidBy outlet (HeaderLines form) before now old old ending)
+  says_nothing ending found is by = on_told law form before.left found (SaidBy outlet (HeaderLines form) before now old old ending) is by
 
   ends_too_long : (given : List ℕ) → GaveInput before now given → length given ≤ header_limit + piece → NoReadInVain before now → now.faults ≡ before.faults → header_limit < length given
-      → EndsRun outlet (Headers form) endings.TooLong before now old old
+      → EndsRun outlet (HeaderLines form) endings.TooLong before now old old
   ends_too_long given gave within in_vain still long =
       let is = too_long_told form before.left now.left given gave long in
-      ends_said outlet (Headers form) before now old old endings.TooLong refl (unlike 3 5 (inl (omega arith))) (unlike 3 6 (inl (omega arith))) (λ e. absurd (unlike 3 0 (inr (omega arith)) e))
+      ends_said outlet (HeaderLines form) before now old old endings.TooLong refl (unlike 3 5 (inl (omega arith))) (unlike 3 6 (inl (omega arith))) (λ e. absurd (unlike 3 0 (inr (omega arith)) e))
       (course_unwritten given gave within in_vain) still (holds_nothing (outlet old)) (judged_told form before.left _ is)
       (says_nothing endings.TooLong _ is (record { agrees = refl; writes = gains_nothing (outlet old); line = refl }))
 
   -- the block wasn't read to its end
-  pub ends_block : (ending : Ending) → BlockHalts ending before now → EndsRun outlet (Headers form) ending before now old old
+  pub ends_block : (ending : Ending) → BlockHalts ending before now → EndsRun outlet (HeaderLines form) ending before now old old
   ends_block endings.Whole halts = absurd halts.why
   ends_block (endings.Refused refusal) halts = absurd halts.why
   ends_block (endings.Faulted noted) halts = absurd halts.why
@@ -101,8 +101,8 @@ module _ {K : Type 0} (outlet : K → Outlet) (law : OneHeaderVerdict) (form : H
   ends_block endings.NoIds halts = absurd halts.why
   ends_block endings.OutputFailed halts = absurd halts.why
   ends_block endings.TooLong halts = ends_too_long halts.given halts.gave halts.within halts.in_vain halts.why.0 halts.why.1
-  ends_block endings.InputFailed halts = ends_input_failed outlet (Headers form) before now old old (course_unwritten halts.given halts.gave halts.within halts.in_vain) halts.why.0 halts.why.1 refl
-  ends_block endings.NoMemory halts = ends_no_memory outlet (Headers form) before now old old (course_unwritten halts.given halts.gave halts.within halts.in_vain) halts.why refl
+  ends_block endings.InputFailed halts = ends_input_failed outlet (HeaderLines form) before now old old (course_unwritten halts.given halts.gave halts.within halts.in_vain) halts.why.0 halts.why.1 refl
+  ends_block endings.NoMemory halts = ends_no_memory outlet (HeaderLines form) before now old old (course_unwritten halts.given halts.gave halts.within halts.in_vain) halts.why refl
 
   -- ---- the block was read to its end
 
@@ -114,22 +114,22 @@ module _ {K : Type 0} (outlet : K → Outlet) (law : OneHeaderVerdict) (form : H
     few = omega (arith, within)
 
     -- it tells no context, or none that the form can tell
-    pub ends_lines : (ending : Ending) → HaltsLines ending form block → EndsRun outlet (Headers form) ending before now old old
+    pub ends_lines : (ending : Ending) → HaltsLines ending form block → EndsRun outlet (HeaderLines form) ending before now old old
     ends_lines endings.Whole halts = absurd halts
     ends_lines (endings.Refused refusal) halts = absurd halts
     ends_lines (endings.Faulted noted) halts = absurd halts
     ends_lines endings.TooLong halts = absurd halts
     ends_lines endings.InputFailed halts = absurd halts
     ends_lines endings.OutputFailed halts = absurd halts
-    ends_lines endings.NoMemory halts = ends_no_memory outlet (Headers form) before now old old (course_unwritten block read.gave few read.in_vain) read.quiet refl
+    ends_lines endings.NoMemory halts = ends_no_memory outlet (HeaderLines form) before now old old (course_unwritten block read.gave few read.in_vain) read.quiet refl
     ends_lines (endings.BadHeaders cause) halts =
         let is = whole_told _ (bad cause within halts refl) in
-        ends_said outlet (Headers form) before now old old (endings.BadHeaders cause) refl (unlike 3 5 (inl (omega arith))) (unlike 3 6 (inl (omega arith))) (λ e. absurd (unlike 3 0 (inr (omega arith)) e))
+        ends_said outlet (HeaderLines form) before now old old (endings.BadHeaders cause) refl (unlike 3 5 (inl (omega arith))) (unlike 3 6 (inl (omega arith))) (λ e. absurd (unlike 3 0 (inr (omega arith)) e))
         (course_unwritten block read.gave few read.in_vain) read.quiet (holds_nothing (outlet old)) (judged_told form before.left _ is)
         (says_nothing (endings.BadHeaders cause) _ is (record { agrees = refl; writes = gains_nothing (outlet old); line = refl }))
     ends_lines endings.NoIds halts =
         let is = whole_told _ (no_ids halts.context halts.dropped within halts.told halts.cannot refl) in
-        ends_said outlet (Headers form) before now old old endings.NoIds refl (unlike 4 5 (inl (omega arith))) (unlike 4 6 (inl (omega arith))) (λ e. absurd (unlike 4 0 (inr (omega arith)) e))
+        ends_said outlet (HeaderLines form) before now old old endings.NoIds refl (unlike 4 5 (inl (omega arith))) (unlike 4 6 (inl (omega arith))) (λ e. absurd (unlike 4 0 (inr (omega arith)) e))
         (course_unwritten block read.gave few read.in_vain) read.quiet (holds_nothing (outlet old)) (judged_told form before.left _ is)
         (says_nothing endings.NoIds _ is (record { agrees = refl; writes = gains_nothing (outlet old); line = refl }))
 
@@ -141,7 +141,7 @@ module _ {K : Type 0} (outlet : K → Outlet) (law : OneHeaderVerdict) (form : H
       found_told : IfSome before.left (λ bytes. IsHeadersOutcome form bytes found)
       found_told = whole_told found (written tells.context tells.dropped within tells.told tells.can_tell refl)
 
-      course_written : GainsFront (outlet old) (outlet new) lines → RunCourse outlet (Headers form) before now old new
+      course_written : GainsFront (outlet old) (outlet new) lines → RunCourse outlet (HeaderLines form) before now old new
       course_written front = record {
         reads = record { given = block; gave = read.gave; within = few };
         in_vain = read.in_vain;
@@ -152,14 +152,14 @@ module _ {K : Type 0} (outlet : K → Outlet) (law : OneHeaderVerdict) (form : H
         };
       }
 
-      pub ends_written : Gains (outlet old) (outlet new) lines → OutputHolds (outlet old) (outlet new) → EndsRun outlet (Headers form) endings.Whole before now old new
+      pub ends_written : Gains (outlet old) (outlet new) lines → OutputHolds (outlet old) (outlet new) → EndsRun outlet (HeaderLines form) endings.Whole before now old new
       ends_written gains holds =
-          ends_said outlet (Headers form) before now old new endings.Whole refl (unlike 0 5 (inl (omega arith))) (unlike 0 6 (inl (omega arith))) (λ e. read.all_read)
+          ends_said outlet (HeaderLines form) before now old new endings.Whole refl (unlike 0 5 (inl (omega arith))) (unlike 0 6 (inl (omega arith))) (λ e. read.all_read)
           (course_written (record { front = lines; is_front = ([], sym (append-nil lines)); gains = gains })) read.quiet holds (judged_told form before.left found found_told)
-          (on_told law form before.left found (SaidBy outlet (Headers form) before now old new endings.Whole) found_told
+          (on_told law form before.left found (SaidBy outlet (HeaderLines form) before now old new endings.Whole) found_told
           (record { agrees = refl; writes = subst (λ (l : List ℕ). Gains (outlet old) (outlet new) l) tells.are_lines gains; line = refl }))
 
-      pub ends_failed : OutputFails (outlet old) (outlet new) → FailsWithin (outlet old) (outlet new) lines → EndsRun outlet (Headers form) endings.OutputFailed before now old new
+      pub ends_failed : OutputFails (outlet old) (outlet new) → FailsWithin (outlet old) (outlet new) lines → EndsRun outlet (HeaderLines form) endings.OutputFailed before now old new
       ends_failed fails inside =
-          ends_output_failed outlet (Headers form) before now old new (course_written inside.front) read.quiet fails
+          ends_output_failed outlet (HeaderLines form) before now old new (course_written inside.front) read.quiet fails
           (on_told law form before.left found (λ o. FailsWithin (outlet old) (outlet new) o.text) found_told (subst (λ (l : List ℕ). FailsWithin (outlet old) (outlet new) l) tells.are_lines inside))

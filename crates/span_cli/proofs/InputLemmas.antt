@@ -12,10 +12,10 @@ use Rattle.span_io.specs.declared.form.Form.{Form}
 use Rattle.span_io.specs.declared.limits.Limits.{Limits}
 use Rattle.span_convert.specs.Converters.{Fed, HasForms}
 use Rattle.span_convert.specs.Units.{input_limit}
-use Rattle.span_convert.specs.declared.converter.Converter.{Converter}
+use Rattle.span_convert.specs.declared.converter.Walker.{Walker}
+use Rattle.span_convert.specs.declared.written.Written.{Written}
 use Rattle.span_cli.specs.Inputs.{GaveInput, ReadsInput, IsAllRead, IsFed, piece}
-use Rattle.span_cli.specs.declared.command.Command.{Command}
-use Rattle.span_cli.specs.declared.command.Command.TheVariants.{Convert}
+use Rattle.span_cli.specs.Jobs.{Job, Spans}
 
 Consumes-nothing : (left : Option (List ℕ)) → Consumes left left []
 Consumes-nothing None = tt
@@ -41,11 +41,11 @@ not_in_vain E before now after result goes is going vain =
     never_in_vain (is_last result) (sym (is ∙ ap (λ (o : Option ReadCourse). course_of_reads o result) (goes going)) ∙ vain)
 
 -- nothing was read
-pub reads_nothing : (command : Command) (now : Inlet) → ReadsInput command now now
-reads_nothing command now = record { given = []; gave = Consumes-nothing now.left; within = omega arith }
+pub reads_nothing : (job : Job) (now : Inlet) → ReadsInput job now now
+reads_nothing job now = record { given = []; gave = Consumes-nothing now.left; within = omega arith }
 
 -- a converter was fed no more than the limit of its form
-pub given_within : (c : Converter) (from : Form) (given : List ℕ) → Fed c given → c.from ≡ from → c.limits ≡ shipped_limits → length given ≤ input_limit from shipped_limits
+pub given_within : (c : Walker Written) (from : Form) (given : List ℕ) → Fed c given → c.from ≡ from → c.limits ≡ shipped_limits → length given ≤ input_limit from shipped_limits
 given_within c from given fed form limits = subst (λ (f : Form). length given ≤ input_limit f shipped_limits) form (subst (λ (l : Limits). length given ≤ input_limit c.from l) limits fed.within)
 
 -- the source gave these bytes so far without a fault
@@ -78,19 +78,19 @@ Reading-end before now after given reading here ended =
     (subst (λ (l : List ℕ). GaveInput before after l) (append-nil given) all, record { ended = ended; told = told_end before.left after.left (given ++ []) all ended })
 
 -- the source gave some bytes so far without a fault, and the converter was fed them
-pub record Feeding (from to : Form) (before now : Inlet) (c : Converter) : Type 0 where
+pub record Feeding (from : Form) (what : Written) (before now : Inlet) (c : Walker Written) : Type 0 where
   pub given : List ℕ
   pub reading : Reading before now given
   pub fed : Fed c given
-  pub forms : HasForms c from to
+  pub forms : HasForms c from what
   pub limits : c.limits ≡ shipped_limits
 
-module _ (from to : Form) where
-  pub Feeding-start : (now : Inlet) (c : Converter) → Fed c [] → HasForms c from to → c.limits ≡ shipped_limits → Feeding from to now now c
+module _ (from : Form) (what : Written) where
+  pub Feeding-start : (now : Inlet) (c : Walker Written) → Fed c [] → HasForms c from what → c.limits ≡ shipped_limits → Feeding from what now now c
   Feeding-start now c fresh forms limits = record { given = []; reading = Reading-start now; fed = fresh; forms = forms; limits = limits }
 
-  pub Feeding-step : (before now after : Inlet) (old new : Converter) (more : List ℕ) (feeding : Feeding from to before now old) → Consumes now.left after.left more → after.faults ≡ now.faults → after.steady ≡ now.steady → (now.course ≡ Some reads.Going → after.course ≡ Some reads.Going)
-      → Fed new (feeding.given ++ more) → HasForms new old.from old.to → new.limits ≡ old.limits → Feeding from to before after new
+  pub Feeding-step : (before now after : Inlet) (old new : Walker Written) (more : List ℕ) (feeding : Feeding from what before now old) → Consumes now.left after.left more → after.faults ≡ now.faults → after.steady ≡ now.steady → (now.course ≡ Some reads.Going → after.course ≡ Some reads.Going)
+      → Fed new (feeding.given ++ more) → HasForms new old.from old.what → new.limits ≡ old.limits → Feeding from what before after new
   Feeding-step before now after old new more feeding here quiet steady goes fed forms limits = record {
     given = feeding.given ++ more;
     reading = Reading-step before now after feeding.given more feeding.reading here quiet steady goes;
@@ -100,7 +100,7 @@ module _ (from to : Form) where
   }
 
   -- what was read so far, and another piece that the converter took or not
-  pub Feeding-reads : (before now after : Inlet) (c : Converter) (more : List ℕ) (feeding : Feeding from to before now c) → Consumes now.left after.left more → length more ≤ piece → ReadsInput (Convert from to) before after
+  pub Feeding-reads : (before now after : Inlet) (c : Walker Written) (more : List ℕ) (feeding : Feeding from what before now c) → Consumes now.left after.left more → length more ≤ piece → ReadsInput (Spans from what) before after
   Feeding-reads before now after c more feeding here small =
       let bound = given_within c from feeding.given feeding.fed feeding.forms.0 feeding.limits in
       record {
@@ -109,7 +109,7 @@ module _ (from to : Form) where
         within = omega (arith, length-append feeding.given more);
       }
 
-  pub Feeding-end : (before now after : Inlet) (c : Converter) → Feeding from to before now c → Consumes now.left after.left [] → after.faults ≡ now.faults → NoReadInVain before after → IsAtEnd after.left → IsFed from to before after c
+  pub Feeding-end : (before now after : Inlet) (c : Walker Written) → Feeding from what before now c → Consumes now.left after.left [] → after.faults ≡ now.faults → NoReadInVain before after → IsAtEnd after.left → IsFed from what before after c
   Feeding-end before now after c feeding here quiet in_vain ended =
       let all = Reading-end before now after feeding.given feeding.reading here ended in
       record {

@@ -5,9 +5,9 @@ use Rattle.propagation.specs.Laws.{ContextsAreNormal, HeadsAreSound, HeadersRead
 use Rattle.propagation.specs.NormalContexts.{context_lines}
 use Rattle.propagation.specs.declared.header_form.HeaderForm.{HeaderForm}
 use Rattle.span_io.specs.Outside.{Outlet, Gains}
+use Rattle.span_cli.specs.Jobs.{HeaderLines}
 use Rattle.span_cli.specs.Lines.{said, stage_of}
 use Rattle.span_cli.specs.Outcomes.{Outcome, IsHeadersOutcome, too_long, bad, no_ids, written, OnOutcome, IsJudgedAt, AgreesWith, Writes, WritesLinesOf}
-use Rattle.span_cli.specs.declared.command.Command.TheVariants.{Headers}
 
 not_zero : (outcome other : Outcome) (status : ℕ) → 0 ≡ outcome.status → outcome ≡ other → other.status ≡ status → 1 ≤ status → ⊥
 not_zero outcome other status agrees is same some = let e = agrees ∙ ap (λ (o : Outcome). o.status) is ∙ same in omega arith
@@ -33,14 +33,14 @@ module _ (normal : ContextsAreNormal) (sound : HeadsAreSound) (back : HeadersRea
         };
       }
 
-  lines_at : (left : Option (List ℕ)) (before now : Outlet) → IfSome left (IsJudgedAt (Headers form) said) → OnOutcome (Headers form) left (λ o. 0 ≡ o.status)
-      → OnOutcome (Headers form) left (λ o. Gains before now o.text) → IfSome left (WritesLinesOf form before now)
+  lines_at : (left : Option (List ℕ)) (before now : Outlet) → IfSome left (IsJudgedAt (HeaderLines form) said) → OnOutcome (HeaderLines form) left (λ o. 0 ≡ o.status)
+      → OnOutcome (HeaderLines form) left (λ o. Gains before now o.text) → IfSome left (WritesLinesOf form before now)
   lines_at None before now judged agrees writes = tt
   lines_at (Some bytes) before now (outcome, is) agrees writes = lines_of_block bytes outcome before now is (agrees outcome is) (writes outcome is)
 
-  pub lines_back : (left : Option (List ℕ)) (status : ℕ) (before now : Outlet) → IfSome left (IsJudgedAt (Headers form) (stage_of status)) → OnOutcome (Headers form) left (AgreesWith (stage_of status) status)
-      → OnOutcome (Headers form) left (λ o. Writes (stage_of status) o.text before now) → status ≡ 0 → IfSome left (WritesLinesOf form before now)
+  pub lines_back : (left : Option (List ℕ)) (status : ℕ) (before now : Outlet) → IfSome left (IsJudgedAt (HeaderLines form) (stage_of status)) → OnOutcome (HeaderLines form) left (AgreesWith (stage_of status) status)
+      → OnOutcome (HeaderLines form) left (λ o. Writes (stage_of status) o.text before now) → status ≡ 0 → IfSome left (WritesLinesOf form before now)
   lines_back left status before now judged agrees writes zero = lines_at left before now
-      (subst (λ (s : ℕ). IfSome left (IsJudgedAt (Headers form) (stage_of s))) zero judged)
-      (subst (λ (s : ℕ). OnOutcome (Headers form) left (AgreesWith (stage_of s) s)) zero agrees)
-      (subst (λ (s : ℕ). OnOutcome (Headers form) left (λ o. Writes (stage_of s) o.text before now)) zero writes)
+      (subst (λ (s : ℕ). IfSome left (IsJudgedAt (HeaderLines form) (stage_of s))) zero judged)
+      (subst (λ (s : ℕ). OnOutcome (HeaderLines form) left (AgreesWith (stage_of s) s)) zero agrees)
+      (subst (λ (s : ℕ). OnOutcome (HeaderLines form) left (λ o. Writes (stage_of s) o.text before now)) zero writes)

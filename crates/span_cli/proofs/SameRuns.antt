@@ -5,13 +5,14 @@ use Rattle.span_io.specs.Limits.{AreLimits, shipped_limits}
 use Rattle.span_io.specs.Outside.{Outlet}
 use Rattle.span_io.specs.declared.form.Form.{Form}
 use Rattle.span_io.specs.declared.limits.Limits.{Limits}
+use Rattle.span_convert.specs.Reports.{IsVerdictAs}
 use Rattle.span_convert.specs.SameBatches.{SameBatches}
 use Rattle.span_convert.specs.SameDocuments.{AgreeingDocuments}
-use Rattle.span_convert.specs.Verdicts.{Verdict, IsVerdict}
+use Rattle.span_convert.specs.Verdicts.{Verdict}
+use Rattle.span_convert.specs.declared.written.Written.{Written}
+use Rattle.span_cli.specs.Jobs.{Job, Spans, HeaderLines, IfSpans}
 use Rattle.span_cli.specs.Lines.{Notes, stage_of}
 use Rattle.span_cli.specs.Outcomes.{Outcome, OnOutcome, OnSameBatches, OnAgreeingDocuments, CarriesOut, AgreesWith, Writes, line_of}
-use Rattle.span_cli.specs.declared.command.Command.{Command}
-use Rattle.span_cli.specs.declared.command.Command.TheVariants.{Convert}
 
 shipped_valid : AreLimits shipped_limits
 shipped_valid = record {
@@ -23,26 +24,51 @@ shipped_valid = record {
   reply = (omega arith, omega arith);
 }
 
-pub on_same_batches : ((from other to : Form) (limits : Limits) (bytes others : List ℕ) → AreLimits limits → SameBatches limits from bytes other others
-    → (verdict : Verdict) → IsVerdict from to limits bytes verdict ↔ IsVerdict other to limits others verdict)
-    → (from to : Form) (left : Option (List ℕ)) (P : Outcome → Type 0) → OnOutcome (Convert from to) left P → OnSameBatches from to left P
-on_same_batches law from to None P h = tt
-on_same_batches law from to (Some bytes) P h = λ other others same outcome (verdict, is, outcome_is).
-    h outcome (verdict, (law from other to shipped_limits bytes others shipped_valid same verdict).1 is, outcome_is)
+on_same_batches : ((from other : Form) (what : Written) (limits : Limits) (bytes others : List ℕ) → AreLimits limits → SameBatches limits from bytes other others
+    → (verdict : Verdict) → IsVerdictAs from what limits bytes verdict ↔ IsVerdictAs other what limits others verdict)
+    → (from : Form) (what : Written) (left : Option (List ℕ)) (P : Outcome → Type 0) → OnOutcome (Spans from what) left P → OnSameBatches from what left P
+on_same_batches law from what None P h = tt
+on_same_batches law from what (Some bytes) P h = λ other others same outcome (verdict, is, outcome_is).
+    h outcome (verdict, (law from other what shipped_limits bytes others shipped_valid same verdict).1 is, outcome_is)
 
-pub on_agreeing_documents : ((from to : Form) (limits : Limits) (bytes others : List ℕ) → AgreeingDocuments limits from bytes others
-    → (verdict : Verdict) → IsVerdict from to limits bytes verdict ↔ IsVerdict from to limits others verdict)
-    → (from to : Form) (left : Option (List ℕ)) (P : Outcome → Type 0) → OnOutcome (Convert from to) left P → OnAgreeingDocuments from to left P
-on_agreeing_documents law from to None P h = tt
-on_agreeing_documents law from to (Some bytes) P h = λ others agree outcome (verdict, is, outcome_is).
-    h outcome (verdict, (law from to shipped_limits bytes others agree verdict).1 is, outcome_is)
+on_agreeing_documents : ((from : Form) (what : Written) (limits : Limits) (bytes others : List ℕ) → AgreeingDocuments limits from bytes others
+    → (verdict : Verdict) → IsVerdictAs from what limits bytes verdict ↔ IsVerdictAs from what limits others verdict)
+    → (from : Form) (what : Written) (left : Option (List ℕ)) (P : Outcome → Type 0) → OnOutcome (Spans from what) left P → OnAgreeingDocuments from what left P
+on_agreeing_documents law from what None P h = tt
+on_agreeing_documents law from what (Some bytes) P h = λ others agree outcome (verdict, is, outcome_is).
+    h outcome (verdict, (law from what shipped_limits bytes others agree verdict).1 is, outcome_is)
 
 -- its status, its output and its note together
-pub carried_out : (command : Command) (left : Option (List ℕ)) (status : ℕ) (output_before output_now notes_before notes_now : Outlet)
-    → OnOutcome command left (AgreesWith (stage_of status) status)
-    → OnOutcome command left (λ outcome. Writes (stage_of status) outcome.text output_before output_now)
-    → OnOutcome command left (λ outcome. Notes notes_before notes_now (line_of (stage_of status) outcome))
-    → OnOutcome command left (CarriesOut status output_before output_now notes_before notes_now)
-carried_out command None status output_before output_now notes_before notes_now agrees writes notes = tt
-carried_out command (Some bytes) status output_before output_now notes_before notes_now agrees writes notes =
+carried_out : (job : Job) (left : Option (List ℕ)) (status : ℕ) (output_before output_now notes_before notes_now : Outlet)
+    → OnOutcome job left (AgreesWith (stage_of status) status)
+    → OnOutcome job left (λ outcome. Writes (stage_of status) outcome.text output_before output_now)
+    → OnOutcome job left (λ outcome. Notes notes_before notes_now (line_of (stage_of status) outcome))
+    → OnOutcome job left (CarriesOut status output_before output_now notes_before notes_now)
+carried_out job None status output_before output_now notes_before notes_now agrees writes notes = tt
+carried_out job (Some bytes) status output_before output_now notes_before notes_now agrees writes notes =
     λ outcome is. record { agrees = agrees outcome is; writes = writes outcome is; notes = notes outcome is }
+
+module _ (left : Option (List ℕ)) (status : ℕ) (output_before output_now notes_before notes_now : Outlet) where
+  abbrev Carries : Outcome → Type 0
+  Carries = CarriesOut status output_before output_now notes_before notes_now
+
+  -- so are the outcomes on such other inputs, where spans are read
+  pub carried_out_same : ((from other : Form) (what : Written) (limits : Limits) (bytes others : List ℕ) → AreLimits limits → SameBatches limits from bytes other others
+      → (verdict : Verdict) → IsVerdictAs from what limits bytes verdict ↔ IsVerdictAs other what limits others verdict)
+      → (job : Job) → OnOutcome job left (AgreesWith (stage_of status) status)
+      → OnOutcome job left (λ outcome. Writes (stage_of status) outcome.text output_before output_now)
+      → OnOutcome job left (λ outcome. Notes notes_before notes_now (line_of (stage_of status) outcome))
+      → IfSpans job (λ from what. OnSameBatches from what left Carries)
+  carried_out_same law (Spans from what) agrees writes notes =
+      on_same_batches law from what left Carries (carried_out (Spans from what) left status output_before output_now notes_before notes_now agrees writes notes)
+  carried_out_same law (HeaderLines form) agrees writes notes = tt
+
+  pub carried_out_agreeing : ((from : Form) (what : Written) (limits : Limits) (bytes others : List ℕ) → AgreeingDocuments limits from bytes others
+      → (verdict : Verdict) → IsVerdictAs from what limits bytes verdict ↔ IsVerdictAs from what limits others verdict)
+      → (job : Job) → OnOutcome job left (AgreesWith (stage_of status) status)
+      → OnOutcome job left (λ outcome. Writes (stage_of status) outcome.text output_before output_now)
+      → OnOutcome job left (λ outcome. Notes notes_before notes_now (line_of (stage_of status) outcome))
+      → IfSpans job (λ from what. OnAgreeingDocuments from what left Carries)
+  carried_out_agreeing law (Spans from what) agrees writes notes =
+      on_agreeing_documents law from what left Carries (carried_out (Spans from what) left status output_before output_now notes_before notes_now agrees writes notes)
+  carried_out_agreeing law (HeaderLines form) agrees writes notes = tt

@@ -6,9 +6,9 @@ use Rattle.span_io.specs.Outside.{Inlet, InputFails, NoReadInVain}
 use Rattle.span_io.specs.declared.form.Form.{Form}
 use Rattle.span_convert.specs.Converters.{Fed, HasForms}
 use Rattle.span_convert.specs.Units.{input_limit}
-use Rattle.span_convert.specs.declared.converter.Converter.{Converter}
-use Rattle.span_cli.specs.declared.command.Command.{Command}
-use Rattle.span_cli.specs.declared.command.Command.TheVariants.{Convert, Headers}
+use Rattle.span_convert.specs.declared.converter.Walker.{Walker}
+use Rattle.span_convert.specs.declared.written.Written.{Written}
+use Rattle.span_cli.specs.Jobs.{Job, Spans, HeaderLines}
 use Rattle.span_cli.specs.declared.ending.Ending.{Ending}
 use Rattle.span_cli.specs.declared.ending.Ending.TheVariants as endings
 
@@ -24,31 +24,31 @@ piece = 65536
 abbrev pub header_limit : ℕ
 header_limit = 16384
 
--- the most bytes that a command takes as its input
-abbrev pub command_limit : Command → ℕ
-command_limit (Convert from to) = input_limit from shipped_limits
-command_limit (Headers form) = header_limit
+-- the most bytes that a job takes as its input
+abbrev pub job_limit : Job → ℕ
+job_limit (Spans from what) = input_limit from shipped_limits
+job_limit (HeaderLines form) = header_limit
 
 -- Reading stopped at the first stop: at most so many bytes were read as the limit allows, and one piece.
-pub record ReadsInput (command : Command) (before now : Inlet) : Type 0 where
+pub record ReadsInput (job : Job) (before now : Inlet) : Type 0 where
   pub given : List ℕ
   pub gave : GaveInput before now given
-  pub within : length given ≤ command_limit command + piece
+  pub within : length given ≤ job_limit job + piece
 
 -- nothing is left, where the source tells it: it does if it told its bytes before
 pub record IsAllRead (before now : Inlet) : Type 0 where
   pub ended : IsAtEnd now.left
   pub told : IfSome before.left (λ bytes. now.left ≡ Some [])
 
--- the source gave all its bytes without a fault and without a read in vain, and the converter between these forms was fed them
-pub record IsFed (from to : Form) (before now : Inlet) (c : Converter) : Type 0 where
+-- the source gave all its bytes without a fault and without a read in vain, and what writes this form so was fed them
+pub record IsFed (from : Form) (what : Written) (before now : Inlet) (c : Walker Written) : Type 0 where
   pub given : List ℕ
   pub gave : GaveInput before now given
   pub all_read : IsAllRead before now
   pub quiet : now.faults ≡ before.faults
   pub in_vain : NoReadInVain before now
   pub fed : Fed c given
-  pub forms : HasForms c from to
+  pub forms : HasForms c from what
   pub limits : c.limits ≡ shipped_limits
 
 -- the source gave all its bytes without a fault and without a read in vain, and these are they

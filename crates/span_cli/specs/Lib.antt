@@ -1,5 +1,6 @@
 pub mod Commands
 pub mod Inputs
+pub mod Jobs
 pub mod Lines
 pub mod Outcomes
 pub mod Runs

@@ -1,4 +1,4 @@
--- What a command makes of its input: the status, what is written, and the line that is noted.
+-- What a job makes of its input: the status, what is written, and the line that is noted.
 use Rattle.std.specs.Prelude.{◌↔◌, false, ◌≡◌, ◌≤◌, ◌<◌, ℕ, Bool, List, [], length, Option, IfSome}
 use Rattle.propagation.specs.Heads.{Head, IsHeaderCause}
 use Rattle.propagation.specs.Laws.{AreProperIds}
@@ -9,13 +9,14 @@ use Rattle.propagation.specs.declared.header_form.HeaderForm.{HeaderForm}
 use Rattle.span_io.specs.Limits.{shipped_limits}
 use Rattle.span_io.specs.Outside.{Outlet, Gains, GainsFront, FailsWithin}
 use Rattle.span_io.specs.declared.form.Form.{Form}
+use Rattle.span_convert.specs.Reports.{IsVerdictAs}
 use Rattle.span_convert.specs.SameBatches.{SameBatches}
 use Rattle.span_convert.specs.SameDocuments.{AgreeingDocuments}
-use Rattle.span_convert.specs.Verdicts.{Verdict, good, refused, faulted, IsVerdict}
+use Rattle.span_convert.specs.Verdicts.{Verdict, good, refused, faulted}
+use Rattle.span_convert.specs.declared.written.Written.{Written}
 use Rattle.span_cli.specs.Inputs.{header_limit}
+use Rattle.span_cli.specs.Jobs.{Job, Spans, HeaderLines}
 use Rattle.span_cli.specs.Lines.{Stage, usage, said, input_failed, output_failed, no_memory, stage_of, stage_line, refusal_line, fault_line, header_cause_line, too_long_line, no_ids_line, Notes}
-use Rattle.span_cli.specs.declared.command.Command.{Command}
-use Rattle.span_cli.specs.declared.command.Command.TheVariants.{Convert, Headers}
 
 -- what a run is to answer, write and note
 pub record Outcome : Type 0 where
@@ -40,33 +41,33 @@ pub data IsHeadersOutcome (form : HeaderForm) (bytes : List ℕ) (outcome : Outc
   written : (c : Context) (dropped : Bool) → length bytes ≤ header_limit → Head c dropped bytes → ¬ (CannotTell form c)
       → outcome ≡ record { status = 0; text = context_lines form c; line = [] } → IsHeadersOutcome form bytes outcome
 
-abbrev pub IsOutcome : Command → List ℕ → Outcome → Type 0
-IsOutcome (Convert from to) bytes outcome = (verdict : Verdict) × IsVerdict from to shipped_limits bytes verdict × (outcome ≡ verdict_outcome verdict)
-IsOutcome (Headers form) bytes outcome = IsHeadersOutcome form bytes outcome
+abbrev pub IsOutcome : Job → List ℕ → Outcome → Type 0
+IsOutcome (Spans from what) bytes outcome = (verdict : Verdict) × IsVerdictAs from what shipped_limits bytes verdict × (outcome ≡ verdict_outcome verdict)
+IsOutcome (HeaderLines form) bytes outcome = IsHeadersOutcome form bytes outcome
 
--- Where the bytes of the input are told, the fact holds of each outcome of the command on them.
-abbrev pub OnOutcome : Command → Option (List ℕ) → (Outcome → Type 0) → Type 0
-OnOutcome command left P = IfSome left (λ bytes. (outcome : Outcome) → IsOutcome command bytes outcome → P outcome)
+-- Where the bytes of the input are told, the fact holds of each outcome of the job on them.
+abbrev pub OnOutcome : Job → Option (List ℕ) → (Outcome → Type 0) → Type 0
+OnOutcome job left P = IfSome left (λ bytes. (outcome : Outcome) → IsOutcome job bytes outcome → P outcome)
 
 -- The same of each outcome on other bytes that hold the same batches of Jaeger, in a protocol of their own.
-abbrev pub OnSameBatches : Form → Form → Option (List ℕ) → (Outcome → Type 0) → Type 0
-OnSameBatches from to left P = IfSome left (λ bytes. (other : Form) (others : List ℕ) → SameBatches shipped_limits from bytes other others
-    → (outcome : Outcome) → IsOutcome (Convert other to) others outcome → P outcome)
+abbrev pub OnSameBatches : Form → Written → Option (List ℕ) → (Outcome → Type 0) → Type 0
+OnSameBatches from what left P = IfSome left (λ bytes. (other : Form) (others : List ℕ) → SameBatches shipped_limits from bytes other others
+    → (outcome : Outcome) → IsOutcome (Spans other what) others outcome → P outcome)
 
 -- The same of each outcome on other bytes that differ in members alone that the form doesn't know, if it is one in JSON.
-abbrev pub OnAgreeingDocuments : Form → Form → Option (List ℕ) → (Outcome → Type 0) → Type 0
-OnAgreeingDocuments from to left P = IfSome left (λ bytes. (others : List ℕ) → AgreeingDocuments shipped_limits from bytes others
-    → (outcome : Outcome) → IsOutcome (Convert from to) others outcome → P outcome)
+abbrev pub OnAgreeingDocuments : Form → Written → Option (List ℕ) → (Outcome → Type 0) → Type 0
+OnAgreeingDocuments from what left P = IfSome left (λ bytes. (others : List ℕ) → AgreeingDocuments shipped_limits from bytes others
+    → (outcome : Outcome) → IsOutcome (Spans from what) others outcome → P outcome)
 
 -- ---- what a run did of it
 
 -- where the outcome was carried out there is one
-abbrev pub IsJudgedAt : Command → Stage → List ℕ → Type 0
-IsJudgedAt command usage bytes = Unit {0}
-IsJudgedAt command said bytes = (outcome : Outcome) × IsOutcome command bytes outcome
-IsJudgedAt command input_failed bytes = Unit {0}
-IsJudgedAt command output_failed bytes = Unit {0}
-IsJudgedAt command no_memory bytes = Unit {0}
+abbrev pub IsJudgedAt : Job → Stage → List ℕ → Type 0
+IsJudgedAt job usage bytes = Unit {0}
+IsJudgedAt job said bytes = (outcome : Outcome) × IsOutcome job bytes outcome
+IsJudgedAt job input_failed bytes = Unit {0}
+IsJudgedAt job output_failed bytes = Unit {0}
+IsJudgedAt job no_memory bytes = Unit {0}
 
 -- an outcome that was carried out is told by the status
 abbrev pub AgreesWith : Stage → ℕ → Outcome → Type 0

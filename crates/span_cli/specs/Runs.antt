@@ -6,17 +6,16 @@ use Rattle.propagation.specs.declared.context.Context.{Context}
 use Rattle.propagation.specs.declared.header_form.HeaderForm.{HeaderForm}
 use Rattle.span_io.specs.Limits.{shipped_limits}
 use Rattle.span_io.specs.Outside.{Inlet, Outlet, Gains, GainsFront, InputFails, NoReadInVain, OutputFails, OutputHolds}
-use Rattle.span_convert.specs.Verdicts.{WritesFront}
+use Rattle.span_convert.specs.Reports.{WritesFrontAs}
 use Rattle.span_convert.specs.declared.converter.State.{State}
 use Rattle.span_convert.specs.declared.converter.State.TheVariants as states
 use Rattle.span_convert.specs.declared.stop.Stop.{Stop}
 use Rattle.span_convert.specs.declared.stop.Stop.TheVariants as stops
 use Rattle.span_convert.specs.declared.target_fault.TargetFault.{TargetFault}
 use Rattle.span_cli.specs.Inputs.{GaveInput, ReadsInput, IsAllRead}
+use Rattle.span_cli.specs.Jobs.{Job, Spans, HeaderLines}
 use Rattle.span_cli.specs.Lines.{HasKey, stage_of, status_of, fault_line, noted_line, ending_line}
 use Rattle.span_cli.specs.Outcomes.{OnOutcome, IsJudgedAt, AgreesWith, Writes, line_of}
-use Rattle.span_cli.specs.declared.command.Command.{Command}
-use Rattle.span_cli.specs.declared.command.Command.TheVariants.{Convert, Headers}
 use Rattle.span_cli.specs.declared.ending.Ending.{Ending}
 use Rattle.span_cli.specs.declared.ending.Ending.TheVariants as endings
 use Rattle.span_cli.specs.declared.noted_fault.NotedFault.{NotedFault}
@@ -49,12 +48,12 @@ IsEndingAt endings.NoMemory stop state = (stop ≡ stops.OutOfMemory) ⊎ IsKeyA
 
 -- What a run that ends with this status did to its input. The input failed where its count rose, and only there, and no read
 -- was in vain.
-pub record EndsInput (command : Command) (status : ℕ) (before now : Inlet) : Type 0 where
+pub record EndsInput (job : Job) (status : ℕ) (before now : Inlet) : Type 0 where
   pub fails : status ≡ 5 → InputFails before now
   pub quiet : status ≢ 5 → now.faults ≡ before.faults
   pub answers : IsTrue before.steady → status ≢ 5
   pub in_vain : NoReadInVain before now
-  pub reads : ReadsInput command before now
+  pub reads : ReadsInput job before now
   pub all_read : status ≡ 0 → IsAllRead before now
 
 -- The same of its output, which a failure of the input leaves as it was.
@@ -69,36 +68,36 @@ pub data IsContextFront (form : HeaderForm) (given : List ℕ) (before now : Out
   some : (c : Context) (dropped : Bool) → Head c dropped given → GainsFront before now (context_lines form c)
       → IsContextFront form given before now
 
--- what was written is a front of the canonical text of the first units of these bytes, or of the lines of their context
-abbrev pub IsFrontOf : Command → List ℕ → Outlet → Outlet → Type 0
-IsFrontOf (Convert from to) given before now = WritesFront from to shipped_limits given before now
-IsFrontOf (Headers form) given before now = IsContextFront form given before now
+-- what was written is a front of the text of the first units of these bytes, or of the lines of their context
+abbrev pub IsFrontOf : Job → List ℕ → Outlet → Outlet → Type 0
+IsFrontOf (Spans from what) given before now = WritesFrontAs from what shipped_limits given before now
+IsFrontOf (HeaderLines form) given before now = IsContextFront form given before now
 
 -- what was written is such a front of what was read
-pub record WritesRead (command : Command) (input_before input_now : Inlet) (output_before output_now : Outlet) : Type 0 where
+pub record WritesRead (job : Job) (input_before input_now : Inlet) (output_before output_now : Outlet) : Type 0 where
   pub given : List ℕ
   pub gave : GaveInput input_before input_now given
-  pub front : IsFrontOf command given output_before output_now
+  pub front : IsFrontOf job given output_before output_now
 
 -- The ending is true of an input and an output as they were before and are now. Where the input told its bytes, the outcome on
 -- them was carried out as the ending says.
-pub record EndsRun {K : Type 0} (outlet : K → Outlet) (command : Command) (ending : Ending)
+pub record EndsRun {K : Type 0} (outlet : K → Outlet) (job : Job) (ending : Ending)
     (input_before input_now : Inlet) (output_before output_now : K) : Type 0 where
-  pub input : EndsInput command (status_of ending) input_before input_now
+  pub input : EndsInput job (status_of ending) input_before input_now
   pub output : EndsOutput outlet (status_of ending) output_before output_now
-  pub front : WritesRead command input_before input_now (outlet output_before) (outlet output_now)
-  pub judged : IfSome input_before.left (IsJudgedAt command (stage_of (status_of ending)))
-  pub agrees : OnOutcome command input_before.left (AgreesWith (stage_of (status_of ending)) (status_of ending))
-  pub written : OnOutcome command input_before.left
+  pub front : WritesRead job input_before input_now (outlet output_before) (outlet output_now)
+  pub judged : IfSome input_before.left (IsJudgedAt job (stage_of (status_of ending)))
+  pub agrees : OnOutcome job input_before.left (AgreesWith (stage_of (status_of ending)) (status_of ending))
+  pub written : OnOutcome job input_before.left
       (λ outcome. Writes (stage_of (status_of ending)) outcome.text (outlet output_before) (outlet output_now))
-  pub line : OnOutcome command input_before.left
+  pub line : OnOutcome job input_before.left
       (λ outcome. ending_line ending ≡ line_of (stage_of (status_of ending)) outcome)
 
 -- a call that didn't come to the end says how the run ended
-abbrev pub EndsEarly : {K T : Type 0} → (K → Outlet) → Command → Result T Ending → Inlet → Inlet → K → K → Type 0
-EndsEarly outlet command (Ok x) input_before input_now output_before output_now = Unit {0}
-EndsEarly outlet command (Err ending) input_before input_now output_before output_now =
-    EndsRun outlet command ending input_before input_now output_before output_now
+abbrev pub EndsEarly : {K T : Type 0} → (K → Outlet) → Job → Result T Ending → Inlet → Inlet → K → K → Type 0
+EndsEarly outlet job (Ok x) input_before input_now output_before output_now = Unit {0}
+EndsEarly outlet job (Err ending) input_before input_now output_before output_now =
+    EndsRun outlet job ending input_before input_now output_before output_now
 
 -- ---- the lines of a context
 

@@ -1,7 +1,8 @@
 //! The words of the command line.
-ghost use Rattle.std.specs.Prelude.{◌≡◌, ◌↔◌, ◌∷◌, [], Some, string_bytes};
-ghost use Rattle.span_cli.specs.Commands.{texts, Spells, ConvertsBetween, side_word, other_side};
+ghost use Rattle.std.specs.Prelude.{◌≡◌, ◌↔◌, ◌∷◌, [], Some};
+ghost use Rattle.span_cli.specs.Commands.{texts, Spells, ConvertsBetween, ShowsForm, ChecksForm, WritesHeaders, side_word, other_side, short_word, short_side};
 ghost use Rattle.span_cli.specs.declared.command.Command.{Command};
+ghost use Rattle.span_cli.specs.declared.command.Short.{Short};
 ghost use Rattle.span_cli.specs.declared.command.Side.{Side};
 
 use propagation::HeaderForm;
@@ -12,6 +13,10 @@ use span_io::Form;
 pub enum Command {
     /// Reads spans in the first form and writes them in the second.
     Convert(Form, Form),
+    /// Reads spans in the form and writes a line for each.
+    Show(Form),
+    /// Reads spans in the form and writes a line for each remark on what was read.
+    Check(Form),
     /// Reads header lines and writes their context in this form.
     Headers(HeaderForm),
 }
@@ -21,6 +26,14 @@ pub enum Command {
 enum Side {
     From,
     To,
+}
+
+/// The modes with one option.
+#[derive(Clone, Copy, Debug, PartialEq, Eq)]
+enum Short {
+    Show,
+    Check,
+    Headers,
 }
 
 /// Reads the words after the program's name: the mode, and then each of its options once, in any
@@ -45,14 +58,48 @@ pub fn read_words(words: &[String]) -> Option<Command>
 fn one_option(mode: &[u8], option: &[u8], word: &[u8]) -> Option<Command>
     ensures { (command : Command) → (result ≡ Some command) ↔ Spells command (mode.now ∷ option.now ∷ word.now ∷ []) }
 {
-    if mode != b"headers".as_slice() {
-        return None;
+    match short_mode(mode, option)? {
+        Short::Show => show(word),
+        Short::Check => check(word),
+        Short::Headers => headers(word),
     }
-    if option != b"--to".as_slice() {
-        return None;
+}
+
+// The mode that two words are, and its option.
+fn short_mode(mode: &[u8], option: &[u8]) -> Option<Short>
+    ensures { (short : Short) → (result ≡ Some short)
+        ↔ ((mode.now ≡ short_word short) × (option.now ≡ side_word (short_side short))) }
+{
+    match (mode, option) {
+        (b"show", b"--from") => Some(Short::Show),
+        (b"check", b"--from") => Some(Short::Check),
+        (b"headers", b"--to") => Some(Short::Headers),
+        _ => None,
     }
-    let form = HeaderForm::of_word(word)?;
-    Some(Command::Headers(form))
+}
+
+// The command that shows the form that a word names.
+fn show(source: &[u8]) -> Option<Command>
+    ensures { (command : Command) → (result ≡ Some command) ↔ ShowsForm command source.now }
+{
+    let source = Form::of_word(source)?;
+    Some(Command::Show(source))
+}
+
+// The command that checks the form that a word names.
+fn check(source: &[u8]) -> Option<Command>
+    ensures { (command : Command) → (result ≡ Some command) ↔ ChecksForm command source.now }
+{
+    let source = Form::of_word(source)?;
+    Some(Command::Check(source))
+}
+
+// The command that writes headers in the form that a word names.
+fn headers(target: &[u8]) -> Option<Command>
+    ensures { (command : Command) → (result ≡ Some command) ↔ WritesHeaders command target.now }
+{
+    let target = HeaderForm::of_word(target)?;
+    Some(Command::Headers(target))
 }
 
 // The command that a mode and two options with their words spell.

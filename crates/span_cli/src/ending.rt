@@ -6,7 +6,7 @@ ghost use Rattle.span_cli.specs.Runs.{IsEndingAt};
 
 use crate::noted_fault::NotedFault;
 use propagation::HeaderCause;
-use span_convert::{Converter, Stop, Why};
+use span_convert::{Stop, Walker, Why, Written};
 use span_io::{OutOfMemory, Refusal};
 use std::alloc::Global;
 
@@ -30,12 +30,12 @@ pub enum Ending {
 }
 
 impl Ending {
-    /// How a run ends whose converter answered this stop.
-    pub fn at_stop(alloc: Global, converter: &Converter, stop: Stop) -> Ending
-        requires kept { stop_in converter.now.state ≡ Some stop }
-        ensures { IsEndingAt result stop converter.now.state }
+    /// How a run ends whose converter or reporter answered this stop.
+    pub fn at_stop(alloc: Global, walker: &Walker<Written>, stop: Stop) -> Ending
+        requires kept { stop_in walker.now.state ≡ Some stop }
+        ensures { IsEndingAt result stop walker.now.state }
     {
-        match converter.why() {
+        match walker.why() {
             Why::Refusal(refusal) => Ending::Refused(*refusal),
             Why::Fault(found) => match NotedFault::of(alloc, found) {
                 Ok(noted) => Ending::Faulted(noted),

@@ -1,40 +1,40 @@
-//! Feeding an input to a converter.
-ghost use Rattle.std.specs.Prelude.{◌≡◌, [], length, vec_len, IfOk, OnOk, OnErr};
+//! Feeding an input to what converts or reports it.
+ghost use Rattle.std.specs.Prelude.{◌≡◌, [], length, vec_len, IfOk, OnOk};
 ghost use Rattle.span_io.specs.Limits.{shipped_limits};
 ghost use Rattle.span_convert.specs.Converters.{Fed};
 ghost use Rattle.span_cli.specs.Inputs.{IsFed, piece};
+ghost use Rattle.span_cli.specs.Jobs.{Spans};
 ghost use Rattle.span_cli.specs.Runs.{EndsEarly};
-ghost use Rattle.span_cli.specs.declared.command.Command.{Command};
 
 use crate::ending::Ending;
-use span_convert::Converter;
 use span_convert::laws::nothing_written;
+use span_convert::{Walker, Written};
 use span_io::{OutOfMemory, Sink, Source};
 use std::alloc::Global;
 
 /// The most bytes that one read asks for.
 pub(crate) const PIECE: usize = 65_536;
 
-/// Feeds an input to a converter, piece by piece, to the end of the input. Where the run ends before,
+/// Feeds an input to what converts or reports it, piece by piece, to the end of the input. Where the run ends before,
 /// the answer is how.
 pub fn feed_input<S: Source, K: Sink>(
     alloc: Global,
-    converter: &mut Converter,
+    walker: &mut Walker<Written>,
     input: &mut S,
     output: &mut K,
 ) -> Result<(), Ending>
-    requires fresh { Fed converter.old [] }
-    requires limits { converter.old.limits ≡ shipped_limits }
-    ensures fed { OnOk result (IsFed converter.old.from converter.old.to (S.inlet input.old) (S.inlet input.new) converter.new) }
+    requires fresh { Fed walker.old [] }
+    requires limits { walker.old.limits ≡ shipped_limits }
+    ensures fed { OnOk result (IsFed walker.old.from walker.old.what (S.inlet input.old) (S.inlet input.new) walker.new) }
     ensures unwritten { OnOk result (output.new ≡ output.old) }
-    ensures ended { EndsEarly K.outlet (Command.Convert converter.old.from converter.old.to) result
+    ensures ended { EndsEarly K.outlet (Spans walker.old.from walker.old.what) result
         (S.inlet input.old) (S.inlet input.new) output.old output.new }
 {
     nothing_written();
     let Ok(mut buffer) = room(alloc, PIECE) else {
         return Err(Ending::NoMemory);
     };
-    feed_pieces(alloc, converter, input, output, buffer.as_mut_slice())
+    feed_pieces(alloc, walker, input, output, buffer.as_mut_slice())
 }
 
 // So many bytes of room.
@@ -47,17 +47,17 @@ pub(crate) fn room(alloc: Global, size: usize) -> Result<Vec<u8>, OutOfMemory>
 // The same with room for a piece.
 fn feed_pieces<S: Source, K: Sink>(
     alloc: Global,
-    converter: &mut Converter,
+    walker: &mut Walker<Written>,
     input: &mut S,
     output: &mut K,
     buffer: &mut [u8],
 ) -> Result<(), Ending>
     requires room { length buffer.old ≡ piece }
-    requires fresh { Fed converter.old [] }
-    requires limits { converter.old.limits ≡ shipped_limits }
-    ensures fed { OnOk result (IsFed converter.old.from converter.old.to (S.inlet input.old) (S.inlet input.new) converter.new) }
+    requires fresh { Fed walker.old [] }
+    requires limits { walker.old.limits ≡ shipped_limits }
+    ensures fed { OnOk result (IsFed walker.old.from walker.old.what (S.inlet input.old) (S.inlet input.new) walker.new) }
     ensures unwritten { OnOk result (output.new ≡ output.old) }
-    ensures ended { EndsEarly K.outlet (Command.Convert converter.old.from converter.old.to) result
+    ensures ended { EndsEarly K.outlet (Spans walker.old.from walker.old.what) result
         (S.inlet input.old) (S.inlet input.new) output.old output.new }
 {
     nothing_written();
@@ -68,8 +68,8 @@ fn feed_pieces<S: Source, K: Sink>(
         if given == 0 {
             return Ok(());
         }
-        if let Err(stop) = converter.feed(&buffer[..given], output) {
-            return Err(Ending::at_stop(alloc, converter, stop));
+        if let Err(stop) = walker.feed(&buffer[..given], output) {
+            return Err(Ending::at_stop(alloc, walker, stop));
         }
     }
 }

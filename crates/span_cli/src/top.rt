@@ -1,8 +1,9 @@
 //! The top call.
 ghost use Rattle.std.specs.Prelude.{◌≡◌, ◌≢◌, ◌↔◌, IfSome, IsTrue, length};
 ghost use Rattle.span_io.specs.Outside.{InputFails, NoReadInVain, NoWriteInVain, OutputFails, OutputHolds, Takes, any_number};
-ghost use Rattle.span_cli.specs.Commands.{texts, Spells, OnCommand, OnConversion, OnHeaders};
+ghost use Rattle.span_cli.specs.Commands.{texts, Spells, OnJob, OnSpans, OnHeaders};
 ghost use Rattle.span_cli.specs.Inputs.{ReadsInput, IsAllRead};
+ghost use Rattle.span_cli.specs.Jobs.{Spans, job_of};
 ghost use Rattle.span_cli.specs.Runs.{EndsRun, WritesRead};
 ghost use Rattle.span_cli.specs.Lines.{IsRunStatus, Notes, stage_of, stage_line};
 ghost use Rattle.span_cli.specs.Outcomes.{OnOutcome, OnSameBatches, OnAgreeingDocuments, CarriesOut, WritesLinesOf, IsJudgedAt, AgreesWith, Writes, line_of};
@@ -14,14 +15,14 @@ use crate::headers::headers;
 use crate::input::feed_input;
 use crate::note::{note_ending, note_usage};
 use propagation::laws::{contexts_are_normal, headers_read_back, heads_are_sound};
-use span_convert::Converter;
 use span_convert::laws::{free_members, same_batches};
+use span_convert::{Report, Walker, Written};
 use span_io::{Form, Limits, Sink, Source};
 use std::alloc::Global;
 
 /// Runs the command that the words after the program's name spell: it reads the input to its end,
-/// writes its canonical text to the output, or the lines of its context, and notes a refusal or a fault
-/// in one line. The answer is the exit status: 0 the whole text was written, 2 the words are no command,
+/// writes its canonical text, its report or the lines of its context to the output, and notes a refusal
+/// or a fault in one line. The answer is the exit status: 0 the whole text was written, 2 the words are no command,
 /// 3 the input is refused, 4 the target can't hold a unit or a context (in both the text of the units
 /// before was written), 5 the input failed, 6 the output failed, 7 no memory was found.
 pub fn run<S: Source, K: Sink, N: Sink>(
@@ -51,31 +52,31 @@ pub fn run<S: Source, K: Sink, N: Sink>(
     ensures notes_in_vain { NoWriteInVain (N.outlet notes.old) (N.outlet notes.new) }
 
     // Reading stops at the first stop. After the whole text nothing of the input is left.
-    ensures reads { OnCommand (texts words.now) (λ command. ReadsInput command (S.inlet input.old) (S.inlet input.new)) }
+    ensures reads { OnJob (texts words.now) (λ job. ReadsInput job (S.inlet input.old) (S.inlet input.new)) }
     ensures all_read { result ≡ 0 → IsAllRead (S.inlet input.old) (S.inlet input.new) }
 
     // Whatever the status, only text of the first units of what was read was written, or lines of its context.
-    ensures front { OnCommand (texts words.now)
-        (λ command. WritesRead command (S.inlet input.old) (S.inlet input.new) (K.outlet output.old) (K.outlet output.new)) }
+    ensures front { OnJob (texts words.now)
+        (λ job. WritesRead job (S.inlet input.old) (S.inlet input.new) (K.outlet output.old) (K.outlet output.new)) }
 
-    // Where the input tells its bytes, the outcome of the command on them says the status, the output and the note.
-    ensures judged { OnCommand (texts words.now)
-        (λ command. IfSome (S.inlet input.old).left (IsJudgedAt command (stage_of result))) }
-    ensures verdict { OnCommand (texts words.now)
-        (λ command. OnOutcome command (S.inlet input.old).left (AgreesWith (stage_of result) result)) }
-    ensures output { OnCommand (texts words.now) (λ command. OnOutcome command (S.inlet input.old).left
+    // Where the input tells its bytes, the outcome of the command's job on them says the status, the output and the note.
+    ensures judged { OnJob (texts words.now)
+        (λ job. IfSome (S.inlet input.old).left (IsJudgedAt job (stage_of result))) }
+    ensures verdict { OnJob (texts words.now)
+        (λ job. OnOutcome job (S.inlet input.old).left (AgreesWith (stage_of result) result)) }
+    ensures output { OnJob (texts words.now) (λ job. OnOutcome job (S.inlet input.old).left
         (λ outcome. Writes (stage_of result) outcome.text (K.outlet output.old) (K.outlet output.new))) }
-    ensures output_takes { OnCommand (texts words.now) (λ command. OnOutcome command (S.inlet input.old).left
+    ensures output_takes { OnJob (texts words.now) (λ job. OnOutcome job (S.inlet input.old).left
         (λ outcome. Takes (K.outlet output.old).sure (length outcome.text) → result ≢ 6)) }
-    ensures notes { OnCommand (texts words.now) (λ command. OnOutcome command (S.inlet input.old).left
+    ensures notes { OnJob (texts words.now) (λ job. OnOutcome job (S.inlet input.old).left
         (λ outcome. Notes (N.outlet notes.old) (N.outlet notes.new) (line_of (stage_of result) outcome))) }
 
-    // So do the outcomes of a conversion on other bytes that hold the same batches of Jaeger, in whichever protocol.
-    ensures same { OnConversion (texts words.now) (λ from to. OnSameBatches from to (S.inlet input.old).left
+    // So do the outcomes of a conversion or a report on other bytes that hold the same batches of Jaeger, in whichever protocol.
+    ensures same { OnSpans (texts words.now) (λ from what. OnSameBatches from what (S.inlet input.old).left
         (CarriesOut result (K.outlet output.old) (K.outlet output.new) (N.outlet notes.old) (N.outlet notes.new))) }
 
     // So do those on other bytes that differ in members alone that a form in JSON doesn't know.
-    ensures free_members { OnConversion (texts words.now) (λ from to. OnAgreeingDocuments from to (S.inlet input.old).left
+    ensures free_members { OnSpans (texts words.now) (λ from what. OnAgreeingDocuments from what (S.inlet input.old).left
         (CarriesOut result (K.outlet output.old) (K.outlet output.new) (N.outlet notes.old) (N.outlet notes.new))) }
 
     // Header lines that were written tell the normal form of what was read, and equal lines come of equal normal forms alone.
@@ -107,30 +108,32 @@ fn carry_out<S: Source, K: Sink>(
     input: &mut S,
     output: &mut K,
 ) -> Ending
-    ensures { EndsRun K.outlet command result (S.inlet input.old) (S.inlet input.new) output.old output.new }
+    ensures { EndsRun K.outlet (job_of command) result (S.inlet input.old) (S.inlet input.new) output.old output.new }
 {
     match command {
-        Command::Convert(from, to) => convert(alloc, from, to, input, output),
+        Command::Convert(from, to) => spans(alloc, from, Written::Form(to), input, output),
+        Command::Show(from) => spans(alloc, from, Written::Report(Report::Show), input, output),
+        Command::Check(from) => spans(alloc, from, Written::Report(Report::Check), input, output),
         Command::Headers(form) => headers(alloc, form, input, output),
     }
 }
 
-// Feeds the input to a converter, and then ends it.
-fn convert<S: Source, K: Sink>(
+// Feeds the input to what converts or reports it, and then ends it.
+fn spans<S: Source, K: Sink>(
     alloc: Global,
     from: Form,
-    to: Form,
+    what: Written,
     input: &mut S,
     output: &mut K,
 ) -> Ending
-    ensures { EndsRun K.outlet (Command.Convert from to) result (S.inlet input.old) (S.inlet input.new) output.old output.new }
+    ensures { EndsRun K.outlet (Spans from what) result (S.inlet input.old) (S.inlet input.new) output.old output.new }
 {
-    let mut converter = Converter::new(alloc, from, to, &Limits::shipped());
-    if let Err(ending) = feed_input(alloc, &mut converter, input, output) {
+    let mut walker = Walker::new(alloc, from, what, &Limits::shipped());
+    if let Err(ending) = feed_input(alloc, &mut walker, input, output) {
         return ending;
     }
-    match converter.finish(output) {
+    match walker.finish(output) {
         Ok(_) => Ending::Whole,
-        Err(stop) => Ending::at_stop(alloc, &converter, stop),
+        Err(stop) => Ending::at_stop(alloc, &walker, stop),
     }
 }

@@ -4,12 +4,12 @@ use Rattle.std.proofs.lemmas.List.{append-nil}
 use Rattle.std.proofs.Math.Seq.{take-append-add}
 use Rattle.span_io.specs.Limits.{AreLimits}
 use Rattle.span_io.specs.Outside.{Outlet, Sure, so_many, any_number, Takes, Gains, GainsFront, FailsWithin, IsFront}
-use Rattle.span_io.specs.declared.form.Form.{Form}
 use Rattle.span_io.specs.declared.limits.Limits.{Limits}
 use Rattle.span_io.specs.declared.refusal.Refusal.{Refusal}
 use Rattle.span_convert.specs.Converters.{KeepsWhy, Stopped}
-use Rattle.span_convert.specs.Units.{input_form}
-use Rattle.span_convert.specs.Verdicts.{Verdict, good, refused, faulted, IsVerdict, IsTextSoFar, none, all, verdict_text, WritesFront, FailsFrontOn, Stops, Ends, Answers}
+use Rattle.span_convert.specs.Targets.{Target}
+use Rattle.span_convert.specs.Units.{InputForm}
+use Rattle.span_convert.specs.Verdicts.{Verdict, good, refused, faulted, IsVerdictOn, IsTextSoFar, none, all, verdict_text, WritesFrontOn, FailsFrontOn, Stops, Ends, Answers}
 use Rattle.span_convert.specs.Walks.{IsLookedAt, WritesRefused, WritesFaulted, WritesWhole, EndsWalk}
 use Rattle.span_convert.specs.declared.bad.Bad.TheVariants as bads
 use Rattle.span_convert.specs.declared.converter.State.{State}
@@ -56,11 +56,11 @@ gains_all : (before now : Outlet) (text : List ℕ) → Gains before now text �
 gains_all before now text gains = record { front = text; is_front = ([], sym (append-nil text)); gains = gains }
 
 -- nothing was written
-pub writes_none : (from to : Form) (limits : Limits) (bytes : List ℕ) (now : Outlet) → WritesFront from to limits bytes now now
+pub writes_none : (from : InputForm) (to : Target) (limits : Limits) (bytes : List ℕ) (now : Outlet) → WritesFrontOn from to limits bytes now now
 writes_none from to limits bytes now = record { text = []; so_far = none refl; gains = record { front = []; is_front = ([], refl); gains = gains_none now } }
 
 -- the sink failed within it
-fails_front : (from to : Form) (limits : Limits) (whole : List ℕ) (before now : Outlet) → FailsFrontOn (input_form from) to limits whole before now → WritesFront from to limits whole before now
+fails_front : (from : InputForm) (to : Target) (limits : Limits) (whole : List ℕ) (before now : Outlet) → FailsFrontOn from to limits whole before now → WritesFrontOn from to limits whole before now
 fails_front from to limits whole before now w = record { text = w.text; so_far = w.so_far; gains = w.fails.front }
 
 -- a sink that takes more bytes takes fewer
@@ -69,7 +69,7 @@ takes_fewer (so_many most) m n fewer takes = omega arith
 takes_fewer any_number m n fewer takes = tt
 
 -- whatever the walk came to
-pub ends_front : (from to : Form) (limits : Limits) (whole : List ℕ) (result : Result Tally WalkStop) (before now : Outlet) → EndsWalk (input_form from) to limits whole result before now → WritesFront from to limits whole before now
+pub ends_front : (from : InputForm) (to : Target) (limits : Limits) (whole : List ℕ) (result : Result Tally WalkStop) (before now : Outlet) → EndsWalk from to limits whole result before now → WritesFrontOn from to limits whole before now
 ends_front from to limits whole (Ok tally) before now w = record {
   text = w.text;
   so_far = all tally w.is_good;
@@ -82,57 +82,57 @@ ends_front from to limits whole (Err walk_stops.OutOfMemory) before now w = w
 
 -- ---- each verdict
 
-abbrev pub OneVerdict : Type 0
-OneVerdict = (from to : Form) (limits : Limits) (bytes : List ℕ) (v w : Verdict) → AreLimits limits → IsVerdict from to limits bytes v → IsVerdict from to limits bytes w → v ≡ w
+abbrev pub OneVerdict : InputForm → Target → Type 0
+OneVerdict from to = (limits : Limits) (bytes : List ℕ) (v w : Verdict) → AreLimits limits → IsVerdictOn from to limits bytes v → IsVerdictOn from to limits bytes w → v ≡ w
 
-abbrev pub TextsSoFar : Type 0
-TextsSoFar = (from to : Form) (limits : Limits) (bytes text : List ℕ) (v : Verdict) → AreLimits limits → IsTextSoFar (input_form from) to limits bytes text → IsVerdict from to limits bytes v → IsFront text (verdict_text v)
+abbrev pub TextsSoFar : InputForm → Target → Type 0
+TextsSoFar from to = (limits : Limits) (bytes text : List ℕ) (v : Verdict) → AreLimits limits → IsTextSoFar from to limits bytes text → IsVerdictOn from to limits bytes v → IsFront text (verdict_text v)
 
-module _ (from to : Form) (limits : Limits) (whole : List ℕ) (valid : AreLimits limits) (v : Verdict) (is_verdict : IsVerdict from to limits whole v) where
-  module _ (once : OneVerdict) where
-    pub carries_refused : (before now : Outlet) (refusal : Refusal) → WritesRefused (input_form from) to limits whole refusal before now → Stops v stops.Refused before now × KeepsWhy v (states.Refused refusal)
+module _ (from : InputForm) (to : Target) (limits : Limits) (whole : List ℕ) (valid : AreLimits limits) (v : Verdict) (is_verdict : IsVerdictOn from to limits whole v) where
+  module _ (once : OneVerdict from to) where
+    pub carries_refused : (before now : Outlet) (refusal : Refusal) → WritesRefused from to limits whole refusal before now → Stops v stops.Refused before now × KeepsWhy v (states.Refused refusal)
     carries_refused before now refusal w =
-        let same = once from to limits whole (refused refusal w.text) v valid w.is_refused is_verdict in
+        let same = once limits whole (refused refusal w.text) v valid w.is_refused is_verdict in
         subst (λ (x : Verdict). Stops x stops.Refused before now × KeepsWhy x (states.Refused refusal)) same (w.gains, refl)
 
-    pub carries_faulted : (before now : Outlet) (found : TargetFault) → WritesFaulted (input_form from) to limits whole found before now → Stops v stops.Faulted before now × KeepsWhy v (states.Faulted found)
+    pub carries_faulted : (before now : Outlet) (found : TargetFault) → WritesFaulted from to limits whole found before now → Stops v stops.Faulted before now × KeepsWhy v (states.Faulted found)
     carries_faulted before now found w =
-        let same = once from to limits whole (faulted found w.text) v valid w.is_faulted is_verdict in
+        let same = once limits whole (faulted found w.text) v valid w.is_faulted is_verdict in
         subst (λ (x : Verdict). Stops x stops.Faulted before now × KeepsWhy x (states.Faulted found)) same (w.gains, refl)
 
-    pub carries_whole : (before now : Outlet) (tally : Tally) → WritesWhole (input_form from) to limits whole tally before now → Ends v tally before now × KeepsWhy v states.Ended
+    pub carries_whole : (before now : Outlet) (tally : Tally) → WritesWhole from to limits whole tally before now → Ends v tally before now × KeepsWhy v states.Ended
     carries_whole before now tally w =
-        let same = once from to limits whole (good w.text tally) v valid w.is_good is_verdict in
+        let same = once limits whole (good w.text tally) v valid w.is_good is_verdict in
         subst (λ (x : Verdict). Ends x tally before now × KeepsWhy x states.Ended) same ((refl, w.gains), tt)
 
-    pub answers_refused : (before now : Outlet) (refusal : Refusal) → WritesRefused (input_form from) to limits whole refusal before now → Answers v (Err (bads.Refused refusal))
+    pub answers_refused : (before now : Outlet) (refusal : Refusal) → WritesRefused from to limits whole refusal before now → Answers v (Err (bads.Refused refusal))
     answers_refused before now refusal w =
-        let same = once from to limits whole (refused refusal w.text) v valid w.is_refused is_verdict in
+        let same = once limits whole (refused refusal w.text) v valid w.is_refused is_verdict in
         subst (λ (x : Verdict). Answers x (Err (bads.Refused refusal))) same refl
 
-    pub answers_faulted : (before now : Outlet) (found : TargetFault) → WritesFaulted (input_form from) to limits whole found before now → Answers v (Err (bads.Faulted found))
+    pub answers_faulted : (before now : Outlet) (found : TargetFault) → WritesFaulted from to limits whole found before now → Answers v (Err (bads.Faulted found))
     answers_faulted before now found w =
-        let same = once from to limits whole (faulted found w.text) v valid w.is_faulted is_verdict in
+        let same = once limits whole (faulted found w.text) v valid w.is_faulted is_verdict in
         subst (λ (x : Verdict). Answers x (Err (bads.Faulted found))) same refl
 
-    pub answers_whole : (before now : Outlet) (tally : Tally) (w : WritesWhole (input_form from) to limits whole tally before now) (out : List ℕ) → out ≡ w.text → Answers v (Ok out)
+    pub answers_whole : (before now : Outlet) (tally : Tally) (w : WritesWhole from to limits whole tally before now) (out : List ℕ) → out ≡ w.text → Answers v (Ok out)
     answers_whole before now tally w out e =
-        let same = once from to limits whole (good w.text tally) v valid w.is_good is_verdict in
+        let same = once limits whole (good w.text tally) v valid w.is_good is_verdict in
         subst (λ (x : Verdict). Answers x (Ok out)) same e
 
-  module _ (texts : TextsSoFar) where
-    front_of : (before now : Outlet) → WritesFront from to limits whole before now → GainsFront before now (verdict_text v)
+  module _ (texts : TextsSoFar from to) where
+    front_of : (before now : Outlet) → WritesFrontOn from to limits whole before now → GainsFront before now (verdict_text v)
     front_of before now w =
-        let more = texts from to limits whole w.text v valid w.so_far is_verdict in
+        let more = texts limits whole w.text v valid w.so_far is_verdict in
         record {
           front = w.gains.front;
           is_front = (w.gains.is_front.0 ++ more.0, more.1 ∙ ap (λ l. l ++ more.0) w.gains.is_front.1 ∙ append_assoc w.gains.front w.gains.is_front.0 more.0);
           gains = w.gains.gains;
         }
 
-    pub carries_write : (before now : Outlet) → FailsFrontOn (input_form from) to limits whole before now → Stops v stops.Write before now × KeepsWhy v states.Write
+    pub carries_write : (before now : Outlet) → FailsFrontOn from to limits whole before now → Stops v stops.Write before now × KeepsWhy v states.Write
     carries_write before now w =
-        let more = texts from to limits whole w.text v valid w.so_far is_verdict in
+        let more = texts limits whole w.text v valid w.so_far is_verdict in
         let fewer : length w.text ≤ length (verdict_text v) = omega (arith, ap length more.1, length-append w.text more.0) in
         stops_write before now v (record {
           rose = w.fails.rose;
@@ -140,5 +140,5 @@ module _ (from to : Form) (limits : Limits) (whole : List ℕ) (valid : AreLimit
           unsure = λ takes. w.fails.unsure (takes_fewer before.sure (length w.text) (length (verdict_text v)) fewer takes);
         })
 
-    pub carries_memory : (before now : Outlet) → WritesFront from to limits whole before now → Stops v stops.OutOfMemory before now × KeepsWhy v states.OutOfMemory
+    pub carries_memory : (before now : Outlet) → WritesFrontOn from to limits whole before now → Stops v stops.OutOfMemory before now × KeepsWhy v states.OutOfMemory
     carries_memory before now w = stops_memory before now v (front_of before now w)

@@ -19,8 +19,9 @@ use Rattle.span_convert.specs.Documents.{DocumentForm, IsDocument, DocumentBegin
 use Rattle.span_convert.specs.GroupFiles.{remarked_group, ReadsGroups, group_document}
 use Rattle.span_convert.specs.SameDocuments.{AgreeingDocuments, HoldSameDocument, SameDocuments}
 use Rattle.span_convert.specs.SpanFiles.{ReadsSpans, span_document}
-use Rattle.span_convert.specs.Units.{document_input}
-use Rattle.span_convert.specs.Verdicts.{Verdict, good, refused, faulted, IsVerdict, IsVerdictOn}
+use Rattle.span_convert.specs.Units.{document_input, input_form}
+use Rattle.span_convert.specs.Targets.{Target}
+use Rattle.span_convert.specs.Verdicts.{Verdict, good, refused, faulted, IsVerdictOn}
 
 -- ---- a document that says also what another says
 
@@ -54,7 +55,7 @@ module _ (from : DocumentForm) (limits : Limits) (bytes others : List ℕ) (with
         },
       )
 
-  verdict_also : (to : Form) (verdict : Verdict) → IsVerdictOn (document_input from) to limits bytes verdict → IsVerdictOn (document_input from) to limits others verdict
+  verdict_also : (to : Target) (verdict : Verdict) → IsVerdictOn (document_input from) to limits bytes verdict → IsVerdictOn (document_input from) to limits others verdict
   verdict_also to (good text tally) h = record { noted = h.noted; whole = whole h.noted h.whole; held = h.held; is_text = h.is_text; counts = h.counts }
   verdict_also to (refused refusal text) h = record { noted = h.noted; refuses = refuses h.noted refusal h.refuses; held = h.held; is_text = h.is_text }
   verdict_also to (faulted found text) h = record {
@@ -91,7 +92,7 @@ module _ (value other : Data) (bytes others : List ℕ) (is : IsJsonText value b
 -- ---- two inputs
 
 module _ (limits : Limits) (bytes others : List ℕ) where
-  same_spans : HoldSameDocument AreSpans spans_faults limits bytes others → (to : Form) (verdict : Verdict)
+  same_spans : HoldSameDocument AreSpans spans_faults limits bytes others → (to : Target) (verdict : Verdict)
       → IsVerdictOn (document_input span_document) to limits bytes verdict ↔ IsVerdictOn (document_input span_document) to limits others verdict
   same_spans h to verdict = (
     verdict_also span_document limits bytes others h.within h.other_within (record {
@@ -106,7 +107,7 @@ module _ (limits : Limits) (bytes others : List ℕ) where
     }) to verdict,
   )
 
-  same_groups : HoldSameDocument AreJsonGroups json_groups_faults limits bytes others → (to : Form) (verdict : Verdict)
+  same_groups : HoldSameDocument AreJsonGroups json_groups_faults limits bytes others → (to : Target) (verdict : Verdict)
       → IsVerdictOn (document_input group_document) to limits bytes verdict ↔ IsVerdictOn (document_input group_document) to limits others verdict
   same_groups h to verdict = (
     verdict_also group_document limits bytes others h.within h.other_within (record {
@@ -121,8 +122,8 @@ module _ (limits : Limits) (bytes others : List ℕ) where
     }) to verdict,
   )
 
-pub same_documents : (from to : Form) (limits : Limits) (bytes others : List ℕ) → SameDocuments limits from bytes others
-    → (verdict : Verdict) → IsVerdict from to limits bytes verdict ↔ IsVerdict from to limits others verdict
+pub same_documents : (from : Form) (to : Target) (limits : Limits) (bytes others : List ℕ) → SameDocuments limits from bytes others
+    → (verdict : Verdict) → IsVerdictOn (input_form from) to limits bytes verdict ↔ IsVerdictOn (input_form from) to limits others verdict
 same_documents forms.OtlpProto to limits bytes others h verdict = absurd h
 same_documents forms.OtlpJson to limits bytes others h verdict = same_groups limits bytes others h to verdict
 same_documents forms.JaegerBinary to limits bytes others h verdict = absurd h

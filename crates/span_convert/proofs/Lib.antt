@@ -15,6 +15,7 @@ pub mod DocumentTwins
 pub mod DocumentWalks
 pub mod FaultTargets
 pub mod FitLaws
+pub mod FormTargets
 pub mod FrameLemmas
 pub mod FramedInputs
 pub mod GroupFileInputs
@@ -22,6 +23,7 @@ pub mod GroupFileTexts
 pub mod GroupFileWalks
 pub mod InputForms
 pub mod JsonTexts
+pub mod ReportTargets
 pub mod RequestLaws
 pub mod RequestUnits
 pub mod SameVerdicts

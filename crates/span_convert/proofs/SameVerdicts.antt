@@ -17,8 +17,9 @@ use Rattle.span_convert.specs.BatchFiles.{ProtocolWords, binary, compact, batche
 use Rattle.span_convert.specs.FramedForms.{FramedForm, UnitsBegin, AreAllUnits, UnitOffends, RestStops, UnitsRefused}
 use Rattle.span_convert.specs.InputLaws.{BatchLaws, InputLaws, TreeLaws}
 use Rattle.span_convert.specs.SameBatches.{SaysTheSame, AreAllBatches, HoldSameBatches, SameBatches}
-use Rattle.span_convert.specs.Units.{batch_form, framed_input}
-use Rattle.span_convert.specs.Verdicts.{Verdict, good, refused, faulted, IsVerdict, IsVerdictOn}
+use Rattle.span_convert.specs.Units.{batch_form, framed_input, input_form}
+use Rattle.span_convert.specs.Targets.{Target}
+use Rattle.span_convert.specs.Verdicts.{Verdict, good, refused, faulted, IsVerdictOn}
 use Rattle.span_convert.proofs.BatchLaws.{batch_laws}
 use Rattle.span_convert.proofs.FrameLemmas.{FirstItems, first_items}
 use Rattle.span_convert.proofs.SourceLaws.{SourceLaws, Ends, GoOn}
@@ -196,7 +197,7 @@ module _ (protocol another : ProtocolWords) (L : BatchLaws protocol) (limits : L
       of (inl o) = offends groups refusal.cause o
       of (inr s) = absurd (never_stops groups refusal.cause s)
 
-  verdict_also : (to : Form) (verdict : Verdict) → IsVerdictOn (framed_input from) to limits bytes verdict → IsVerdictOn (framed_input other) to limits others verdict
+  verdict_also : (to : Target) (verdict : Verdict) → IsVerdictOn (framed_input from) to limits bytes verdict → IsVerdictOn (framed_input other) to limits others verdict
   verdict_also to (good text tally) h = record { noted = h.noted; whole = whole h.noted h.whole; held = h.held; is_text = h.is_text; counts = h.counts }
   verdict_also to (refused refusal text) h = record { noted = h.noted; refuses = refuses h.noted refusal h.refuses; held = h.held; is_text = h.is_text }
   verdict_also to (faulted found text) h = record {
@@ -230,11 +231,11 @@ module _ (protocol another : ProtocolWords) (T : OneTree protocol.spells another
     same = turned_pairs (SaysTheSame protocol.spells another.spells) (SaysAlso (batch_form another) (batch_form protocol)) (said_before protocol another T M) h.units h.twins h.same;
   }
 
-  both_verdicts : (to : Form) (verdict : Verdict) → IsVerdictOn (framed_input (batch_form protocol)) to limits bytes verdict ↔ IsVerdictOn (framed_input (batch_form another)) to limits others verdict
+  both_verdicts : (to : Target) (verdict : Verdict) → IsVerdictOn (framed_input (batch_form protocol)) to limits bytes verdict ↔ IsVerdictOn (framed_input (batch_form another)) to limits others verdict
   both_verdicts to verdict = (verdict_also protocol another L limits valid bytes others holds_also to verdict, verdict_also another protocol M limits valid others bytes held_before to verdict)
 
-pub same_verdicts : InputLaws → TreeLaws → (from other to : Form) (limits : Limits) (bytes others : List ℕ) → AreLimits limits → SameBatches limits from bytes other others
-    → (verdict : Verdict) → IsVerdict from to limits bytes verdict ↔ IsVerdict other to limits others verdict
+pub same_verdicts : InputLaws → TreeLaws → (from other : Form) (to : Target) (limits : Limits) (bytes others : List ℕ) → AreLimits limits → SameBatches limits from bytes other others
+    → (verdict : Verdict) → IsVerdictOn (input_form from) to limits bytes verdict ↔ IsVerdictOn (input_form other) to limits others verdict
 same_verdicts L T forms.JaegerBinary forms.JaegerBinary to limits bytes others valid h verdict = both_verdicts binary binary T.in_binary L.binary L.binary limits valid bytes others h to verdict
 same_verdicts L T forms.JaegerBinary forms.JaegerCompact to limits bytes others valid h verdict = both_verdicts binary compact T.to_compact L.binary L.compact limits valid bytes others h to verdict
 same_verdicts L T forms.JaegerCompact forms.JaegerBinary to limits bytes others valid h verdict = both_verdicts compact binary T.to_binary L.compact L.binary limits valid bytes others h to verdict

@@ -28,6 +28,7 @@ use Rattle.span_convert.specs.Units.{groups_in, CanHold, normal_form, trace_text
 use Rattle.span_convert.specs.Verdicts.{CanHoldTrace, IsProperTrace, IsFaultless, tally_of}
 use Rattle.span_convert.proofs.BatchTexts.{IsNormal, normals, all_itself, normal_held_by, batches_back, batches_spans, batches_faultless, batches_normal}
 use Rattle.span_convert.proofs.FitLaws.{fits_sized, reads_whole}
+use Rattle.span_convert.proofs.FormTargets.{held_units}
 use Rattle.span_convert.proofs.FrameLemmas.{same_items}
 use Rattle.span_convert.proofs.GroupFileTexts.{group_file_faultless, group_file_back}
 use Rattle.span_convert.proofs.RequestLaws.{units_once, one_group}
@@ -174,7 +175,7 @@ module _ (L : TextLaws) where
       record {
         noted = map plain_noted own;
         whole = reads_whole L.input to limits (canonical_text to groups) (map plain_noted own) (read_back to groups h (fits_sized to limits (canonical_text to groups) valid fits)) fits;
-        held = subst (CanHoldTrace to) same (normal_held L.normal L.input.spans to groups h).can_hold;
+        held = held_units to (map plain_noted own) (subst (CanHoldTrace to) same (normal_held L.normal L.input.spans to groups h).can_hold);
         is_text = ap (λ (l : List Group). trace_text to l) (sym (normal_again L.normal L.input.spans to groups h)) ∙ ap (λ (l : List Group). canonical_text to l) same;
         counts = (λ i. tally_of (many i) (sym (normal_spans L.input.spans to groups) i)) ∙ ap (λ (l : List Group). tally_of (length (map plain_noted own)) (span_count l)) same;
       }

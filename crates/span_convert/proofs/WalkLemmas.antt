@@ -13,7 +13,6 @@ use Rattle.span_io.specs.Frames.{Framing, BeginsFrame, ItemsThen}
 use Rattle.span_io.specs.Offences.{Least}
 use Rattle.span_io.specs.Outside.{Outlet, Sure, so_many, any_number, less, Gains, OutputHolds, FailsWithin, Rises, last_count}
 use Rattle.span_io.specs.declared.cause.Cause.{Cause}
-use Rattle.span_io.specs.declared.form.Form.{Form}
 use Rattle.span_io.specs.declared.limits.Limits.{Limits}
 use Rattle.proto_wire.specs.FirstFrames.{IsFirst}
 use Rattle.proto_wire.specs.Records as wire
@@ -23,23 +22,23 @@ use Rattle.proto_wire.specs.declared.record.Frame.{Frame}
 use Rattle.trace_model.specs.Proper.{IsProperGroup}
 use Rattle.trace_model.specs.Soundness.{IsSoundGroup}
 use Rattle.trace_model.specs.OtlpParts.{NotedGroup}
+use Rattle.trace_model.specs.declared.fault.Fault.{Fault}
 use Rattle.trace_model.specs.declared.trace.Group.{Group}
 use Rattle.trace_model.specs.declared.trace.Scope.{Scope}
 use Rattle.otlp_proto.specs.Rows.{bytes_in}
 use Rattle.span_convert.specs.BatchFiles.{ProtocolWords, batches, IsOwnUnit, HoldsBatches}
-use Rattle.span_convert.specs.Canonical.{IsHeldBy}
 use Rattle.span_convert.specs.FramedForms.{FramedForm, RestCause, UnitsThen, UnitsBegin, UnitsRefused}
 use Rattle.span_convert.specs.Requests.{HoldsUnit, AreRequestUnits, HoldsRequestUnits}
 use Rattle.span_convert.specs.Rests.{Cuts}
-use Rattle.span_convert.specs.Units.{InputForm, groups_in, framed_input, request_form, batch_form, FaultOf, CanHold, IsSizedGroup, span_count, canonical_text, partial_text}
-use Rattle.span_convert.specs.Verdicts.{CanHoldTrace, tally_of, IsTextSoFar, first, all, WritesFrontOn, FailsFrontOn}
-use Rattle.span_convert.specs.Walks.{Exceeds, IsLookedAt, CutsFrame, HeldByFrames, StopsFrames, IsNextUnit, Converted, WalkedUnits, WritesGroup, AddsGroup, WritesFrontOf, FailsFrontOf, StopsWriting, StopsGroup, EndsText, StopsText, StopsWalk, EndsWalk, WritesOut}
+use Rattle.span_convert.specs.Targets.{Target, TargetLaws, CanHoldUnits, AreHeldBy}
+use Rattle.span_convert.specs.Units.{InputForm, groups_in, framed_input, request_form, batch_form, span_count}
+use Rattle.span_convert.specs.Verdicts.{tally_of, units_tally, IsTextSoFar, first, all, WritesFrontOn, FailsFrontOn}
+use Rattle.span_convert.specs.Walks.{Exceeds, IsLookedAt, CutsFrame, HeldByFrames, StopsFrames, IsNextUnit, Converted, WalkedUnits, AddsUnit, AddsNothing, WritesFrontOf, FailsFrontOf, StopsUnit, EndsText, StopsText, StopsWalk, EndsWalk, WritesOut}
 use Rattle.span_convert.specs.declared.progress.Progress.{Progress}
 use Rattle.span_convert.specs.declared.progress.WalkStop.{WalkStop}
 use Rattle.span_convert.specs.declared.progress.WalkStop.TheVariants as walk_stops
 use Rattle.span_convert.specs.declared.tally.Tally.{Tally}
 use Rattle.span_convert.proofs.FrameLemmas.{items_push, stops_weaker}
-use Rattle.span_convert.proofs.TargetLaws.{partial_none}
 
 -- ---- a frame at the front
 
@@ -83,6 +82,16 @@ unfolding AreRequestUnits
 units_push [] units frame r so_far spelled = (r, spelled, [], ap (λ l. l ++ bytes_in 1 r) so_far ∙ sym (append-nil (bytes_in 1 r)), refl)
 units_push (item ∷ more) units frame r so_far spelled =
     (so_far.0, so_far.1, so_far.2 ++ bytes_in 1 r, ap (λ l. l ++ bytes_in 1 r) so_far.3 ∙ append_assoc (bytes_in 1 so_far.0) so_far.2 (bytes_in 1 r), units_push more so_far.2 frame r so_far.4 spelled)
+
+-- ---- units and their groups
+
+-- the groups of units, with one more
+pub groups_push : (units : List NotedGroup) (next : NotedGroup) → groups_in (units ++ next ∷ []) ≡ groups_in units ++ next.means ∷ []
+groups_push units next = map-append (λ (unit : NotedGroup). unit.means) units (next ∷ [])
+
+-- there are as many
+pub as_many : (units : List NotedGroup) → length (groups_in units) ≡ length units
+as_many units = length-map units (λ (unit : NotedGroup). unit.means)
 
 -- ---- spans
 
@@ -180,183 +189,180 @@ spans_more old next groups more e f = omega arith
 all_one : {X : Type 0} (P : X → Type 0) (x : X) → P x → All P (x ∷ [])
 all_one P x h = All-cons P x [] h (All-nil P)
 
--- a group that the form can hold
-pub held_one : (to : Form) (group : Group) → IsSoundGroup group → IsProperGroup group → CanHold to group → IsSizedGroup to group → IsHeldBy to (group ∷ [])
-held_one to group sound proper no_fault sized = record {
-  can_hold = record { sound = all_one IsSoundGroup group sound; proper = all_one IsProperGroup group proper; no_fault = all_one (CanHold to) group no_fault };
-  sized = all_one (IsSizedGroup to) group sized;
+-- a unit that the target can hold
+pub held_one : (to : Target) (unit : NotedGroup) → IsSoundGroup unit.means → IsProperGroup unit.means → to.CanHold unit → to.IsSized unit → AreHeldBy to (unit ∷ [])
+held_one to unit sound proper no_fault sized = record {
+  can_hold = record { sound = all_one IsSoundGroup unit.means sound; proper = all_one IsProperGroup unit.means proper; no_fault = all_one to.CanHold unit no_fault };
+  sized = all_one to.IsSized unit sized;
 }
 
--- and what it adds
-pub writes_group : (to : Form) (group : Group) (tally : Tally) (before now added : List ℕ) → IsSoundGroup group → IsProperGroup group → CanHold to group → IsSizedGroup to group → now ≡ before ++ added
-    → ((groups : List Group) → IsHeldBy to groups → tally ≡ tally_of (length groups) (span_count groups) → partial_text to (groups ++ group ∷ []) ≡ partial_text to groups ++ added)
-    → WritesGroup to group tally before now
-writes_group to group tally before now added sound proper no_fault sized appended text = record {
-  held = held_one to group sound proper no_fault sized;
-  added = added;
-  appended = appended;
-  text = text;
-}
+-- no unit
+pub holds_no_unit : (to : Target) → CanHoldUnits to []
+holds_no_unit to = record { sound = All-nil IsSoundGroup; proper = All-nil IsProperGroup; no_fault = All-nil to.CanHold }
 
-pub held_push : (to : Form) (groups : List Group) (group : Group) → IsHeldBy to groups → IsHeldBy to (group ∷ []) → IsHeldBy to (groups ++ group ∷ [])
-held_push to groups group held one = record {
+-- what holds of the groups of units, and of one more
+all_push : (P : Group → Type 0) (units : List NotedGroup) (unit : NotedGroup) → All P (groups_in units) → All P (unit.means ∷ []) → All P (groups_in (units ++ unit ∷ []))
+all_push P units unit h one = subst (All P) (sym (groups_push units unit)) (All-append P (groups_in units) (unit.means ∷ []) h one)
+
+held_push : (to : Target) (units : List NotedGroup) (unit : NotedGroup) → AreHeldBy to units → AreHeldBy to (unit ∷ []) → AreHeldBy to (units ++ unit ∷ [])
+held_push to units unit held one = record {
   can_hold = record {
-    sound = All-append IsSoundGroup groups (group ∷ []) held.can_hold.sound one.can_hold.sound;
-    proper = All-append IsProperGroup groups (group ∷ []) held.can_hold.proper one.can_hold.proper;
-    no_fault = All-append (CanHold to) groups (group ∷ []) held.can_hold.no_fault one.can_hold.no_fault;
+    sound = all_push IsSoundGroup units unit held.can_hold.sound one.can_hold.sound;
+    proper = all_push IsProperGroup units unit held.can_hold.proper one.can_hold.proper;
+    no_fault = All-append to.CanHold units (unit ∷ []) held.can_hold.no_fault one.can_hold.no_fault;
   };
-  sized = All-append (IsSizedGroup to) groups (group ∷ []) held.sized one.sized;
+  sized = All-append to.IsSized units (unit ∷ []) held.sized one.sized;
 }
 
-pub converted_none : (to : Form) (before : Outlet) → Converted to [] before before (record { unwritten = []; tally = record { units = 0; spans = 0 } })
-converted_none to before = record {
-  held = record {
-    can_hold = record { sound = All-nil IsSoundGroup; proper = All-nil IsProperGroup; no_fault = All-nil (CanHold to) };
-    sized = All-nil (IsSizedGroup to);
-  };
-  written = [];
-  gains = gains_none before;
-  is_text = sym (partial_none to);
-  counts = refl;
-}
+-- one more is counted
+counts_push : (units : List NotedGroup) (unit : NotedGroup) (old next : Tally) → old ≡ units_tally units → next.units ≡ old.units + 1 → next.spans ≡ min (old.spans + span_count (unit.means ∷ [])) last_count
+    → next ≡ units_tally (units ++ unit ∷ [])
+counts_push units unit old next is more spans =
+    let all : span_count (groups_in (units ++ unit ∷ [])) ≡ span_count (groups_in units) + span_count (unit.means ∷ []) = ap span_count (groups_push units unit) ∙ spans_push (groups_in units) unit.means in
+    tally_from next (length (units ++ unit ∷ [])) (span_count (groups_in (units ++ unit ∷ [])))
+    (more ∙ ap (λ (t : Tally). t.units + 1) is ∙ sym (length-append units (unit ∷ [])))
+    (spans_more old.spans next.spans (span_count (groups_in units)) (span_count (unit.means ∷ [])) (ap (λ (t : Tally). t.spans) is) spans ∙ ap (λ n. min n last_count) (sym all))
 
-module _ (to : Form) (groups : List Group) (before now : Outlet) (progress : Progress) (w : Converted to groups before now progress) where
-  -- with another group
-  pub converted_more : (group : Group) (next : Progress) → AddsGroup to group progress next → Converted to (groups ++ group ∷ []) before now next
-  converted_more group next adds =
-      let one = adds.writes in
-      record {
-        held = held_push to groups group w.held one.held;
-        written = w.written;
-        gains = w.gains;
-        is_text = ap (λ l. w.written ++ l) one.appended ∙ sym (append_assoc w.written progress.unwritten one.added) ∙ ap (λ l. l ++ one.added) w.is_text ∙ sym (one.text groups w.held w.counts);
-        counts = tally_from next.tally (length (groups ++ group ∷ [])) (span_count (groups ++ group ∷ []))
-            (adds.units ∙ ap (λ (t : Tally). t.units + 1) w.counts ∙ sym (length-append groups (group ∷ [])))
-            (spans_more progress.tally.spans next.tally.spans (span_count groups) (span_count (group ∷ [])) (ap (λ (t : Tally). t.spans) w.counts) adds.spans ∙ ap (λ n. min n last_count) (sym (spans_push groups group)));
+module _ (to : Target) {W : Type 0} (Stands : W → List NotedGroup → Type 0) where
+  pub converted_none : TargetLaws to → (before : Outlet) (progress : Progress W) → progress.unwritten ≡ [] → progress.tally ≡ counts 0 0 → Stands progress.writer [] → Converted to Stands [] before before progress
+  converted_none laws before progress empty none stands = record {
+    held = record { can_hold = holds_no_unit to; sized = All-nil to.IsSized };
+    written = [];
+    gains = gains_none before;
+    is_text = empty ∙ sym laws.none;
+    counts = none;
+    stands = stands;
+  }
+
+  module _ (units : List NotedGroup) (before now : Outlet) (progress : Progress W) (w : Converted to Stands units before now progress) where
+    -- with another unit
+    pub converted_more : (unit : NotedGroup) (next : Progress W) → AddsUnit to Stands unit progress next → Converted to Stands (units ++ unit ∷ []) before now next
+    converted_more unit next adds =
+        let one = adds.writes in
+        let more = one.adds units w.held w.counts w.stands in
+        record {
+          held = held_push to units unit w.held one.held;
+          written = w.written;
+          gains = w.gains;
+          is_text = ap (λ l. w.written ++ l) one.appended ∙ sym (append_assoc w.written progress.unwritten one.added) ∙ ap (λ l. l ++ one.added) w.is_text ∙ sym more.0;
+          counts = counts_push units unit progress.tally next.tally w.counts adds.units adds.spans;
+          stands = more.1;
+        }
+
+    -- nothing more is written
+    pub front_now : WritesFrontOf to units before now
+    front_now = record { held = w.held.can_hold; gains = record { front = w.written; is_front = (progress.unwritten, sym w.is_text); gains = w.gains } }
+
+    -- the number of the next unit
+    pub next_number : progress.tally.units + 1 ≡ length units + 1
+    next_number = ap (λ (t : Tally). t.units + 1) w.counts
+
+    module _ (both : (a b c : Outlet) (first second : List ℕ) → Gains a b first → Gains b c second → Gains a c (first ++ second)) (later : Outlet) where
+      -- the text so far is written
+      gains_so_far : Gains now later progress.unwritten → Gains before later (to.partial_text units)
+      gains_so_far gains = subst (λ (l : List ℕ). Gains before later l) w.is_text (both before now later w.written progress.unwritten w.gains gains)
+
+      pub converted_written : (next : Progress W) → next.tally ≡ progress.tally → next.writer ≡ progress.writer → next.unwritten ≡ [] → Gains now later progress.unwritten → Converted to Stands units before later next
+      converted_written next same writer empty gains = record {
+        held = w.held;
+        written = to.partial_text units;
+        gains = gains_so_far gains;
+        is_text = ap (λ l. to.partial_text units ++ l) empty ∙ append-nil (to.partial_text units);
+        counts = same ∙ w.counts;
+        stands = subst (λ (x : W). Stands x units) (sym writer) w.stands;
       }
 
-  -- nothing more is written
-  pub front_now : WritesFrontOf to groups before now
-  front_now = record { held = w.held.can_hold; gains = record { front = w.written; is_front = (progress.unwritten, sym w.is_text); gains = w.gains } }
+      module _ (fails : (a b c : Outlet) (first second : List ℕ) → Gains a b first → FailsWithin b c second → FailsWithin a c (first ++ second)) where
+        -- the sink failed
+        pub failed_so_far : FailsWithin now later progress.unwritten → FailsFrontOf to units before later
+        failed_so_far failed = record {
+          held = w.held.can_hold;
+          fails = subst (λ (l : List ℕ). FailsWithin before later l) w.is_text (fails before now later w.written progress.unwritten w.gains failed);
+        }
 
-  -- the number of the next unit
-  pub next_number : progress.tally.units + 1 ≡ length groups + 1
-  next_number = ap (λ (t : Tally). t.units + 1) w.counts
+        -- what is said of the stop at a unit that has a fault
+        abbrev HasFault : NotedGroup → WalkStop → Type 0
+        HasFault unit (walk_stops.Refused refusal) = ⊥
+        HasFault unit (walk_stops.Faulted found) = to.FaultOf unit found.fault × (found.unit ≡ length units + 1)
+        HasFault unit walk_stops.Write = ⊥
+        HasFault unit walk_stops.OutOfMemory = ⊥
 
-  module _ (both : (a b c : Outlet) (first second : List ℕ) → Gains a b first → Gains b c second → Gains a c (first ++ second)) (later : Outlet) where
-    -- the text so far is written
-    gains_so_far : Gains now later progress.unwritten → Gains before later (partial_text to groups)
-    gains_so_far gains = subst (λ (l : List ℕ). Gains before later l) w.is_text (both before now later w.written progress.unwritten w.gains gains)
+        stops_fault : (unit : NotedGroup) (stop why : WalkStop) → HasFault unit why → WritesOut stop why progress.unwritten now later → StopsUnit to units unit stop before later
+        stops_fault unit (walk_stops.Refused refusal) why has out = subst (HasFault unit) (sym out.0) has
+        stops_fault unit (walk_stops.Faulted found) why has out =
+            let here : HasFault unit (walk_stops.Faulted found) = subst (HasFault unit) (sym out.0) has in
+            record { held = w.held.can_hold; fault = here.0; number = here.1; gains = gains_so_far out.1 }
+        stops_fault unit walk_stops.Write why has out = inl (failed_so_far out)
+        stops_fault unit walk_stops.OutOfMemory why has out = absurd out
 
-    pub converted_written : (next : Progress) → next.tally ≡ progress.tally → next.unwritten ≡ [] → Gains now later progress.unwritten → Converted to groups before later next
-    converted_written next same empty gains = record {
-      held = w.held;
-      written = partial_text to groups;
-      gains = gains_so_far gains;
-      is_text = ap (λ l. partial_text to groups ++ l) empty ∙ append-nil (partial_text to groups);
-      counts = same ∙ w.counts;
-    }
-
-    module _ (fails : (a b c : Outlet) (first second : List ℕ) → Gains a b first → FailsWithin b c second → FailsWithin a c (first ++ second)) where
-      -- the sink failed
-      pub failed_so_far : FailsWithin now later progress.unwritten → FailsFrontOf to groups before later
-      failed_so_far failed = record {
-        held = w.held.can_hold;
-        fails = subst (λ (l : List ℕ). FailsWithin before later l) w.is_text (fails before now later w.written progress.unwritten w.gains failed);
-      }
-
-      -- what is said of the stop at a group that has a fault
-      abbrev HasFault : Group → WalkStop → Type 0
-      HasFault group (walk_stops.Refused refusal) = ⊥
-      HasFault group (walk_stops.Faulted found) = FaultOf to group found.fault × (found.unit ≡ length groups + 1)
-      HasFault group walk_stops.Write = ⊥
-      HasFault group walk_stops.OutOfMemory = ⊥
-
-      pub stops_fault : (group : Group) (stop why : WalkStop) → HasFault group why → WritesOut stop why progress.unwritten now later → StopsGroup to groups group stop before later
-      stops_fault group (walk_stops.Refused refusal) why has out = subst (HasFault group) (sym out.0) has
-      stops_fault group (walk_stops.Faulted found) why has out =
-          let here : HasFault group (walk_stops.Faulted found) = subst (HasFault group) (sym out.0) has in
-          record { held = w.held.can_hold; fault = here.0; number = here.1; gains = gains_so_far out.1 }
-      stops_fault group walk_stops.Write why has out = inl (failed_so_far out)
-      stops_fault group walk_stops.OutOfMemory why has out = absurd out
+        -- the writer found the fault, and added nothing
+        pub stops_adding : (unit : NotedGroup) (fault : Fault) (after : Progress W) (stop : WalkStop) → AddsNothing to unit fault progress after
+            → WritesOut stop (walk_stops.Faulted (record { unit = after.tally.units + 1; fault = fault })) after.unwritten now later → StopsUnit to units unit stop before later
+        stops_adding unit fault after stop nothing out =
+            stops_fault unit stop (walk_stops.Faulted (record { unit = after.tally.units + 1; fault = fault }))
+            (nothing.has, ap (λ (t : Tally). t.units + 1) nothing.tally ∙ next_number)
+            (subst (λ (l : List ℕ). WritesOut stop (walk_stops.Faulted (record { unit = after.tally.units + 1; fault = fault })) l now later) nothing.text out)
 
 -- ---- what a walk comes to, whatever the form of its input is
 
--- the groups of what was read, with one more
-pub groups_push : (noted : List NotedGroup) (next : NotedGroup) → groups_in (noted ++ next ∷ []) ≡ groups_in noted ++ next.means ∷ []
-groups_push noted next = map-append (λ (unit : NotedGroup). unit.means) noted (next ∷ [])
-
--- there are as many
-pub as_many : (noted : List NotedGroup) → length (groups_in noted) ≡ length noted
-as_many noted = length-map noted (λ (unit : NotedGroup). unit.means)
-
-module _ (from : InputForm) (to : Form) (limits : Limits) (whole : List ℕ) (noted : List NotedGroup) (before : Outlet) where
-  so_far : CanHoldTrace to (groups_in noted) → from.Begins limits whole noted → IsTextSoFar from to limits whole (partial_text to (groups_in noted))
+module _ (from : InputForm) (to : Target) (limits : Limits) (whole : List ℕ) (noted : List NotedGroup) (before : Outlet) where
+  so_far : CanHoldUnits to noted → from.Begins limits whole noted → IsTextSoFar from to limits whole (to.partial_text noted)
   so_far held begins = first (record { noted = noted; begins = begins; held = held; is_text = refl })
 
   -- a front of the text so far was written
-  writes_front : (now : Outlet) → from.Begins limits whole noted → WritesFrontOf to (groups_in noted) before now → WritesFrontOn from to limits whole before now
-  writes_front now begins w = record { text = partial_text to (groups_in noted); so_far = so_far w.held begins; gains = w.gains }
+  writes_front : (now : Outlet) → from.Begins limits whole noted → WritesFrontOf to noted before now → WritesFrontOn from to limits whole before now
+  writes_front now begins w = record { text = to.partial_text noted; so_far = so_far w.held begins; gains = w.gains }
 
   -- or the sink failed within it
-  fails_front : (now : Outlet) → from.Begins limits whole noted → FailsFrontOf to (groups_in noted) before now → FailsFrontOn from to limits whole before now
-  fails_front now begins w = record { text = partial_text to (groups_in noted); so_far = so_far w.held begins; fails = w.fails }
+  fails_front : (now : Outlet) → from.Begins limits whole noted → FailsFrontOf to noted before now → FailsFrontOn from to limits whole before now
+  fails_front now begins w = record { text = to.partial_text noted; so_far = so_far w.held begins; fails = w.fails }
 
-  -- so many units and spans
-  its_counts : tally_of (length (groups_in noted)) (span_count (groups_in noted)) ≡ tally_of (length noted) (span_count (groups_in noted))
-  its_counts = ap (λ n. tally_of n (span_count (groups_in noted))) (as_many noted)
+  all_so_far : from.IsWhole limits whole noted → CanHoldUnits to noted → IsTextSoFar from to limits whole (to.whole_text noted)
+  all_so_far is_whole held = all (units_tally noted) (record { noted = noted; whole = is_whole; held = held; is_text = refl; counts = refl })
 
-  all_so_far : from.IsWhole limits whole noted → CanHoldTrace to (groups_in noted) → IsTextSoFar from to limits whole (canonical_text to (groups_in noted))
-  all_so_far is_whole held =
-      all (tally_of (length noted) (span_count (groups_in noted))) (record { noted = noted; whole = is_whole; held = held; is_text = refl; counts = refl })
+  -- the input is all of the units
+  module _ {W : Type 0} (Stands : W → List NotedGroup → Type 0) where
+    pub ends_whole : (now later : Outlet) (progress : Progress W) (result : Result Tally WalkStop) → from.IsWhole limits whole noted → Converted to Stands noted before now progress
+        → IfOk result (λ tally. (units : List NotedGroup) (before : Outlet) → Converted to Stands units before now progress → EndsText to units tally before later)
+        → IfErr result (λ stop. (units : List NotedGroup) (before : Outlet) → Converted to Stands units before now progress → StopsText to units stop before later)
+        → EndsWalk from to limits whole result before later
+    ends_whole now later progress (Ok tally) is_whole w ok stopped =
+        let ends = ok noted before w in
+        record {
+          text = to.whole_text noted;
+          is_good = record { noted = noted; whole = is_whole; held = w.held.can_hold; is_text = refl; counts = ends.counts };
+          sized = w.held.sized;
+          gains = ends.gains;
+        }
+    ends_whole now later progress (Err (walk_stops.Refused refusal)) is_whole w ok stopped = absurd (stopped noted before w)
+    ends_whole now later progress (Err (walk_stops.Faulted found)) is_whole w ok stopped = absurd (stopped noted before w)
+    ends_whole now later progress (Err walk_stops.Write) is_whole w ok stopped =
+        record { text = to.whole_text noted; so_far = all_so_far is_whole w.held.can_hold; fails = stopped noted before w }
+    ends_whole now later progress (Err walk_stops.OutOfMemory) is_whole w ok stopped =
+        record { text = to.whole_text noted; so_far = all_so_far is_whole w.held.can_hold; gains = stopped noted before w }
 
-  -- the input is all of the groups
-  pub ends_whole : (now later : Outlet) (progress : Progress) (result : Result Tally WalkStop) → from.IsWhole limits whole noted → Converted to (groups_in noted) before now progress
-      → IfOk result (λ tally. (groups : List Group) (before : Outlet) → Converted to groups before now progress → EndsText to groups tally before later)
-      → IfErr result (λ stop. (groups : List Group) (before : Outlet) → Converted to groups before now progress → StopsText to groups stop before later)
-      → EndsWalk from to limits whole result before later
-  ends_whole now later progress (Ok tally) is_whole w ok stopped =
-      let ends = ok (groups_in noted) before w in
-      record {
-        text = canonical_text to (groups_in noted);
-        is_good = record { noted = noted; whole = is_whole; held = w.held.can_hold; is_text = refl; counts = ends.counts ∙ its_counts };
-        sized = w.held.sized;
-        gains = ends.gains;
-      }
-  ends_whole now later progress (Err (walk_stops.Refused refusal)) is_whole w ok stopped = absurd (stopped (groups_in noted) before w)
-  ends_whole now later progress (Err (walk_stops.Faulted found)) is_whole w ok stopped = absurd (stopped (groups_in noted) before w)
-  ends_whole now later progress (Err walk_stops.Write) is_whole w ok stopped =
-      record { text = canonical_text to (groups_in noted); so_far = all_so_far is_whole w.held.can_hold; fails = stopped (groups_in noted) before w }
-  ends_whole now later progress (Err walk_stops.OutOfMemory) is_whole w ok stopped =
-      record { text = canonical_text to (groups_in noted); so_far = all_so_far is_whole w.held.can_hold; gains = stopped (groups_in noted) before w }
-
--- the next group stops it
-module _ (from : InputForm) (to : Form) (limits : Limits) (whole : List ℕ) (noted : List NotedGroup) (next : NotedGroup) (before now : Outlet) (begins : from.Begins limits whole noted) (more : from.Begins limits whole (noted ++ next ∷ [])) where
-  writes_either : StopsWriting to (groups_in noted) next.means before now → WritesFrontOn from to limits whole before now
-  writes_either (inl w) = writes_front from to limits whole noted before now begins w
-  writes_either (inr w) =
-      writes_front from to limits whole (noted ++ next ∷ []) before now more (subst (λ (l : List Group). WritesFrontOf to l before now) (sym (groups_push noted next)) w)
-
-  pub stops_at_group : (stop : WalkStop) → StopsGroup to (groups_in noted) next.means stop before now → StopsWalk from to limits whole stop before now
-  stops_at_group (walk_stops.Refused refusal) stopped = absurd stopped
-  stops_at_group (walk_stops.Faulted found) stopped = record {
-    text = partial_text to (groups_in noted);
+-- the next unit stops it
+module _ (from : InputForm) (to : Target) (limits : Limits) (whole : List ℕ) (noted : List NotedGroup) (next : NotedGroup) (before now : Outlet) (begins : from.Begins limits whole noted) (more : from.Begins limits whole (noted ++ next ∷ [])) where
+  pub stops_at_unit : (stop : WalkStop) → StopsUnit to noted next stop before now → StopsWalk from to limits whole stop before now
+  stops_at_unit (walk_stops.Refused refusal) stopped = absurd stopped
+  stops_at_unit (walk_stops.Faulted found) stopped = record {
+    text = to.partial_text noted;
     is_faulted = record {
       noted = noted;
       next = next;
       begins = more;
       held = stopped.held;
       fault = stopped.fault;
-      number = stopped.number ∙ ap (λ n. n + 1) (as_many noted);
+      number = stopped.number;
       is_text = refl;
     };
     so_far = so_far from to limits whole noted before stopped.held begins;
     gains = stopped.gains;
   }
-  stops_at_group walk_stops.Write (inl w) = fails_front from to limits whole noted before now begins w
-  stops_at_group walk_stops.Write (inr w) =
-      fails_front from to limits whole (noted ++ next ∷ []) before now more (subst (λ (l : List Group). FailsFrontOf to l before now) (sym (groups_push noted next)) w)
-  stops_at_group walk_stops.OutOfMemory stopped = writes_either stopped
+  stops_at_unit walk_stops.Write (inl w) = fails_front from to limits whole noted before now begins w
+  stops_at_unit walk_stops.Write (inr w) = fails_front from to limits whole (noted ++ next ∷ []) before now more w
+  stops_at_unit walk_stops.OutOfMemory (inl w) = writes_front from to limits whole noted before now begins w
+  stops_at_unit walk_stops.OutOfMemory (inr w) = writes_front from to limits whole (noted ++ next ∷ []) before now more w
 
 -- ---- the walk over frames
 
@@ -367,19 +373,19 @@ rest_cause : (from : FramedForm) (limits : Limits) (whole rest : List ℕ) (caus
 rest_cause from limits whole rest cause too_long exceeds why =
     stops_weaker from.frames from.Refused limits.unit (too_long ≡ true) (limits.binary < length whole) (too_long ≡ false) (length whole ≤ limits.binary) (exceeds_as limits.binary whole too_long true exceeds) (exceeds_as limits.binary whole too_long false exceeds) rest cause why
 
-module _ (from : FramedForm) (to : Form) (limits : Limits) (whole : List ℕ) (before : Outlet) where
-  abbrev Walked : List ℕ → Outlet → Progress → Type 0
-  Walked rest now progress = WalkedUnits from to limits whole rest before now progress
+module _ (from : FramedForm) (to : Target) {W : Type 0} (Stands : W → List NotedGroup → Type 0) (limits : Limits) (whole : List ℕ) (before : Outlet) where
+  abbrev Walked : List ℕ → Outlet → Progress W → Type 0
+  Walked rest now progress = WalkedUnits from to Stands limits whole rest before now progress
 
   begins_so : (noted : List NotedGroup) (rest : List ℕ) → UnitsThen from limits whole noted rest → UnitsBegin from limits whole noted
   begins_so noted rest held = record { rest = rest; units_then = held }
 
   module _ (frames : HeldByFrames from) where
-    pub walked_none : (looked : List ℕ) (too_long : Bool) → IsLookedAt limits.binary whole looked too_long → Walked looked before (record { unwritten = []; tally = record { units = 0; spans = 0 } })
-    walked_none looked too_long seen = record {
+    pub walked_none : (looked : List ℕ) (too_long : Bool) (progress : Progress W) → IsLookedAt limits.binary whole looked too_long → Converted to Stands [] before before progress → Walked looked before progress
+    walked_none looked too_long progress seen none = record {
       noted = [];
       units_then = record { units = []; held = frames.none limits whole looked seen.front; are_groups = tt };
-      converted = converted_none to before;
+      converted = none;
     }
 
     -- behind a frame with a unit
@@ -391,7 +397,7 @@ module _ (from : FramedForm) (to : Form) (limits : Limits) (whole : List ℕ) (b
     }
 
     -- behind a frame without one
-    pub walked_free : (rest behind : List ℕ) (now : Outlet) (progress : Progress) → CutsFrame from limits.unit rest [] behind → Walked rest now progress → Walked behind now progress
+    pub walked_free : (rest behind : List ℕ) (now : Outlet) (progress : Progress W) → CutsFrame from limits.unit rest [] behind → Walked rest now progress → Walked behind now progress
     walked_free rest behind now progress cut w = record {
       noted = w.noted;
       units_then = record {
@@ -402,36 +408,36 @@ module _ (from : FramedForm) (to : Form) (limits : Limits) (whole : List ℕ) (b
       converted = w.converted;
     }
 
-    -- behind one whose group was converted
-    pub walked_group : (rest behind : List ℕ) (now later : Outlet) (progress next : Progress) (unit : NotedGroup) → IsNextUnit from limits rest behind unit
-        → ((groups : List Group) (before : Outlet) → Converted to groups before now progress → Converted to (groups ++ unit.means ∷ []) before later next) → Walked rest now progress → Walked behind later next
-    walked_group rest behind now later progress next unit here converts w = record {
+    -- behind one whose unit was converted
+    pub walked_unit : (rest behind : List ℕ) (now later : Outlet) (progress next : Progress W) (unit : NotedGroup) → IsNextUnit from limits rest behind unit
+        → ((units : List NotedGroup) (before : Outlet) → Converted to Stands units before now progress → Converted to Stands (units ++ unit ∷ []) before later next) → Walked rest now progress → Walked behind later next
+    walked_unit rest behind now later progress next unit here converts w = record {
       noted = w.noted ++ unit ∷ [];
       units_then = units_more w.noted rest behind unit here w.units_then;
-      converted = subst (λ (l : List Group). Converted to l before later next) (sym (groups_push w.noted unit)) (converts (groups_in w.noted) before w.converted);
+      converted = converts w.noted before w.converted;
     }
 
-    -- at one whose group stops the walk
-    pub walk_stops_group : (rest behind : List ℕ) (now later : Outlet) (progress : Progress) (unit : NotedGroup) (stop : WalkStop) → IsNextUnit from limits rest behind unit
-        → ((groups : List Group) (before : Outlet) → Converted to groups before now progress → StopsGroup to groups unit.means stop before later) → Walked rest now progress → StopsWalk (framed_input from) to limits whole stop before later
-    walk_stops_group rest behind now later progress unit stop here stopped w =
-        stops_at_group (framed_input from) to limits whole w.noted unit before later (begins_so w.noted rest w.units_then) (begins_so (w.noted ++ unit ∷ []) behind (units_more w.noted rest behind unit here w.units_then))
-        stop (stopped (groups_in w.noted) before w.converted)
+    -- at one whose unit stops the walk
+    pub walk_stops_writing : (rest behind : List ℕ) (now later : Outlet) (progress : Progress W) (unit : NotedGroup) (stop : WalkStop) → IsNextUnit from limits rest behind unit
+        → ((units : List NotedGroup) (before : Outlet) → Converted to Stands units before now progress → StopsUnit to units unit stop before later) → Walked rest now progress → StopsWalk (framed_input from) to limits whole stop before later
+    walk_stops_writing rest behind now later progress unit stop here stopped w =
+        stops_at_unit (framed_input from) to limits whole w.noted unit before later (begins_so w.noted rest w.units_then) (begins_so (w.noted ++ unit ∷ []) behind (units_more w.noted rest behind unit here w.units_then))
+        stop (stopped w.noted before w.converted)
 
-  -- memory was wanted before the next group
-  pub walk_stays : (rest : List ℕ) (now : Outlet) (progress : Progress) → Walked rest now progress → StopsWalk (framed_input from) to limits whole walk_stops.OutOfMemory before now
-  walk_stays rest now progress w = writes_front (framed_input from) to limits whole w.noted before now (begins_so w.noted rest w.units_then) (front_now to (groups_in w.noted) before now progress w.converted)
+  -- memory was wanted before the next unit
+  pub walk_stays : (rest : List ℕ) (now : Outlet) (progress : Progress W) → Walked rest now progress → StopsWalk (framed_input from) to limits whole walk_stops.OutOfMemory before now
+  walk_stays rest now progress w = writes_front (framed_input from) to limits whole w.noted before now (begins_so w.noted rest w.units_then) (front_now to Stands w.noted before now progress w.converted)
 
   -- the end
-  pub walk_ends : (now later : Outlet) (progress : Progress) (result : Result Tally WalkStop) (looked : List ℕ) (too_long : Bool) → too_long ≡ false → IsLookedAt limits.binary whole looked too_long → Walked [] now progress
-      → IfOk result (λ tally. (groups : List Group) (before : Outlet) → Converted to groups before now progress → EndsText to groups tally before later)
-      → IfErr result (λ stop. (groups : List Group) (before : Outlet) → Converted to groups before now progress → StopsText to groups stop before later)
+  pub walk_ends : (now later : Outlet) (progress : Progress W) (result : Result Tally WalkStop) (looked : List ℕ) (too_long : Bool) → too_long ≡ false → IsLookedAt limits.binary whole looked too_long → Walked [] now progress
+      → IfOk result (λ tally. (units : List NotedGroup) (before : Outlet) → Converted to Stands units before now progress → EndsText to units tally before later)
+      → IfErr result (λ stop. (units : List NotedGroup) (before : Outlet) → Converted to Stands units before now progress → StopsText to units stop before later)
       → EndsWalk (framed_input from) to limits whole result before later
   walk_ends now later progress result looked too_long short seen w =
-      ends_whole (framed_input from) to limits whole w.noted before now later progress result (record { units_then = w.units_then; within = exceeds_as limits.binary whole too_long false seen.exceeds short }) w.converted
+      ends_whole (framed_input from) to limits whole w.noted before Stands now later progress result (record { units_then = w.units_then; within = exceeds_as limits.binary whole too_long false seen.exceeds short }) w.converted
 
   module _ (both : (a b c : Outlet) (first second : List ℕ) → Gains a b first → Gains b c second → Gains a c (first ++ second)) (fails : (a b c : Outlet) (first second : List ℕ) → Gains a b first → FailsWithin b c second → FailsWithin a c (first ++ second)) where
-    module _ (rest : List ℕ) (now later : Outlet) (progress : Progress) (w : Walked rest now progress) where
+    module _ (rest : List ℕ) (now later : Outlet) (progress : Progress W) (w : Walked rest now progress) where
       -- what is said of the stop where the input is refused
       abbrev IsRefusal : WalkStop → Type 0
       IsRefusal (walk_stops.Refused refusal) = UnitsRefused from limits whole w.noted refusal
@@ -441,14 +447,14 @@ module _ (from : FramedForm) (to : Form) (limits : Limits) (whole : List ℕ) (b
 
       refused_out : (stop why : WalkStop) → IsRefusal why → WritesOut stop why progress.unwritten now later → StopsWalk (framed_input from) to limits whole stop before later
       refused_out (walk_stops.Refused refusal) why is out = record {
-        text = partial_text to (groups_in w.noted);
+        text = to.partial_text w.noted;
         is_refused = record { noted = w.noted; refuses = subst IsRefusal (sym out.0) is; held = w.converted.held.can_hold; is_text = refl };
         so_far = so_far (framed_input from) to limits whole w.noted before w.converted.held.can_hold (begins_so w.noted rest w.units_then);
-        gains = gains_so_far to (groups_in w.noted) before now progress w.converted both later out.1;
+        gains = gains_so_far to Stands w.noted before now progress w.converted both later out.1;
       }
       refused_out (walk_stops.Faulted found) why is out = absurd (subst IsRefusal (sym out.0) is)
       refused_out walk_stops.Write why is out =
-          fails_front (framed_input from) to limits whole w.noted before later (begins_so w.noted rest w.units_then) (failed_so_far to (groups_in w.noted) before now progress w.converted both later fails out)
+          fails_front (framed_input from) to limits whole w.noted before later (begins_so w.noted rest w.units_then) (failed_so_far to Stands w.noted before now progress w.converted both later fails out)
       refused_out walk_stops.OutOfMemory why is out = absurd out
 
       abbrev stop_for : Cause → WalkStop
@@ -468,7 +474,7 @@ module _ (from : FramedForm) (to : Form) (limits : Limits) (whole : List ℕ) (b
               are_groups = w.units_then.are_groups;
               least = least;
             });
-            number = next_number to (groups_in w.noted) before now progress w.converted ∙ ap (λ n. n + 1) (as_many w.noted);
+            number = next_number to Stands w.noted before now progress w.converted;
           })
           out
 
@@ -479,6 +485,6 @@ module _ (from : FramedForm) (to : Form) (limits : Limits) (whole : List ℕ) (b
           refused_out stop (stop_for cause)
           (record {
             why = inr (record { rest = rest; units_then = w.units_then; why = rest_cause from limits whole rest cause too_long seen.exceeds why });
-            number = next_number to (groups_in w.noted) before now progress w.converted ∙ ap (λ n. n + 1) (as_many w.noted);
+            number = next_number to Stands w.noted before now progress w.converted;
           })
           out

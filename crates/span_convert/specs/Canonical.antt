@@ -12,6 +12,7 @@ use Rattle.span_convert.specs.BatchFiles.{binary, compact, batches, ReadsBatches
 use Rattle.span_convert.specs.GroupFiles.{ReadsGroups}
 use Rattle.span_convert.specs.Requests.{ReadsRequest}
 use Rattle.span_convert.specs.SpanFiles.{ReadsSpans}
+use Rattle.span_convert.specs.Targets.{form_target}
 use Rattle.span_convert.specs.Units.{groups_in, input_form, IsSizedGroup, normal_form, canonical_text, span_count}
 use Rattle.span_convert.specs.Verdicts.{CanHoldTrace, IsGood, IsVerdict, good, tally_of}
 use Rattle.span_convert.specs.declared.tally.Tally.{Tally}
@@ -66,7 +67,7 @@ ConvertsToItself to limits text groups =
 -- trace of another normal form; and where it fits as an input of its form it converts to itself.
 pub record ReadsBack (from to : Form) (limits : Limits) (bytes out : List ℕ) : Type 0 where
   pub tally : Tally
-  pub is_good : IsGood (input_form from) to limits bytes out tally
+  pub is_good : IsGood (input_form from) (form_target to) limits bytes out tally
   pub plainly : ReadsPlainly to out (normal_form to (groups_in is_good.noted))
   pub only : (other : List Group) → IsHeldBy to other → IsSized to other
       → (out ≡ canonical_text to other) ↔ (normal_form to (groups_in is_good.noted) ≡ normal_form to other)

@@ -1,12 +1,13 @@
--- What a converter holds, and what it was fed.
+-- What a converter or a reporter holds, and what it was fed.
 use Rattle.std.specs.Prelude.{◌≡◌, ℕ, ◌≤◌, Bool, true, false, List, length, Option, Some, None, Result, Ok, Err}
 use Rattle.span_io.specs.Limits.{AreLimits}
 use Rattle.span_io.specs.Outside.{Outlet}
 use Rattle.span_io.specs.declared.form.Form.{Form}
 use Rattle.span_io.specs.declared.refusal.Refusal.{Refusal}
-use Rattle.span_convert.specs.Units.{input_limit}
-use Rattle.span_convert.specs.Verdicts.{Verdict, good, refused, faulted, IsVerdict, IsJudged, WritesFront}
-use Rattle.span_convert.specs.declared.converter.Converter.{Converter}
+use Rattle.span_convert.specs.Targets.{Target}
+use Rattle.span_convert.specs.Units.{input_form, input_limit}
+use Rattle.span_convert.specs.Verdicts.{Verdict, good, refused, faulted, IsVerdictOn, IsJudgedOn, WritesFrontOn}
+use Rattle.span_convert.specs.declared.converter.Walker.{Walker}
 use Rattle.span_convert.specs.declared.converter.State.{State}
 use Rattle.span_convert.specs.declared.converter.State.TheVariants as states
 use Rattle.span_convert.specs.declared.why.Why.{Why}
@@ -48,27 +49,27 @@ is_ended (states.Faulted found) = false
 is_ended states.Write = false
 is_ended states.OutOfMemory = false
 
--- it converts from the one form to the other
-abbrev pub HasForms : Converter → Form → Form → Type 0
-HasForms c from to = (c.from ≡ from) × (c.to ≡ to)
+-- it reads the one form, and writes the other or this report
+abbrev pub HasForms : {O : Type 0} → Walker O → Form → O → Type 0
+HasForms c from what = (c.from ≡ from) × (c.what ≡ what)
 
 -- the most bytes that its input may have
-abbrev pub limit_of : Converter → ℕ
+abbrev pub limit_of : {O : Type 0} → Walker O → ℕ
 limit_of c = input_limit c.from c.limits
 
--- the verdict on these bytes, by the forms and limits of the converter
-abbrev pub IsVerdictBy : Converter → List ℕ → Verdict → Type 0
-IsVerdictBy c bytes verdict = IsVerdict c.from c.to c.limits bytes verdict
+-- the verdict on these bytes, by the form, the target and the limits that it has
+abbrev pub IsVerdictBy : {O : Type 0} → (O → Target) → Walker O → List ℕ → Verdict → Type 0
+IsVerdictBy target c bytes verdict = IsVerdictOn (input_form c.from) (target c.what) c.limits bytes verdict
 
-abbrev pub IsJudgedBy : {T : Type 0} → Converter → List ℕ → Result T Stop → Type 0
-IsJudgedBy c bytes result = IsJudged c.from c.to c.limits bytes result
+abbrev pub IsJudgedBy : {O T : Type 0} → (O → Target) → Walker O → List ℕ → Result T Stop → Type 0
+IsJudgedBy target c bytes result = IsJudgedOn (input_form c.from) (target c.what) c.limits bytes result
 
--- a front of the canonical text of the first units of these bytes was written
-abbrev pub WritesFrontBy : Converter → List ℕ → Outlet → Outlet → Type 0
-WritesFrontBy c bytes before now = WritesFront c.from c.to c.limits bytes before now
+-- a front of the text of the first units of these bytes was written
+abbrev pub WritesFrontBy : {O : Type 0} → (O → Target) → Walker O → List ℕ → Outlet → Outlet → Type 0
+WritesFrontBy target c bytes before now = WritesFrontOn (input_form c.from) (target c.what) c.limits bytes before now
 
 -- it answered no stop, isn't ended, and was fed these bytes
-pub record Fed (c : Converter) (bytes : List ℕ) : Type 0 where
+pub record Fed {O : Type 0} (c : Walker O) (bytes : List ℕ) : Type 0 where
   pub going : c.state ≡ states.Open
   pub held : c.held ≡ bytes
   pub within : length bytes ≤ limit_of c
@@ -87,7 +88,7 @@ KeepsWhy verdict states.Ended = Unit {0}
 KeepsWhy verdict states.Write = Unit {0}
 KeepsWhy verdict states.OutOfMemory = Unit {0}
 
--- a call on a converter that had stopped answers the same, and changes nothing
+-- a call on one that had stopped answers the same, and changes nothing
 abbrev pub SameStop : {T : Type 0} → Option Stop → Result T Stop → Type 0 → Type 0
 SameStop None result Unchanged = Unit {0}
 SameStop (Some stop) result Unchanged = (result ≡ Err stop) × Unchanged

@@ -6,11 +6,13 @@ pub mod Documents
 pub mod FramedForms
 pub mod GroupFiles
 pub mod InputLaws
+pub mod Reports
 pub mod Requests
 pub mod Rests
 pub mod SameBatches
 pub mod SameDocuments
 pub mod SpanFiles
+pub mod Targets
 pub mod Units
 pub mod Verdicts
 pub mod Walks

@@ -1,20 +1,19 @@
--- The walk over the units of an input, of which no more bytes are looked at than its limit. It is one walk for all pairs of forms.
+-- The walk over the units of an input, of which no more bytes are looked at than its limit. It is one walk for all forms and targets.
 use Rattle.std.specs.Prelude.{◌≡◌, ℕ, ◌+◌, min, ◌<◌, ◌≤◌, ◌⊎◌, take, Bool, true, false, List, [], ◌∷◌, ◌++◌, length, All, Option, Some, None, Result, Ok, Err}
 use Rattle.std.specs.Borrow.{Bor}
 use Rattle.span_io.specs.Outside.{Outlet, Gains, GainsFront, FailsWithin, last_count}
 use Rattle.span_io.specs.declared.cause.Cause.{Cause}
-use Rattle.span_io.specs.declared.form.Form.{Form}
 use Rattle.span_io.specs.declared.halt.Halt.{Halt}
 use Rattle.span_io.specs.declared.halt.Halt.TheVariants as halts
 use Rattle.span_io.specs.declared.limits.Limits.{Limits}
 use Rattle.span_io.specs.declared.refusal.Refusal.{Refusal}
 use Rattle.trace_model.specs.OtlpParts.{NotedGroup}
-use Rattle.trace_model.specs.declared.trace.Group.{Group}
-use Rattle.span_convert.specs.Canonical.{IsHeldBy}
+use Rattle.trace_model.specs.declared.fault.Fault.{Fault}
 use Rattle.span_convert.specs.FramedForms.{FramedForm, UnitsThen}
 use Rattle.span_convert.specs.Rests.{Cuts, StopsRest}
-use Rattle.span_convert.specs.Units.{InputForm, groups_in, FaultOf, IsSizedGroup, canonical_text, partial_text, closing_text, span_count}
-use Rattle.span_convert.specs.Verdicts.{CanHoldTrace, tally_of, IsGood, IsRefusal, IsFaulted, IsTextSoFar, WritesFrontOn, FailsFrontOn}
+use Rattle.span_convert.specs.Targets.{Target, CanHoldUnits, AreHeldBy}
+use Rattle.span_convert.specs.Units.{InputForm, span_count}
+use Rattle.span_convert.specs.Verdicts.{units_tally, IsGood, IsRefusal, IsFaulted, IsTextSoFar, WritesFrontOn, FailsFrontOn}
 use Rattle.span_convert.specs.declared.progress.Progress.{Progress}
 use Rattle.span_convert.specs.declared.progress.WalkStop.{WalkStop}
 use Rattle.span_convert.specs.declared.progress.WalkStop.TheVariants as walk_stops
@@ -63,40 +62,26 @@ pub record IsNextUnit (from : FramedForm) (limits : Limits) (rest behind : List 
   pub cut : CutsFrame from limits.unit rest (unit ∷ []) behind
   pub is_unit : from.IsUnit unit next
 
--- ---- what was converted so far
+-- ---- what a writer of units adds
 
--- What the sink gained, and then what isn't written yet, is the text of the groups so far.
-pub record Converted (to : Form) (groups : List Group) (before now : Outlet) (progress : Progress) : Type 0 where
-  pub held : IsHeldBy to groups
-  pub written : List ℕ
-  pub gains : Gains before now written
-  pub is_text : written ++ progress.unwritten ≡ partial_text to groups
-  pub counts : progress.tally ≡ tally_of (length groups) (span_count groups)
+-- A writer stands for units behind which it writes the next one. One that keeps nothing of them stands for any.
+abbrev pub StandsForAny : {W : Type 0} → W → List NotedGroup → Type 0
+StandsForAny writer units = Unit {0}
 
--- a walk over units came to this rest
-pub record WalkedUnits (from : FramedForm) (to : Form) (limits : Limits) (whole rest : List ℕ) (before now : Outlet) (progress : Progress) : Type 0 where
-  pub noted : List NotedGroup
-  pub units_then : UnitsThen from limits whole noted rest
-  pub converted : Converted to (groups_in noted) before now progress
-
--- The form can hold the group. What was appended is what it adds to the text of so many groups and spans.
-pub record WritesGroup (to : Form) (group : Group) (tally : Tally) (before now : List ℕ) : Type 0 where
-  pub held : IsHeldBy to (group ∷ [])
+-- The target can hold the unit. What was appended is what it adds to the text of units of which so many were counted, and for
+-- which the writer stood; now it stands for these and the unit.
+pub record WritesUnit (to : Target) {W : Type 0} (Stands : W → List NotedGroup → Type 0) (unit : NotedGroup) (tally : Tally)
+    (before now : W) (old new : List ℕ) : Type 0 where
+  pub held : AreHeldBy to (unit ∷ [])
   pub added : List ℕ
-  pub appended : now ≡ before ++ added
-  pub text : (groups : List Group) → IsHeldBy to groups → tally ≡ tally_of (length groups) (span_count groups)
-      → partial_text to (groups ++ group ∷ []) ≡ partial_text to groups ++ added
+  pub appended : new ≡ old ++ added
+  pub adds : (units : List NotedGroup) → AreHeldBy to units → tally ≡ units_tally units → Stands before units
+      → (to.partial_text (units ++ unit ∷ []) ≡ to.partial_text units ++ added) × Stands now (units ++ unit ∷ [])
 
--- what closes the text of so many groups and spans was appended
-abbrev pub ClosesText : Form → Tally → List ℕ → List ℕ → Type 0
-ClosesText to tally before now =
-    (groups : List Group) → tally ≡ tally_of (length groups) (span_count groups) → now ≡ before ++ closing_text to groups
-
--- a group was added, and its spans were counted
-pub record AddsGroup (to : Form) (group : Group) (before now : Progress) : Type 0 where
-  pub writes : WritesGroup to group before.tally before.unwritten now.unwritten
-  pub units : now.tally.units ≡ before.tally.units + 1
-  pub spans : now.tally.spans ≡ min (before.tally.spans + span_count (group ∷ [])) last_count
+-- what closes the text of units of which so many were counted and for which the writer stands was appended
+abbrev pub ClosesText : {W : Type 0} → Target → (W → List NotedGroup → Type 0) → W → Tally → List ℕ → List ℕ → Type 0
+ClosesText to Stands writer all old new =
+    (units : List NotedGroup) → all ≡ units_tally units → Stands writer units → new ≡ old ++ to.closing_text units
 
 -- what is said of the cause or fault of a refusal, where there is one
 abbrev pub IfWhy : {T E : Type 0} → Result T (Halt E) → (E → Type 0) → Type 0
@@ -104,80 +89,113 @@ IfWhy (Ok x) P = Unit {0}
 IfWhy (Err (halts.Why why)) P = P why
 IfWhy (Err halts.OutOfMemory) P = Unit {0}
 
--- ---- how the conversion of a group stops
+-- ---- what was converted so far
 
--- a front of the text so far of the groups was written
-pub record WritesFrontOf (to : Form) (groups : List Group) (before now : Outlet) : Type 0 where
-  pub held : CanHoldTrace to groups
-  pub gains : GainsFront before now (partial_text to groups)
+-- What the sink gained, and then what isn't written yet, is the text of the units so far.
+pub record Converted (to : Target) {W : Type 0} (Stands : W → List NotedGroup → Type 0) (units : List NotedGroup)
+    (before now : Outlet) (progress : Progress W) : Type 0 where
+  pub held : AreHeldBy to units
+  pub written : List ℕ
+  pub gains : Gains before now written
+  pub is_text : written ++ progress.unwritten ≡ to.partial_text units
+  pub counts : progress.tally ≡ units_tally units
+  pub stands : Stands progress.writer units
+
+-- a walk over units came to this rest
+pub record WalkedUnits (from : FramedForm) (to : Target) {W : Type 0} (Stands : W → List NotedGroup → Type 0) (limits : Limits)
+    (whole rest : List ℕ) (before now : Outlet) (progress : Progress W) : Type 0 where
+  pub noted : List NotedGroup
+  pub units_then : UnitsThen from limits whole noted rest
+  pub converted : Converted to Stands noted before now progress
+
+-- a unit was added, and its spans were counted
+pub record AddsUnit (to : Target) {W : Type 0} (Stands : W → List NotedGroup → Type 0) (unit : NotedGroup)
+    (before now : Progress W) : Type 0 where
+  pub writes : WritesUnit to Stands unit before.tally before.writer now.writer before.unwritten now.unwritten
+  pub units : now.tally.units ≡ before.tally.units + 1
+  pub spans : now.tally.spans ≡ min (before.tally.spans + span_count (unit.means ∷ [])) last_count
+
+-- the unit has the fault, and neither text nor counts changed
+pub record AddsNothing (to : Target) {W : Type 0} (unit : NotedGroup) (fault : Fault) (before now : Progress W) : Type 0 where
+  pub has : to.FaultOf unit fault
+  pub text : now.unwritten ≡ before.unwritten
+  pub tally : now.tally ≡ before.tally
+
+-- ---- how the conversion of a unit stops
+
+-- a front of the text so far of the units was written
+pub record WritesFrontOf (to : Target) (units : List NotedGroup) (before now : Outlet) : Type 0 where
+  pub held : CanHoldUnits to units
+  pub gains : GainsFront before now (to.partial_text units)
 
 -- the sink failed within it
-pub record FailsFrontOf (to : Form) (groups : List Group) (before now : Outlet) : Type 0 where
-  pub held : CanHoldTrace to groups
-  pub fails : FailsWithin before now (partial_text to groups)
+pub record FailsFrontOf (to : Target) (units : List NotedGroup) (before now : Outlet) : Type 0 where
+  pub held : CanHoldUnits to units
+  pub fails : FailsWithin before now (to.partial_text units)
 
--- the group has a fault, and the text of the groups before it was written
-pub record StopsAtFault (to : Form) (groups : List Group) (group : Group) (found : TargetFault) (before now : Outlet) : Type 0 where
-  pub held : CanHoldTrace to groups
-  pub fault : FaultOf to group found.fault
-  pub number : found.unit ≡ length groups + 1
-  pub gains : Gains before now (partial_text to groups)
+-- the unit has a fault, and the text of the units before it was written
+pub record StopsAtFault (to : Target) (units : List NotedGroup) (unit : NotedGroup) (found : TargetFault)
+    (before now : Outlet) : Type 0 where
+  pub held : CanHoldUnits to units
+  pub fault : to.FaultOf unit found.fault
+  pub number : found.unit ≡ length units + 1
+  pub gains : Gains before now (to.partial_text units)
 
--- the group's own text may be written by then
-abbrev pub StopsWriting : Form → List Group → Group → Outlet → Outlet → Type 0
-StopsWriting to groups group before now = WritesFrontOf to groups before now ⊎ WritesFrontOf to (groups ++ group ∷ []) before now
+-- the unit's own text may be written by then
+abbrev pub StopsWriting : Target → List NotedGroup → NotedGroup → Outlet → Outlet → Type 0
+StopsWriting to units unit before now = WritesFrontOf to units before now ⊎ WritesFrontOf to (units ++ unit ∷ []) before now
 
-abbrev pub FailsWriting : Form → List Group → Group → Outlet → Outlet → Type 0
-FailsWriting to groups group before now = FailsFrontOf to groups before now ⊎ FailsFrontOf to (groups ++ group ∷ []) before now
+abbrev pub FailsWriting : Target → List NotedGroup → NotedGroup → Outlet → Outlet → Type 0
+FailsWriting to units unit before now = FailsFrontOf to units before now ⊎ FailsFrontOf to (units ++ unit ∷ []) before now
 
-abbrev pub StopsGroup : Form → List Group → Group → WalkStop → Outlet → Outlet → Type 0
-StopsGroup to groups group (walk_stops.Refused refusal) before now = ⊥
-StopsGroup to groups group (walk_stops.Faulted found) before now = StopsAtFault to groups group found before now
-StopsGroup to groups group walk_stops.Write before now = FailsWriting to groups group before now
-StopsGroup to groups group walk_stops.OutOfMemory before now = StopsWriting to groups group before now
+abbrev pub StopsUnit : Target → List NotedGroup → NotedGroup → WalkStop → Outlet → Outlet → Type 0
+StopsUnit to units unit (walk_stops.Refused refusal) before now = ⊥
+StopsUnit to units unit (walk_stops.Faulted found) before now = StopsAtFault to units unit found before now
+StopsUnit to units unit walk_stops.Write before now = FailsWriting to units unit before now
+StopsUnit to units unit walk_stops.OutOfMemory before now = StopsWriting to units unit before now
 
--- ---- how the text of all groups ends
+-- ---- how the text of all units ends
 
-pub record EndsText (to : Form) (groups : List Group) (tally : Tally) (before now : Outlet) : Type 0 where
-  pub counts : tally ≡ tally_of (length groups) (span_count groups)
-  pub gains : Gains before now (canonical_text to groups)
+pub record EndsText (to : Target) (units : List NotedGroup) (tally : Tally) (before now : Outlet) : Type 0 where
+  pub counts : tally ≡ units_tally units
+  pub gains : Gains before now (to.whole_text units)
 
-abbrev pub StopsText : Form → List Group → WalkStop → Outlet → Outlet → Type 0
-StopsText to groups (walk_stops.Refused refusal) before now = ⊥
-StopsText to groups (walk_stops.Faulted found) before now = ⊥
-StopsText to groups walk_stops.Write before now = FailsWithin before now (canonical_text to groups)
-StopsText to groups walk_stops.OutOfMemory before now = GainsFront before now (canonical_text to groups)
+abbrev pub StopsText : Target → List NotedGroup → WalkStop → Outlet → Outlet → Type 0
+StopsText to units (walk_stops.Refused refusal) before now = ⊥
+StopsText to units (walk_stops.Faulted found) before now = ⊥
+StopsText to units walk_stops.Write before now = FailsWithin before now (to.whole_text units)
+StopsText to units walk_stops.OutOfMemory before now = GainsFront before now (to.whole_text units)
 
 -- ---- how a walk ends
 
--- the text of the groups before was written, and then it is refused
-pub record WritesRefused (from : InputForm) (to : Form) (limits : Limits) (whole : List ℕ) (refusal : Refusal) (before now : Outlet) : Type 0 where
+-- the text of the units before was written, and then it is refused
+pub record WritesRefused (from : InputForm) (to : Target) (limits : Limits) (whole : List ℕ) (refusal : Refusal) (before now : Outlet) : Type 0 where
   pub text : List ℕ
   pub is_refused : IsRefusal from to limits whole text refusal
   pub so_far : IsTextSoFar from to limits whole text
   pub gains : Gains before now text
 
 -- the same before a fault of the target
-pub record WritesFaulted (from : InputForm) (to : Form) (limits : Limits) (whole : List ℕ) (found : TargetFault) (before now : Outlet) : Type 0 where
+pub record WritesFaulted (from : InputForm) (to : Target) (limits : Limits) (whole : List ℕ) (found : TargetFault) (before now : Outlet) : Type 0 where
   pub text : List ℕ
   pub is_faulted : IsFaulted from to limits whole text found
   pub so_far : IsTextSoFar from to limits whole text
   pub gains : Gains before now text
 
 -- the whole text was written
-pub record WritesWhole (from : InputForm) (to : Form) (limits : Limits) (whole : List ℕ) (tally : Tally) (before now : Outlet) : Type 0 where
+pub record WritesWhole (from : InputForm) (to : Target) (limits : Limits) (whole : List ℕ) (tally : Tally) (before now : Outlet) : Type 0 where
   pub text : List ℕ
   pub is_good : IsGood from to limits whole text tally
-  pub sized : All (IsSizedGroup to) (groups_in is_good.noted)
+  pub sized : All to.IsSized is_good.noted
   pub gains : Gains before now text
 
-abbrev pub StopsWalk : InputForm → Form → Limits → List ℕ → WalkStop → Outlet → Outlet → Type 0
+abbrev pub StopsWalk : InputForm → Target → Limits → List ℕ → WalkStop → Outlet → Outlet → Type 0
 StopsWalk from to limits whole (walk_stops.Refused refusal) before now = WritesRefused from to limits whole refusal before now
 StopsWalk from to limits whole (walk_stops.Faulted found) before now = WritesFaulted from to limits whole found before now
 StopsWalk from to limits whole walk_stops.Write before now = FailsFrontOn from to limits whole before now
 StopsWalk from to limits whole walk_stops.OutOfMemory before now = WritesFrontOn from to limits whole before now
 
-abbrev pub EndsWalk : InputForm → Form → Limits → List ℕ → Result Tally WalkStop → Outlet → Outlet → Type 0
+abbrev pub EndsWalk : InputForm → Target → Limits → List ℕ → Result Tally WalkStop → Outlet → Outlet → Type 0
 EndsWalk from to limits whole (Ok tally) before now = WritesWhole from to limits whole tally before now
 EndsWalk from to limits whole (Err stop) before now = StopsWalk from to limits whole stop before now
 

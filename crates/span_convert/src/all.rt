@@ -15,9 +15,9 @@ use crate::laws::{
     cut_batches, free_members, one_verdict, output_read_back, same_batches, same_documents,
     some_verdict,
 };
+use crate::output::write_units;
 use crate::progress::WalkStop;
 use crate::units::input_limit;
-use crate::walk::write_units;
 use span_io::laws::proper_bytes;
 use span_io::{Blob, Failed, Form, Limits, OutOfMemory, Sink};
 use std::alloc::Global;

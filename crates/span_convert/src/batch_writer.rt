@@ -7,21 +7,23 @@ ghost use Rattle.map_jaeger.specs.Laws.{IsHeld};
 ghost use Rattle.map_jaeger.specs.Normal.{normal_group};
 ghost use Rattle.map_jaeger.specs.Writing.{batch_of};
 ghost use Rattle.span_io.specs.declared.form.Form.TheVariants as forms;
-ghost use Rattle.span_convert.specs.Walks.{IfWhy};
+ghost use Rattle.span_convert.specs.Targets.{form_target};
+ghost use Rattle.span_convert.specs.Walks.{IfWhy, StandsForAny};
 ghost use Rattle.trace_model.specs.Soundness.{IsSoundGroup};
 
 use crate::batch_file::{BinaryBatches, CompactBatches};
+use crate::laws::form_targets;
 use crate::tally::Tally;
 use crate::units::UnitWriter;
 use jaeger_model::{Batch, proper_sizes, write_batch};
 use map_jaeger::batch_of_group;
 use map_jaeger::laws::normal_forms;
-use span_io::{Blob, Halt, OutOfMemory};
+use span_io::{Blob, Halt, Items, OutOfMemory};
 use std::alloc::Global;
 use thrift_binary::Binary;
 use thrift_compact::Compact;
 use thrift_core::Protocol;
-use trace_model::{Fault, Group, proper_group};
+use trace_model::{Fault, Group, Remark, proper_group};
 
 // The batch of a group.
 fn writable_batch(alloc: Global, group: Group) -> Result<Batch, Halt<Fault>>
@@ -48,35 +50,57 @@ fn write_unit<P: Protocol>(alloc: Global, out: &mut Blob, group: Group) -> Resul
 }
 
 impl UnitWriter for BinaryBatches {
-    ghost form = { forms.JaegerBinary };
+    ghost target = { form_target forms.JaegerBinary };
+
+    ghost stands = { StandsForAny };
+
+    fn target_laws() {
+        form_targets();
+    }
+
+    fn none() -> Self {
+        BinaryBatches
+    }
 
     fn write(
+        &mut self,
         alloc: Global,
         out: &mut Blob,
         _before: Tally,
-        group: Group,
+        unit: (Group, Items<Remark>),
     ) -> Result<(), Halt<Fault>> {
-        write_unit::<Binary>(alloc, out, group)
+        write_unit::<Binary>(alloc, out, unit.0)
     }
 
-    fn close(_out: &mut Blob, _all: Tally) -> Result<(), OutOfMemory> {
+    fn close(&self, _out: &mut Blob, _all: Tally) -> Result<(), OutOfMemory> {
         Ok(())
     }
 }
 
 impl UnitWriter for CompactBatches {
-    ghost form = { forms.JaegerCompact };
+    ghost target = { form_target forms.JaegerCompact };
+
+    ghost stands = { StandsForAny };
+
+    fn target_laws() {
+        form_targets();
+    }
+
+    fn none() -> Self {
+        CompactBatches
+    }
 
     fn write(
+        &mut self,
         alloc: Global,
         out: &mut Blob,
         _before: Tally,
-        group: Group,
+        unit: (Group, Items<Remark>),
     ) -> Result<(), Halt<Fault>> {
-        write_unit::<Compact>(alloc, out, group)
+        write_unit::<Compact>(alloc, out, unit.0)
     }
 
-    fn close(_out: &mut Blob, _all: Tally) -> Result<(), OutOfMemory> {
+    fn close(&self, _out: &mut Blob, _all: Tally) -> Result<(), OutOfMemory> {
         Ok(())
     }
 }

@@ -1,4 +1,4 @@
-//! Conversion of an input that comes in pieces.
+//! Conversion and reports of an input that comes in pieces.
 ghost use Rattle.std.specs.Prelude.{◌≡◌, ◌≢◌, ◌+◌, ◌++◌, [], ℕ, List, length, ◌≤◌, ◌<◌, true, Err, None, OnOk, OnErr, IsErr};
 ghost use Rattle.span_io.specs.Limits.{AreLimits};
 ghost use Rattle.span_io.specs.Outside.{OutputFails, OutputHolds};
@@ -8,13 +8,14 @@ ghost use Rattle.span_convert.specs.Walks.{IsLookedAt};
 ghost use Rattle.span_convert.specs.declared.converter.State.TheVariants as states;
 ghost use Rattle.span_convert.specs.declared.stop.Stop.TheVariants as stops;
 
-use crate::laws::one_verdict;
+use crate::laws::one_verdict_by;
+use crate::output::{Output, write_units};
 use crate::progress::WalkStop;
+use crate::report::Report;
 use crate::stop::Stop;
 use crate::tally::Tally;
 use crate::target_fault::TargetFault;
 use crate::units::input_limit;
-use crate::walk::write_units;
 use crate::why::Why;
 use span_io::{Blob, Form, Limits, OutOfMemory, Refusal, Sink};
 use std::alloc::Global;
@@ -48,13 +49,13 @@ impl State {
     }
 }
 
-/// Converts an input that is fed in pieces. It is kept until it ends, or is longer than its limit;
-/// then its text is written.
+/// Writes what a target has of an input that is fed in pieces. The input is kept until it ends, or is
+/// longer than its limit; then its text is written.
 #[derive(Debug, Drop)]
-pub struct Converter {
+pub struct Walker<O> {
     alloc: Global,
     from: Form,
-    to: Form,
+    what: O,
     limits: Limits,
     held: Blob,
     state: State,
@@ -62,20 +63,26 @@ pub struct Converter {
     ghost within: { length held ≤ told.input_limit from limits },
 }
 
-impl Converter {
+/// Converts an input to another form.
+pub type Converter = Walker<Form>;
+
+/// Reports what stands in an input.
+pub type Reporter = Walker<Report>;
+
+impl<O: Output> Walker<O> {
     ghost use Rattle.span_convert.specs.Converters.{HasForms, IsVerdictBy, IsJudgedBy, WritesFrontBy, Fed, KeepsWhy, SameStop, KeepsStop, OnlyWants, Stopped, IsWhy, limit_of, stop_in, is_ended};
 
-    /// A converter that was fed nothing.
-    pub fn new(alloc: Global, from: Form, to: Form, limits: &Limits) -> Converter
+    /// A converter or reporter that was fed nothing.
+    pub fn new(alloc: Global, from: Form, what: O, limits: &Limits) -> Walker<O>
         requires limits { AreLimits limits.now }
         ensures fed { Fed result [] }
-        ensures forms { HasForms result from to }
+        ensures forms { HasForms result from what }
         ensures limits { result.limits ≡ limits.now }
     {
-        Converter {
+        Walker {
             alloc,
             from,
-            to,
+            what,
             limits: *limits,
             held: Blob::new(alloc),
             state: State::Open,
@@ -85,7 +92,7 @@ impl Converter {
     // Adds bytes to those that are held.
     fn hold(&mut self, piece: &[u8]) -> Result<(), Stop>
         requires within { length self.old.held + length piece.now ≤ limit_of self.old }
-        ensures forms { HasForms self.new self.old.from self.old.to }
+        ensures forms { HasForms self.new self.old.from self.old.what }
         ensures limits { self.new.limits ≡ self.old.limits }
         ensures ok { OnOk result ((self.new.held ≡ self.old.held ++ piece.now) × (self.new.state ≡ self.old.state)) }
         ensures err { OnErr result ((result ≡ Err stops.OutOfMemory) × (self.new.state ≡ states.OutOfMemory)) }
@@ -103,26 +110,26 @@ impl Converter {
     fn carry_out<K: Sink>(&mut self, too_long: bool, out: &mut K) -> Result<Tally, Stop>
         ensures stays { KeepsStop result self.new.state }
         ensures ended { OnOk result (self.new.state ≡ states.Ended) }
-        ensures forms { HasForms self.new self.old.from self.old.to }
+        ensures forms { HasForms self.new self.old.from self.old.what }
         ensures limits { self.new.limits ≡ self.old.limits }
         ensures judged { (whole : List ℕ) → AreLimits self.old.limits
             → IsLookedAt (limit_of self.old) whole self.old.held too_long
-            → IsJudgedBy self.old whole result }
+            → IsJudgedBy O.target self.old whole result }
         ensures verdict { (whole : List ℕ) → AreLimits self.old.limits
             → IsLookedAt (limit_of self.old) whole self.old.held too_long
-            → (verdict : Verdict) → IsVerdictBy self.old whole verdict
+            → (verdict : Verdict) → IsVerdictBy O.target self.old whole verdict
             → Carries verdict result (K.outlet out.old) (K.outlet out.new) × KeepsWhy verdict self.new.state }
         ensures front { (whole : List ℕ) → IsLookedAt (limit_of self.old) whole self.old.held too_long
-            → WritesFrontBy self.old whole (K.outlet out.old) (K.outlet out.new) }
+            → WritesFrontBy O.target self.old whole (K.outlet out.old) (K.outlet out.new) }
         ensures fails { result ≡ Err stops.Write → OutputFails (K.outlet out.old) (K.outlet out.new) }
         ensures holds { result ≢ Err stops.Write → OutputHolds (K.outlet out.old) (K.outlet out.new) }
         ensures longer { too_long ≡ true → IsErr result }
     {
-        one_verdict();
+        one_verdict_by(self.what);
         match write_units(
             self.alloc,
             self.from,
-            self.to,
+            self.what,
             self.held.as_slice(),
             too_long,
             &self.limits,
@@ -156,19 +163,19 @@ impl Converter {
     fn refuse_longer<K: Sink>(&mut self, piece: &[u8], out: &mut K) -> Result<(), Stop>
         requires within { length self.old.held + length piece.now ≤ limit_of self.old }
         ensures stays { KeepsStop result self.new.state }
-        ensures forms { HasForms self.new self.old.from self.old.to }
+        ensures forms { HasForms self.new self.old.from self.old.what }
         ensures limits { self.new.limits ≡ self.old.limits }
         ensures ended { IsErr result }
         ensures judged { (whole : List ℕ) → AreLimits self.old.limits
             → IsLookedAt (limit_of self.old) whole (self.old.held ++ piece.now) true
-            → Stopped result (λ stop. IsJudgedBy {T = Unit} self.old whole (Err stop)) }
+            → Stopped result (λ stop. IsJudgedBy {T = Unit} O.target self.old whole (Err stop)) }
         ensures verdict { (whole : List ℕ) → AreLimits self.old.limits
             → IsLookedAt (limit_of self.old) whole (self.old.held ++ piece.now) true
-            → (verdict : Verdict) → IsVerdictBy self.old whole verdict
+            → (verdict : Verdict) → IsVerdictBy O.target self.old whole verdict
             → Stopped result (λ stop. Stops verdict stop (K.outlet out.old) (K.outlet out.new))
             × KeepsWhy verdict self.new.state }
         ensures front { (whole : List ℕ) → IsLookedAt (limit_of self.old) whole (self.old.held ++ piece.now) true
-            → WritesFrontBy self.old whole (K.outlet out.old) (K.outlet out.new) }
+            → WritesFrontBy O.target self.old whole (K.outlet out.old) (K.outlet out.new) }
         ensures fails { result ≡ Err stops.Write → OutputFails (K.outlet out.old) (K.outlet out.new) }
         ensures holds { result ≢ Err stops.Write → OutputHolds (K.outlet out.old) (K.outlet out.new) }
     {
@@ -186,7 +193,7 @@ impl Converter {
         // Behind a stop each call answers the same, and calls no sink.
         ensures stopped { SameStop (stop_in self.old.state) result ((self.new ≡ self.old) × (out.new ≡ out.old)) }
         ensures stays { KeepsStop result self.new.state }
-        ensures forms { HasForms self.new self.old.from self.old.to }
+        ensures forms { HasForms self.new self.old.from self.old.what }
         ensures limits { self.new.limits ≡ self.old.limits }
 
         // Within the limit the bytes are kept, and nothing is written.
@@ -196,15 +203,15 @@ impl Converter {
 
         // Beyond it the verdict on all bytes so far is carried out, which is a refusal or a fault.
         ensures beyond { (bytes : List ℕ) → Fed self.old bytes → limit_of self.old < length (bytes ++ piece.now)
-            → Stopped result (λ stop. IsJudgedBy {T = Unit} self.old (bytes ++ piece.now) (Err stop)) }
+            → Stopped result (λ stop. IsJudgedBy {T = Unit} O.target self.old (bytes ++ piece.now) (Err stop)) }
         ensures verdict { (bytes : List ℕ) → Fed self.old bytes → limit_of self.old < length (bytes ++ piece.now)
-            → (verdict : Verdict) → IsVerdictBy self.old (bytes ++ piece.now) verdict
+            → (verdict : Verdict) → IsVerdictBy O.target self.old (bytes ++ piece.now) verdict
             → Stopped result (λ stop. Stops verdict stop (K.outlet out.old) (K.outlet out.new))
             × KeepsWhy verdict self.new.state }
 
         // Whatever is answered, a front of the text of the first units was written.
         ensures front { (bytes : List ℕ) → Fed self.old bytes
-            → WritesFrontBy self.old (bytes ++ piece.now) (K.outlet out.old) (K.outlet out.new) }
+            → WritesFrontBy O.target self.old (bytes ++ piece.now) (K.outlet out.old) (K.outlet out.new) }
 
         // The sink failed where its count rose, and only there. Behind a failed write comes no other, and none
         // is of nothing.
@@ -228,15 +235,16 @@ impl Converter {
         requires going { is_ended self.old.state ≢ true }
         ensures stopped { SameStop (stop_in self.old.state) result ((self.new ≡ self.old) × (out.new ≡ out.old)) }
         ensures stays { KeepsStop result self.new.state }
-        ensures forms { HasForms self.new self.old.from self.old.to }
+        ensures forms { HasForms self.new self.old.from self.old.what }
         ensures ended { OnOk result (self.new.state ≡ states.Ended) }
 
         // The verdict on all bytes is carried out.
-        ensures judged { (bytes : List ℕ) → Fed self.old bytes → IsJudgedBy self.old bytes result }
-        ensures verdict { (bytes : List ℕ) → Fed self.old bytes → (verdict : Verdict) → IsVerdictBy self.old bytes verdict
+        ensures judged { (bytes : List ℕ) → Fed self.old bytes → IsJudgedBy O.target self.old bytes result }
+        ensures verdict { (bytes : List ℕ) → Fed self.old bytes
+            → (verdict : Verdict) → IsVerdictBy O.target self.old bytes verdict
             → Carries verdict result (K.outlet out.old) (K.outlet out.new) × KeepsWhy verdict self.new.state }
         ensures front { (bytes : List ℕ) → Fed self.old bytes
-            → WritesFrontBy self.old bytes (K.outlet out.old) (K.outlet out.new) }
+            → WritesFrontBy O.target self.old bytes (K.outlet out.old) (K.outlet out.new) }
         ensures fails { stop_in self.old.state ≡ None → result ≡ Err stops.Write
             → OutputFails (K.outlet out.old) (K.outlet out.new) }
         ensures holds { result ≢ Err stops.Write → OutputHolds (K.outlet out.old) (K.outlet out.new) }

@@ -1,7 +1,10 @@
 //! A file of OTLP/JSON: groups in the array of an object.
 ghost use Rattle.span_io.specs.declared.form.Form.TheVariants as forms;
 ghost use Rattle.span_convert.specs.GroupFiles.{group_document};
+ghost use Rattle.span_convert.specs.Targets.{form_target};
+ghost use Rattle.span_convert.specs.Walks.{StandsForAny};
 
+use crate::laws::form_targets;
 use crate::tally::Tally;
 use crate::units::{DocumentReader, UnitWriter, append_if};
 use otlp_json::{read_text, write_group};
@@ -23,19 +26,30 @@ impl DocumentReader for GroupFile {
 }
 
 impl UnitWriter for GroupFile {
-    ghost form = { forms.OtlpJson };
+    ghost target = { form_target forms.OtlpJson };
+
+    ghost stands = { StandsForAny };
+
+    fn target_laws() {
+        form_targets();
+    }
+
+    fn none() -> Self {
+        GroupFile
+    }
 
     fn write(
+        &mut self,
         _alloc: Global,
         out: &mut Blob,
         before: Tally,
-        group: Group,
+        unit: (Group, Items<Remark>),
     ) -> Result<(), Halt<Fault>> {
-        proper_group(&group);
+        proper_group(&unit.0);
         let size = out.len();
         append_if(out, before.units == 0, b"{\"resourceSpans\":[")?;
         append_if(out, before.units > 0, b",")?;
-        match write_group(out, &group) {
+        match write_group(out, &unit.0) {
             Ok(()) => Ok(()),
             Err(Halt::Why(fault)) => {
                 out.truncate(size);
@@ -45,7 +59,7 @@ impl UnitWriter for GroupFile {
         }
     }
 
-    fn close(out: &mut Blob, all: Tally) -> Result<(), OutOfMemory> {
+    fn close(&self, out: &mut Blob, all: Tally) -> Result<(), OutOfMemory> {
         append_if(out, all.units == 0, b"{\"resourceSpans\":[")?;
         out.append(b"]}")
     }

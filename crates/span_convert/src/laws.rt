@@ -13,9 +13,14 @@ ghost use Rattle.span_convert.specs.CutBatches.{EndsInBatch, IfJaeger};
 ghost use Rattle.span_convert.specs.InputLaws.{BatchLaws, GroupFileLaws, InputLaws, SpanFileLaws, TextLaws, TreeLaws};
 ghost use Rattle.span_convert.specs.SameBatches.{SameBatches};
 ghost use Rattle.span_convert.specs.SameDocuments.{AgreeingDocuments, SameDocuments};
+ghost use Rattle.span_convert.specs.Reports.{IsVerdictAs, WritesFrontAs, report_target, written_target};
+ghost use Rattle.span_convert.specs.Targets.{TargetLaws, form_target};
 ghost use Rattle.span_convert.specs.Units.{groups_in, input_form, IsSizedGroup, normal_form, canonical_text, partial_text, closing_text, span_count};
-ghost use Rattle.span_convert.specs.Verdicts.{Verdict, refused, IsFaultless, IsVerdict, IsGood, IsTextSoFar, WritesFront, verdict_text};
+ghost use Rattle.span_convert.specs.Verdicts.{Verdict, refused, IsFaultless, IsVerdict, IsVerdictOn, IsGood, IsTextSoFar, verdict_text};
+ghost use Rattle.span_convert.specs.declared.report.Report.{Report};
+ghost use Rattle.span_convert.specs.declared.written.Written.{Written};
 
+use crate::output::Output;
 use crate::tally::Tally;
 use thrift_binary::Binary;
 use thrift_compact::Compact;
@@ -94,23 +99,55 @@ fn input_laws()
     group_file_laws();
 }
 
+/// What each form keeps as a target.
+pub(crate) fn form_targets()
+    ensures { (to : Form) → TargetLaws (form_target to) }
+{
+    map_jaeger::laws::faults_found();
+    map_zipkin::laws::zipkin_faults_found();
+    map_zipkin::laws::zipkin_normal_forms();
+}
+
+/// What each report keeps as a target.
+pub(crate) fn report_targets()
+    ensures { (what : Report) → TargetLaws (report_target what) }
+{
+    // The clause is the law.
+}
+
+/// Bytes have one verdict at most, whatever is written of them. What is written begins with each text
+/// so far of their first units.
+pub(crate) fn one_verdict_by<O: Output>(what: O)
+    ensures once { (from : Form) (limits : Limits) (bytes : List ℕ) (v w : Verdict) → AreLimits limits
+        → IsVerdictOn (input_form from) (O.target what) limits bytes v
+        → IsVerdictOn (input_form from) (O.target what) limits bytes w → v ≡ w }
+    ensures so_far { (from : Form) (limits : Limits) (bytes text : List ℕ) (v : Verdict) → AreLimits limits
+        → IsTextSoFar (input_form from) (O.target what) limits bytes text
+        → IsVerdictOn (input_form from) (O.target what) limits bytes v → IsFront text (verdict_text v) }
+{
+    input_laws();
+    what.target_laws();
+}
+
 /// Bytes have one verdict at most. What is written for the bytes begins with each text so far of their
 /// first groups.
 pub fn one_verdict()
-    ensures once { (from to : Form) (limits : Limits) (bytes : List ℕ) (v w : Verdict) → AreLimits limits
-        → IsVerdict from to limits bytes v → IsVerdict from to limits bytes w → v ≡ w }
-    ensures so_far { (from to : Form) (limits : Limits) (bytes text : List ℕ) (v : Verdict) → AreLimits limits
-        → IsTextSoFar (input_form from) to limits bytes text → IsVerdict from to limits bytes v → IsFront text (verdict_text v) }
+    ensures once { (from : Form) (what : Written) (limits : Limits) (bytes : List ℕ) (v w : Verdict) → AreLimits limits
+        → IsVerdictAs from what limits bytes v → IsVerdictAs from what limits bytes w → v ≡ w }
+    ensures so_far { (from : Form) (what : Written) (limits : Limits) (bytes text : List ℕ) (v : Verdict)
+        → AreLimits limits → IsTextSoFar (input_form from) (written_target what) limits bytes text → IsVerdictAs from what limits bytes v
+        → IsFront text (verdict_text v) }
 {
     input_laws();
+    form_targets();
 }
 
 /// Two inputs of Jaeger that hold the same batches have the same verdicts, whichever protocols they are
 /// in, and whatever free fields stand in the one and not in the other.
 pub fn same_batches()
-    ensures { (from other to : Form) (limits : Limits) (bytes others : List ℕ) → AreLimits limits
+    ensures { (from other : Form) (what : Written) (limits : Limits) (bytes others : List ℕ) → AreLimits limits
         → SameBatches limits from bytes other others → (verdict : Verdict)
-        → IsVerdict from to limits bytes verdict ↔ IsVerdict other to limits others verdict }
+        → IsVerdictAs from what limits bytes verdict ↔ IsVerdictAs other what limits others verdict }
 {
     input_laws();
     tree_laws();
@@ -119,9 +156,9 @@ pub fn same_batches()
 /// Two inputs of one form in JSON have the same verdicts, where they are texts of values that mean the
 /// same and in which the same offends.
 pub fn same_documents()
-    ensures { (from to : Form) (limits : Limits) (bytes others : List ℕ)
+    ensures { (from : Form) (what : Written) (limits : Limits) (bytes others : List ℕ)
         → SameDocuments limits from bytes others → (verdict : Verdict)
-        → IsVerdict from to limits bytes verdict ↔ IsVerdict from to limits others verdict }
+        → IsVerdictAs from what limits bytes verdict ↔ IsVerdictAs from what limits others verdict }
 {
     // The clause is the law.
 }
@@ -129,9 +166,9 @@ pub fn same_documents()
 /// Members that a form in JSON doesn't know change nothing: two inputs whose values have the same of all
 /// others, at every depth, have the same verdicts.
 pub fn free_members()
-    ensures { (from to : Form) (limits : Limits) (bytes others : List ℕ)
+    ensures { (from : Form) (what : Written) (limits : Limits) (bytes others : List ℕ)
         → AgreeingDocuments limits from bytes others → (verdict : Verdict)
-        → IsVerdict from to limits bytes verdict ↔ IsVerdict from to limits others verdict }
+        → IsVerdictAs from what limits bytes verdict ↔ IsVerdictAs from what limits others verdict }
 {
     same_documents();
     otlp_json::laws::free_members();
@@ -150,16 +187,15 @@ pub fn cut_batches()
 
 /// Bytes have a verdict.
 pub fn some_verdict()
-    ensures { (from to : Form) (limits : Limits) (bytes : List ℕ) → All (λ b. b < 256) bytes
-        → (verdict : Verdict) × IsVerdict from to limits bytes verdict }
+    ensures { (from : Form) (what : Written) (limits : Limits) (bytes : List ℕ) → All (λ b. b < 256) bytes
+        → (verdict : Verdict) × IsVerdictAs from what limits bytes verdict }
 {
     input_laws();
     otlp_proto::laws::some_group();
     otlp_proto::laws::read_proper();
     map_jaeger::laws::read_is_sound();
     map_jaeger::laws::read_is_proper();
-    map_jaeger::laws::faults_found();
-    map_zipkin::laws::zipkin_faults_found();
+    form_targets();
 }
 
 /// The canonical text of a trace is its text so far, and then the bytes that close it.
@@ -172,7 +208,8 @@ pub fn closed_texts()
 
 /// A sink that wasn't called gained a front of the text of the first units, of whatever bytes.
 pub fn nothing_written()
-    ensures { (from to : Form) (limits : Limits) (bytes : List ℕ) (now : Outlet) → WritesFront from to limits bytes now now }
+    ensures { (from : Form) (what : Written) (limits : Limits) (bytes : List ℕ) (now : Outlet)
+        → WritesFrontAs from what limits bytes now now }
 {
     // The clause is the law.
 }
@@ -239,13 +276,13 @@ pub fn converts_to_itself()
 /// converts to itself.
 pub fn output_read_back()
     ensures read { (from to : Form) (limits : Limits) (bytes text : List ℕ) (tally : Tally) → length text < 2 ^ 63
-        → (h : IsGood (input_form from) to limits bytes text tally) → All (IsSizedGroup to) (groups_in h.noted)
+        → (h : IsGood (input_form from) (form_target to) limits bytes text tally) → All (IsSizedGroup to) (groups_in h.noted)
         → ReadsPlainly to text (normal_form to (groups_in h.noted)) }
     ensures again { (from to : Form) (limits : Limits) (bytes text : List ℕ) (tally : Tally) → AreLimits limits
-        → (h : IsGood (input_form from) to limits bytes text tally) → All (IsSizedGroup to) (groups_in h.noted)
+        → (h : IsGood (input_form from) (form_target to) limits bytes text tally) → All (IsSizedGroup to) (groups_in h.noted)
         → Fits to limits text → ConvertsToItself to limits text (groups_in h.noted) }
     ensures back { (from to : Form) (limits : Limits) (bytes text : List ℕ) (tally : Tally) → AreLimits limits
-        → length text < 2 ^ 63 → (h : IsGood (input_form from) to limits bytes text tally)
+        → length text < 2 ^ 63 → (h : IsGood (input_form from) (form_target to) limits bytes text tally)
         → All (IsSizedGroup to) (groups_in h.noted) → ReadsBack from to limits bytes text }
 {
     equal_texts();

@@ -1,16 +1,20 @@
-//! Conversion of traces from one form to another, in pieces or in one call.
+//! Conversion of traces from one form to another, and reports of them, in pieces or in one call.
 #![tactic(auto)]
 
 mod all;
 mod bad;
 mod batch_file;
 mod batch_writer;
+mod check_writer;
 mod converter;
 mod document;
 mod group_file;
 pub mod laws;
+mod output;
 mod progress;
+mod report;
 mod request;
+mod show_writer;
 mod span_file;
 mod stop;
 mod tally;
@@ -18,12 +22,15 @@ mod target_fault;
 mod units;
 mod walk;
 mod why;
+mod written;
 
 pub use all::convert_all;
 pub use bad::Bad;
-pub use converter::Converter;
+pub use converter::{Converter, Reporter, Walker};
+pub use report::Report;
 pub use span_io::{Form, Limits, Refusal};
 pub use stop::Stop;
 pub use tally::Tally;
 pub use target_fault::TargetFault;
 pub use why::Why;
+pub use written::Written;

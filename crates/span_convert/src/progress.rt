@@ -1,19 +1,19 @@
-//! What a walk over the units of an input has converted so far.
-ghost use Rattle.std.specs.Prelude.{◌≡◌, ◌≢◌, ◌+◌, ◌<◌, min, [], ◌∷◌, ℕ, List, ◌++◌, length, IfOk, IfErr, OnOk, OnErr, Err};
+//! What a walk over the units of an input has written so far.
+ghost use Rattle.std.specs.Prelude.{◌≡◌, ◌≢◌, ◌+◌, ◌<◌, min, [], ◌∷◌, List, length, IfOk, IfErr, OnOk, OnErr, Err};
 ghost use Rattle.span_io.specs.Outside.{Outlet, Gains, OutputFails, OutputHolds, FailsWithin, last_count};
+ghost use Rattle.trace_model.specs.OtlpParts.{NotedGroup};
 ghost use Rattle.trace_model.specs.Soundness.{IsSoundGroup};
-ghost use Rattle.span_convert.specs.Units.{FaultOf, span_count};
-ghost use Rattle.trace_model.specs.declared.trace.Group as model;
-ghost use Rattle.span_convert.specs.Walks.{AddsGroup, Converted, EndsText, IfWhy, StopsText, WritesOut};
+ghost use Rattle.map_zipkin.specs.NotedGroups.{noted_group};
+ghost use Rattle.span_convert.specs.Units.{span_count};
+ghost use Rattle.span_convert.specs.Walks.{AddsNothing, AddsUnit, Converted, EndsText, IfWhy, StopsText, WritesOut};
 
-use crate::laws::closed_texts;
 use crate::tally::Tally;
 use crate::target_fault::TargetFault;
 use crate::units::UnitWriter;
 use span_io::laws::gains_then;
-use span_io::{Blob, Cause, Failed, Halt, Refusal, Sink, write_all};
+use span_io::{Blob, Cause, Failed, Halt, Items, Refusal, Sink, write_all};
 use std::alloc::Global;
-use trace_model::{Fault, Group};
+use trace_model::{Fault, Group, Remark};
 
 /// Why a walk goes no further.
 #[derive(Debug, Drop)]
@@ -26,11 +26,12 @@ pub(crate) enum WalkStop {
     OutOfMemory,
 }
 
-/// The text that isn't written yet, and how much was converted.
+/// The text that isn't written yet, how much was converted, and what writes the next unit.
 #[derive(Debug, Drop)]
-pub(crate) struct Progress {
+pub(crate) struct Progress<W> {
     unwritten: Blob,
     tally: Tally,
+    writer: W,
 }
 
 // How many spans a group has, at the most where the count stands still.
@@ -44,16 +45,7 @@ fn spans_in(group: &Group) -> u64
     count
 }
 
-impl Progress {
-    pub(crate) fn none(alloc: Global) -> Progress
-        ensures { result ≡ record { unwritten = []; tally = record { units = 0; spans = 0 } } }
-    {
-        Progress {
-            unwritten: Blob::new(alloc),
-            tally: Tally { units: 0, spans: 0 },
-        }
-    }
-
+impl<W> Progress<W> {
     /// The number of bytes that aren't written yet.
     pub(crate) fn unwritten(&self) -> usize
         ensures { result ≡ length self.now.unwritten }
@@ -61,27 +53,10 @@ impl Progress {
         self.unwritten.len()
     }
 
-    /// Adds the canonical text of a unit's group, and counts the unit and its spans.
-    pub(crate) fn add_group<W: UnitWriter>(
-        &mut self,
-        alloc: Global,
-        group: Group,
-    ) -> Result<(), Halt<Fault>>
-        requires room { self.old.tally.units < last_count }
-        requires sound { IsSoundGroup group }
-        ensures ok { OnOk result (AddsGroup W.form group self.old self.new) }
-        ensures why { IfWhy result (λ fault. FaultOf W.form group fault × (self.new ≡ self.old)) }
-    {
-        let spans = spans_in(&group);
-        W::write(alloc, &mut self.unwritten, self.tally, group)?;
-        self.tally.units += 1;
-        self.tally.spans = self.tally.spans.saturating_add(spans);
-        Ok(())
-    }
-
     /// Writes the text that isn't written yet.
     pub(crate) fn flush<K: Sink>(&mut self, out: &mut K) -> Result<(), Failed>
         ensures tally { self.new.tally ≡ self.old.tally }
+        ensures writer { self.new.writer ≡ self.old.writer }
         ensures ok { OnOk result ((self.new.unwritten ≡ []) × Gains (K.outlet out.old) (K.outlet out.new) self.old.unwritten) }
         ensures failed { OnErr result (OutputFails (K.outlet out.old) (K.outlet out.new)) }
         ensures within { OnErr result (FailsWithin (K.outlet out.old) (K.outlet out.new) self.old.unwritten) }
@@ -90,28 +65,6 @@ impl Progress {
         write_all(out, self.unwritten.as_slice())?;
         self.unwritten.clear();
         Ok(())
-    }
-
-    /// Writes the rest of the text of all groups, and answers how much was converted.
-    pub(crate) fn finish<W: UnitWriter, K: Sink>(&mut self, out: &mut K) -> Result<Tally, WalkStop>
-        ensures ok { IfOk result (λ tally. (groups : List model.Group) (before : Outlet)
-            → Converted W.form groups before (K.outlet out.old) self.old
-            → EndsText W.form groups tally before (K.outlet out.new)) }
-        ensures stop { IfErr result (λ stop. (groups : List model.Group) (before : Outlet)
-            → Converted W.form groups before (K.outlet out.old) self.old
-            → StopsText W.form groups stop before (K.outlet out.new)) }
-        ensures fails { result ≡ Err WalkStop.Write → OutputFails (K.outlet out.old) (K.outlet out.new) }
-        ensures holds { result ≢ Err WalkStop.Write → OutputHolds (K.outlet out.old) (K.outlet out.new) }
-    {
-        gains_then();
-        closed_texts();
-        if W::close(&mut self.unwritten, self.tally).is_err() {
-            return Err(WalkStop::OutOfMemory);
-        }
-        match self.flush(out) {
-            Ok(()) => Ok(self.tally),
-            Err(Failed) => Err(WalkStop::Write),
-        }
     }
 
     // The number of the next unit.
@@ -149,6 +102,61 @@ impl Progress {
         match self.flush(out) {
             Ok(()) => WalkStop::Faulted(TargetFault { unit, fault }),
             Err(Failed) => WalkStop::Write,
+        }
+    }
+}
+
+impl<W: UnitWriter> Progress<W> {
+    /// Nothing was converted yet.
+    pub(crate) fn none(alloc: Global) -> Progress<W>
+        ensures { (now : Outlet) → Converted W.target W.stands [] now now result }
+    {
+        W::target_laws();
+        Progress {
+            unwritten: Blob::new(alloc),
+            tally: Tally { units: 0, spans: 0 },
+            writer: W::none(),
+        }
+    }
+
+    /// Adds what is written of a unit, and counts it and its spans.
+    pub(crate) fn add_unit(
+        &mut self,
+        alloc: Global,
+        unit: (Group, Items<Remark>),
+    ) -> Result<(), Halt<Fault>>
+        requires room { self.old.tally.units < last_count }
+        requires sound { IsSoundGroup unit.0 }
+        ensures ok { OnOk result (AddsUnit W.target W.stands (noted_group unit) self.old self.new) }
+        ensures why { IfWhy result (λ fault. AddsNothing W.target (noted_group unit) fault self.old self.new) }
+    {
+        let spans = spans_in(&unit.0);
+        self.writer
+            .write(alloc, &mut self.unwritten, self.tally, unit)?;
+        self.tally.units += 1;
+        self.tally.spans = self.tally.spans.saturating_add(spans);
+        Ok(())
+    }
+
+    /// Writes the rest of the text of all units, and answers how much was converted.
+    pub(crate) fn finish<K: Sink>(&mut self, out: &mut K) -> Result<Tally, WalkStop>
+        ensures ok { IfOk result (λ tally. (units : List NotedGroup) (before : Outlet)
+            → Converted W.target W.stands units before (K.outlet out.old) self.old
+            → EndsText W.target units tally before (K.outlet out.new)) }
+        ensures stop { IfErr result (λ stop. (units : List NotedGroup) (before : Outlet)
+            → Converted W.target W.stands units before (K.outlet out.old) self.old
+            → StopsText W.target units stop before (K.outlet out.new)) }
+        ensures fails { result ≡ Err WalkStop.Write → OutputFails (K.outlet out.old) (K.outlet out.new) }
+        ensures holds { result ≢ Err WalkStop.Write → OutputHolds (K.outlet out.old) (K.outlet out.new) }
+    {
+        gains_then();
+        W::target_laws();
+        if self.writer.close(&mut self.unwritten, self.tally).is_err() {
+            return Err(WalkStop::OutOfMemory);
+        }
+        match self.flush(out) {
+            Ok(()) => Ok(self.tally),
+            Err(Failed) => Err(WalkStop::Write),
         }
     }
 }

@@ -6,9 +6,11 @@ ghost use Rattle.otlp_proto.specs.Rows.{bytes_in};
 ghost use Rattle.proto_wire.specs.Wire.{records, RefusedBy};
 ghost use Rattle.span_convert.specs.Requests.{HoldsUnit};
 ghost use Rattle.span_convert.specs.Rests.{Cuts, StopsRest};
+ghost use Rattle.span_convert.specs.Targets.{form_target};
 ghost use Rattle.span_convert.specs.Units.{request_form};
-ghost use Rattle.span_convert.specs.Walks.{lent_bytes};
+ghost use Rattle.span_convert.specs.Walks.{lent_bytes, StandsForAny};
 
+use crate::laws::form_targets;
 use crate::tally::Tally;
 use crate::units::{Cut, UnitReader, UnitWriter};
 use otlp_proto::{read_group, write_group};
@@ -43,19 +45,30 @@ impl UnitReader for Request {
 }
 
 impl UnitWriter for Request {
-    ghost form = { forms.OtlpProto };
+    ghost target = { form_target forms.OtlpProto };
+
+    ghost stands = { StandsForAny };
+
+    fn target_laws() {
+        form_targets();
+    }
+
+    fn none() -> Self {
+        Request
+    }
 
     fn write(
+        &mut self,
         _alloc: Global,
         out: &mut Blob,
         _before: Tally,
-        group: Group,
+        unit: (Group, Items<Remark>),
     ) -> Result<(), Halt<Fault>> {
-        proper_group(&group);
-        Ok(write_group(out, &group)?)
+        proper_group(&unit.0);
+        Ok(write_group(out, &unit.0)?)
     }
 
-    fn close(_out: &mut Blob, _all: Tally) -> Result<(), OutOfMemory> {
+    fn close(&self, _out: &mut Blob, _all: Tally) -> Result<(), OutOfMemory> {
         Ok(())
     }
 }

@@ -4,7 +4,10 @@ ghost use Rattle.span_io.specs.declared.form.Form.TheVariants as forms;
 ghost use Rattle.zipkin_json.specs.Canonical.{zspan_text};
 ghost use Rattle.span_convert.specs.Documents.{pieces_added};
 ghost use Rattle.span_convert.specs.SpanFiles.{span_document};
+ghost use Rattle.span_convert.specs.Targets.{form_target};
+ghost use Rattle.span_convert.specs.Walks.{StandsForAny};
 
+use crate::laws::form_targets;
 use crate::tally::Tally;
 use crate::units::{DocumentReader, UnitWriter, append_if};
 use map_zipkin::laws::zipkin_normal_forms;
@@ -57,23 +60,34 @@ fn append_spans(
 }
 
 impl UnitWriter for SpanFile {
-    ghost form = { forms.ZipkinJson };
+    ghost target = { form_target forms.ZipkinJson };
+
+    ghost stands = { StandsForAny };
+
+    fn target_laws() {
+        form_targets();
+    }
+
+    fn none() -> Self {
+        SpanFile
+    }
 
     fn write(
+        &mut self,
         alloc: Global,
         out: &mut Blob,
         before: Tally,
-        group: Group,
+        unit: (Group, Items<Remark>),
     ) -> Result<(), Halt<Fault>> {
         zipkin_normal_forms();
-        proper_group(&group);
-        let spans = spans_of_group(alloc, group)?;
+        proper_group(&unit.0);
+        let spans = spans_of_group(alloc, unit.0)?;
         append_if(out, before.units == 0, b"[")?;
         append_spans(alloc, out, before.spans > 0, spans.as_slice())?;
         Ok(())
     }
 
-    fn close(out: &mut Blob, all: Tally) -> Result<(), OutOfMemory> {
+    fn close(&self, out: &mut Blob, all: Tally) -> Result<(), OutOfMemory> {
         append_if(out, all.units == 0, b"[")?;
         out.append(b"]")
     }

@@ -1,16 +1,17 @@
-//! What the walk over an input asks of its form, and of the form of its target.
-ghost use Rattle.std.specs.Prelude.{◌≡◌, ◌<◌, ◌^◌, ◌++◌, false, if◌then◌else◌, [], length, map, All, IfOk, IfErr, IfSome, OnOk, MatchOption};
+//! What the walk over an input asks of its form, and of its target.
+ghost use Rattle.std.specs.Prelude.{◌≡◌, ◌<◌, ◌^◌, ◌++◌, false, if◌then◌else◌, [], List, length, map, All, IfOk, IfErr, IfSome, OnOk, MatchOption};
 ghost use Rattle.span_io.specs.Causes.{cause_number};
 ghost use Rattle.span_io.specs.Offences.{Least};
 ghost use Rattle.span_io.specs.Paths.{RefusesInput};
-ghost use Rattle.span_io.specs.declared.form.Form.{Form};
+ghost use Rattle.span_io.specs.Outside.{last_count};
+ghost use Rattle.trace_model.specs.OtlpParts.{NotedGroup};
 ghost use Rattle.trace_model.specs.Soundness.{IsSoundGroup};
 ghost use Rattle.map_zipkin.specs.NotedGroups.{noted_group};
 ghost use Rattle.span_convert.specs.Documents.{DocumentForm};
 ghost use Rattle.span_convert.specs.FramedForms.{FramedForm};
+ghost use Rattle.span_convert.specs.Targets.{Target, TargetLaws};
 ghost use Rattle.span_convert.specs.Units as told;
-ghost use Rattle.span_convert.specs.Units.{FaultOf};
-ghost use Rattle.span_convert.specs.Walks.{lent_bytes, ClosesText, CutsFrame, HeldByFrames, StopsFrames, WritesGroup, IfWhy};
+ghost use Rattle.span_convert.specs.Walks.{lent_bytes, ClosesText, CutsFrame, HeldByFrames, StopsFrames, WritesUnit, IfWhy};
 
 use crate::tally::Tally;
 use span_io::{Blob, Cause, Form, Halt, Items, Limits, OutOfMemory, Refusal};
@@ -84,18 +85,36 @@ pub(crate) fn append_if(out: &mut Blob, wanted: bool, bytes: &[u8]) -> Result<()
     if wanted { out.append(bytes) } else { Ok(()) }
 }
 
-/// Writes the units of an output of one form.
-pub(crate) trait UnitWriter {
-    ghost form: { Form };
+/// Writes units to one target, one behind the other.
+pub(crate) trait UnitWriter: Drop {
+    ghost target: { Target };
 
-    /// Appends what a group adds to the text of so many groups and spans, or answers the fault in it,
+    // The writer stands for these units, and writes the next one behind them.
+    ghost stands: { Self → List NotedGroup → Type 0 };
+
+    /// What the target keeps.
+    fn target_laws()
+        ensures { TargetLaws target };
+
+    /// A writer that wrote nothing.
+    fn none() -> Self
+        ensures { stands result [] };
+
+    /// Appends what a unit adds to the text of so many units and spans, or answers the fault in it,
     /// and leaves `out` as it was.
-    fn write(alloc: Global, out: &mut Blob, before: Tally, group: Group) -> Result<(), Halt<Fault>>
-        requires sound { IsSoundGroup group }
-        ensures ok { OnOk result (WritesGroup form group before out.old out.new) }
-        ensures why { IfWhy result (λ fault. FaultOf form group fault × (out.new ≡ out.old)) };
+    fn write(
+        &mut self,
+        alloc: Global,
+        out: &mut Blob,
+        before: Tally,
+        unit: (Group, Items<Remark>),
+    ) -> Result<(), Halt<Fault>>
+        requires room { before.units < last_count }
+        requires sound { IsSoundGroup unit.0 }
+        ensures ok { OnOk result (WritesUnit target stands (noted_group unit) before self.old self.new out.old out.new) }
+        ensures why { IfWhy result (λ fault. target.FaultOf (noted_group unit) fault × (out.new ≡ out.old)) };
 
-    /// Appends what closes the text of so many groups and spans.
-    fn close(out: &mut Blob, all: Tally) -> Result<(), OutOfMemory>
-        ensures { OnOk result (ClosesText form all out.old out.new) };
+    /// Appends what closes the text of so many units and spans.
+    fn close(&self, out: &mut Blob, all: Tally) -> Result<(), OutOfMemory>
+        ensures { OnOk result (ClosesText target stands self.now all out.old out.new) };
 }

@@ -5,8 +5,6 @@
 #[cfg(test)]
 mod batches;
 #[cfg(test)]
-mod conversions;
-#[cfg(test)]
 mod events;
 #[cfg(test)]
 mod groups_json;
@@ -20,8 +18,6 @@ mod members;
 mod outside;
 #[cfg(test)]
 mod requests;
-#[cfg(test)]
-mod runs;
 #[cfg(test)]
 mod spans_json;
 #[cfg(test)]

@@ -1,6 +1,6 @@
 use Rattle.std.proofs.Common.{refl}
 use Rattle.span_io.specs.Limits.{shipped_limits}
-use Rattle.span_cli.specs.declared.command.Command.TheVariants.{Convert}
+use Rattle.span_cli.specs.Jobs.{Spans}
 use Rattle.span_cli.proofs.EndingLaws.{ends_no_memory, untouched_in_vain}
 use Rattle.span_cli.proofs.InputLemmas.{reads_nothing}
 use Rattle.span_cli.proofs.input.feed_input.Goals as goal
@@ -8,11 +8,11 @@ use Rattle.span_cli.proofs.input.feed_input.Goals as goal
 pub returns-in_default-clause-ended : goal.returns-in_default-clause-ended
 returns-in_default-clause-ended g c =
     let now = g.S.Source.inlet c.args.input.now in
-    let from = c.args.converter.now.from in
-    let to = c.args.converter.now.to in
-    let none = reads_nothing (Convert from to) now in
-    ends_no_memory g.K.Sink.outlet (Convert from to) now now c.args.output.now c.args.output.now (record {
+    let from = c.args.walker.now.from in
+    let what = c.args.walker.now.what in
+    let none = reads_nothing (Spans from what) now in
+    ends_no_memory g.K.Sink.outlet (Spans from what) now now c.args.output.now c.args.output.now (record {
       reads = none;
       in_vain = untouched_in_vain now;
-      front = record { given = none.given; gave = none.gave; front = c.nothing_written.ensures from to shipped_limits none.given (g.K.Sink.outlet c.args.output.now) };
+      front = record { given = none.given; gave = none.gave; front = c.nothing_written.ensures from what shipped_limits none.given (g.K.Sink.outlet c.args.output.now) };
     }) refl refl

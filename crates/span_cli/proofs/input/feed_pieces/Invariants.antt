@@ -7,9 +7,9 @@ use Rattle.span_cli.proofs.input.feed_pieces.Given as goal
 abbrev pub invariant-pieces : goal.invariant-pieces
 invariant-pieces g l = record {
   room : length l.buffer ≡ piece;
-  feeding : Feeding l.initial.converter.from l.initial.converter.to (g.S.Source.inlet l.initial.input) (g.S.Source.inlet l.input) l.converter;
+  feeding : Feeding l.initial.walker.from l.initial.walker.what (g.S.Source.inlet l.initial.input) (g.S.Source.inlet l.input) l.walker;
   unwritten : l.output ≡ l.initial.output;
 }
 
 abbrev pub decreases-pieces : goal.decreases-pieces
-decreases-pieces g l = suc (limit_of l.initial.converter) - length l.converter.held
+decreases-pieces g l = suc (limit_of l.initial.walker) - length l.walker.held

@@ -2,13 +2,14 @@ use Rattle.std.proofs.Common.{◌≡◌, ◌≢◌, ℕ, List, length, Option, S
 use Rattle.std.specs.Prelude.{IfSome}
 use Rattle.span_io.specs.Outside.{Takes}
 use Rattle.span_cli.specs.declared.command.Command.{Command}
-use Rattle.span_cli.specs.declared.command.Command.TheVariants.{Convert, Headers}
+use Rattle.span_cli.specs.declared.command.Command.TheVariants.{Headers}
 use Rattle.span_cli.specs.Lines.{IsRunStatus, Notes, stage_of, status_of}
-use Rattle.span_cli.specs.Outcomes.{OnOutcome, CarriesOut, IsJudgedAt, AgreesWith, Writes, line_of}
+use Rattle.span_cli.specs.Jobs.{job_of}
+use Rattle.span_cli.specs.Outcomes.{OnOutcome, IsJudgedAt, AgreesWith, Writes, line_of}
 use Rattle.span_cli.proofs.CommandLemmas.{command_read}
 use Rattle.span_cli.proofs.EndingLaws.{never_usage, is_status, on_outcome, untouched_in_vain, untouched_output_in_vain, output_in_vain, notes_in_vain}
 use Rattle.span_cli.proofs.LinesBack.{lines_back}
-use Rattle.span_cli.proofs.SameRuns.{carried_out, on_agreeing_documents, on_same_batches}
+use Rattle.span_cli.proofs.SameRuns.{carried_out_agreeing, carried_out_same}
 use Rattle.span_cli.proofs.top.run.Goals as goal
 
 pub returns-clause-usage : goal.returns-clause-usage
@@ -39,17 +40,17 @@ returns-clause-front g c = λ command spelled.
 pub returns-clause-judged : goal.returns-clause-judged
 returns-clause-judged g c = λ command spelled.
     let same = command_read c.in-Some.command command ((c.in-Some.ensures command).1 spelled) in
-    subst (λ (status : ℕ). IfSome (g.S.Source.inlet c.args.input.now).left (IsJudgedAt command (stage_of status))) (sym c.status.ensures) (rw same at c.carry_out-ending.ensures).judged
+    subst (λ (status : ℕ). IfSome (g.S.Source.inlet c.args.input.now).left (IsJudgedAt (job_of command) (stage_of status))) (sym c.status.ensures) (rw same at c.carry_out-ending.ensures).judged
 
 pub returns-clause-verdict : goal.returns-clause-verdict
 returns-clause-verdict g c = λ command spelled.
     let same = command_read c.in-Some.command command ((c.in-Some.ensures command).1 spelled) in
-    subst (λ (status : ℕ). OnOutcome command (g.S.Source.inlet c.args.input.now).left (AgreesWith (stage_of status) status)) (sym c.status.ensures) (rw same at c.carry_out-ending.ensures).agrees
+    subst (λ (status : ℕ). OnOutcome (job_of command) (g.S.Source.inlet c.args.input.now).left (AgreesWith (stage_of status) status)) (sym c.status.ensures) (rw same at c.carry_out-ending.ensures).agrees
 
 pub returns-clause-output : goal.returns-clause-output
 returns-clause-output g c = λ command spelled.
     let same = command_read c.in-Some.command command ((c.in-Some.ensures command).1 spelled) in
-    subst (λ (status : ℕ). OnOutcome command (g.S.Source.inlet c.args.input.now).left (λ outcome. Writes (stage_of status) outcome.text (g.K.Sink.outlet c.args.output.now) (g.K.Sink.outlet c.carry_out-ending.new.output)))
+    subst (λ (status : ℕ). OnOutcome (job_of command) (g.S.Source.inlet c.args.input.now).left (λ outcome. Writes (stage_of status) outcome.text (g.K.Sink.outlet c.args.output.now) (g.K.Sink.outlet c.carry_out-ending.new.output)))
     (sym c.status.ensures) (rw same at c.carry_out-ending.ensures).written
 
 pub returns-clause-notes : goal.returns-clause-notes
@@ -57,8 +58,8 @@ returns-clause-notes g c = λ command spelled.
     let same = command_read c.in-Some.command command ((c.in-Some.ensures command).1 spelled) in
     let before = g.N.Sink.outlet c.args.notes.now in
     let now = g.N.Sink.outlet c.note_ending.new.notes in
-    subst (λ (status : ℕ). OnOutcome command (g.S.Source.inlet c.args.input.now).left (λ outcome. Notes before now (line_of (stage_of status) outcome))) (sym c.status.ensures)
-    (on_outcome command (g.S.Source.inlet c.args.input.now).left _ (λ outcome. Notes before now (line_of (stage_of (status_of c.carry_out-ending.result)) outcome))
+    subst (λ (status : ℕ). OnOutcome (job_of command) (g.S.Source.inlet c.args.input.now).left (λ outcome. Notes before now (line_of (stage_of status) outcome))) (sym c.status.ensures)
+    (on_outcome (job_of command) (g.S.Source.inlet c.args.input.now).left _ (λ outcome. Notes before now (line_of (stage_of (status_of c.carry_out-ending.result)) outcome))
     (λ outcome line. subst (λ (l : List ℕ). Notes before now l) line c.note_ending.ensures.line) (rw same at c.carry_out-ending.ensures).line)
 
 pub returns-clause-output_answers : goal.returns-clause-output_answers
@@ -87,36 +88,26 @@ returns-clause-output_takes g c = λ command spelled.
     let same = command_read c.in-Some.command command ((c.in-Some.ensures command).1 spelled) in
     let before = g.K.Sink.outlet c.args.output.now in
     let now = g.K.Sink.outlet c.carry_out-ending.new.output in
-    on_outcome command (g.S.Source.inlet c.args.input.now).left _ (λ outcome. Takes before.sure (length outcome.text) → c.status.result ≢ 6)
+    on_outcome (job_of command) (g.S.Source.inlet c.args.input.now).left _ (λ outcome. Takes before.sure (length outcome.text) → c.status.result ≢ 6)
     (λ outcome writes takes e. (subst (λ (status : ℕ). Writes (stage_of status) outcome.text before now) (sym c.status.ensures ∙ e) writes).unsure takes) (rw same at c.carry_out-ending.ensures).written
 
 pub returns-in_default-clause-same : goal.returns-in_default-clause-same
-returns-in_default-clause-same g c = λ from to spelled. absurd (let h : ◌≡◌ {A = Option Command} None (Some (Convert from to)) = sym c.in_default.is ∙ (c.read_words.ensures (Convert from to)).1 spelled in cc)
+returns-in_default-clause-same g c = λ command spelled. absurd (let h : ◌≡◌ {A = Option Command} None (Some command) = sym c.in_default.is ∙ (c.read_words.ensures command).1 spelled in cc)
 
 pub returns-clause-same : goal.returns-clause-same
-returns-clause-same g c = λ from to spelled.
-    let left = (g.S.Source.inlet c.args.input.now).left in
-    let output_before = g.K.Sink.outlet c.args.output.now in
-    let output_now = g.K.Sink.outlet c.carry_out-ending.new.output in
-    let notes_before = g.N.Sink.outlet c.args.notes.now in
-    let notes_now = g.N.Sink.outlet c.note_ending.new.notes in
-    on_same_batches c.same_batches.ensures from to left (CarriesOut c.status.result output_before output_now notes_before notes_now)
-    (carried_out (Convert from to) left c.status.result output_before output_now notes_before notes_now
-    (returns-clause-verdict g c (Convert from to) spelled) (returns-clause-output g c (Convert from to) spelled) (returns-clause-notes g c (Convert from to) spelled))
+returns-clause-same g c = λ command spelled.
+    carried_out_same (g.S.Source.inlet c.args.input.now).left c.status.result (g.K.Sink.outlet c.args.output.now) (g.K.Sink.outlet c.carry_out-ending.new.output)
+    (g.N.Sink.outlet c.args.notes.now) (g.N.Sink.outlet c.note_ending.new.notes) c.same_batches.ensures (job_of command)
+    (returns-clause-verdict g c command spelled) (returns-clause-output g c command spelled) (returns-clause-notes g c command spelled)
 
 pub returns-in_default-clause-free_members : goal.returns-in_default-clause-free_members
-returns-in_default-clause-free_members g c = λ from to spelled. absurd (let h : ◌≡◌ {A = Option Command} None (Some (Convert from to)) = sym c.in_default.is ∙ (c.read_words.ensures (Convert from to)).1 spelled in cc)
+returns-in_default-clause-free_members g c = λ command spelled. absurd (let h : ◌≡◌ {A = Option Command} None (Some command) = sym c.in_default.is ∙ (c.read_words.ensures command).1 spelled in cc)
 
 pub returns-clause-free_members : goal.returns-clause-free_members
-returns-clause-free_members g c = λ from to spelled.
-    let left = (g.S.Source.inlet c.args.input.now).left in
-    let output_before = g.K.Sink.outlet c.args.output.now in
-    let output_now = g.K.Sink.outlet c.carry_out-ending.new.output in
-    let notes_before = g.N.Sink.outlet c.args.notes.now in
-    let notes_now = g.N.Sink.outlet c.note_ending.new.notes in
-    on_agreeing_documents c.free_members.ensures from to left (CarriesOut c.status.result output_before output_now notes_before notes_now)
-    (carried_out (Convert from to) left c.status.result output_before output_now notes_before notes_now
-    (returns-clause-verdict g c (Convert from to) spelled) (returns-clause-output g c (Convert from to) spelled) (returns-clause-notes g c (Convert from to) spelled))
+returns-clause-free_members g c = λ command spelled.
+    carried_out_agreeing (g.S.Source.inlet c.args.input.now).left c.status.result (g.K.Sink.outlet c.args.output.now) (g.K.Sink.outlet c.carry_out-ending.new.output)
+    (g.N.Sink.outlet c.args.notes.now) (g.N.Sink.outlet c.note_ending.new.notes) c.free_members.ensures (job_of command)
+    (returns-clause-verdict g c command spelled) (returns-clause-output g c command spelled) (returns-clause-notes g c command spelled)
 
 pub returns-in_default-clause-read_back : goal.returns-in_default-clause-read_back
 returns-in_default-clause-read_back g c = λ form spelled. absurd (let h : ◌≡◌ {A = Option Command} None (Some (Headers form)) = sym c.in_default.is ∙ (c.read_words.ensures (Headers form)).1 spelled in cc)

@@ -4,5 +4,5 @@ use Rattle.span_convert.proofs.DocumentWalks.{stops_too_long}
 use Rattle.span_convert.proofs.document.units_in.Goals as goal
 
 pub returns-then-too_long-clause-stop : goal.returns-then-too_long-clause-stop
-returns-then-too_long-clause-stop g c = λ to limits whole now seen.
-    stops_too_long g.R.DocumentReader.form to limits whole now (subst (λ (b : Bool). Exceeds b limits.json whole) c.if-too_long.true seen.exceeds)
+returns-then-too_long-clause-stop g c = λ limits whole now seen.
+    stops_too_long g.R.DocumentReader.form g.W.UnitWriter.target limits whole now c.target_laws.ensures (subst (λ (b : Bool). Exceeds b limits.json whole) c.if-too_long.true seen.exceeds)

@@ -5,7 +5,7 @@ use Rattle.trace_model.specs.Soundness.{IsSoundGroup}
 use Rattle.map_zipkin.specs.NotedGroups.{noted_group}
 use Rattle.span_convert.specs.Units.{document_input}
 use Rattle.span_convert.specs.Walks.{EndsWalk}
-use Rattle.span_convert.proofs.DocumentWalks.{ReadUnit, walked_none, walked_more, walked_all, walked_units, stops_group}
+use Rattle.span_convert.proofs.DocumentWalks.{ReadUnit, walked_none, walked_more, walked_all, walked_units, stops_unit}
 use Rattle.span_convert.proofs.WalkLemmas.{holds_none, ends_whole}
 use Rattle.span_convert.proofs.document.write_groups.Goals as goal
 
@@ -13,7 +13,7 @@ pub units-init : goal.units-init
 units-init g c =
     let same = c.into_iter-unit-iterator.ensures.into_iter_gives.0 ∙ c.into_vec-unit-items.ensures.items in
     record {
-      walked = walked_none g.W.UnitWriter.form c.args.units c.into_iter-unit-iterator.result.rest.items (g.K.Sink.outlet c.args.out.now) c.none-progress.result same c.none-progress.ensures;
+      walked = walked_none g.W.UnitWriter.target g.W.UnitWriter.stands c.args.units c.into_iter-unit-iterator.result.rest.items (g.K.Sink.outlet c.args.out.now) c.none-progress.result same (c.none-progress.ensures (g.K.Sink.outlet c.args.out.now));
       sound = subst (All (λ (u : ReadUnit). IsSoundGroup u.0)) (sym same) c.requires.sound;
       holds = holds_none (g.K.Sink.outlet c.args.out.now);
     }
@@ -22,7 +22,7 @@ pub units-preserved : goal.units-preserved
 units-preserved g c =
     let split : c.units.unit-iterator.rest.items ≡ c.in-Some.unit ∷ c.next.new.self.rest.items = search rules in
     record {
-      walked = walked_more g.W.UnitWriter.form c.args.units c.units.unit-iterator.rest.items c.next.new.self.rest.items c.in-Some.unit split
+      walked = walked_more g.W.UnitWriter.target g.W.UnitWriter.stands c.args.units c.units.unit-iterator.rest.items c.next.new.self.rest.items c.in-Some.unit split
           (g.K.Sink.outlet c.args.out.now) (g.K.Sink.outlet c.units.out) c.units.progress c.units.invariant.walked
           (g.K.Sink.outlet c.convert_unit.new.out) c.convert_unit.new.progress c.in_ok-convert_unit.ensures.ok;
       sound = All-tail (λ (u : ReadUnit). IsSoundGroup u.0) c.in-Some.unit c.next.new.self.rest.items (subst (All (λ (u : ReadUnit). IsSoundGroup u.0)) split c.units.invariant.sound);
@@ -32,7 +32,7 @@ units-preserved g c =
 pub convert_unit-requires-clause-room : goal.convert_unit-requires-clause-room
 convert_unit-requires-clause-room g c =
     let split : c.units.unit-iterator.rest.items ≡ c.in-Some.unit ∷ c.next.new.self.rest.items = search rules in
-    let done = walked_units g.W.UnitWriter.form c.args.units c.units.unit-iterator.rest.items (g.K.Sink.outlet c.args.out.now) (g.K.Sink.outlet c.units.out) c.units.progress c.units.invariant.walked in
+    let done = walked_units g.W.UnitWriter.target g.W.UnitWriter.stands c.args.units c.units.unit-iterator.rest.items (g.K.Sink.outlet c.args.out.now) (g.K.Sink.outlet c.units.out) c.units.progress c.units.invariant.walked in
     let all = c.into_vec-unit-items.result in
     omega (arith, done, ap length split, ap length c.into_vec-unit-items.ensures.items, all.ok.0, all.ok.1, all.small)
 
@@ -40,13 +40,13 @@ pub returns-in_err-convert_unit-clause-walk : goal.returns-in_err-convert_unit-c
 returns-in_err-convert_unit-clause-walk g c = λ limits whole document.
     let split : c.units.unit-iterator.rest.items ≡ c.in-Some.unit ∷ c.next.new.self.rest.items = search rules in
     let stopped : c.from_residual.result ≡ Err c.in_err-convert_unit.field-0.0 = search rules in
-    subst (λ r. EndsWalk (document_input g.R.DocumentReader.form) g.W.UnitWriter.form limits whole r (g.K.Sink.outlet c.args.out.now) (g.K.Sink.outlet c.convert_unit.new.out)) (sym stopped)
-    (stops_group g.R.DocumentReader.form g.W.UnitWriter.form limits whole c.args.units document (g.K.Sink.outlet c.args.out.now) (g.K.Sink.outlet c.convert_unit.new.out) (g.K.Sink.outlet c.units.out) c.units.progress
+    subst (λ r. EndsWalk (document_input g.R.DocumentReader.form) g.W.UnitWriter.target limits whole r (g.K.Sink.outlet c.args.out.now) (g.K.Sink.outlet c.convert_unit.new.out)) (sym stopped)
+    (stops_unit g.R.DocumentReader.form g.W.UnitWriter.target g.W.UnitWriter.stands limits whole c.args.units document (g.K.Sink.outlet c.args.out.now) (g.K.Sink.outlet c.convert_unit.new.out) (g.K.Sink.outlet c.units.out) c.units.progress
     c.units.unit-iterator.rest.items c.next.new.self.rest.items c.in-Some.unit split c.units.invariant.walked c.in_err-convert_unit.field-0.0 c.in_err-convert_unit.ensures.stop)
 
 pub returns-clause-walk : goal.returns-clause-walk
 returns-clause-walk g c = λ limits whole document.
     let left : c.units.unit-iterator.rest.items ≡ [] = nil_from_length c.units.unit-iterator.rest.items (sym c.units.unit-iterator.rest.ok.0 ∙ c.in-None.ensures.steps.0) in
-    ends_whole (document_input g.R.DocumentReader.form) g.W.UnitWriter.form limits whole (map noted_group c.args.units) (g.K.Sink.outlet c.args.out.now) (g.K.Sink.outlet c.units.out) (g.K.Sink.outlet c.finish.new.out) c.units.progress c.finish.result document
-    (walked_all g.W.UnitWriter.form c.args.units c.units.unit-iterator.rest.items (g.K.Sink.outlet c.args.out.now) (g.K.Sink.outlet c.units.out) c.units.progress left c.units.invariant.walked)
+    ends_whole (document_input g.R.DocumentReader.form) g.W.UnitWriter.target limits whole (map noted_group c.args.units) (g.K.Sink.outlet c.args.out.now) g.W.UnitWriter.stands (g.K.Sink.outlet c.units.out) (g.K.Sink.outlet c.finish.new.out) c.units.progress c.finish.result document
+    (walked_all g.W.UnitWriter.target g.W.UnitWriter.stands c.args.units c.units.unit-iterator.rest.items (g.K.Sink.outlet c.args.out.now) (g.K.Sink.outlet c.units.out) c.units.progress left c.units.invariant.walked)
     c.finish.ensures.ok c.finish.ensures.stop

@@ -2,5 +2,5 @@ use Rattle.span_convert.proofs.DocumentTwins.{agreeing_say_the_same}
 use Rattle.span_convert.proofs.laws.free_members.Goals as goal
 
 pub returns : goal.returns
-returns c = λ from to limits bytes others agree.
-    c.same_documents.ensures from to limits bytes others (agreeing_say_the_same c.free_members.ensures c.free_members-2.ensures from limits bytes others agree)
+returns c = λ from what limits bytes others agree.
+    c.same_documents.ensures from what limits bytes others (agreeing_say_the_same c.free_members.ensures c.free_members-2.ensures from limits bytes others agree)

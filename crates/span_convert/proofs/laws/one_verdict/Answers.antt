@@ -1,12 +1,14 @@
+use Rattle.span_convert.specs.Reports.{written_target}
 use Rattle.span_convert.specs.Units.{input_form}
+use Rattle.span_convert.proofs.ReportTargets.{written_laws}
 use Rattle.span_convert.proofs.Sources.{inputs}
 use Rattle.span_convert.proofs.VerdictLaws.{once, so_far}
 use Rattle.span_convert.proofs.laws.one_verdict.Goals as goal
 
 pub returns-clause-once : goal.returns-clause-once
-returns-clause-once c = λ from to limits bytes v w valid h g.
-    let L = c.input_laws.ensures in once (input_form from) (inputs L from) L.spans.normal to limits valid bytes v w h g
+returns-clause-once c = λ from what limits bytes v w valid h g.
+    once (input_form from) (inputs c.input_laws.ensures from) (written_target what) (written_laws c.form_targets.ensures what) limits valid bytes v w h g
 
 pub returns-clause-so_far : goal.returns-clause-so_far
-returns-clause-so_far c = λ from to limits bytes text v valid h g.
-    let L = c.input_laws.ensures in so_far (input_form from) (inputs L from) L.spans.normal to limits valid bytes text v h g
+returns-clause-so_far c = λ from what limits bytes text v valid h g.
+    so_far (input_form from) (inputs c.input_laws.ensures from) (written_target what) (written_laws c.form_targets.ensures what) limits valid bytes text v h g

@@ -3,22 +3,24 @@ use Rattle.span_io.specs.declared.form.Form.{Form}
 use Rattle.span_io.specs.declared.limits.Limits.{Limits}
 use Rattle.trace_model.specs.declared.trace.Group.{Group}
 use Rattle.span_convert.specs.Canonical.{ConvertsToItself, Fits, IsHeldBy, IsSized, ReadsPlainly}
+use Rattle.span_convert.specs.Targets.{form_target}
 use Rattle.span_convert.specs.Units.{groups_in, input_form, IsSizedGroup, normal_form, canonical_text}
 use Rattle.span_convert.specs.Verdicts.{IsGood}
 use Rattle.span_convert.specs.declared.tally.Tally.{Tally}
+use Rattle.span_convert.proofs.FormTargets.{held_groups}
 use Rattle.span_convert.proofs.laws.output_read_back.Goals as goal
 
 module _ (c : goal.After-converts_to_itself) (from to : Form) (limits : Limits) (bytes text : List ℕ) (tally : Tally) where
-  held : (h : IsGood (input_form from) to limits bytes text tally) → All (IsSizedGroup to) (groups_in h.noted) → IsHeldBy to (groups_in h.noted)
-  held h parts = record { can_hold = h.held; sized = parts }
+  held : (h : IsGood (input_form from) (form_target to) limits bytes text tally) → All (IsSizedGroup to) (groups_in h.noted) → IsHeldBy to (groups_in h.noted)
+  held h parts = record { can_hold = held_groups to h.noted h.held; sized = parts }
 
-  sized : length text < 2 ^ 63 → (h : IsGood (input_form from) to limits bytes text tally) → IsSized to (groups_in h.noted)
+  sized : length text < 2 ^ 63 → (h : IsGood (input_form from) (form_target to) limits bytes text tally) → IsSized to (groups_in h.noted)
   sized short h = subst (λ (l : List ℕ). length l < 2 ^ 63) h.is_text short
 
-  read : length text < 2 ^ 63 → (h : IsGood (input_form from) to limits bytes text tally) → All (IsSizedGroup to) (groups_in h.noted) → ReadsPlainly to text (normal_form to (groups_in h.noted))
+  read : length text < 2 ^ 63 → (h : IsGood (input_form from) (form_target to) limits bytes text tally) → All (IsSizedGroup to) (groups_in h.noted) → ReadsPlainly to text (normal_form to (groups_in h.noted))
   read short h parts = subst (λ (l : List ℕ). ReadsPlainly to l (normal_form to (groups_in h.noted))) (sym h.is_text) (c.text_read_back.ensures to (groups_in h.noted) (held h parts) (sized short h))
 
-  only : length text < 2 ^ 63 → (h : IsGood (input_form from) to limits bytes text tally) → All (IsSizedGroup to) (groups_in h.noted) → (other : List Group) → IsHeldBy to other → IsSized to other
+  only : length text < 2 ^ 63 → (h : IsGood (input_form from) (form_target to) limits bytes text tally) → All (IsSizedGroup to) (groups_in h.noted) → (other : List Group) → IsHeldBy to other → IsSized to other
       → (text ≡ canonical_text to other) ↔ (normal_form to (groups_in h.noted) ≡ normal_form to other)
   only short h parts other is_held is_sized =
       let equal = c.equal_texts.ensures to (groups_in h.noted) other (held h parts) (sized short h) is_held is_sized in

@@ -5,7 +5,7 @@ use Rattle.span_convert.proofs.walk.walk_units.Given as goal
 
 abbrev pub invariant-frames : goal.invariant-frames
 invariant-frames g l = record {
-  walked : (whole : List ℕ) → IsLookedAt l.limits.binary whole l.bytes l.too_long → WalkedUnits g.R.UnitReader.form g.W.UnitWriter.form l.limits whole l.rest (g.K.Sink.outlet l.initial.out) (g.K.Sink.outlet l.out) l.progress;
+  walked : (whole : List ℕ) → IsLookedAt l.limits.binary whole l.bytes l.too_long → WalkedUnits g.R.UnitReader.form g.W.UnitWriter.target g.W.UnitWriter.stands l.limits whole l.rest (g.K.Sink.outlet l.initial.out) (g.K.Sink.outlet l.out) l.progress;
   room : l.progress.tally.units + length l.rest ≤ length l.bytes;
   holds : OutputHolds (g.K.Sink.outlet l.initial.out) (g.K.Sink.outlet l.out);
 }

@@ -1,0 +1,73 @@
+-- The lines of reports. Each ends with a line feed. Keys and names are told as JSON strings (RFC 8259, section 7).
+use Rattle.std.specs.Prelude.{ℕ, List, [], ◌∷◌, ◌++◌, Option, Some, None, codes, decimal}
+use Rattle.json.specs.Print.{print}
+use Rattle.json.specs.Token.{string}
+use Rattle.json_members.specs.Canonical.{span_id_text, trace_id_text}
+use Rattle.trace_model.specs.declared.place.Place.{Place}
+use Rattle.trace_model.specs.declared.place.Place.TheVariants as places
+use Rattle.trace_model.specs.declared.remark.Remark.{Remark}
+use Rattle.trace_model.specs.declared.remark.RemarkKind.{RemarkKind}
+use Rattle.trace_model.specs.declared.remark.RemarkKind.TheVariants as remarks
+use Rattle.trace_model.specs.declared.span.Code.{Code}
+use Rattle.trace_model.specs.declared.span.Code.TheVariants as statuses
+use Rattle.trace_model.specs.declared.span.Kind.{Kind}
+use Rattle.trace_model.specs.declared.span.Kind.TheVariants as kinds
+use Rattle.trace_model.specs.declared.span.Span.{Span}
+
+-- a text as a JSON string
+abbrev pub quoted_text : List ℕ → List ℕ
+quoted_text text = print (string text ∷ [])
+
+-- ---- remarks
+
+-- a place in the unit of this number
+abbrev pub place_text : ℕ → Place → List ℕ
+place_text unit places.Whole = codes "unit " ++ decimal unit
+place_text unit places.Resource = codes "unit " ++ decimal unit ++ codes " resource"
+place_text unit (places.Scope scope) = codes "unit " ++ decimal unit ++ codes " scope " ++ decimal scope
+place_text unit (places.Span span) = codes "unit " ++ decimal unit ++ codes " span " ++ decimal span
+place_text unit (places.Event span event) =
+    codes "unit " ++ decimal unit ++ codes " span " ++ decimal span ++ codes " event " ++ decimal event
+place_text unit (places.Link span link) =
+    codes "unit " ++ decimal unit ++ codes " span " ++ decimal span ++ codes " link " ++ decimal link
+
+abbrev pub remarked : RemarkKind → List ℕ → List ℕ
+remarked remarks.EqualKey key = codes "equal key " ++ quoted_text key
+remarked remarks.LinkDropped key = codes "link dropped"
+remarked remarks.TagDropped key = codes "tag dropped " ++ quoted_text key
+
+-- the line of a remark on the unit of this number
+abbrev pub remark_text : ℕ → Remark → List ℕ
+remark_text unit remark = place_text unit remark.place ++ codes ": " ++ remarked remark.kind remark.key ++ codes "\n"
+
+-- the last line of a check: how many units, spans and remarks there are
+abbrev pub counts_text : ℕ → ℕ → ℕ → List ℕ
+counts_text units spans remarked =
+    codes "units " ++ decimal units ++ codes ", spans " ++ decimal spans ++ codes ", remarks " ++ decimal remarked ++ codes "\n"
+
+-- ---- spans
+
+-- the names of kinds and codes in OTLP (trace.proto, `SpanKind` and `StatusCode`)
+abbrev pub kind_word : Kind → List ℕ
+kind_word kinds.Unspecified = codes "UNSPECIFIED"
+kind_word kinds.Internal = codes "INTERNAL"
+kind_word kinds.Server = codes "SERVER"
+kind_word kinds.Client = codes "CLIENT"
+kind_word kinds.Producer = codes "PRODUCER"
+kind_word kinds.Consumer = codes "CONSUMER"
+
+abbrev pub code_word : Code → List ℕ
+code_word statuses.Unset = codes "UNSET"
+code_word statuses.Okay = codes "OK"
+code_word statuses.Fail = codes "ERROR"
+
+abbrev pub parent_word : Option ℕ → List ℕ
+parent_word None = codes "-"
+parent_word (Some parent) = span_id_text parent
+
+-- the line of a span: its identifiers, its kind, its times in nanoseconds, the code of its status, and its name
+abbrev pub shown_text : Span → List ℕ
+shown_text span =
+    trace_id_text span.trace ++ codes " " ++ span_id_text span.id ++ codes " " ++ parent_word span.parent
+    ++ codes " " ++ kind_word span.kind ++ codes " " ++ decimal span.start ++ codes " " ++ decimal span.end
+    ++ codes " " ++ code_word span.status.code ++ codes " " ++ quoted_text span.name ++ codes "\n"

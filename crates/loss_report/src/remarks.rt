@@ -1,0 +1,65 @@
+//! The line of a remark, and the last line behind all of them.
+ghost use Rattle.std.specs.Prelude.{◌≡◌, ◌++◌, OnOk};
+ghost use Rattle.loss_report.specs.Lines.{counts_text, place_text, remark_text, remarked};
+
+use crate::pieces::{append_numbered, append_quoted};
+use span_io::{Blob, OutOfMemory};
+use std::alloc::Global;
+use trace_model::{Place, Remark, RemarkKind};
+
+// Appends the place in a unit.
+fn append_place(out: &mut Blob, unit: u64, place: Place) -> Result<(), OutOfMemory>
+    ensures { OnOk result (out.new ≡ out.old ++ place_text unit place) }
+{
+    append_numbered(out, b"unit ", unit)?;
+    match place {
+        Place::Whole => Ok(()),
+        Place::Resource => out.append(b" resource"),
+        Place::Scope(scope) => append_numbered(out, b" scope ", u64::from(scope)),
+        Place::Span(span) => append_numbered(out, b" span ", u64::from(span)),
+        Place::Event(span, event) => {
+            append_numbered(out, b" span ", u64::from(span))?;
+            append_numbered(out, b" event ", u64::from(event))
+        }
+        Place::Link(span, link) => {
+            append_numbered(out, b" span ", u64::from(span))?;
+            append_numbered(out, b" link ", u64::from(link))
+        }
+    }
+}
+
+// Appends what is remarked, and the key where there is one.
+fn append_remarked(alloc: Global, out: &mut Blob, remark: &Remark) -> Result<(), OutOfMemory>
+    ensures { OnOk result (out.new ≡ out.old ++ remarked remark.now.kind remark.now.key) }
+{
+    match remark.kind {
+        RemarkKind::EqualKey => append_quoted(alloc, out, b"equal key ", remark.key.as_str()),
+        RemarkKind::LinkDropped => out.append(b"link dropped"),
+        RemarkKind::TagDropped => append_quoted(alloc, out, b"tag dropped ", remark.key.as_str()),
+    }
+}
+
+/// Appends the line of a remark on a unit.
+pub fn remark_line(
+    alloc: Global,
+    out: &mut Blob,
+    unit: u64,
+    remark: &Remark,
+) -> Result<(), OutOfMemory>
+    ensures { OnOk result (out.new ≡ out.old ++ remark_text unit remark.now) }
+{
+    append_place(out, unit, remark.place)?;
+    out.append(b": ")?;
+    append_remarked(alloc, out, remark)?;
+    out.append(b"\n")
+}
+
+/// Appends the last line of a check: how many units, spans and remarks there are.
+pub fn counts_line(out: &mut Blob, units: u64, spans: u64, remarks: u64) -> Result<(), OutOfMemory>
+    ensures { OnOk result (out.new ≡ out.old ++ counts_text units spans remarks) }
+{
+    append_numbered(out, b"units ", units)?;
+    append_numbered(out, b", spans ", spans)?;
+    append_numbered(out, b", remarks ", remarks)?;
+    out.append(b"\n")
+}

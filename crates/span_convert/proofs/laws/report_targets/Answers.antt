@@ -1,0 +1,5 @@
+use Rattle.span_convert.proofs.ReportTargets.{report_laws}
+use Rattle.span_convert.proofs.laws.report_targets.Goals as goal
+
+pub returns : goal.returns
+returns c = report_laws

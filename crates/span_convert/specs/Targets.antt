@@ -1,0 +1,58 @@
+-- What is asked of a target, over the units that are written to it: groups, each with the remarks on it.
+use Rattle.std.specs.Prelude.{◌≡◌, ◌⊎◌, ℕ, List, [], ◌++◌, All}
+use Rattle.span_io.specs.Outside.{IsFront}
+use Rattle.span_io.specs.declared.form.Form.{Form}
+use Rattle.trace_model.specs.OtlpParts.{NotedGroup}
+use Rattle.trace_model.specs.Proper.{IsProperGroup}
+use Rattle.trace_model.specs.Soundness.{IsSoundGroup, IsSoundTrace}
+use Rattle.trace_model.specs.declared.fault.Fault.{Fault}
+use Rattle.span_convert.specs.Units.{groups_in, FaultOf, CanHold, IsSizedGroup, canonical_text, partial_text, closing_text}
+
+pub record Target : Type 1 where
+  -- the fault of the unit that counts
+  pub FaultOf : NotedGroup → Fault → Type 0
+  -- it can hold the unit
+  pub CanHold : NotedGroup → Type 0
+  -- no part of the unit is longer than it can tell
+  pub IsSized : NotedGroup → Type 0
+  -- the text of units: all of it, that without the bytes that close it, and these
+  pub whole_text : List NotedGroup → List ℕ
+  pub partial_text : List NotedGroup → List ℕ
+  pub closing_text : List NotedGroup → List ℕ
+
+-- A form is a target of groups, whatever the remarks on them.
+abbrev pub form_target : Form → Target
+form_target to = record {
+  FaultOf = λ unit fault. FaultOf to unit.means fault;
+  CanHold = λ unit. CanHold to unit.means;
+  IsSized = λ unit. IsSizedGroup to unit.means;
+  whole_text = λ units. canonical_text to (groups_in units);
+  partial_text = λ units. partial_text to (groups_in units);
+  closing_text = λ units. closing_text to (groups_in units);
+}
+
+-- ---- units that a target can hold
+
+-- their groups are a sound trace, in which nothing is out of range, and no unit has a fault
+pub record CanHoldUnits (to : Target) (units : List NotedGroup) : Type 0 where
+  pub sound : IsSoundTrace (groups_in units)
+  pub proper : All IsProperGroup (groups_in units)
+  pub no_fault : All to.CanHold units
+
+-- and no part of them is too long
+pub record AreHeldBy (to : Target) (units : List NotedGroup) : Type 0 where
+  pub can_hold : CanHoldUnits to units
+  pub sized : All to.IsSized units
+
+-- ---- what every target keeps
+
+pub record TargetLaws (to : Target) : Type 0 where
+  -- a unit whose group is sound can be held, or has one fault that counts
+  pub fault_or_none : (unit : NotedGroup) → IsSoundGroup unit.means → to.CanHold unit ⊎ ((fault : Fault) × to.FaultOf unit fault)
+  pub fault_once : (unit : NotedGroup) (a b : Fault) → to.FaultOf unit a → to.FaultOf unit b → a ≡ b
+  pub no_fault : (unit : NotedGroup) (fault : Fault) → to.FaultOf unit fault → to.CanHold unit → ⊥
+  -- the text so far of no unit is empty, and that of the first units is a front of that of all
+  pub none : to.partial_text [] ≡ []
+  pub front : (a b : List NotedGroup) → CanHoldUnits to (a ++ b) → IsFront (to.partial_text a) (to.partial_text (a ++ b))
+  -- the whole text is the text so far, and then the bytes that close it
+  pub closed : (units : List NotedGroup) → to.whole_text units ≡ to.partial_text units ++ to.closing_text units
