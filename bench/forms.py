@@ -81,18 +81,24 @@ def faulted(number, fault):
     return 4, f"unit {number}: fault {cause} {FAULTS[cause]}{key}\n", FAULTS[cause]
 
 
-def verdict(text, source, target):
-    """The status, the note and the output that an input must have, and the name of that outcome."""
-    faults_of, texts_of, _ = TARGETS[target]
-    written = []
+def outcome(found, target, made_of):
+    """The status and the note of groups that are found, until they are refused, the name of that outcome, and what is made of each group
+    that was reached."""
+    faults_of = TARGETS[target][0]
+    made = []
     try:
-        for number, group in enumerate(groups(text, source), 1):
+        for number, group in enumerate(found, 1):
             bad = faults_of(group)
             if bad:
-                status, note, name = faulted(number, min(bad, key=lambda fault: (fault[0], fault[1], fault[2].encode())))
-                return status, note, partial(written, target), name
-            written.append(texts_of(group))
+                return (*faulted(number, min(bad, key=lambda fault: (fault[0], fault[1], fault[2].encode()))), made)
+            made.append(made_of(group))
     except Refusal as why:
         number, cause = why.args
-        return 3, f"unit {number}: cause {cause} {NAMES[cause]}\n", partial(written, target), NAMES[cause]
-    return 0, "", whole(written, target), "written"
+        return 3, f"unit {number}: cause {cause} {NAMES[cause]}\n", NAMES[cause], made
+    return 0, "", "written", made
+
+
+def verdict(text, source, target):
+    """The status, the note and the output that an input must have, and the name of that outcome."""
+    status, note, name, written = outcome(groups(text, source), target, TARGETS[target][1])
+    return status, note, whole(written, target) if status == 0 else partial(written, target), name

@@ -19,22 +19,34 @@ if SMALL:
     otlp.UNIT = 40_000
 
 import forms
+import losses
 import reports
 from hostile_documents import document_cases, to_document_cases, groups_cases, to_groups_cases
 from hostile_reports import report_cases
 from hostile_units import SAME_FORM, cases, batch_cases, compact_cases
-from program import BUILD, PROGRAM, Measured, command, report_command
+from program import BUILD, PROGRAM, Measured, command, losses_command, report_command
 
 SLOW = 5.0
 
 
+def parted(target):
+    """A target, or a mode that reports of a form, and whether what is lost in it is asked for."""
+    form, _, mode = target.partition(", ")
+    return form, mode == losses.LOSSES
+
+
 def words_of(source, target):
-    """The words that convert a form into another, or report of it in a mode."""
-    return report_command(target, source) if target in reports.MODES else command(source, target)
+    """The words that convert a form into another, tell what is lost in that, or report of it in a mode."""
+    form, is_lost = parted(target)
+    if form in reports.MODES:
+        return report_command(form, source)
+    return (losses_command if is_lost else command)(source, form)
 
 
 def verdict(text, source, target):
-    return (reports if target in reports.MODES else forms).verdict(text, source, target)
+    form, is_lost = parted(target)
+    table = reports if form in reports.MODES else losses if is_lost else forms
+    return table.verdict(text, source, form)
 
 
 def judge(name, pair, make):

@@ -443,3 +443,40 @@ def faults(group):
         found.append((0, 25, ""))
     spans = [span for scope in group.scopes for span in scope.spans]
     return found + [(place, *fault) for place, span in enumerate(spans, 1) for fault in span_faults(span)]
+
+
+# ---- the normal form
+
+
+def texted(attributes):
+    """Attributes, in which lists, maps and no value are texts."""
+    return dict(tags_of(attributes))
+
+
+def normal_resource(resource):
+    """A resource whose `service.name` is a text, or goes where that is empty."""
+    out = texted(resource)
+    service = value_text(out.pop("service.name", ("text", "")))
+    return out | ({"service.name": ("text", service)} if service else {})
+
+
+def normal_event(event):
+    return otlp.Event(event.time - event.time % 1000, event.name, texted(event.attributes))
+
+
+def normal_span(span):
+    links = [otlp.Link(link.trace, link.id, attributes=dict(CHILD_OF) if is_child_of(link) else {}) for link in span.links]
+    return dataclasses.replace(
+        span, kind=span.kind or 1, start=span.start - span.start % 1000, end=span.end - span.end % 1000, attributes=texted(span.attributes),
+        events=[normal_event(event) for event in span.events], links=links, message=span.message if span.code else "", flags=span.flags % 2,
+    )
+
+
+def normal(groups):
+    """The normal form of groups without a fault: what Jaeger can hold of them."""
+    out = []
+    for group in groups:
+        named = [((scope.name, scope.version), normal_span(span)) for scope in group.scopes for span in scope.spans]
+        runs = itertools.groupby(named, key=lambda pair: pair[0])
+        out.append(otlp.Group(normal_resource(group.resource), scopes=[otlp.Scope(*names, spans=[span for _, span in run]) for names, run in runs]))
+    return out

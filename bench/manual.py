@@ -1,6 +1,6 @@
 #!/usr/bin/env python3
 """Checks that the man page docs/spanx.1 and the pages say what the specification files say: the numbers and names of causes and
-faults, the statuses, the lines on standard error, the words, those of reports too, and the limits. It checks the man page's own form by `mandoc`, too.
+faults, the statuses, the lines on standard error, the words, those of reports and the rows of losses too, and the limits. It checks the man page's own form by `mandoc`, too.
 
 The words are looked up by their names in all files under crates/*/specs, whichever file they stand in. It ends with 0 where
 all agree. Another folder of crates can be named: bench/manual.py FOLDER. It needs Debian's `mandoc`.
@@ -39,7 +39,7 @@ def numbered(lines, word):
 
 def whole_lines(lines):
     """The lines that are noted as they stand, without a part that hangs on the input."""
-    held = (re.fullmatch(r'\w+(?: [\w.]+)? = codes "(.*)\\n"', line) for line in lines)
+    held = (re.fullmatch(r'\w+(?: [\w.]+)? = codes "([^"]*)\\n"', line) for line in lines)
     return {match[1] for match in held if match}
 
 
@@ -101,6 +101,7 @@ def checks(lines, manual):
 
     remarks = {re.match('codes "(.*?)"', held)[1].strip() for held in equations(lines, "remarked").values()}
     yield "remarks", remarks, {item.removeprefix("Li ").removesuffix(' "k"') for item in manual.items["REPORT LINES"]}
+    yield "rows of losses", set(texts(lines, "row_name").values()), {item.removeprefix("Li ").removesuffix(' "k"') for item in manual.items["LOSSES"]}
     yield "kinds and codes", set(texts(lines, "kind_word").values()) | set(texts(lines, "code_word").values()), manual.capitals
 
     limits = next(line for line in lines if line.startswith("shipped_limits ="))

@@ -32,25 +32,34 @@ def report_command(mode, source):
     return [PROGRAM, mode, "--from", source]
 
 
+def losses_command(source, target):
+    """The words that tell what one form loses in another."""
+    return [PROGRAM, "losses", "--from", source, "--to", target]
+
+
 CONVERT = command("otlp-proto", "otlp-proto")
 
 
-def convert(text, source="otlp-proto", target="otlp-proto"):
-    """The status, the output and the note for an input."""
-    done = subprocess.run(command(source, target), input=text, capture_output=True)
+def answer(words, text):
+    """The status, the output and the note of a command for an input."""
+    done = subprocess.run(words, input=text, capture_output=True)
     return done.returncode, done.stdout, done.stderr.decode(errors="replace")
+
+
+def convert(text, source="otlp-proto", target="otlp-proto"):
+    return answer(command(source, target), text)
 
 
 def report(text, source, mode):
-    """The same of a report."""
-    done = subprocess.run(report_command(mode, source), input=text, capture_output=True)
-    return done.returncode, done.stdout, done.stderr.decode(errors="replace")
+    return answer(report_command(mode, source), text)
+
+
+def losses(text, source, target):
+    return answer(losses_command(source, target), text)
 
 
 def headers(block, form):
-    """The status, the output and the note for a block of header lines."""
-    done = subprocess.run([PROGRAM, "headers", "--to", form], input=block, capture_output=True)
-    return done.returncode, done.stdout, done.stderr.decode(errors="replace")
+    return answer([PROGRAM, "headers", "--to", form], block)
 
 
 def seconds_of(command, path):

@@ -1,12 +1,15 @@
 #!/usr/bin/python3
-"""Runs the built program's modes `show` and `check` over files, over what stock libraries wrote, and over drawn and spoilt inputs of
-each form, and compares status, note and lines, byte by byte, with what the independent readers of reports.py say.
+"""Runs the built program's modes `show`, `check` and, to each of the five targets, `losses` over files, over what stock libraries
+wrote, and over drawn and spoilt inputs of each form, and compares status, note and lines, byte by byte, with what the independent
+readers of reports.py and losses.py say. Of these it tries that a text without a loss, and no other, comes back from the target as the
+very trace that it is, and that what comes back is the normal form.
 
 It needs Debian's python3-protobuf, protobuf-compiler, thrift-compiler and python3-thrift, and is run at the top as
 bench/real_reports.py, after ./spanx has built the program. The files of folders that are given, each named by its form, are
 taken too, words that name forms choose these, and `--seeds N` draws N inputs of each kind in place of 300. With --without-program
-the lines are made and counted alone. It prints how often each outcome and each kind of remark came of each form, a line for each
-difference, and ends with 1 where there is one, and where a kind of remark that a form has came of no input.
+the lines are made and counted alone. It prints how often each outcome and each kind of remark came of each form, and how often each
+row of losses, a line for each difference, and ends with 1 where there is one, and where a kind of remark that a form has, or a row
+that a target has, came of no input.
 """
 import collections
 import os
@@ -14,7 +17,9 @@ import re
 import sys
 
 import forms
+import losses
 import otlp
+import program
 import real_batches
 import real_input
 import reports
@@ -22,6 +27,7 @@ from drawn import Batches, Traces
 from drawn_groups import GroupDocuments, GroupSpoiler, JsonTraces
 from drawn_spans import Documents, DocumentSpoiler, ZipkinTraces
 from forms import FORMS, JSON, OTLP, ZIPKIN
+from json_text import Refusal
 from otlp import KEY_VALUES, TABLE
 from program import BUILD, PROGRAM, TOP, report
 from protocols import PROTOCOLS
@@ -123,6 +129,7 @@ def requests(classes, seeds):
     for seed in range(seeds):
         yield f"drawn {seed}", Requests(seed).parted()
         yield f"spoilt {seed}", Spoiler(seed).request(Requests(seed).whole())
+    yield from alike(seeds, OTLP)
 
 
 def documents(_, seeds):
@@ -133,6 +140,13 @@ def documents(_, seeds):
         yield f"drawn {seed}", GroupDocuments(seed).document()
         yield f"as it is written {seed}", forms.write(JsonTraces(seed, 0).groups(), JSON)
         yield f"spoilt {seed}", GroupSpoiler(seed).spoil()
+    yield from alike(seeds, JSON)
+
+
+def alike(seeds, form):
+    """Traces of which some groups have the resource of the one before, and that Zipkin can hold."""
+    for seed in range(seeds):
+        yield f"groups alike {seed}", forms.write([] if unfit(seed) else ZipkinTraces(seed, 0).groups(), form)
 
 
 def batches(classes, seeds, form):
@@ -169,38 +183,115 @@ def cases(form, classes, seeds, folders):
 # ---- comparing
 
 
-def difference(text, form, mode, wanted):
+def difference(answer, wanted):
     """What is wrong with the program's answer, if something is, and what it wrote."""
     status, note, lines, _ = wanted
-    got, written, got_note = report(text, form, mode)
+    got, written, got_note = answer
     if (got, got_note) != (status, note):
         return f"status {got}, note {got_note!r}; wanted {status}, {note!r}", written
     return "other lines were written" if written != lines else None, written
 
 
-def try_form(form, found, is_alone):
-    """Tries the inputs of a form, and answers how many there are, how many differ, and what remarks never came."""
-    count, wrong, outcomes, remarked, places = 0, 0, collections.Counter(), collections.Counter(), collections.Counter()
-    for name, text in found:
+class Tried:
+    """How many inputs were tried, and how many differ. The program isn't asked where the readers are alone."""
+
+    def __init__(self, is_alone):
+        self.is_alone, self.count, self.wrong = is_alone, 0, 0
+
+    def compare(self, name, text, wanted, asked):
+        self.count += 1
+        what, written = (None, b"") if self.is_alone else difference(asked(), wanted)
+        if what is not None:
+            real_input.report(name, text, what, wanted[2], written)
+            self.wrong += 1
+
+    def expect(self, is_right, what):
+        if not is_right:
+            print(f"WRONG: {what}")
+            self.wrong += 1
+
+    def expect_all(self, found, wanted, what):
+        """That all that is wanted was found, and nothing else."""
+        for one in wanted:
+            self.expect(found[one], f"{what}: `{one}` came of no input")
+        for one in sorted(set(found) - set(wanted)):
+            self.expect(False, f"{what}: `{one}` came and must not")
+
+
+def words(counter, order=None):
+    return ", ".join(f"{word} {counter[word]}" for word in order or sorted(counter) if counter[word]) or "none"
+
+
+class Found:
+    """The groups of an input, which is read once, and its refusal."""
+
+    def __init__(self, text, form):
+        self.groups, self.why = [], None
+        try:
+            for group in forms.groups(text, form):
+                self.groups.append(group)
+        except Refusal as why:
+            self.why = why
+
+    def __iter__(self):
+        yield from self.groups
+        if self.why is not None:
+            raise self.why
+
+
+class Reported:
+    """The lines of `show` and `check` over the inputs of a form."""
+
+    def __init__(self, form):
+        self.form, self.outcomes, self.remarked, self.places = form, collections.Counter(), collections.Counter(), collections.Counter()
+
+    def look(self, tried, name, text, _):
         for mode in MODES:
-            wanted = reports.verdict(text, form, mode)
-            count += 1
-            what, written = (None, b"") if is_alone else difference(text, form, mode, wanted)
-            if what is not None:
-                real_input.report(f"{name}, {mode} of {form}", text, what, wanted[2], written)
-                wrong += 1
-            if mode == CHECK:
-                outcomes[wanted[3]] += 1
-                told = re.findall(rb"^unit \d+ (?:(resource|scope) ?\d*|span \d+(?: (event|link) \d+)?): (\w+ \w+)", wanted[2], re.MULTILINE)
-                remarked.update(kind.decode() for _, _, kind in told)
-                places.update((first or inner or b"span").decode() for first, inner, _ in told)
-    words = lambda counter: ", ".join(f"{word} {n}" for word, n in sorted(counter.items()))
-    print(f"{form}: {count} cases; {words(outcomes)}; remarks: {words(remarked) or 'none'}; at: {words(places) or 'none'}")
-    never = [KINDS[kind] for kind in REMARKED[form] if not remarked[KINDS[kind]]]
-    odd = sorted(set(remarked) - {KINDS[kind] for kind in REMARKED[form]})
-    for kind in never + odd:
-        print(f"WRONG: {form}: `{kind}` came {'of no input' if kind in never else 'and must not'}")
-    return count, wrong + len(never) + len(odd)
+            wanted = reports.verdict(text, self.form, mode)
+            tried.compare(f"{name}, {mode} of {self.form}", text, wanted, lambda: report(text, self.form, mode))
+        self.outcomes[wanted[3]] += 1
+        told = re.findall(rb"^unit \d+ (?:(resource|scope) ?\d*|span \d+(?: (event|link) \d+)?): (\w+ \w+)", wanted[2], re.MULTILINE)
+        self.remarked.update(kind.decode() for _, _, kind in told)
+        self.places.update((first or inner or b"span").decode() for first, inner, _ in told)
+
+    def end(self, tried):
+        print(f"{self.form}: {words(self.outcomes)}; remarks: {words(self.remarked)}; at: {words(self.places)}")
+        tried.expect_all(self.remarked, [KINDS[kind] for kind in REMARKED[self.form]], self.form)
+
+
+class Lost:
+    """The lines of `losses` over the inputs of a form to a target."""
+
+    def __init__(self, form, target):
+        self.form, self.target, self.outcomes, self.rows, self.kept = form, target, collections.Counter(), collections.Counter(), 0
+
+    def look(self, tried, name, text, found):
+        wanted = losses.told(found, self.target)
+        what = f"{name}, losses of {self.form} to {self.target}"
+        tried.compare(what, text, wanted, lambda: program.losses(text, self.form, self.target))
+        self.outcomes[wanted[3]] += 1
+        self.rows.update(row.decode() for row in re.findall(rb"^unit [^:]*: ([\w-]+)", wanted[2], re.MULTILINE))
+        if wanted[0] == 0:
+            back = list(forms.groups(forms.write(found.groups, self.target), self.target))
+            is_kept = back == found.groups
+            self.kept += is_kept
+            tried.expect(is_kept == (wanted[2] == b"losses 0\n"), f"{what}: {wanted[2][-20:]}, and what comes back is {'the same' if is_kept else 'other'}")
+            tried.expect(back == losses.normal(found.groups, self.target), f"{what}: what comes back isn't the normal form")
+
+    def end(self, _):
+        print(f"  to {self.target}: {words(self.outcomes)}; without a loss: {self.kept}; losses: {words(self.rows, losses.ROWS)}")
+
+
+def try_form(form, found, tried):
+    """Tries the inputs of a form, and answers how often each row of losses came, by targets."""
+    looks = [Reported(form), *(Lost(form, target) for target in FORMS)]
+    for name, text in found:
+        read = Found(text, form)
+        for look in looks:
+            look.look(tried, name, text, read)
+    for look in looks:
+        look.end(tried)
+    return {look.target: look.rows for look in looks[1:]}
 
 
 def main():
@@ -214,9 +305,16 @@ def main():
     file = real_input.schema()
     types, later = real_batches.batch_classes()
     classes = types, real_input.request_class(file), later, real_input.request_class(real_input.newer(file))
-    tried = [try_form(form, cases(form, classes, seeds, folders), is_alone) for form in chosen]
-    print(f"{sum(count for count, _ in tried)} cases, {sum(wrong for _, wrong in tried)} differences")
-    sys.exit(1 if any(wrong for _, wrong in tried) else 0)
+    tried, rows = Tried(is_alone), {target: collections.Counter() for target in FORMS}
+    for form in chosen:
+        for target, came in try_form(form, cases(form, classes, seeds, folders), tried).items():
+            rows[target] += came
+    # Each row comes of OTLP; a batch and a span of Zipkin have little to lose.
+    if {OTLP, JSON} & set(chosen):
+        for target in FORMS:
+            tried.expect_all(rows[target], losses.OF_TARGET.get(target, []), f"losses to {target}")
+    print(f"{tried.count} cases, {tried.wrong} differences")
+    sys.exit(1 if tried.wrong else 0)
 
 
 if __name__ == "__main__":

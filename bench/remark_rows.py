@@ -1,6 +1,7 @@
 #!/usr/bin/python3
 """Holds against the built program what docs/LOSSES.md says of inputs, and the last columns of the tables of docs/JAEGER.md and
-docs/ZIPKIN.md that say of what reading leaves out whether `check` has a line for it. The commands of the pages are run by pages.py.
+docs/ZIPKIN.md that say of what reading leaves out whether `check` has a line for it. What it says of losses is held by loss_rows.py,
+and the commands of the pages are run by pages.py.
 
 It is run at the top as bench/remark_rows.py, after ./spanx has built the program; with --without-program the readers of reports.py
 answer in its place. It prints a line for each difference, and ends with 1 where there is one.
@@ -199,13 +200,14 @@ SAID = {
         (json.dumps([{"traceId": ONE, "id": ONE}, {"traceId": ONE, "id": ONE, "tags": {"zipkin.debug": ""}}]).encode(), ZIPKIN, CHECK,
          'unit 1 span 2: tag dropped "zipkin.debug"\n' + counts(1, spans=2)),
     ],
-    "No report is refused with status 4": [(UNFIT, PROTO, SHOW, shown(start=2000, end=1000)), checked(batch(logs=[Log(1, [("k", HALF)])]), BINARY)],
+    "`show` and `check` aren't refused with status 4": [(UNFIT, PROTO, SHOW, shown(start=2000, end=1000)), checked(batch(logs=[Log(1, [("k", HALF)])]), BINARY)],
 }
 # Words that are no command.
 USAGE = "usage: spanx convert|losses|show|check|headers|gauge|serve OPTIONS\n"
 NO_COMMANDS = [
     *[[mode] + more for mode in [SHOW, CHECK] for more in [[], ["--from"], ["--to", JSON], ["--from", "x"], ["--from", JSON, "--to", JSON], ["--from", JSON, "--from", JSON]]],
-    ["losses", "--from", JSON, "--to", ZIPKIN], ["losses", "--from", JSON], ["Show", "--from", JSON],
+    *[["losses"] + more for more in [[], ["--from", JSON], ["--to", ZIPKIN], ["--from", JSON, "--from", JSON], ["--from", JSON, "--to", "b3"], ["--from", JSON, "--to", ZIPKIN, "--to", JSON]]],
+    ["Show", "--from", JSON],
 ]
 
 

@@ -36,8 +36,9 @@ MODES = [SHOW, CHECK]
 EQUAL_KEY, LINK_DROPPED, TAG_DROPPED = 0, 1, 2
 KINDS = {EQUAL_KEY: "equal key", LINK_DROPPED: "link dropped", TAG_DROPPED: "tag dropped"}
 
-# Places sort as they stand in a trace: the resource, then each scope, its spans, and in a span its events and then its links. Spans
-# are counted through their group.
+# Places sort as they stand in a trace: the unit as a whole, the resource, then each scope, its spans, and in a span its events and then
+# its links. Spans are counted through their group.
+WHOLE = ()
 RESOURCE = (0,)
 
 
@@ -57,13 +58,17 @@ def link_at(scope, span, link):
     return (scope, span, 1, link)
 
 
-def place_words(place):
+def place_words(number, place):
+    """A place in the unit of this number."""
+    unit = f"unit {number}"
+    if place == WHOLE:
+        return unit
     if place == RESOURCE:
-        return "resource"
+        return f"{unit} resource"
     scope, span, *inner = place
     if span == 0:
-        return f"scope {scope}"
-    return f"span {span}" + (f" {['event', 'link'][inner[0]]} {inner[1]}" if inner else "")
+        return f"{unit} scope {scope}"
+    return f"{unit} span {span}" + (f" {['event', 'link'][inner[0]]} {inner[1]}" if inner else "")
 
 
 # ---- OTLP: each form says how its messages lie, and what is remarked of them is said once
@@ -333,7 +338,7 @@ def remark_lines(number, remarks):
     out = []
     for place, kind, key in sorted(remarks, key=lambda remark: (remark[0], remark[1], remark[2].encode())):
         said = KINDS[kind] + ("" if kind == LINK_DROPPED else f" {quoted(key)}")
-        out.append(f"unit {number} {place_words(place)}: {said}\n")
+        out.append(f"{place_words(number, place)}: {said}\n")
     return out
 
 

@@ -3,9 +3,10 @@
 Zipkin document, beside `cat`, and beside `jq` where it counts the spans of a document.
 
 Run it at the top as bench/speed.py, after ./spanx has built the program. It makes requests of about 1 MB and 25 MB and the
-batches and documents of the same spans, which takes a minute, runs each pair of forms and both reports of each form five times
-over them, and prints the best time of each with its user time, and the peak of memory. Words that are given choose the pairs and
-reports whose names, as in `otlp-proto to zipkin-json` and `otlp-proto to show`, hold one of them. These figures are no test: they hang on the machine and its load. With
+batches and documents of the same spans, which takes a minute, runs each pair of forms, the losses of each beside it, and `show` and
+`check` of each form five times over them, and prints the best time of each with its user time, and the peak of memory. Words that are
+given choose the pairs and reports whose names, as in `otlp-proto to zipkin-json`, `otlp-proto to zipkin-json, losses` and
+`otlp-proto to show`, hold one of them. These figures are no test: they hang on the machine and its load. With
 `--write FILE MEGABYTES` it only writes such a request, and with the word of another form behind it the text of that form.
 """
 import os
@@ -15,8 +16,10 @@ import sys
 import tempfile
 
 import forms
+import losses
+import program
 import reports
-from program import BUILD, PROGRAM, Measured, command, report, report_command, seconds_of
+from program import BUILD, PROGRAM, Measured, command, losses_command, report, report_command, seconds_of
 from protocols import PROTOCOLS
 from wire import bytes_field, fixed32_field, fixed64_field, number_field
 
@@ -186,6 +189,18 @@ def check_reports(texts, spans):
             sys.exit(f"the program doesn't report the spans of the input, {source}")
 
 
+def check_losses(texts):
+    """As many lines as the last one says, and of smaller inputs those of the readers."""
+    for source, target in forms.PAIRS:
+        text = texts[source]
+        status, written, note = program.losses(text, source, target)
+        is_right = (status, note) == (0, "") and written.endswith(b"losses %d\n" % (written.count(b"\n") - 1))
+        if is_right and len(text) < EXACT:
+            is_right = written == losses.verdict(text, source, target)[2]
+        if not is_right:
+            sys.exit(f"the program doesn't tell the losses of the input, {source} to {target}")
+
+
 def show(name, words, path, size):
     """Prints what a command costs over a file."""
     seconds, user = min(seconds_of(words, path) for _ in range(RUNS))
@@ -198,6 +213,7 @@ def measure(size, words):
     texts, spans = inputs(size)
     check(texts)
     check_reports(texts, spans)
+    check_losses(texts)
     is_chosen = lambda source, what: not words or any(word in f"{source} to {what}" for word in words)
     for source, text in texts.items():
         print(f"{source}: {len(text) / 1e6:.2f} MB, {spans} spans")
@@ -210,6 +226,8 @@ def measure(size, words):
             for target in texts:
                 if is_chosen(source, target):
                     show(f"spanx to {target}", command(source, target), file.name, len(text))
+                if is_chosen(source, f"{target}, {losses.LOSSES}"):
+                    show(f"spanx to {target}, losses", losses_command(source, target), file.name, len(text))
             for mode in reports.MODES:
                 if is_chosen(source, mode):
                     show(f"spanx {mode}", report_command(mode, source), file.name, len(text))

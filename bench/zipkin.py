@@ -410,9 +410,13 @@ def normal_span(span):
     )
 
 
+def normal_resource(resource):
+    return value_texts(resource, "service.name")
+
+
 def normal(groups):
     """The normal form of groups without a fault: what Zipkin can hold of them."""
     return runs(
-        (value_texts(group.resource, "service.name"), (scope.name, scope.version), normal_span(span))
+        (normal_resource(group.resource), (scope.name, scope.version), normal_span(span))
         for group in groups for scope in group.scopes for span in scope.spans
     )

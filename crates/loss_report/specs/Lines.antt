@@ -3,6 +3,10 @@ use Rattle.std.specs.Prelude.{ℕ, List, [], ◌∷◌, ◌++◌, Option, Some, 
 use Rattle.json.specs.Print.{print}
 use Rattle.json.specs.Token.{string}
 use Rattle.json_members.specs.Canonical.{span_id_text, trace_id_text}
+use Rattle.trace_model.specs.Losses.{row_name}
+use Rattle.trace_model.specs.declared.loss.Loss.{Loss}
+use Rattle.trace_model.specs.declared.loss.LossRow.{LossRow}
+use Rattle.trace_model.specs.declared.loss.LossRow.TheVariants as rows
 use Rattle.trace_model.specs.declared.place.Place.{Place}
 use Rattle.trace_model.specs.declared.place.Place.TheVariants as places
 use Rattle.trace_model.specs.declared.remark.Remark.{Remark}
@@ -18,7 +22,7 @@ use Rattle.trace_model.specs.declared.span.Span.{Span}
 abbrev pub quoted_text : List ℕ → List ℕ
 quoted_text text = print (string text ∷ [])
 
--- ---- remarks
+-- ---- places
 
 -- a place in the unit of this number
 abbrev pub place_text : ℕ → Place → List ℕ
@@ -30,6 +34,24 @@ place_text unit (places.Event span event) =
     codes "unit " ++ decimal unit ++ codes " span " ++ decimal span ++ codes " event " ++ decimal event
 place_text unit (places.Link span link) =
     codes "unit " ++ decimal unit ++ codes " span " ++ decimal span ++ codes " link " ++ decimal link
+
+-- ---- losses
+
+-- what is lost of an attribute is told with its key
+abbrev pub lost_text : LossRow → List ℕ → List ℕ
+lost_text rows.Value key = row_name rows.Value ++ codes " " ++ quoted_text key
+lost_text rows.Empty key = row_name rows.Empty ++ codes " " ++ quoted_text key
+lost_text row key = row_name row
+
+-- the line of a loss in the unit of this number
+abbrev pub loss_text : ℕ → Loss → List ℕ
+loss_text unit loss = place_text unit loss.place ++ codes ": " ++ lost_text loss.row loss.key ++ codes "\n"
+
+-- the last line of losses: how many there are
+abbrev pub loss_count_text : ℕ → List ℕ
+loss_count_text losses = codes "losses " ++ decimal losses ++ codes "\n"
+
+-- ---- remarks
 
 abbrev pub remarked : RemarkKind → List ℕ → List ℕ
 remarked remarks.EqualKey key = codes "equal key " ++ quoted_text key

@@ -1,13 +1,14 @@
 //! What lines are made of.
 ghost use Rattle.std.specs.Prelude.{◌≡◌, ◌++◌, decimal, codes, IfOk, OnOk};
 ghost use Rattle.json_members.specs.Canonical.{span_id_text, trace_id_text};
-ghost use Rattle.loss_report.specs.Lines.{quoted_text};
+ghost use Rattle.loss_report.specs.Lines.{place_text, quoted_text};
 
 use itoa::Buffer;
 use json::Writer;
 use span_ids::{SpanId, TraceId};
 use span_io::{Blob, OutOfMemory};
 use std::alloc::Global;
+use trace_model::Place;
 
 /// Appends a word, and a number behind it.
 pub(crate) fn append_numbered(out: &mut Blob, word: &[u8], number: u64) -> Result<(), OutOfMemory>
@@ -57,4 +58,25 @@ pub(crate) fn append_span(out: &mut Blob, span: SpanId) -> Result<(), OutOfMemor
     let mut digits = [0; 16];
     span.write_hex(&mut digits);
     out.append_both(b" ", &digits)
+}
+
+/// Appends the place in a unit.
+pub(crate) fn append_place(out: &mut Blob, unit: u64, place: Place) -> Result<(), OutOfMemory>
+    ensures { OnOk result (out.new ≡ out.old ++ place_text unit place) }
+{
+    append_numbered(out, b"unit ", unit)?;
+    match place {
+        Place::Whole => Ok(()),
+        Place::Resource => out.append(b" resource"),
+        Place::Scope(scope) => append_numbered(out, b" scope ", u64::from(scope)),
+        Place::Span(span) => append_numbered(out, b" span ", u64::from(span)),
+        Place::Event(span, event) => {
+            append_numbered(out, b" span ", u64::from(span))?;
+            append_numbered(out, b" event ", u64::from(event))
+        }
+        Place::Link(span, link) => {
+            append_numbered(out, b" span ", u64::from(span))?;
+            append_numbered(out, b" link ", u64::from(link))
+        }
+    }
 }

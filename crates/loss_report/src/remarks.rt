@@ -1,32 +1,11 @@
 //! The line of a remark, and the last line behind all of them.
 ghost use Rattle.std.specs.Prelude.{◌≡◌, ◌++◌, OnOk};
-ghost use Rattle.loss_report.specs.Lines.{counts_text, place_text, remark_text, remarked};
+ghost use Rattle.loss_report.specs.Lines.{counts_text, remark_text, remarked};
 
-use crate::pieces::{append_numbered, append_quoted};
+use crate::pieces::{append_numbered, append_place, append_quoted};
 use span_io::{Blob, OutOfMemory};
 use std::alloc::Global;
-use trace_model::{Place, Remark, RemarkKind};
-
-// Appends the place in a unit.
-fn append_place(out: &mut Blob, unit: u64, place: Place) -> Result<(), OutOfMemory>
-    ensures { OnOk result (out.new ≡ out.old ++ place_text unit place) }
-{
-    append_numbered(out, b"unit ", unit)?;
-    match place {
-        Place::Whole => Ok(()),
-        Place::Resource => out.append(b" resource"),
-        Place::Scope(scope) => append_numbered(out, b" scope ", u64::from(scope)),
-        Place::Span(span) => append_numbered(out, b" span ", u64::from(span)),
-        Place::Event(span, event) => {
-            append_numbered(out, b" span ", u64::from(span))?;
-            append_numbered(out, b" event ", u64::from(event))
-        }
-        Place::Link(span, link) => {
-            append_numbered(out, b" span ", u64::from(span))?;
-            append_numbered(out, b" link ", u64::from(link))
-        }
-    }
-}
+use trace_model::{Remark, RemarkKind};
 
 // Appends what is remarked, and the key where there is one.
 fn append_remarked(alloc: Global, out: &mut Blob, remark: &Remark) -> Result<(), OutOfMemory>

@@ -23,3 +23,4 @@ pub mod NoFault
 pub mod TimelySpans
 pub mod ProperBatches
 pub mod ProperGroups
+pub mod NoneLost

@@ -9,6 +9,7 @@ use Rattle.trace_model.specs.Soundness.{IsSoundGroup}
 use Rattle.trace_model.specs.declared.fault.Fault.{Fault}
 use Rattle.trace_model.specs.declared.trace.Group.{Group}
 use Rattle.map_jaeger.specs.Faults.{HasNoFault, IsFaultOf}
+use Rattle.map_jaeger.specs.Losses.{group_losses}
 use Rattle.map_jaeger.specs.Normal.{normal_group}
 use Rattle.map_jaeger.specs.Reading.{group_of}
 use Rattle.map_jaeger.specs.Remarks.{AreRemarks}
@@ -60,3 +61,7 @@ WrittenIsProper = (group : Group) → IsProperGroup group → IsProperBatch (bat
 -- the group that is read of a proper batch is proper
 abbrev pub ReadIsProper : Type 0
 ReadIsProper = (batch : Batch) → IsProperBatch batch → IsProperGroup (group_of batch)
+
+-- nothing is lost of a sound group exactly where it is its own normal form
+abbrev pub NoneLost : Type 0
+NoneLost = (group : Group) → IsSoundGroup group → (group_losses group ≡ []) ↔ (normal_group group ≡ group)

@@ -4,6 +4,7 @@ pub mod Faults
 pub mod Keys
 pub mod Laws
 pub mod LeastFault
+pub mod Losses
 pub mod Normal
 pub mod Noted
 pub mod ReadColumns

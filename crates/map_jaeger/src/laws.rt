@@ -1,5 +1,5 @@
 //! Laws of the table, as contracts of functions that do nothing.
-ghost use Rattle.map_jaeger.specs.Laws.{BatchesReadBack, NormalForms, ReadIsNormal, ReadIsSound, FaultsFound, WrittenIsProper, ReadIsProper};
+ghost use Rattle.map_jaeger.specs.Laws.{BatchesReadBack, NormalForms, ReadIsNormal, ReadIsSound, FaultsFound, NoneLost, WrittenIsProper, ReadIsProper};
 
 /// Reading the batch of a group that Jaeger can hold gives its normal form, without a remark.
 pub fn batches_read_back()
@@ -34,6 +34,13 @@ pub fn read_is_sound()
 /// A sound group has a fault that counts, or none.
 pub fn faults_found()
     ensures { FaultsFound }
+{
+    // The clause is the law.
+}
+
+/// Nothing is lost of a sound group exactly where it is its own normal form.
+pub fn none_lost()
+    ensures { NoneLost }
 {
     // The clause is the law.
 }

@@ -4,11 +4,13 @@
 mod faults;
 mod keys;
 pub mod laws;
+mod losing;
 mod reading;
 mod writing;
 mod writing_columns;
 mod writing_flags;
 
 pub use faults::fault_of_group;
+pub use losing::losses;
 pub use reading::group_of_batch;
 pub use writing::batch_of_group;

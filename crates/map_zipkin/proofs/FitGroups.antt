@@ -70,7 +70,10 @@ scopes_fit (scope ∷ scopes) all = both_false (scope_unfit scope) (list_any sco
     (spans_fit scope.name scope.version scope.spans (All-head (λ scope. All IsPlain (spans_of scope)) scope scopes all))
     (scopes_fit scopes (All-tail (λ scope. All IsPlain (spans_of scope)) scope scopes all))
 
+pub resource_fit : (group : Group) → HasNoZipkinFault group → holds_double group.resource ≡ false
+resource_fit group none = pairs_fit group.resource (λ any. none (record { place = 0; fault = DoubleInText }) (in_resource refl any))
+
 pub group_fit : (group : Group) → HasNoZipkinFault group → group_unfit group ≡ false
 group_fit group none = both_false (holds_double group.resource) (list_any scope_unfit group.scopes)
-    (pairs_fit group.resource (λ any. none (record { place = 0; fault = DoubleInText }) (in_resource refl any)))
+    (resource_fit group none)
     (scopes_fit group.scopes (scoped_each IsPlain group.scopes (spans_plain group none)))

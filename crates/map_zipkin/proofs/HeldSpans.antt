@@ -32,7 +32,7 @@ spans_plain group none k d lt fault is = none (record { place = k + 1; fault = f
     (at_read (scoped group.scopes) (λ one. IsZipkinSpanFault one.span fault) k (get_or (scoped group.scopes) k d) lt
     (get_or_default (scoped group.scopes) k d (get_or (scoped group.scopes) k d) lt) is))
 
-scope_sound : (scope : Scope) → IsSoundScope scope → All (λ one. IsSoundSpan one.span) (spans_of scope)
+pub scope_sound : (scope : Scope) → IsSoundScope scope → All (λ one. IsSoundSpan one.span) (spans_of scope)
 scope_sound scope sound = All-map (λ one. IsSoundSpan one.span) (λ span. record { name = scope.name; version = scope.version; span = span }) scope.spans sound.spans
 
 record IsProperScoped (one : Scoped Span) : Type 0 where

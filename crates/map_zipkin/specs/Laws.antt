@@ -1,5 +1,5 @@
 -- What the laws of the table say.
-use Rattle.std.specs.Prelude.{◌≡◌, ◌≢◌, ◌↔◌, List, [], All, Option, map}
+use Rattle.std.specs.Prelude.{◌≡◌, ◌≢◌, ◌↔◌, List, [], All, Option, None, map}
 use Rattle.std.specs.List.{flat_map}
 use Rattle.span_tags.specs.RunLaws.{IsPlain}
 use Rattle.trace_model.specs.Proper.{IsProperGroup}
@@ -9,6 +9,7 @@ use Rattle.trace_model.specs.declared.trace.Group.{Group}
 use Rattle.zipkin_json.specs.Proper.{IsProperZSpan, IsTimelyZSpan}
 use Rattle.zipkin_json.specs.declared.span.ZSpan.{ZSpan}
 use Rattle.map_zipkin.specs.Faults.{HasNoZipkinFault, IsZipkinFaultOf}
+use Rattle.map_zipkin.specs.Losses.{groups_losses}
 use Rattle.map_zipkin.specs.NotedGroups.{plain_noted, noted_groups_of}
 use Rattle.map_zipkin.specs.Normal.{normal_spans, zipkin_normal}
 use Rattle.map_zipkin.specs.Reading.{run_span_of, groups_of}
@@ -75,3 +76,7 @@ ZipkinFaultsFound = (group : Group) → IsSoundGroup group → (found : Option F
 pub record WrittenIsWritable : Type 0 where
   pub proper : (group : Group) → IsHeldByZipkin group → All IsProperZSpan (spans_of_group group)
   pub timely : (group : Group) → IsHeldByZipkin group → All IsTimelyZSpan (spans_of_group group)
+
+-- nothing is lost of sound groups exactly where they are their own normal form
+abbrev pub NothingLost : Type 0
+NothingLost = (groups : List Group) → All IsSoundGroup groups → (groups_losses None groups ≡ []) ↔ (zipkin_normal groups ≡ groups)

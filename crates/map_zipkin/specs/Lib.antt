@@ -8,6 +8,8 @@ pub mod Faults
 pub mod LeastZipkinFault
 pub mod Remarks
 pub mod NotedGroups
+pub mod Losses
+pub mod LossWalks
 pub mod Laws
 pub mod Unfit
 pub mod WritingSoFar

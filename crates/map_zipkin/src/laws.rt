@@ -1,5 +1,5 @@
 //! Laws of the table, as contracts of functions that do nothing.
-ghost use Rattle.map_zipkin.specs.Laws.{GroupsNoted, Regroupings, SpansReadBack, WrittenIsWritable, ReadIsHeld, ReadIsZipkinNormal, ZipkinNormalForms, ZipkinFaultsFound};
+ghost use Rattle.map_zipkin.specs.Laws.{GroupsNoted, NothingLost, Regroupings, SpansReadBack, WrittenIsWritable, ReadIsHeld, ReadIsZipkinNormal, ZipkinNormalForms, ZipkinFaultsFound};
 
 /// Spans that are regrouped are the same spans, in order, in plain groups; and they are regrouped as
 /// before.
@@ -71,4 +71,11 @@ pub fn zipkin_faults_found()
     ensures { ZipkinFaultsFound }
 {
     trace_model::laws::event_texts_exact();
+}
+
+/// Nothing is lost of sound groups exactly where they are their own normal form.
+pub fn nothing_lost()
+    ensures { NothingLost }
+{
+    trace_model::laws::texts_for_bytes();
 }

@@ -16,6 +16,7 @@ mod headers_states;
 mod headers_stops;
 mod headers_stops_b3;
 mod long;
+mod losses;
 mod reports;
 mod requests;
 mod spans;
@@ -25,7 +26,7 @@ mod to_groups;
 mod to_spans;
 mod trace;
 
-use devices::{CASES, Case, Fails, HEADER_CASES, NO_FAILS, REPORT_CASES};
+use devices::{CASES, Case, Fails, HEADER_CASES, LOSS_CASES, NO_FAILS, REPORT_CASES};
 use documents::{DOCUMENTS, Documents};
 use span_cli::run;
 use span_io::{Blob, Items, MemSink, MemSource};
@@ -55,7 +56,7 @@ pub struct Row {
     pub output: &'static str,
 }
 
-/// A conversion that stops: the status, what was written before, and the line that is noted.
+/// A conversion that stops, or a report of losses: the status, what was written, and the line that is noted.
 #[derive(Clone, Copy)]
 pub struct Stop {
     pub name: &'static str,
@@ -133,6 +134,13 @@ const HEADERS: [&[HeaderRow]; 12] = [
 ];
 
 const REPORTS: [&[ReportRow]; 2] = [&reports::SHOWN, &reports::CHECKED];
+
+const LOSSES: [&[Stop]; 4] = [
+    &losses::TO_JAEGER,
+    &losses::TO_ZIPKIN,
+    &losses::JOINED,
+    &losses::TOLD,
+];
 
 // What `show` and `check` say of the one trace, whichever form it is in.
 const SHOWN: &str =
@@ -213,23 +221,27 @@ fn expect_answer(
     assert_eq!(rt; answer.note.as_slice(), note.as_bytes(), "note of {name}");
 }
 
-// Converts the input of a row, in pieces of each size, and looks at each answer.
-fn expect_stop(rt: &impl Abort, alloc: Global, row: &Stop) -> Result<(), Fail> {
-    let words = ["convert", "--from", row.from, "--to", row.to];
-    let output = bytes_in(alloc, row.to, row.output)?;
+// Runs a mode from form to form on the input of a row, in pieces of each size, and looks at each answer.
+fn expect_mode(
+    rt: &impl Abort,
+    alloc: Global,
+    mode: &'static str,
+    row: &Stop,
+    output: &[u8],
+) -> Result<(), Fail> {
+    let words = [mode, "--from", row.from, "--to", row.to];
     for cut in CUTS {
         let input = bytes_in(alloc, row.from, row.input)?;
         let answer = run_cut(alloc, &words, input, cut, NO_FAILS)?;
-        expect_answer(
-            rt,
-            row.name,
-            &answer,
-            row.status,
-            output.as_slice(),
-            row.note,
-        );
+        expect_answer(rt, row.name, &answer, row.status, output, row.note);
     }
     Ok(())
+}
+
+// Converts the input of a row.
+fn expect_stop(rt: &impl Abort, alloc: Global, row: &Stop) -> Result<(), Fail> {
+    let output = bytes_in(alloc, row.to, row.output)?;
+    expect_mode(rt, alloc, "convert", row, output.as_slice())
 }
 
 fn expect_row(rt: &impl Abort, alloc: Global, row: &Row) -> Result<(), Fail> {
@@ -358,6 +370,16 @@ fn reports_each_form(rt: HostRuntime) -> Result<(), Fail> {
     Ok(())
 }
 
+#[test]
+fn tells_losses(rt: HostRuntime) -> Result<(), Fail> {
+    for rows in LOSSES {
+        for row in rows {
+            expect_mode(&rt, rt.alloc(), "losses", row, row.output.as_bytes())?;
+        }
+    }
+    Ok(())
+}
+
 // The document with this text where documents differ.
 fn document_of(alloc: Global, around: (&str, &str), text: &str) -> Result<Blob, Fail> {
     let mut document = Blob::new(alloc);
@@ -426,6 +448,14 @@ fn answers_of_devices_to_headers(rt: HostRuntime) -> Result<(), Fail> {
 #[test]
 fn answers_of_devices_to_reports(rt: HostRuntime) -> Result<(), Fail> {
     for case in &REPORT_CASES {
+        expect_case(&rt, rt.alloc(), case)?;
+    }
+    Ok(())
+}
+
+#[test]
+fn answers_of_devices_to_losses(rt: HostRuntime) -> Result<(), Fail> {
+    for case in &LOSS_CASES {
         expect_case(&rt, rt.alloc(), case)?;
     }
     Ok(())

@@ -6,5 +6,7 @@ pub mod FrontVerdicts
 pub mod HeadersEndings
 pub mod InputLemmas
 pub mod LinesBack
+pub mod LossesTold
 pub mod NoteLemmas
 pub mod SameRuns
+pub mod WholeRuns

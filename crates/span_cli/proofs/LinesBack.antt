@@ -1,16 +1,14 @@
 -- What was written of header lines is read back as the normal form of their context.
-use Rattle.std.proofs.Common.{◌≡◌, ◌≤◌, ℕ, List, Option, Some, None, refl, ap, subst, ◌∙◌, arith}
+use Rattle.std.proofs.Common.{◌≡◌, ℕ, List, Option, refl, ap, subst, arith}
 use Rattle.std.specs.Prelude.{IfSome}
 use Rattle.propagation.specs.Laws.{ContextsAreNormal, HeadsAreSound, HeadersReadBack}
 use Rattle.propagation.specs.NormalContexts.{context_lines}
 use Rattle.propagation.specs.declared.header_form.HeaderForm.{HeaderForm}
 use Rattle.span_io.specs.Outside.{Outlet, Gains}
 use Rattle.span_cli.specs.Jobs.{HeaderLines}
-use Rattle.span_cli.specs.Lines.{said, stage_of}
+use Rattle.span_cli.specs.Lines.{stage_of}
 use Rattle.span_cli.specs.Outcomes.{Outcome, IsHeadersOutcome, too_long, bad, no_ids, written, OnOutcome, IsJudgedAt, AgreesWith, Writes, WritesLinesOf}
-
-not_zero : (outcome other : Outcome) (status : ℕ) → 0 ≡ outcome.status → outcome ≡ other → other.status ≡ status → 1 ≤ status → ⊥
-not_zero outcome other status agrees is same some = let e = agrees ∙ ap (λ (o : Outcome). o.status) is ∙ same in omega arith
+use Rattle.span_cli.proofs.WholeRuns.{not_zero, whole_run}
 
 module _ (normal : ContextsAreNormal) (sound : HeadsAreSound) (back : HeadersReadBack) (form : HeaderForm) where
   lines_of_block : (bytes : List ℕ) (outcome : Outcome) (before now : Outlet) → IsHeadersOutcome form bytes outcome → 0 ≡ outcome.status → Gains before now outcome.text → WritesLinesOf form before now bytes
@@ -33,14 +31,7 @@ module _ (normal : ContextsAreNormal) (sound : HeadsAreSound) (back : HeadersRea
         };
       }
 
-  lines_at : (left : Option (List ℕ)) (before now : Outlet) → IfSome left (IsJudgedAt (HeaderLines form) said) → OnOutcome (HeaderLines form) left (λ o. 0 ≡ o.status)
-      → OnOutcome (HeaderLines form) left (λ o. Gains before now o.text) → IfSome left (WritesLinesOf form before now)
-  lines_at None before now judged agrees writes = tt
-  lines_at (Some bytes) before now (outcome, is) agrees writes = lines_of_block bytes outcome before now is (agrees outcome is) (writes outcome is)
-
   pub lines_back : (left : Option (List ℕ)) (status : ℕ) (before now : Outlet) → IfSome left (IsJudgedAt (HeaderLines form) (stage_of status)) → OnOutcome (HeaderLines form) left (AgreesWith (stage_of status) status)
       → OnOutcome (HeaderLines form) left (λ o. Writes (stage_of status) o.text before now) → status ≡ 0 → IfSome left (WritesLinesOf form before now)
-  lines_back left status before now judged agrees writes zero = lines_at left before now
-      (subst (λ (s : ℕ). IfSome left (IsJudgedAt (HeaderLines form) (stage_of s))) zero judged)
-      (subst (λ (s : ℕ). OnOutcome (HeaderLines form) left (AgreesWith (stage_of s) s)) zero agrees)
-      (subst (λ (s : ℕ). OnOutcome (HeaderLines form) left (λ o. Writes (stage_of s) o.text before now)) zero writes)
+  lines_back left status before now = whole_run (HeaderLines form) before now (WritesLinesOf form before now)
+      (λ bytes outcome is zero gains. lines_of_block bytes outcome before now is zero gains) left status

@@ -8,7 +8,9 @@ use Rattle.span_cli.specs.Jobs.{Job, IfSpans, job_of}
 use Rattle.span_cli.specs.declared.command.Command.{Command}
 use Rattle.propagation.specs.HeaderForms.{header_form_word}
 use Rattle.propagation.specs.declared.header_form.HeaderForm.{HeaderForm}
-use Rattle.span_cli.specs.declared.command.Command.TheVariants.{Convert, Show, Check, Headers}
+use Rattle.span_cli.specs.declared.command.Command.TheVariants.{Convert, Losses, Show, Check, Headers}
+use Rattle.span_cli.specs.declared.command.Long.{Long}
+use Rattle.span_cli.specs.declared.command.Long.TheVariants as longs
 use Rattle.span_cli.specs.declared.command.Short.{Short}
 use Rattle.span_cli.specs.declared.command.Short.TheVariants as shorts
 use Rattle.span_cli.specs.declared.command.Side.{Side}
@@ -27,6 +29,11 @@ abbrev pub other_side : Side → Side
 other_side From = To
 other_side To = From
 
+-- the modes with two options
+abbrev pub long_word : Long → List ℕ
+long_word longs.Convert = codes "convert"
+long_word longs.Losses = codes "losses"
+
 -- the modes with one option, and which it is
 abbrev pub short_word : Short → List ℕ
 short_word shorts.Show = codes "show"
@@ -40,10 +47,11 @@ short_side shorts.Headers = To
 
 -- ---- commands
 
--- the command reads the form of the first word and writes that of the second
-abbrev pub ConvertsBetween : Command → List ℕ → List ℕ → Type 0
-ConvertsBetween (Convert from to) source target = (source ≡ form_word from) × (target ≡ form_word to)
-ConvertsBetween other source target = ⊥
+-- the command of this mode reads the form of the first word, and writes that of the second or what a move to it loses
+abbrev pub GoesBetween : Command → Long → List ℕ → List ℕ → Type 0
+GoesBetween (Convert from to) longs.Convert source target = (source ≡ form_word from) × (target ≡ form_word to)
+GoesBetween (Losses from to) longs.Losses source target = (source ≡ form_word from) × (target ≡ form_word to)
+GoesBetween other long source target = ⊥
 
 -- the command shows or checks the form of the word, or writes headers in it
 abbrev pub ShowsForm : Command → List ℕ → Type 0
@@ -58,11 +66,16 @@ abbrev pub WritesHeaders : Command → List ℕ → Type 0
 WritesHeaders (Headers form) target = target ≡ header_form_word form
 WritesHeaders other target = ⊥
 
--- `convert` with `--from F` and `--to F`, in either order; `show` and `check` with `--from F`; `headers` with `--to H`
+-- a mode with `--from F` and `--to F`, in either order
+abbrev pub SpellsLong : Long → Form → Form → List (List ℕ) → Type 0
+SpellsLong long from to words =
+    (words ≡ long_word long ∷ side_word From ∷ form_word from ∷ side_word To ∷ form_word to ∷ [])
+    ⊎ (words ≡ long_word long ∷ side_word To ∷ form_word to ∷ side_word From ∷ form_word from ∷ [])
+
+-- `convert` and `losses` with both; `show` and `check` with `--from F`; `headers` with `--to H`
 abbrev pub Spells : Command → List (List ℕ) → Type 0
-Spells (Convert from to) words =
-    (words ≡ codes "convert" ∷ side_word From ∷ form_word from ∷ side_word To ∷ form_word to ∷ [])
-    ⊎ (words ≡ codes "convert" ∷ side_word To ∷ form_word to ∷ side_word From ∷ form_word from ∷ [])
+Spells (Convert from to) words = SpellsLong longs.Convert from to words
+Spells (Losses from to) words = SpellsLong longs.Losses from to words
 Spells (Show from) words = words ≡ codes "show" ∷ side_word From ∷ form_word from ∷ []
 Spells (Check from) words = words ≡ codes "check" ∷ side_word From ∷ form_word from ∷ []
 Spells (Headers form) words = words ≡ codes "headers" ∷ side_word To ∷ header_form_word form ∷ []
@@ -76,6 +89,10 @@ OnJob words P = (command : Command) → Spells command words → P (job_of comma
 -- the same of the form that is read and of what is written, where spans are
 abbrev pub OnSpans : List (List ℕ) → (Form → Written → Type 0) → Type 0
 OnSpans words P = OnJob words (λ job. IfSpans job P)
+
+-- the same of the forms between which the words of `losses` ask for a report
+abbrev pub OnLosses : List (List ℕ) → (Form → Form → Type 0) → Type 0
+OnLosses words P = (from to : Form) → Spells (Losses from to) words → P from to
 
 -- the same of the form of headers that the words of `headers` spell
 abbrev pub OnHeaders : List (List ℕ) → (HeaderForm → Type 0) → Type 0

@@ -15,6 +15,7 @@ pub data Job : Type 0 where
 
 abbrev pub job_of : Command → Job
 job_of (commands.Convert from to) = Spans from (written.Form to)
+job_of (commands.Losses from to) = Spans from (written.Report (reports.Losses to))
 job_of (commands.Show from) = Spans from (written.Report reports.Show)
 job_of (commands.Check from) = Spans from (written.Report reports.Check)
 job_of (commands.Headers form) = HeaderLines form

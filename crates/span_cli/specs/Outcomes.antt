@@ -1,5 +1,5 @@
 -- What a job makes of its input: the status, what is written, and the line that is noted.
-use Rattle.std.specs.Prelude.{◌↔◌, false, ◌≡◌, ◌≤◌, ◌<◌, ℕ, Bool, List, [], length, Option, IfSome}
+use Rattle.std.specs.Prelude.{◌↔◌, false, ◌≡◌, ◌≤◌, ◌<◌, ℕ, Bool, List, [], length, Option, IfSome, codes}
 use Rattle.propagation.specs.Heads.{Head, IsHeaderCause}
 use Rattle.propagation.specs.Laws.{AreProperIds}
 use Rattle.propagation.specs.NormalContexts.{IsSoundContext, CannotTell, context_lines, normal_context}
@@ -9,10 +9,13 @@ use Rattle.propagation.specs.declared.header_form.HeaderForm.{HeaderForm}
 use Rattle.span_io.specs.Limits.{shipped_limits}
 use Rattle.span_io.specs.Outside.{Outlet, Gains, GainsFront, FailsWithin}
 use Rattle.span_io.specs.declared.form.Form.{Form}
-use Rattle.span_convert.specs.Reports.{IsVerdictAs}
+use Rattle.span_convert.specs.Reports.{IsVerdictAs, report_target}
 use Rattle.span_convert.specs.SameBatches.{SameBatches}
 use Rattle.span_convert.specs.SameDocuments.{AgreeingDocuments}
-use Rattle.span_convert.specs.Verdicts.{Verdict, good, refused, faulted}
+use Rattle.span_convert.specs.Units.{groups_in, input_form, normal_form}
+use Rattle.span_convert.specs.Verdicts.{Verdict, IsGood, good, refused, faulted}
+use Rattle.span_convert.specs.declared.report.Report.TheVariants as reports
+use Rattle.span_convert.specs.declared.tally.Tally.{Tally}
 use Rattle.span_convert.specs.declared.written.Written.{Written}
 use Rattle.span_cli.specs.Inputs.{header_limit}
 use Rattle.span_cli.specs.Jobs.{Job, Spans, HeaderLines}
@@ -100,6 +103,17 @@ pub record CarriesOut (status : ℕ) (output_before output_now notes_before note
   pub agrees : AgreesWith (stage_of status) status outcome
   pub writes : Writes (stage_of status) outcome.text output_before output_now
   pub notes : Notes notes_before notes_now (line_of (stage_of status) outcome)
+
+-- ---- losses
+
+-- The output gained the lines of all units of the bytes, and they are `losses 0` alone exactly where the trace of these units is its own
+-- normal form.
+pub record WritesLossesOf (from to : Form) (before now : Outlet) (bytes : List ℕ) : Type 0 where
+  pub lines : List ℕ
+  pub tally : Tally
+  pub all : IsGood (input_form from) (report_target (reports.Losses to)) shipped_limits bytes lines tally
+  pub gains : Gains before now lines
+  pub tied : (lines ≡ codes "losses 0\n") ↔ (normal_form to (groups_in all.noted) ≡ groups_in all.noted)
 
 -- ---- header lines, read again
 

@@ -1,7 +1,8 @@
 //! The words of the command line.
 ghost use Rattle.std.specs.Prelude.{◌≡◌, ◌↔◌, ◌∷◌, [], Some};
-ghost use Rattle.span_cli.specs.Commands.{texts, Spells, ConvertsBetween, ShowsForm, ChecksForm, WritesHeaders, side_word, other_side, short_word, short_side};
+ghost use Rattle.span_cli.specs.Commands.{texts, Spells, GoesBetween, ShowsForm, ChecksForm, WritesHeaders, side_word, other_side, long_word, short_word, short_side};
 ghost use Rattle.span_cli.specs.declared.command.Command.{Command};
+ghost use Rattle.span_cli.specs.declared.command.Long.{Long};
 ghost use Rattle.span_cli.specs.declared.command.Short.{Short};
 ghost use Rattle.span_cli.specs.declared.command.Side.{Side};
 
@@ -13,6 +14,8 @@ use span_io::Form;
 pub enum Command {
     /// Reads spans in the first form and writes them in the second.
     Convert(Form, Form),
+    /// Reads spans in the first form and writes a line for each thing that a move to the second loses.
+    Losses(Form, Form),
     /// Reads spans in the form and writes a line for each.
     Show(Form),
     /// Reads spans in the form and writes a line for each remark on what was read.
@@ -26,6 +29,13 @@ pub enum Command {
 enum Side {
     From,
     To,
+}
+
+/// The modes with two options.
+#[derive(Clone, Copy, Debug, PartialEq, Eq)]
+enum Long {
+    Convert,
+    Losses,
 }
 
 /// The modes with one option.
@@ -113,12 +123,21 @@ fn command_of(
     ensures { (command : Command) → (result ≡ Some command)
         ↔ Spells command (mode.now ∷ first.now ∷ first_word.now ∷ second.now ∷ second_word.now ∷ []) }
 {
-    if mode != b"convert".as_slice() {
-        return None;
-    }
+    let long = long_mode(mode)?;
     match first_side(first, second)? {
-        Side::From => convert(first_word, second_word),
-        Side::To => convert(second_word, first_word),
+        Side::From => between(long, first_word, second_word),
+        Side::To => between(long, second_word, first_word),
+    }
+}
+
+// The mode with two options that a word is.
+fn long_mode(mode: &[u8]) -> Option<Long>
+    ensures { (long : Long) → (result ≡ Some long) ↔ (mode.now ≡ long_word long) }
+{
+    match mode {
+        b"convert" => Some(Long::Convert),
+        b"losses" => Some(Long::Losses),
+        _ => None,
     }
 }
 
@@ -133,11 +152,14 @@ fn first_side(first: &[u8], second: &[u8]) -> Option<Side>
     }
 }
 
-// The command between the forms that two words name.
-fn convert(source: &[u8], target: &[u8]) -> Option<Command>
-    ensures { (command : Command) → (result ≡ Some command) ↔ ConvertsBetween command source.now target.now }
+// The command of a mode between the forms that two words name.
+fn between(long: Long, source: &[u8], target: &[u8]) -> Option<Command>
+    ensures { (command : Command) → (result ≡ Some command) ↔ GoesBetween command long source.now target.now }
 {
     let source = Form::of_word(source)?;
     let target = Form::of_word(target)?;
-    Some(Command::Convert(source, target))
+    match long {
+        Long::Convert => Some(Command::Convert(source, target)),
+        Long::Losses => Some(Command::Losses(source, target)),
+    }
 }

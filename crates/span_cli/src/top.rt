@@ -1,12 +1,12 @@
 //! The top call.
 ghost use Rattle.std.specs.Prelude.{◌≡◌, ◌≢◌, ◌↔◌, IfSome, IsTrue, length};
 ghost use Rattle.span_io.specs.Outside.{InputFails, NoReadInVain, NoWriteInVain, OutputFails, OutputHolds, Takes, any_number};
-ghost use Rattle.span_cli.specs.Commands.{texts, Spells, OnJob, OnSpans, OnHeaders};
+ghost use Rattle.span_cli.specs.Commands.{texts, Spells, OnJob, OnSpans, OnLosses, OnHeaders};
 ghost use Rattle.span_cli.specs.Inputs.{ReadsInput, IsAllRead};
 ghost use Rattle.span_cli.specs.Jobs.{Spans, job_of};
 ghost use Rattle.span_cli.specs.Runs.{EndsRun, WritesRead};
 ghost use Rattle.span_cli.specs.Lines.{IsRunStatus, Notes, stage_of, stage_line};
-ghost use Rattle.span_cli.specs.Outcomes.{OnOutcome, OnSameBatches, OnAgreeingDocuments, CarriesOut, WritesLinesOf, IsJudgedAt, AgreesWith, Writes, line_of};
+ghost use Rattle.span_cli.specs.Outcomes.{OnOutcome, OnSameBatches, OnAgreeingDocuments, CarriesOut, WritesLinesOf, WritesLossesOf, IsJudgedAt, AgreesWith, Writes, line_of};
 ghost use Rattle.span_cli.specs.declared.command.Command.{Command};
 
 use crate::command::{Command, read_words};
@@ -15,7 +15,7 @@ use crate::headers::headers;
 use crate::input::feed_input;
 use crate::note::{note_ending, note_usage};
 use propagation::laws::{contexts_are_normal, headers_read_back, heads_are_sound};
-use span_convert::laws::{free_members, same_batches};
+use span_convert::laws::{free_members, no_losses, same_batches};
 use span_convert::{Report, Walker, Written};
 use span_io::{Form, Limits, Sink, Source};
 use std::alloc::Global;
@@ -79,6 +79,10 @@ pub fn run<S: Source, K: Sink, N: Sink>(
     ensures free_members { OnSpans (texts words.now) (λ from what. OnAgreeingDocuments from what (S.inlet input.old).left
         (CarriesOut result (K.outlet output.old) (K.outlet output.new) (N.outlet notes.old) (N.outlet notes.new))) }
 
+    // Of losses the one line `losses 0` is written exactly where the trace that was read is its own normal form of the target.
+    ensures nothing_lost { OnLosses (texts words.now) (λ from to. result ≡ 0 → IfSome (S.inlet input.old).left
+        (WritesLossesOf from to (K.outlet output.old) (K.outlet output.new))) }
+
     // Header lines that were written tell the normal form of what was read, and equal lines come of equal normal forms alone.
     ensures read_back { OnHeaders (texts words.now) (λ form. result ≡ 0 → IfSome (S.inlet input.old).left
         (WritesLinesOf form (K.outlet output.old) (K.outlet output.new))) }
@@ -95,6 +99,7 @@ pub fn run<S: Source, K: Sink, N: Sink>(
     note_ending(notes, &ending);
     same_batches();
     free_members();
+    no_losses();
     contexts_are_normal();
     heads_are_sound();
     headers_read_back();
@@ -112,6 +117,13 @@ fn carry_out<S: Source, K: Sink>(
 {
     match command {
         Command::Convert(from, to) => spans(alloc, from, Written::Form(to), input, output),
+        Command::Losses(from, to) => spans(
+            alloc,
+            from,
+            Written::Report(Report::Losses(to)),
+            input,
+            output,
+        ),
         Command::Show(from) => spans(alloc, from, Written::Report(Report::Show), input, output),
         Command::Check(from) => spans(alloc, from, Written::Report(Report::Check), input, output),
         Command::Headers(form) => headers(alloc, form, input, output),

@@ -23,6 +23,8 @@ pub mod GroupFileTexts
 pub mod GroupFileWalks
 pub mod InputForms
 pub mod JsonTexts
+pub mod LossTargets
+pub mod NoLosses
 pub mod ReportTargets
 pub mod RequestLaws
 pub mod RequestUnits

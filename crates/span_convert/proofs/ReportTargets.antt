@@ -19,6 +19,7 @@ use Rattle.span_convert.specs.declared.report.Report.TheVariants as reports
 use Rattle.span_convert.specs.declared.tally.Tally.{Tally}
 use Rattle.span_convert.specs.declared.written.Written.{Written}
 use Rattle.span_convert.specs.declared.written.Written.TheVariants as written
+use Rattle.span_convert.proofs.LossTargets.{loss_laws}
 use Rattle.span_convert.proofs.WalkLemmas.{held_one}
 
 -- ---- texts that grow
@@ -53,8 +54,9 @@ counted_more units unit = ap length (flat_more (λ (x : NotedGroup). x.notes) un
 
 -- ---- laws
 
-pub report_laws : (what : Report) → TargetLaws (report_target what)
-report_laws reports.Show = record {
+pub report_laws : ((to : Form) → TargetLaws (form_target to)) → (what : Report) → TargetLaws (report_target what)
+report_laws forms (reports.Losses to) = loss_laws to (forms to)
+report_laws forms reports.Show = record {
   fault_or_none = λ unit sound. inl tt;
   fault_once = λ unit a b has other. absurd has;
   no_fault = λ unit fault has can. has;
@@ -62,7 +64,7 @@ report_laws reports.Show = record {
   front = λ a b held. (units_shown b, flat_map-append (λ (unit : NotedGroup). group_shown unit.means) a b);
   closed = λ units. sym (append-nil (units_shown units));
 }
-report_laws reports.Check = record {
+report_laws forms reports.Check = record {
   fault_or_none = λ unit sound. inl tt;
   fault_once = λ unit a b has other. absurd has;
   no_fault = λ unit fault has can. has;
@@ -73,7 +75,7 @@ report_laws reports.Check = record {
 
 pub written_laws : ((to : Form) → TargetLaws (form_target to)) → (what : Written) → TargetLaws (written_target what)
 written_laws forms (written.Form to) = forms to
-written_laws forms (written.Report what) = report_laws what
+written_laws forms (written.Report what) = report_laws forms what
 
 -- ---- what writers add
 

@@ -65,7 +65,7 @@ pub record IsNextUnit (from : FramedForm) (limits : Limits) (rest behind : List 
 -- ---- what a writer of units adds
 
 -- A writer stands for units behind which it writes the next one. One that keeps nothing of them stands for any.
-abbrev pub StandsForAny : {W : Type 0} → W → List NotedGroup → Type 0
+abbrev pub StandsForAny : {W A : Type 0} → W → List A → Type 0
 StandsForAny writer units = Unit {0}
 
 -- The target can hold the unit. What was appended is what it adds to the text of units of which so many were counted, and for

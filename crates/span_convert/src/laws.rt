@@ -1,5 +1,5 @@
 //! Laws of verdicts, as contracts of functions that do nothing.
-ghost use Rattle.std.specs.Prelude.{◌≡◌, ◌↔◌, ◌<◌, ◌^◌, ◌++◌, ℕ, List, length, All};
+ghost use Rattle.std.specs.Prelude.{◌≡◌, ◌↔◌, ◌<◌, ◌^◌, ◌++◌, ℕ, List, length, All, codes};
 ghost use Rattle.span_io.specs.Limits.{AreLimits};
 ghost use Rattle.span_io.specs.Outside.{Outlet, IsFront};
 ghost use Rattle.span_io.specs.declared.cause.Cause.TheVariants as causes;
@@ -18,6 +18,7 @@ ghost use Rattle.span_convert.specs.Targets.{TargetLaws, form_target};
 ghost use Rattle.span_convert.specs.Units.{groups_in, input_form, IsSizedGroup, normal_form, canonical_text, partial_text, closing_text, span_count};
 ghost use Rattle.span_convert.specs.Verdicts.{Verdict, refused, IsFaultless, IsVerdict, IsVerdictOn, IsGood, IsTextSoFar, verdict_text};
 ghost use Rattle.span_convert.specs.declared.report.Report.{Report};
+ghost use Rattle.span_convert.specs.declared.report.Report.TheVariants as reports;
 ghost use Rattle.span_convert.specs.declared.written.Written.{Written};
 
 use crate::output::Output;
@@ -112,7 +113,7 @@ pub(crate) fn form_targets()
 pub(crate) fn report_targets()
     ensures { (what : Report) → TargetLaws (report_target what) }
 {
-    // The clause is the law.
+    form_targets();
 }
 
 /// Bytes have one verdict at most, whatever is written of them. What is written begins with each text
@@ -288,4 +289,15 @@ pub fn output_read_back()
     equal_texts();
     text_read_back();
     converts_to_itself();
+}
+
+/// The report of the losses of a move to a form is the one line of none exactly where the groups that
+/// were read are their own normal form.
+pub fn no_losses()
+    ensures { (from to : Form) (limits : Limits) (bytes text : List ℕ) (tally : Tally)
+        → (h : IsGood (input_form from) (report_target (reports.Losses to)) limits bytes text tally)
+        → (text ≡ codes "losses 0\n") ↔ (normal_form to (groups_in h.noted) ≡ groups_in h.noted) }
+{
+    map_jaeger::laws::none_lost();
+    map_zipkin::laws::nothing_lost();
 }

@@ -13,6 +13,7 @@ use crate::check_writer::CheckWriter;
 use crate::document::walk_document;
 use crate::group_file::GroupFile;
 use crate::laws::{form_targets, report_targets};
+use crate::losses::Losses;
 use crate::progress::WalkStop;
 use crate::report::Report;
 use crate::request::Request;
@@ -128,6 +129,9 @@ impl Output for Report {
         out: &mut K,
     ) -> Result<Tally, WalkStop> {
         match self {
+            Report::Losses(to) => {
+                Losses { to }.write_frames::<R, K>(alloc, bytes, too_long, limits, out)
+            }
             Report::Show => walk_units::<R, ShowWriter, K>(alloc, bytes, too_long, limits, out),
             Report::Check => walk_units::<R, CheckWriter, K>(alloc, bytes, too_long, limits, out),
         }
@@ -141,6 +145,9 @@ impl Output for Report {
         out: &mut K,
     ) -> Result<Tally, WalkStop> {
         match self {
+            Report::Losses(to) => {
+                Losses { to }.write_document::<R, K>(alloc, bytes, too_long, out)
+            }
             Report::Show => walk_document::<R, ShowWriter, K>(alloc, bytes, too_long, out),
             Report::Check => walk_document::<R, CheckWriter, K>(alloc, bytes, too_long, out),
         }

@@ -1,6 +1,10 @@
+use span_io::Form;
+
 /// What is reported of an input.
 #[derive(Clone, Copy, Debug, PartialEq, Eq)]
 pub enum Report {
+    /// A line for each loss of a move to the form, and then how many there are.
+    Losses(Form),
     /// A line for each span.
     Show,
     /// A line for each remark on what was read, and then how many units, spans and remarks there are.

@@ -74,7 +74,7 @@ module _ {V : Type 0} where
   last_at key (pair ∷ pairs) = option_or (last_at key pairs) (cond (bytes_eq key pair.0) (Some pair.1) None)
 
   -- nothing at a key that is below all
-  at_below : (k : List ℕ) (l : List (List ℕ × V)) → AllByRecursion (λ q. cmp k q ≡ Less) (keys l) → at k l ≡ None
+  pub at_below : (k : List ℕ) (l : List (List ℕ × V)) → AllByRecursion (λ q. cmp k q ≡ Less) (keys l) → at k l ≡ None
   at_below k [] all = refl
   at_below k (q ∷ qs) all = rw (apart_from_Less k q.0 all.0) (at_below k qs all.1)
 

@@ -2,6 +2,7 @@ pub mod Runs
 pub mod RunLaws
 pub mod RowLaws
 pub mod AttributeLaws
+pub mod QuietLaws
 pub mod ReadRuns
 pub mod TagKeys
 pub mod TagWords
@@ -10,5 +11,7 @@ pub mod LeastRows
 pub mod FirstFault
 pub mod FirstFaultLaws
 pub mod Doubles
+pub mod Losses
+pub mod LossSteps
 pub mod Moved
 pub mod Places

@@ -1,5 +1,5 @@
-//! Values from outside, as tables, and the tests that hold the libraries against them. Each row stands once, and each
-//! library is proved without the rows: no crate stands on this one.
+//! Values from outside, as tables, and the tests that hold the trace, its forms and the tables against them. Each row stands
+//! once, and each library is proved without the rows: no crate stands on this one.
 #![tactic(auto)]
 
 #[cfg(test)]
@@ -9,23 +9,13 @@ mod events;
 #[cfg(test)]
 mod groups_json;
 #[cfg(test)]
-mod identifiers;
-#[cfg(test)]
 mod jaeger_map;
-#[cfg(test)]
-mod members;
-#[cfg(test)]
-mod outside;
 #[cfg(test)]
 mod requests;
 #[cfg(test)]
 mod spans_json;
 #[cfg(test)]
-mod thrift;
-#[cfg(test)]
 mod traces;
-#[cfg(test)]
-mod wire;
 #[cfg(test)]
 mod written_requests;
 #[cfg(test)]

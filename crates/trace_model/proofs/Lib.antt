@@ -1,6 +1,8 @@
 pub mod AllLemmas
 pub mod AttributesOf
+pub mod ByteRows
 pub mod DoubleRows
+pub mod EmptyTexts
 pub mod EventBack
 pub mod EventBytes
 pub mod EventDepths

@@ -5,9 +5,10 @@
 --                                    isn't empty
 --     value_of_json json                  the value that a JSON value stands for, unless a number in it isn't whole, or has more than
 --                                    64 bits with its sign
---     bytes_as_texts value           what comes back of a value: bytes, at any depth, have become their base64 texts
+--     has_bytes value                bytes stand in it, at any depth
+--     bytes_as_texts value           what comes back of a value: such bytes have become their base64 texts
 use Rattle.std.specs.List.{list_any}
-use Rattle.std.specs.Prelude.{◌≡◌, ◌≢◌, ℕ, Bool, List, [], ◌∷◌, ◌++◌, map, Option, Some, option_map, option_and_then}
+use Rattle.std.specs.Prelude.{◌≡◌, ◌≢◌, ℕ, Bool, true, false, ◌||◌, List, [], ◌∷◌, ◌++◌, map, Option, Some, option_map, option_and_then}
 use Rattle.base64.specs.GeneralPurpose.{encode_of}
 use Rattle.base64.specs.Engines.{standard}
 use Rattle.json.specs.Print.{quoted}
@@ -63,6 +64,21 @@ pub record IsEventText (text name : List ℕ) (attributes : List (List ℕ × Va
   pub event : IsEventJson json name attributes
 
 -- ---- the way back
+
+abbrev mutual
+  pub has_bytes : Value → Bool
+  has_bytes (Bytes held) = true
+  has_bytes (List' shape members) = bytes_in_each members
+  has_bytes (Map' shape members) = bytes_in_pairs members
+  has_bytes value = false
+
+  pub bytes_in_each : {n : _} → Row_of-Value n → Bool
+  bytes_in_each end_of-Value = false
+  bytes_in_each (more_of-Value value rest) = has_bytes value || bytes_in_each rest
+
+  pub bytes_in_pairs : {n : _} → Row_of-Value-Map-0-2 n → Bool
+  bytes_in_pairs end_of-Value-Map-0-2 = false
+  bytes_in_pairs (more_of-Value-Map-0-2 key value rest) = has_bytes value || bytes_in_pairs rest
 
 abbrev mutual
   pub bytes_as_texts : Value → Value

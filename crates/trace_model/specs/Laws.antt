@@ -3,7 +3,7 @@ use Rattle.std.specs.Prelude.{◌≡◌, ◌≢◌, ◌↔◌, ◌⊎◌, ℕ, f
 use Rattle.std.specs.List.{list_any}
 use Rattle.json.specs.Json.{document}
 use Rattle.trace_model.specs.Attributes.{Rise, keys, AreKeysInOrder, AreAttributes, AreRepeated}
-use Rattle.trace_model.specs.EventTexts.{IsEventText, bytes_as_texts, event_text, holds_double, with_texts}
+use Rattle.trace_model.specs.EventTexts.{IsEventText, has_bytes, bytes_as_texts, event_text, holds_double, with_texts}
 use Rattle.trace_model.specs.Proper.{IsProperValue, AreProper}
 use Rattle.trace_model.specs.ValueTexts.{has_double, json_of, json_text, value_text}
 use Rattle.trace_model.specs.Values.{depth, MapsRise, AreSound}
@@ -67,8 +67,9 @@ pub record EventTextsReadBack : Type 0 where
   pub read_back : (name : List ℕ) (attributes : List (List ℕ × Value)) → AreProper attributes → AreSound attributes → attributes ≢ []
       → holds_double attributes ≡ false → IsEventText (event_text name attributes) name (with_texts attributes)
 
--- texts in the place of bytes stay, and change nothing else
+-- texts in the place of bytes stay, and change nothing else; a value without bytes stays, and no other
 pub record TextsForBytes : Type 0 where
+  pub none : (value : Value) → (has_bytes value ≡ false) ↔ (bytes_as_texts value ≡ value)
   pub again : (attributes : List (List ℕ × Value)) → with_texts (with_texts attributes) ≡ with_texts attributes
   pub map : (attributes : List (List ℕ × Value)) → bytes_as_texts (values.Map attributes) ≡ values.Map (with_texts attributes)
   pub sound : (attributes : List (List ℕ × Value)) → AreSound attributes → AreSound (with_texts attributes)

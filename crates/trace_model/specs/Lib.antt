@@ -8,6 +8,7 @@ pub mod Gathering
 pub mod GroupRemarks
 pub mod Laws
 pub mod LeastOf
+pub mod Losses
 pub mod Notes
 pub mod OtlpEnums
 pub mod OtlpParts

@@ -89,7 +89,8 @@ pub fn event_texts_proper()
     // The clause is the law.
 }
 
-/// Base64 texts in the place of bytes stay, and change nothing else of attributes.
+/// Base64 texts in the place of bytes stay, and change nothing else of attributes. A value without
+/// bytes stays, and no other.
 pub fn texts_for_bytes()
     ensures { TextsForBytes }
 {

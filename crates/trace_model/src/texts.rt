@@ -1,5 +1,5 @@
 //! Values as texts.
-ghost use Rattle.std.specs.Prelude.{◌≡◌, ◌↔◌, true, Err, IfOk};
+ghost use Rattle.std.specs.Prelude.{◌≡◌, ◌==◌, ◌↔◌, length, true, Err, IfOk};
 ghost use Rattle.std.specs.Fmt.{signed_decimal};
 ghost use Rattle.base64.specs.GeneralPurpose.{encode_of};
 ghost use Rattle.base64.specs.Engines.{standard};
@@ -22,6 +22,21 @@ pub fn value_text(alloc: Global, value: &Value) -> Result<Text, Halt<()>>
         return Err(Halt::Why(()));
     }
     Ok(text_of(alloc, value)?)
+}
+
+/// Whether the text of a value is empty. That of a double is.
+pub fn has_no_text(value: &Value) -> bool
+    ensures { result ≡ (length (told.value_text value.now) == 0) }
+{
+    match value {
+        Value::Text(text) => text.len() == 0,
+        Value::Bytes(bytes) => bytes.len() == 0,
+        Value::Truth(_) => false,
+        Value::Number(_number) => false,
+        Value::List(_members) => false,
+        Value::Map(_pairs) => false,
+        Value::Eight(_) | Value::Nothing => true,
+    }
 }
 
 fn text_of(alloc: Global, value: &Value) -> Result<Text, OutOfMemory>

@@ -1,5 +1,6 @@
 ghost use Rattle.std.specs.Prelude.{◌≡◌, IfOk};
 ghost use Rattle.std.specs.List.{list_any};
+ghost use Rattle.trace_model.specs.EventTexts.{has_bytes};
 ghost use Rattle.trace_model.specs.ValueTexts.{has_double};
 
 use span_io::{Bytes, Items, OutOfMemory, Text};
@@ -53,6 +54,19 @@ impl Value {
             _ => false,
         }
     }
+
+    /// Whether bytes stand in the value, at any depth.
+    #[cycle(bytes)]
+    pub fn holds_bytes(&self) -> bool
+        ensures { result ≡ has_bytes self.now }
+    {
+        match self {
+            Value::Bytes(_) => true,
+            Value::List(members) => holds_bytes_in(members.as_slice()),
+            Value::Map(pairs) => holds_bytes_under(pairs.as_slice()),
+            _ => false,
+        }
+    }
 }
 
 #[cycle(doubles)]
@@ -73,6 +87,30 @@ pub fn holds_double_under(pairs: &[(Text, Value)]) -> bool
 {
     'pairs: for pair in pairs {
         if pair.1.holds_double() {
+            return true;
+        }
+    }
+    false
+}
+
+#[cycle(bytes)]
+fn holds_bytes_in(members: &[Value]) -> bool
+    ensures { result ≡ list_any has_bytes members.now }
+{
+    'members: for member in members {
+        if member.holds_bytes() {
+            return true;
+        }
+    }
+    false
+}
+
+#[cycle(bytes)]
+fn holds_bytes_under(pairs: &[(Text, Value)]) -> bool
+    ensures { result ≡ list_any (λ pair. has_bytes pair.1) pairs.now }
+{
+    'pairs: for pair in pairs {
+        if pair.1.holds_bytes() {
             return true;
         }
     }

@@ -33,6 +33,8 @@ const CONVERT: [&str; 5] = ["convert", "--from", REQUESTS, "--to", REQUESTS];
 
 const TO_B3: [&str; 3] = ["headers", "--to", "b3"];
 
+const LOSSES: [&str; 5] = ["losses", "--from", REQUESTS, "--to", SPANS];
+
 // The line "b3: 1".
 const SAMPLED: &str = "62333a20310a";
 
@@ -514,7 +516,7 @@ pub const HEADER_CASES: [Case; 13] = [
 ];
 
 /// The same of reports.
-pub const REPORT_CASES: [Case; 10] = [
+pub const REPORT_CASES: [Case; 9] = [
     Case {
         name: "no form to show",
         words: &["show"],
@@ -557,19 +559,6 @@ pub const REPORT_CASES: [Case; 10] = [
     Case {
         name: "a form of headers to check",
         words: &["check", "--from", "b3"],
-        input: ONE_SPAN,
-        fails: Fails {
-            input: &[1],
-            output: &[1],
-            notes: &[],
-        },
-        status: 2,
-        output: "",
-        note: USAGE,
-    },
-    Case {
-        name: "losses, which are no command",
-        words: &["losses", "--from", REQUESTS, "--to", REQUESTS],
         input: ONE_SPAN,
         fails: Fails {
             input: &[1],
@@ -644,5 +633,109 @@ pub const REPORT_CASES: [Case; 10] = [
         status: 0,
         output: "756e69747320312c207370616e7320312c2072656d61726b7320300a",
         note: "",
+    },
+];
+
+/// The same of losses.
+pub const LOSS_CASES: [Case; 8] = [
+    Case {
+        name: "a source alone for losses",
+        words: &["losses", "--from", REQUESTS],
+        input: ONE_SPAN,
+        fails: Fails {
+            input: &[1],
+            output: &[1],
+            notes: &[],
+        },
+        status: 2,
+        output: "",
+        note: USAGE,
+    },
+    Case {
+        name: "a target alone for losses",
+        words: &["losses", "--to", SPANS],
+        input: ONE_SPAN,
+        fails: Fails {
+            input: &[1],
+            output: &[1],
+            notes: &[],
+        },
+        status: 2,
+        output: "",
+        note: USAGE,
+    },
+    Case {
+        name: "an option of losses twice",
+        words: &["losses", "--from", REQUESTS, "--from", REQUESTS],
+        input: ONE_SPAN,
+        fails: Fails {
+            input: &[1],
+            output: &[1],
+            notes: &[],
+        },
+        status: 2,
+        output: "",
+        note: USAGE,
+    },
+    Case {
+        name: "a form of headers for losses",
+        words: &["losses", "--from", REQUESTS, "--to", "b3"],
+        input: ONE_SPAN,
+        fails: Fails {
+            input: &[1],
+            output: &[1],
+            notes: &[],
+        },
+        status: 2,
+        output: "",
+        note: USAGE,
+    },
+    Case {
+        name: "options of losses in the other order",
+        words: &["losses", "--to", SPANS, "--from", REQUESTS],
+        input: ONE_SPAN,
+        fails: NO_FAILS,
+        status: 0,
+        output: "756e69742031207370616e20313a206b696e640a6c6f7373657320310a",
+        note: "",
+    },
+    Case {
+        name: "the first read of losses fails",
+        words: &LOSSES,
+        input: ONE_SPAN,
+        fails: Fails {
+            input: &[1],
+            output: &[],
+            notes: &[],
+        },
+        status: 5,
+        output: "",
+        note: "input failed\n",
+    },
+    Case {
+        name: "the read behind the first unit of losses fails",
+        words: &LOSSES,
+        input: ONE_SPAN,
+        fails: Fails {
+            input: &[2],
+            output: &[],
+            notes: &[],
+        },
+        status: 5,
+        output: "",
+        note: "input failed\n",
+    },
+    Case {
+        name: "the first write of losses fails",
+        words: &LOSSES,
+        input: ONE_SPAN,
+        fails: Fails {
+            input: &[],
+            output: &[1],
+            notes: &[],
+        },
+        status: 6,
+        output: "",
+        note: "output failed\n",
     },
 ];

@@ -2,13 +2,14 @@ use Rattle.std.proofs.Common.{◌≡◌, ◌≢◌, ℕ, List, length, Option, S
 use Rattle.std.specs.Prelude.{IfSome}
 use Rattle.span_io.specs.Outside.{Takes}
 use Rattle.span_cli.specs.declared.command.Command.{Command}
-use Rattle.span_cli.specs.declared.command.Command.TheVariants.{Headers}
+use Rattle.span_cli.specs.declared.command.Command.TheVariants.{Headers, Losses}
 use Rattle.span_cli.specs.Lines.{IsRunStatus, Notes, stage_of, status_of}
 use Rattle.span_cli.specs.Jobs.{job_of}
 use Rattle.span_cli.specs.Outcomes.{OnOutcome, IsJudgedAt, AgreesWith, Writes, line_of}
 use Rattle.span_cli.proofs.CommandLemmas.{command_read}
 use Rattle.span_cli.proofs.EndingLaws.{never_usage, is_status, on_outcome, untouched_in_vain, untouched_output_in_vain, output_in_vain, notes_in_vain}
 use Rattle.span_cli.proofs.LinesBack.{lines_back}
+use Rattle.span_cli.proofs.LossesTold.{losses_told}
 use Rattle.span_cli.proofs.SameRuns.{carried_out_agreeing, carried_out_same}
 use Rattle.span_cli.proofs.top.run.Goals as goal
 
@@ -117,3 +118,12 @@ returns-clause-read_back g c = λ form spelled.
     lines_back c.contexts_are_normal.ensures c.heads_are_sound.ensures c.headers_read_back.ensures form (g.S.Source.inlet c.args.input.now).left c.status.result
     (g.K.Sink.outlet c.args.output.now) (g.K.Sink.outlet c.carry_out-ending.new.output)
     (returns-clause-judged g c (Headers form) spelled) (returns-clause-verdict g c (Headers form) spelled) (returns-clause-output g c (Headers form) spelled)
+
+pub returns-in_default-clause-nothing_lost : goal.returns-in_default-clause-nothing_lost
+returns-in_default-clause-nothing_lost g c = λ from to spelled. absurd (let h : ◌≡◌ {A = Option Command} None (Some (Losses from to)) = sym c.in_default.is ∙ (c.read_words.ensures (Losses from to)).1 spelled in cc)
+
+pub returns-clause-nothing_lost : goal.returns-clause-nothing_lost
+returns-clause-nothing_lost g c = λ from to spelled.
+    losses_told c.no_losses.ensures from to (g.S.Source.inlet c.args.input.now).left c.status.result
+    (g.K.Sink.outlet c.args.output.now) (g.K.Sink.outlet c.carry_out-ending.new.output)
+    (returns-clause-judged g c (Losses from to) spelled) (returns-clause-verdict g c (Losses from to) spelled) (returns-clause-output g c (Losses from to) spelled)
