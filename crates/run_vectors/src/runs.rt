@@ -1,4 +1,7 @@
-//! Rows of the top call, over sources and sinks in memory.
+//! Rows of the top call, over sources, sinks and doors in memory.
+ghost use Rattle.std.specs.Prelude.{IfOk};
+ghost use Rattle.span_io.specs.Connections.{HasNoFault};
+
 mod batches;
 mod batches_of_requests;
 mod batches_stops;
@@ -6,6 +9,7 @@ mod compact;
 mod compact_stops;
 mod devices;
 mod documents;
+mod gauges;
 mod groups;
 mod groups_again;
 mod groups_numbers;
@@ -19,6 +23,7 @@ mod long;
 mod losses;
 mod reports;
 mod requests;
+mod servings;
 mod spans;
 mod spans_stops;
 mod texts;
@@ -26,10 +31,12 @@ mod to_groups;
 mod to_spans;
 mod trace;
 
-use devices::{CASES, Case, Fails, HEADER_CASES, LOSS_CASES, NO_FAILS, REPORT_CASES};
+use devices::{CASES, Case, Fails, HEADER_CASES, LOSS_CASES, NO_FAILS, REPORT_CASES, UNREADABLE};
 use documents::{DOCUMENTS, Documents};
+use gauges::{GAUGES, Unread};
+use servings::{SERVINGS, Serving};
 use span_cli::run;
-use span_io::{Blob, Items, MemSink, MemSource};
+use span_io::{Blob, Door, Items, MemDoor, MemDuplex, MemSink, MemSource, Text};
 use std::alloc::Global;
 use std::process::Abort;
 use std::test::Fail;
@@ -186,6 +193,20 @@ fn run_cut(
     cut: usize,
     fails: Fails,
 ) -> Result<Answer, Fail> {
+    let address = Text::new(alloc);
+    let mut door = MemDoor::new(alloc, address, Items::new(alloc), Items::new(alloc))?;
+    run_at(alloc, words, input, cut, fails, &mut door)
+}
+
+// The same at a door.
+fn run_at<D: Door>(
+    alloc: Global,
+    words: &[&str],
+    input: Blob,
+    cut: usize,
+    fails: Fails,
+    door: &mut D,
+) -> Result<Answer, Fail> {
     let mut spoken = Vec::new(alloc);
     for word in words {
         spoken.push(String::from_str(alloc, word)?)?;
@@ -199,6 +220,7 @@ fn run_cut(
         &mut source,
         &mut output,
         &mut notes,
+        door,
     );
     Ok(Answer {
         status,
@@ -376,6 +398,72 @@ fn tells_losses(rt: HostRuntime) -> Result<(), Fail> {
         for row in rows {
             expect_mode(&rt, rt.alloc(), "losses", row, row.output.as_bytes())?;
         }
+    }
+    Ok(())
+}
+
+// Runs the words of a row on an input of no bytes, and looks at the answer.
+fn expect_unread(rt: &impl Abort, alloc: Global, row: &Unread) -> Result<(), Fail> {
+    let answer = run_cut(alloc, row.words, Blob::new(alloc), 1, row.fails)?;
+    expect_answer(
+        rt,
+        row.name,
+        &answer,
+        row.status,
+        row.output.as_bytes(),
+        row.note,
+    );
+    Ok(())
+}
+
+#[test]
+fn gauges_forms(rt: HostRuntime) -> Result<(), Fail> {
+    for row in &GAUGES {
+        expect_unread(&rt, rt.alloc(), row)?;
+    }
+    Ok(())
+}
+
+// A connection of a row.
+fn connection(alloc: Global, row: &Serving) -> Result<MemDuplex, Fail>
+    ensures { IfOk result (λ conn. HasNoFault conn) }
+{
+    let mut left = Blob::new(alloc);
+    left.append(row.stream.as_bytes())?;
+    let source = MemSource::new(left, 65_536, calls(alloc, row.reads)?);
+    let sink = MemSink::new(alloc, 4096, calls(alloc, row.writes)?)?;
+    Ok(MemDuplex::new(source, sink))
+}
+
+fn door_of(alloc: Global, row: &Serving) -> Result<MemDoor, Fail> {
+    let mut conns = Items::new(alloc);
+    conns.push(connection(alloc, row)?)?;
+    conns.push(connection(alloc, row)?)?;
+    let address = Text::of(alloc, "m")?;
+    Ok(MemDoor::new(alloc, address, conns, calls(alloc, row.door)?)?)
+}
+
+// Serves at the door of a row, and looks at the answer and at the connections that were given back.
+fn expect_serving(rt: &impl Abort, alloc: Global, row: &Serving) -> Result<(), Fail> {
+    let mut door = door_of(alloc, row)?;
+    let answer = run_at(alloc, row.words, Blob::new(alloc), 1, UNREADABLE, &mut door)?;
+    expect_answer(rt, row.name, &answer, row.status, b"", row.note);
+    assert_eq!(rt;
+        door.closed().len(),
+        row.answers.len(),
+        "connections of {}",
+        row.name
+    );
+    for (conn, text) in door.closed().iter().zip(row.answers) {
+        assert_eq!(rt; conn.written(), text.as_bytes(), "answers of {}", row.name);
+    }
+    Ok(())
+}
+
+#[test]
+fn serves(rt: HostRuntime) -> Result<(), Fail> {
+    for row in &SERVINGS {
+        expect_serving(&rt, rt.alloc(), row)?;
     }
     Ok(())
 }

@@ -4,14 +4,15 @@ use Rattle.std.specs.Prelude.{codes}
 use Rattle.span_io.specs.Forms.{form_word}
 use Rattle.span_io.specs.declared.form.Form.{Form}
 use Rattle.span_cli.specs.declared.command.Command.{Command}
-use Rattle.span_cli.specs.declared.command.Command.TheVariants.{Convert, Losses, Show, Check, Headers}
+use Rattle.span_cli.specs.declared.command.Command.TheVariants.{Convert, Losses, Show, Check, Headers, Gauge, Serve}
 use Rattle.span_cli.specs.declared.command.Long.{Long}
 use Rattle.span_cli.specs.declared.command.Long.TheVariants as longs
 use Rattle.span_cli.specs.declared.command.Short.{Short}
 use Rattle.span_cli.specs.declared.command.Short.TheVariants as shorts
 use Rattle.span_cli.specs.declared.command.Side.{Side}
 use Rattle.span_cli.specs.declared.command.Side.TheVariants.{From, To}
-use Rattle.span_cli.specs.Commands.{Spells, SpellsLong, GoesBetween, ShowsForm, ChecksForm, WritesHeaders, side_word, other_side, long_word, short_word, short_side}
+use Rattle.span_cli.specs.Commands.{Spells, SpellsLong, SpellsServe, GoesBetween, ShowsForm, ChecksForm, WritesHeaders, WritesSizes, side_word, spans_word, other_side, long_word, short_word, short_option}
+use Rattle.span_cli.specs.Jobs.{IfMakes, IsInRange, task_of}
 
 -- the words that stand on the two sides
 abbrev pub Between : Side → Command → Long → List ℕ → List ℕ → Type 0
@@ -35,9 +36,23 @@ listed a b c d e a' b' c' d' e' p q r s t = cc
 other_word : side_word From ≡ side_word To → ⊥
 other_word e = let lengths : ◌≡◌ {A = ℕ} 6 4 = ap length e in absurd (omega arith)
 
+no_spans_word : (side : Side) → side_word side ≡ spans_word → ⊥
+no_spans_word From e = let lengths : ◌≡◌ {A = ℕ} 6 7 = ap length e in absurd (omega arith)
+no_spans_word To e = let lengths : ◌≡◌ {A = ℕ} 4 7 = ap length e in absurd (omega arith)
+
 -- a command that is read
 pub command_read : (command other : Command) → ◌≡◌ {A = Option Command} (Some command) (Some other) → command ≡ other
 command_read command other e = cc
+
+-- what is spelled is in its range
+pub in_range : (command : Command) (words : List (List ℕ)) → Spells command words → IfMakes (task_of command) IsInRange
+in_range (Convert from to) words spelled = tt
+in_range (Losses from to) words spelled = tt
+in_range (Show from) words spelled = tt
+in_range (Check from) words spelled = tt
+in_range (Headers form) words spelled = tt
+in_range (Gauge spans) words spelled = spelled.1
+in_range (Serve address to count) words spelled = tt
 
 -- five words are no three
 other_count : (a b c d e a' b' c' : List ℕ) → a ∷ b ∷ c ∷ d ∷ e ∷ [] ≡ a' ∷ b' ∷ c' ∷ [] → ⊥
@@ -66,7 +81,12 @@ module _ (mode option word : List ℕ) where
   not_long long from to (inl h) = other_count _ _ _ _ _ mode option word (sym h)
   not_long long from to (inr h) = other_count _ _ _ _ _ mode option word (sym h)
 
+  -- this has three
+  not_serve : (address : ℕ) (to : Form) (count : ℕ) → SpellsServe address to count (mode ∷ option ∷ word ∷ []) → ⊥
+  not_serve address to count spelled = let lengths : ◌≡◌ {A = ℕ} 3 7 = spelled.number in absurd (omega arith)
+
   pub spells_show : (command : Command) → mode ≡ codes "show" → option ≡ side_word From → ShowsForm command word ↔ Spells command (mode ∷ option ∷ word ∷ [])
+  spells_show (Serve address to count) is_mode is_option = (λ on. absurd on, λ spelled. absurd (not_serve address to count spelled))
   spells_show (Convert from to) is_mode is_option = (λ on. absurd on, λ spelled. absurd (not_long longs.Convert from to spelled))
   spells_show (Losses from to) is_mode is_option = (λ on. absurd on, λ spelled. absurd (not_long longs.Losses from to spelled))
   spells_show (Show from) is_mode is_option = (
@@ -75,8 +95,10 @@ module _ (mode option word : List ℕ) where
   )
   spells_show (Check from) is_mode is_option = (λ on. absurd on, λ spelled. absurd (show_or_check (sym is_mode ∙ (same_three mode option word _ _ _ spelled).first)))
   spells_show (Headers form) is_mode is_option = (λ on. absurd on, λ spelled. absurd (other_word (sym is_option ∙ (same_three mode option word _ _ _ spelled).second)))
+  spells_show (Gauge spans) is_mode is_option = (λ on. absurd on, λ spelled. absurd (no_spans_word From (sym is_option ∙ (same_three mode option word _ _ _ spelled.0).second)))
 
   pub spells_check : (command : Command) → mode ≡ codes "check" → option ≡ side_word From → ChecksForm command word ↔ Spells command (mode ∷ option ∷ word ∷ [])
+  spells_check (Serve address to count) is_mode is_option = (λ on. absurd on, λ spelled. absurd (not_serve address to count spelled))
   spells_check (Convert from to) is_mode is_option = (λ on. absurd on, λ spelled. absurd (not_long longs.Convert from to spelled))
   spells_check (Losses from to) is_mode is_option = (λ on. absurd on, λ spelled. absurd (not_long longs.Losses from to spelled))
   spells_check (Show from) is_mode is_option = (λ on. absurd on, λ spelled. absurd (show_or_check (sym (same_three mode option word _ _ _ spelled).first ∙ is_mode)))
@@ -85,8 +107,10 @@ module _ (mode option word : List ℕ) where
     λ spelled. (same_three mode option word _ _ _ spelled).third,
   )
   spells_check (Headers form) is_mode is_option = (λ on. absurd on, λ spelled. absurd (other_word (sym is_option ∙ (same_three mode option word _ _ _ spelled).second)))
+  spells_check (Gauge spans) is_mode is_option = (λ on. absurd on, λ spelled. absurd (no_spans_word From (sym is_option ∙ (same_three mode option word _ _ _ spelled.0).second)))
 
   pub spells_headers : (command : Command) → mode ≡ codes "headers" → option ≡ side_word To → WritesHeaders command word ↔ Spells command (mode ∷ option ∷ word ∷ [])
+  spells_headers (Serve address to count) is_mode is_option = (λ on. absurd on, λ spelled. absurd (not_serve address to count spelled))
   spells_headers (Convert from to) is_mode is_option = (λ on. absurd on, λ spelled. absurd (not_long longs.Convert from to spelled))
   spells_headers (Losses from to) is_mode is_option = (λ on. absurd on, λ spelled. absurd (not_long longs.Losses from to spelled))
   spells_headers (Show from) is_mode is_option = (λ on. absurd on, λ spelled. absurd (other_word (sym (same_three mode option word _ _ _ spelled).second ∙ is_option)))
@@ -95,15 +119,30 @@ module _ (mode option word : List ℕ) where
     λ on. listed_three mode option word _ _ _ is_mode is_option on,
     λ spelled. (same_three mode option word _ _ _ spelled).third,
   )
+  spells_headers (Gauge spans) is_mode is_option = (λ on. absurd on, λ spelled. absurd (no_spans_word To (sym is_option ∙ (same_three mode option word _ _ _ spelled.0).second)))
+
+  pub spells_gauge : (command : Command) → mode ≡ codes "gauge" → option ≡ spans_word → WritesSizes command word ↔ Spells command (mode ∷ option ∷ word ∷ [])
+  spells_gauge (Convert from to) is_mode is_option = (λ on. absurd on, λ spelled. absurd (not_long longs.Convert from to spelled))
+  spells_gauge (Losses from to) is_mode is_option = (λ on. absurd on, λ spelled. absurd (not_long longs.Losses from to spelled))
+  spells_gauge (Show from) is_mode is_option = (λ on. absurd on, λ spelled. absurd (no_spans_word From (sym (same_three mode option word _ _ _ spelled).second ∙ is_option)))
+  spells_gauge (Check from) is_mode is_option = (λ on. absurd on, λ spelled. absurd (no_spans_word From (sym (same_three mode option word _ _ _ spelled).second ∙ is_option)))
+  spells_gauge (Headers form) is_mode is_option = (λ on. absurd on, λ spelled. absurd (no_spans_word To (sym (same_three mode option word _ _ _ spelled).second ∙ is_option)))
+  spells_gauge (Serve address to count) is_mode is_option = (λ on. absurd on, λ spelled. absurd (not_serve address to count spelled))
+  spells_gauge (Gauge spans) is_mode is_option = (
+    λ on. (listed_three mode option word _ _ _ is_mode is_option on.0, on.1),
+    λ spelled. ((same_three mode option word _ _ _ spelled.0).third, spelled.1),
+  )
 
   -- where the words are no mode with its option, no command is spelled
-  pub spells_short : (command : Command) → ((short : Short) → mode ≡ short_word short → option ≡ side_word (short_side short) → ⊥)
+  pub spells_short : (command : Command) → ((short : Short) → mode ≡ short_word short → option ≡ short_option short → ⊥)
       → Spells command (mode ∷ option ∷ word ∷ []) → ⊥
+  spells_short (Serve address to count) none spelled = not_serve address to count spelled
   spells_short (Convert from to) none spelled = not_long longs.Convert from to spelled
   spells_short (Losses from to) none spelled = not_long longs.Losses from to spelled
   spells_short (Show from) none spelled = let s = same_three mode option word _ _ _ spelled in none shorts.Show s.first s.second
   spells_short (Check from) none spelled = let s = same_three mode option word _ _ _ spelled in none shorts.Check s.first s.second
   spells_short (Headers form) none spelled = let s = same_three mode option word _ _ _ spelled in none shorts.Headers s.first s.second
+  spells_short (Gauge spans) none spelled = let s = same_three mode option word _ _ _ spelled.0 in none shorts.Gauge s.first s.second
 
 -- ---- two options
 
@@ -139,6 +178,10 @@ module _ (mode first first_word second second_word : List ℕ) where
   short_count : (a b c : List ℕ) → mode ∷ first ∷ first_word ∷ second ∷ second_word ∷ [] ≡ a ∷ b ∷ c ∷ [] → ⊥
   short_count a b c h = other_count mode first first_word second second_word a b c h
 
+  -- seven words would be asked for
+  serve_count : (address : ℕ) (to : Form) (count : ℕ) → SpellsServe address to count (mode ∷ first ∷ first_word ∷ second ∷ second_word ∷ []) → ⊥
+  serve_count address to count spelled = let lengths : ◌≡◌ {A = ℕ} 5 7 = spelled.number in absurd (omega arith)
+
   no_between : (side : Side) (command : Command) (long : Long) → ((source target : List ℕ) → GoesBetween command long source target → ⊥)
       → Between side command long first_word second_word → ⊥
   no_between From command long none between = none first_word second_word between
@@ -156,8 +199,12 @@ module _ (mode first first_word second second_word : List ℕ) where
 
   pub spells_between : (side : Side) (long : Long) (command : Command) → mode ≡ long_word long → first ≡ side_word side → second ≡ side_word (other_side side)
       → Between side command long first_word second_word ↔ Spells command (mode ∷ first ∷ first_word ∷ second ∷ second_word ∷ [])
+  spells_between side long (Serve address to count) is_mode is_first is_second =
+      (λ between. absurd (no_between side (Serve address to count) long (λ a b h. h) between), λ spelled. absurd (serve_count address to count spelled))
   spells_between side long (Headers form) is_mode is_first is_second =
       (λ between. absurd (no_between side (Headers form) long (λ a b h. h) between), λ spelled. absurd (short_count _ _ _ spelled))
+  spells_between side long (Gauge spans) is_mode is_first is_second =
+      (λ between. absurd (no_between side (Gauge spans) long (λ a b h. h) between), λ spelled. absurd (short_count _ _ _ spelled.0))
   spells_between side long (Show source) is_mode is_first is_second =
       (λ between. absurd (no_between side (Show source) long (λ a b h. h) between), λ spelled. absurd (short_count _ _ _ spelled))
   spells_between side long (Check source) is_mode is_first is_second =
@@ -187,9 +234,11 @@ module _ (mode first first_word second second_word : List ℕ) where
 
   pub spells_sides : (command : Command) → ((side : Side) → first ≡ side_word side → second ≡ side_word (other_side side) → ⊥)
       → Spells command (mode ∷ first ∷ first_word ∷ second ∷ second_word ∷ []) → ⊥
+  spells_sides (Serve address to count) none spelled = serve_count address to count spelled
   spells_sides (Show source) none spelled = short_count _ _ _ spelled
   spells_sides (Check source) none spelled = short_count _ _ _ spelled
   spells_sides (Headers form) none spelled = short_count _ _ _ spelled
+  spells_sides (Gauge spans) none spelled = short_count _ _ _ spelled.0
   spells_sides (Convert source target) none spelled = no_sides longs.Convert source target none spelled
   spells_sides (Losses source target) none spelled = no_sides longs.Losses source target none spelled
 
@@ -201,9 +250,11 @@ module _ (mode first first_word second second_word : List ℕ) where
 
   pub spells_long : (command : Command) → ((long : Long) → mode ≡ long_word long → ⊥)
       → Spells command (mode ∷ first ∷ first_word ∷ second ∷ second_word ∷ []) → ⊥
+  spells_long (Serve address to count) none spelled = serve_count address to count spelled
   spells_long (Show source) none spelled = short_count _ _ _ spelled
   spells_long (Check source) none spelled = short_count _ _ _ spelled
   spells_long (Headers form) none spelled = short_count _ _ _ spelled
+  spells_long (Gauge spans) none spelled = short_count _ _ _ spelled.0
   spells_long (Convert source target) none spelled = no_mode longs.Convert source target none spelled
   spells_long (Losses source target) none spelled = no_mode longs.Losses source target none spelled
 

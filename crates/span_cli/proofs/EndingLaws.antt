@@ -5,9 +5,9 @@ use Rattle.std.specs.Io.KnownBytes.{Appends, Consumes}
 use Rattle.span_io.specs.Outside.{Inlet, Outlet, Sure, so_many, any_number, less, Gains, GainsFront, Rises, InputFails, NoReadInVain, NoWriteInVain, OutputFails, OutputHolds, FailsWithin}
 use Rattle.span_io.specs.declared.course.ReadCourse.TheVariants as reads
 use Rattle.span_io.specs.declared.course.WriteCourse.TheVariants as writes
-use Rattle.span_cli.specs.Inputs.{ReadsInput, IsAllRead}
+use Rattle.span_cli.specs.Inputs.{ReadsInput, IsReadThrough}
 use Rattle.span_cli.specs.Jobs.{Job}
-use Rattle.span_cli.specs.Lines.{Stage, said, input_failed, output_failed, no_memory, IsRunStatus, Notes, status_of, stage_of, ending_line}
+use Rattle.span_cli.specs.Lines.{Stage, said, input_failed, output_failed, no_memory, IsRunStatus, Notes, status_of, stage_line, stage_of, ending_line}
 use Rattle.span_cli.specs.Outcomes.{Outcome, IsOutcome, OnOutcome, AgreesWith, Writes, line_of, IsJudgedAt}
 use Rattle.span_cli.specs.Runs.{EndsInput, EndsOutput, WritesRead, EndsRun}
 use Rattle.span_cli.specs.declared.ending.Ending.{Ending}
@@ -41,6 +41,18 @@ is_status endings.InputFailed = refl
 is_status endings.OutputFailed = refl
 is_status endings.NoMemory = refl
 
+-- the line of each status but 3 and 4 is that of its stage
+pub stage_noted : (ending : Ending) → status_of ending ≢ 3 → status_of ending ≢ 4 → ending_line ending ≡ stage_line (stage_of (status_of ending))
+stage_noted endings.Whole third fourth = refl
+stage_noted (endings.Refused refusal) third fourth = absurd (third refl)
+stage_noted (endings.Faulted noted) third fourth = absurd (fourth refl)
+stage_noted (endings.BadHeaders cause) third fourth = absurd (third refl)
+stage_noted endings.TooLong third fourth = absurd (third refl)
+stage_noted endings.NoIds third fourth = absurd (fourth refl)
+stage_noted endings.InputFailed third fourth = refl
+stage_noted endings.OutputFailed third fourth = refl
+stage_noted endings.NoMemory third fourth = refl
+
 -- ---- what is told
 
 pub always : {A : Type 0} (told : Option A) (P : A → Type 0) → ((x : A) → P x) → IfSome told P
@@ -68,7 +80,7 @@ sure_nothing any_number = refl
 pub gains_nothing : (now : Outlet) → Gains now now []
 gains_nothing now = record { held = appends_nothing now.held; taken = rises_nothing now.taken; sure = sure_nothing now.sure; faults = omega arith }
 
-front_nothing : (now : Outlet) (bytes : List ℕ) → GainsFront now now bytes
+pub front_nothing : (now : Outlet) (bytes : List ℕ) → GainsFront now now bytes
 front_nothing now bytes = record { front = []; is_front = (bytes, refl); gains = gains_nothing now }
 
 pub holds_nothing : (now : Outlet) → OutputHolds now now
@@ -111,7 +123,7 @@ module _ {K : Type 0} (outlet : K → Outlet) (job : Job) (before now : Inlet) (
     pub front : WritesRead job before now (outlet old) (outlet new)
 
   -- the input had no fault
-  input_quiet : (status : ℕ) → status ≢ 5 → (status ≡ 0 → IsAllRead before now) → now.faults ≡ before.faults → RunCourse → EndsInput job status before now
+  input_quiet : (status : ℕ) → status ≢ 5 → (status ≡ 0 → IsReadThrough job before now) → now.faults ≡ before.faults → RunCourse → EndsInput job status before now
   input_quiet status other all quiet course = record {
     fails = λ e. absurd (other e);
     quiet = λ e. quiet;
@@ -197,7 +209,7 @@ module _ {K : Type 0} (outlet : K → Outlet) (job : Job) (before now : Inlet) (
     pub writes : Gains (outlet old) (outlet new) outcome.text
     pub line : ending_line ending ≡ outcome.line
 
-  pub ends_said : (ending : Ending) → stage_of (status_of ending) ≡ said → status_of ending ≢ 5 → status_of ending ≢ 6 → (status_of ending ≡ 0 → IsAllRead before now) → RunCourse → now.faults ≡ before.faults
+  pub ends_said : (ending : Ending) → stage_of (status_of ending) ≡ said → status_of ending ≢ 5 → status_of ending ≢ 6 → (status_of ending ≡ 0 → IsReadThrough job before now) → RunCourse → now.faults ≡ before.faults
       → OutputHolds (outlet old) (outlet new) → IfSome before.left (IsJudgedAt job said) → OnOutcome job before.left (SaidBy ending) → EndsRun outlet job ending before now old new
   ends_said ending stage fifth sixth all course still holds judged on = record {
     input = input_quiet (status_of ending) fifth all still course;

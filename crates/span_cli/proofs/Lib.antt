@@ -3,10 +3,15 @@ pub mod CommandLemmas
 pub mod ConversionEndings
 pub mod EndingLaws
 pub mod FrontVerdicts
+pub mod GaugeEndings
+pub mod GaugeWords
 pub mod HeadersEndings
 pub mod InputLemmas
 pub mod LinesBack
 pub mod LossesTold
 pub mod NoteLemmas
 pub mod SameRuns
+pub mod ServeLemmas
+pub mod ServeWords
+pub mod TaskLemmas
 pub mod WholeRuns

@@ -10,7 +10,7 @@ use Rattle.span_convert.specs.SameBatches.{SameBatches}
 use Rattle.span_convert.specs.SameDocuments.{AgreeingDocuments}
 use Rattle.span_convert.specs.Verdicts.{Verdict}
 use Rattle.span_convert.specs.declared.written.Written.{Written}
-use Rattle.span_cli.specs.Jobs.{Job, Spans, HeaderLines, IfSpans}
+use Rattle.span_cli.specs.Jobs.{Job, Spans, HeaderLines, Gauge, IfSpans}
 use Rattle.span_cli.specs.Lines.{Notes, stage_of}
 use Rattle.span_cli.specs.Outcomes.{Outcome, OnOutcome, OnSameBatches, OnAgreeingDocuments, CarriesOut, AgreesWith, Writes, line_of}
 
@@ -62,6 +62,7 @@ module _ (left : Option (List ℕ)) (status : ℕ) (output_before output_now not
   carried_out_same law (Spans from what) agrees writes notes =
       on_same_batches law from what left Carries (carried_out (Spans from what) left status output_before output_now notes_before notes_now agrees writes notes)
   carried_out_same law (HeaderLines form) agrees writes notes = tt
+  carried_out_same law (Gauge spans) agrees writes notes = tt
 
   pub carried_out_agreeing : ((from : Form) (what : Written) (limits : Limits) (bytes others : List ℕ) → AgreeingDocuments limits from bytes others
       → (verdict : Verdict) → IsVerdictAs from what limits bytes verdict ↔ IsVerdictAs from what limits others verdict)
@@ -72,3 +73,4 @@ module _ (left : Option (List ℕ)) (status : ℕ) (output_before output_now not
   carried_out_agreeing law (Spans from what) agrees writes notes =
       on_agreeing_documents law from what left Carries (carried_out (Spans from what) left status output_before output_now notes_before notes_now agrees writes notes)
   carried_out_agreeing law (HeaderLines form) agrees writes notes = tt
+  carried_out_agreeing law (Gauge spans) agrees writes notes = tt

@@ -1,14 +1,15 @@
 -- How a command is spelled in words.
-use Rattle.std.specs.Prelude.{◌≡◌, ◌⊎◌, ℕ, List, [], ◌∷◌, map, codes, String, string_bytes}
+use Rattle.std.specs.Prelude.{◌≡◌, ◌≤◌, ◌⊎◌, ◌-◌, ℕ, List, [], ◌∷◌, Some, map, length, slice_get, codes, decimal, String, string_bytes}
 use Rattle.std.specs.declared.alloc.Global.{Global}
 use Rattle.span_io.specs.Forms.{form_word}
 use Rattle.span_io.specs.declared.form.Form.{Form}
 use Rattle.span_convert.specs.declared.written.Written.{Written}
-use Rattle.span_cli.specs.Jobs.{Job, IfSpans, job_of}
+use Rattle.span_cli.specs.GaugeLines.{IsGaugeCount}
+use Rattle.span_cli.specs.Jobs.{Job, IfMakes, IfSpans, task_of}
 use Rattle.span_cli.specs.declared.command.Command.{Command}
 use Rattle.propagation.specs.HeaderForms.{header_form_word}
 use Rattle.propagation.specs.declared.header_form.HeaderForm.{HeaderForm}
-use Rattle.span_cli.specs.declared.command.Command.TheVariants.{Convert, Losses, Show, Check, Headers}
+use Rattle.span_cli.specs.declared.command.Command.TheVariants.{Convert, Losses, Show, Check, Headers, Gauge, Serve}
 use Rattle.span_cli.specs.declared.command.Long.{Long}
 use Rattle.span_cli.specs.declared.command.Long.TheVariants as longs
 use Rattle.span_cli.specs.declared.command.Short.{Short}
@@ -34,16 +35,21 @@ abbrev pub long_word : Long → List ℕ
 long_word longs.Convert = codes "convert"
 long_word longs.Losses = codes "losses"
 
+abbrev pub spans_word : List ℕ
+spans_word = codes "--spans"
+
 -- the modes with one option, and which it is
 abbrev pub short_word : Short → List ℕ
 short_word shorts.Show = codes "show"
 short_word shorts.Check = codes "check"
 short_word shorts.Headers = codes "headers"
+short_word shorts.Gauge = codes "gauge"
 
-abbrev pub short_side : Short → Side
-short_side shorts.Show = From
-short_side shorts.Check = From
-short_side shorts.Headers = To
+abbrev pub short_option : Short → List ℕ
+short_option shorts.Show = side_word From
+short_option shorts.Check = side_word From
+short_option shorts.Headers = side_word To
+short_option shorts.Gauge = spans_word
 
 -- ---- commands
 
@@ -66,25 +72,66 @@ abbrev pub WritesHeaders : Command → List ℕ → Type 0
 WritesHeaders (Headers form) target = target ≡ header_form_word form
 WritesHeaders other target = ⊥
 
+-- the word is the decimal of as many spans as may be asked for, without leading zeros
+abbrev pub TellsSpans : List ℕ → ℕ → Type 0
+TellsSpans word spans = (word ≡ decimal spans) × IsGaugeCount spans
+
+-- the command writes the sizes of the gauge of as many spans as the word tells
+abbrev pub WritesSizes : Command → List ℕ → Type 0
+WritesSizes (Gauge spans) word = TellsSpans word spans
+WritesSizes other word = ⊥
+
 -- a mode with `--from F` and `--to F`, in either order
 abbrev pub SpellsLong : Long → Form → Form → List (List ℕ) → Type 0
 SpellsLong long from to words =
     (words ≡ long_word long ∷ side_word From ∷ form_word from ∷ side_word To ∷ form_word to ∷ [])
     ⊎ (words ≡ long_word long ∷ side_word To ∷ form_word to ∷ side_word From ∷ form_word from ∷ [])
 
--- `convert` and `losses` with both; `show` and `check` with `--from F`; `headers` with `--to H`
+-- the place of the word of an option, behind the mode and the option
+abbrev pub IsWordPlace : ℕ → Type 0
+IsWordPlace place = (place ≡ 2) ⊎ (place ≡ 4) ⊎ (place ≡ 6)
+
+-- this word stands at the place, and the option before it
+pub record HasOption (words : List (List ℕ)) (option : List ℕ) (place : ℕ) (word : List ℕ) : Type 0 where
+  pub is_place : IsWordPlace place
+  pub is_option : slice_get words (place - 1) ≡ Some option
+  pub is_word : slice_get words place ≡ Some word
+
+-- `serve` with `--listen A`, `--to F` and `--count N`, in any order. The word A stands at the place `address`.
+pub record SpellsServe (address : ℕ) (to : Form) (count : ℕ) (words : List (List ℕ)) : Type 0 where
+  pub number : length words ≡ 7
+  pub mode : slice_get words 0 ≡ Some (codes "serve")
+  pub listen : (word : List ℕ) × HasOption words (codes "--listen") address word
+  pub form : (place : ℕ) × HasOption words (codes "--to") place (form_word to)
+  pub connections : (place : ℕ) × HasOption words (codes "--count") place (decimal count)
+  pub some : 1 ≤ count
+  pub most : count ≤ 4294967295
+
+-- `convert` and `losses` with both; `show` and `check` with `--from F`; `headers` with `--to H`; `gauge` with `--spans N`; `serve`
+-- with its three
 abbrev pub Spells : Command → List (List ℕ) → Type 0
 Spells (Convert from to) words = SpellsLong longs.Convert from to words
 Spells (Losses from to) words = SpellsLong longs.Losses from to words
 Spells (Show from) words = words ≡ codes "show" ∷ side_word From ∷ form_word from ∷ []
 Spells (Check from) words = words ≡ codes "check" ∷ side_word From ∷ form_word from ∷ []
 Spells (Headers form) words = words ≡ codes "headers" ∷ side_word To ∷ header_form_word form ∷ []
+Spells (Gauge spans) words = (words ≡ codes "gauge" ∷ spans_word ∷ decimal spans ∷ []) × IsGaugeCount spans
+Spells (Serve address to count) words = SpellsServe address to count words
 
 -- ---- what the words ask for
 
--- the fact holds of the job of the command that the words spell
+-- the fact holds of the job of the command that the words spell, where it has one
 abbrev pub OnJob : List (List ℕ) → (Job → Type 0) → Type 0
-OnJob words P = (command : Command) → Spells command words → P (job_of command)
+OnJob words P = (command : Command) → Spells command words → IfMakes (task_of command) P
+
+-- the fact holds where the words spell another command than `serve`
+abbrev pub UnlessServing : List (List ℕ) → Type 0 → Type 0
+UnlessServing words P = OnJob words (λ job. P)
+
+-- the fact holds of the word A, the form and the number of connections, where the words spell `serve`
+abbrev pub OnServing : List (List ℕ) → (List ℕ → Form → ℕ → Type 0) → Type 0
+OnServing words P = (address : ℕ) (to : Form) (count : ℕ) → Spells (Serve address to count) words
+    → (word : List ℕ) → slice_get words address ≡ Some word → P word to count
 
 -- the same of the form that is read and of what is written, where spans are
 abbrev pub OnSpans : List (List ℕ) → (Form → Written → Type 0) → Type 0
@@ -97,3 +144,7 @@ OnLosses words P = (from to : Form) → Spells (Losses from to) words → P from
 -- the same of the form of headers that the words of `headers` spell
 abbrev pub OnHeaders : List (List ℕ) → (HeaderForm → Type 0) → Type 0
 OnHeaders words P = (form : HeaderForm) → Spells (Headers form) words → P form
+
+-- the same of the number of spans that the words of `gauge` spell
+abbrev pub OnGauge : List (List ℕ) → (ℕ → Type 0) → Type 0
+OnGauge words P = (spans : ℕ) → Spells (Gauge spans) words → P spans

@@ -8,7 +8,7 @@ use Rattle.span_convert.specs.Converters.{Fed, HasForms}
 use Rattle.span_convert.specs.Units.{input_limit}
 use Rattle.span_convert.specs.declared.converter.Walker.{Walker}
 use Rattle.span_convert.specs.declared.written.Written.{Written}
-use Rattle.span_cli.specs.Jobs.{Job, Spans, HeaderLines}
+use Rattle.span_cli.specs.Jobs.{Job, Spans, HeaderLines, Gauge}
 use Rattle.span_cli.specs.declared.ending.Ending.{Ending}
 use Rattle.span_cli.specs.declared.ending.Ending.TheVariants as endings
 
@@ -28,6 +28,7 @@ header_limit = 16384
 abbrev pub job_limit : Job → ℕ
 job_limit (Spans from what) = input_limit from shipped_limits
 job_limit (HeaderLines form) = header_limit
+job_limit (Gauge spans) = 0
 
 -- Reading stopped at the first stop: at most so many bytes were read as the limit allows, and one piece.
 pub record ReadsInput (job : Job) (before now : Inlet) : Type 0 where
@@ -39,6 +40,12 @@ pub record ReadsInput (job : Job) (before now : Inlet) : Type 0 where
 pub record IsAllRead (before now : Inlet) : Type 0 where
   pub ended : IsAtEnd now.left
   pub told : IfSome before.left (λ bytes. now.left ≡ Some [])
+
+-- the same of the input of a job that reads one, and that of another is as it was
+abbrev pub IsReadThrough : Job → Inlet → Inlet → Type 0
+IsReadThrough (Spans from what) before now = IsAllRead before now
+IsReadThrough (HeaderLines form) before now = IsAllRead before now
+IsReadThrough (Gauge spans) before now = now ≡ before
 
 -- the source gave all its bytes without a fault and without a read in vain, and what writes this form so was fed them
 pub record IsFed (from : Form) (what : Written) (before now : Inlet) (c : Walker Written) : Type 0 where

@@ -1,26 +1,44 @@
--- What a command does with its input.
+-- What a command asks for: to make the output of a job, or to serve connections.
+use Rattle.std.specs.Prelude.{ℕ}
 use Rattle.span_io.specs.declared.form.Form.{Form}
-use Rattle.propagation.specs.declared.header_form.HeaderForm.{HeaderForm}
 use Rattle.span_convert.specs.declared.report.Report.TheVariants as reports
 use Rattle.span_convert.specs.declared.written.Written.{Written}
 use Rattle.span_convert.specs.declared.written.Written.TheVariants as written
+use Rattle.span_cli.specs.GaugeLines.{IsGaugeCount}
 use Rattle.span_cli.specs.declared.command.Command.{Command}
 use Rattle.span_cli.specs.declared.command.Command.TheVariants as commands
+use Rattle.span_cli.specs.declared.job.Task.{Task}
+use Rattle.span_cli.specs.declared.job.Task.TheVariants as tasks
+pub use Rattle.span_cli.specs.declared.job.Job.{Job}
+pub use Rattle.span_cli.specs.declared.job.Job.TheVariants.{Spans, HeaderLines, Gauge}
 
-pub data Job : Type 0 where
-  -- reads spans in a form, and converts or reports them
-  Spans : Form → Written → Job
-  -- reads header lines, and writes their context in a form
-  HeaderLines : HeaderForm → Job
+abbrev pub task_of : Command → Task
+task_of (commands.Convert from to) = tasks.Make (Spans from (written.Form to))
+task_of (commands.Losses from to) = tasks.Make (Spans from (written.Report (reports.Losses to)))
+task_of (commands.Show from) = tasks.Make (Spans from (written.Report reports.Show))
+task_of (commands.Check from) = tasks.Make (Spans from (written.Report reports.Check))
+task_of (commands.Headers form) = tasks.Make (HeaderLines form)
+task_of (commands.Gauge spans) = tasks.Make (Gauge spans)
+task_of (commands.Serve address to count) = tasks.Serve address to count
 
-abbrev pub job_of : Command → Job
-job_of (commands.Convert from to) = Spans from (written.Form to)
-job_of (commands.Losses from to) = Spans from (written.Report (reports.Losses to))
-job_of (commands.Show from) = Spans from (written.Report reports.Show)
-job_of (commands.Check from) = Spans from (written.Report reports.Check)
-job_of (commands.Headers form) = HeaderLines form
+-- the fact holds of the job, where there is one
+abbrev pub IfMakes : Task → (Job → Type 0) → Type 0
+IfMakes (tasks.Make job) P = P job
+IfMakes (tasks.Serve address to count) P = Unit {0}
+
+-- the sizes that a job writes are those of as many spans as may be asked for
+abbrev pub IsInRange : Job → Type 0
+IsInRange (Gauge spans) = IsGaugeCount spans
+IsInRange other = Unit {0}
 
 -- the fact holds of the form that is read and of what is written, where spans are
 abbrev pub IfSpans : Job → (Form → Written → Type 0) → Type 0
 IfSpans (Spans from what) P = P from what
 IfSpans (HeaderLines form) P = Unit {0}
+IfSpans (Gauge spans) P = Unit {0}
+
+-- the fact holds of the number of spans of the gauge, where its sizes are written
+abbrev pub IfGauge : Job → (ℕ → Type 0) → Type 0
+IfGauge (Spans from what) P = Unit {0}
+IfGauge (HeaderLines form) P = Unit {0}
+IfGauge (Gauge spans) P = P spans

@@ -1,6 +1,9 @@
 pub mod Commands
+pub mod GaugeLines
 pub mod Inputs
 pub mod Jobs
 pub mod Lines
 pub mod Outcomes
 pub mod Runs
+pub mod ServingSteps
+pub mod Servings

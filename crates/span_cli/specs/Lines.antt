@@ -1,19 +1,14 @@
 -- How a run ends: its status, and the line that is noted.
 use Rattle.std.specs.Prelude.{ℕ, ◌⊎◌, ◌==◌, if◌then◌else◌, List, [], ◌∷◌, ◌++◌, Option, Some, None, IsTrue, codes, decimal}
-use Rattle.std.specs.Borrow.{Bor}
-use Rattle.std.specs.List.{list_any, flat_map}
+use Rattle.std.specs.List.{list_any}
 use Rattle.span_io.specs.Causes.{cause_number, cause_name}
 use Rattle.span_io.specs.Outside.{Outlet, Gains, OutputHolds, FailsAt}
 use Rattle.span_io.specs.declared.cause.Cause.TheVariants.{InputTooLong}
-use Rattle.span_io.specs.declared.refusal.Refusal.{Refusal}
 use Rattle.propagation.specs.HeaderCauses.{header_cause_number, header_cause_name}
 use Rattle.propagation.specs.declared.header_cause.HeaderCause.{HeaderCause}
-use Rattle.json.specs.Print.{print}
-use Rattle.json.specs.Token.{string}
-use Rattle.trace_model.specs.Faults.{fault_number, fault_name}
 use Rattle.trace_model.specs.declared.fault.Fault.{Fault}
 use Rattle.trace_model.specs.declared.fault.Fault.TheVariants as faults
-use Rattle.span_convert.specs.declared.target_fault.TargetFault.{TargetFault}
+pub use Rattle.span_gateway.specs.NoteLines.{fault_line, key_part, pieces_text, refusal_line}
 use Rattle.span_cli.specs.declared.ending.Ending.{Ending}
 use Rattle.span_cli.specs.declared.ending.Ending.TheVariants as endings
 use Rattle.span_cli.specs.declared.noted_fault.NotedFault.{NotedFault}
@@ -58,21 +53,7 @@ IsRunStatus status = IsTrue (list_any (λ known. known == status) (0 ∷ 2 ∷ 3
 abbrev pub usage_line : List ℕ
 usage_line = codes "usage: spanx convert|losses|show|check|headers|gauge|serve OPTIONS\n"
 
-abbrev pub refusal_line : Refusal → List ℕ
-refusal_line refusal =
-    codes "unit " ++ decimal refusal.unit ++ codes ": cause " ++ decimal (cause_number refusal.cause)
-    ++ codes " " ++ cause_name refusal.cause ++ codes "\n"
-
--- a key is told as a JSON string (RFC 8259, section 7)
-abbrev pub key_part : Fault → List ℕ
-key_part (faults.Reserved key) = codes " " ++ print (string key ∷ [])
-key_part (faults.OwnKey key) = codes " " ++ print (string key ∷ [])
-key_part faults.EndBeforeStart = []
-key_part faults.EventText = []
-key_part faults.ChildOfLink = []
-key_part faults.DoubleInText = []
-
--- the faults that tell one
+-- the faults that tell a key
 abbrev pub HasKey : Fault → Type 0
 HasKey (faults.Reserved key) = Unit {0}
 HasKey (faults.OwnKey key) = Unit {0}
@@ -81,12 +62,7 @@ HasKey faults.EventText = ⊥
 HasKey faults.ChildOfLink = ⊥
 HasKey faults.DoubleInText = ⊥
 
-abbrev pub fault_line : TargetFault → List ℕ
-fault_line found =
-    codes "unit " ++ decimal found.unit ++ codes ": fault " ++ decimal (fault_number found.fault)
-    ++ codes " " ++ fault_name found.fault ++ key_part found.fault ++ codes "\n"
-
--- the same line of what is kept of a fault
+-- the line of a fault, of what is kept of it
 abbrev pub noted_key : Option (List ℕ) → List ℕ
 noted_key None = []
 noted_key (Some key) = key
@@ -132,7 +108,3 @@ ending_line endings.NoMemory = codes "out of memory\n"
 -- the notes gained the line without a fault, or failed at a byte of it
 abbrev pub Notes : Outlet → Outlet → List ℕ → Type 0
 Notes before now line = Gains before now line × OutputHolds before now ⊎ FailsAt before now line
-
--- pieces, one after the other
-abbrev pub pieces_text : List (Bor (List ℕ)) → List ℕ
-pieces_text pieces = flat_map (λ (piece : Bor (List ℕ)). piece.now) pieces

@@ -17,8 +17,9 @@ use Rattle.span_convert.specs.Verdicts.{Verdict, IsGood, good, refused, faulted}
 use Rattle.span_convert.specs.declared.report.Report.TheVariants as reports
 use Rattle.span_convert.specs.declared.tally.Tally.{Tally}
 use Rattle.span_convert.specs.declared.written.Written.{Written}
+use Rattle.span_cli.specs.GaugeLines.{gauge_lines}
 use Rattle.span_cli.specs.Inputs.{header_limit}
-use Rattle.span_cli.specs.Jobs.{Job, Spans, HeaderLines}
+use Rattle.span_cli.specs.Jobs.{Job, Spans, HeaderLines, Gauge}
 use Rattle.span_cli.specs.Lines.{Stage, usage, said, input_failed, output_failed, no_memory, stage_of, stage_line, refusal_line, fault_line, header_cause_line, too_long_line, no_ids_line, Notes}
 
 -- what a run is to answer, write and note
@@ -44,9 +45,14 @@ pub data IsHeadersOutcome (form : HeaderForm) (bytes : List ℕ) (outcome : Outc
   written : (c : Context) (dropped : Bool) → length bytes ≤ header_limit → Head c dropped bytes → ¬ (CannotTell form c)
       → outcome ≡ record { status = 0; text = context_lines form c; line = [] } → IsHeadersOutcome form bytes outcome
 
+-- the lines of the gauge, whatever the input is
+abbrev pub gauge_outcome : ℕ → Outcome
+gauge_outcome spans = record { status = 0; text = gauge_lines spans; line = [] }
+
 abbrev pub IsOutcome : Job → List ℕ → Outcome → Type 0
 IsOutcome (Spans from what) bytes outcome = (verdict : Verdict) × IsVerdictAs from what shipped_limits bytes verdict × (outcome ≡ verdict_outcome verdict)
 IsOutcome (HeaderLines form) bytes outcome = IsHeadersOutcome form bytes outcome
+IsOutcome (Gauge spans) bytes outcome = outcome ≡ gauge_outcome spans
 
 -- Where the bytes of the input are told, the fact holds of each outcome of the job on them.
 abbrev pub OnOutcome : Job → Option (List ℕ) → (Outcome → Type 0) → Type 0

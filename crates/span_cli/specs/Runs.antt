@@ -12,10 +12,11 @@ use Rattle.span_convert.specs.declared.converter.State.TheVariants as states
 use Rattle.span_convert.specs.declared.stop.Stop.{Stop}
 use Rattle.span_convert.specs.declared.stop.Stop.TheVariants as stops
 use Rattle.span_convert.specs.declared.target_fault.TargetFault.{TargetFault}
-use Rattle.span_cli.specs.Inputs.{GaveInput, ReadsInput, IsAllRead}
-use Rattle.span_cli.specs.Jobs.{Job, Spans, HeaderLines}
+use Rattle.span_cli.specs.GaugeLines.{gauge_lines}
+use Rattle.span_cli.specs.Inputs.{GaveInput, ReadsInput, IsReadThrough}
+use Rattle.span_cli.specs.Jobs.{Job, Spans, HeaderLines, Gauge}
 use Rattle.span_cli.specs.Lines.{HasKey, stage_of, status_of, fault_line, noted_line, ending_line}
-use Rattle.span_cli.specs.Outcomes.{OnOutcome, IsJudgedAt, AgreesWith, Writes, line_of}
+use Rattle.span_cli.specs.Outcomes.{OnOutcome, IsJudgedAt, AgreesWith, Writes, CarriesOut, gauge_outcome, line_of}
 use Rattle.span_cli.specs.declared.ending.Ending.{Ending}
 use Rattle.span_cli.specs.declared.ending.Ending.TheVariants as endings
 use Rattle.span_cli.specs.declared.noted_fault.NotedFault.{NotedFault}
@@ -54,7 +55,7 @@ pub record EndsInput (job : Job) (status : ℕ) (before now : Inlet) : Type 0 wh
   pub answers : IsTrue before.steady → status ≢ 5
   pub in_vain : NoReadInVain before now
   pub reads : ReadsInput job before now
-  pub all_read : status ≡ 0 → IsAllRead before now
+  pub all_read : status ≡ 0 → IsReadThrough job before now
 
 -- The same of its output, which a failure of the input leaves as it was.
 pub record EndsOutput {K : Type 0} (outlet : K → Outlet) (status : ℕ) (before now : K) : Type 0 where
@@ -68,10 +69,11 @@ pub data IsContextFront (form : HeaderForm) (given : List ℕ) (before now : Out
   some : (c : Context) (dropped : Bool) → Head c dropped given → GainsFront before now (context_lines form c)
       → IsContextFront form given before now
 
--- what was written is a front of the text of the first units of these bytes, or of the lines of their context
+-- what was written is a front of the text of the first units of these bytes, or of the lines of their context, or of the gauge
 abbrev pub IsFrontOf : Job → List ℕ → Outlet → Outlet → Type 0
 IsFrontOf (Spans from what) given before now = WritesFrontAs from what shipped_limits given before now
 IsFrontOf (HeaderLines form) given before now = IsContextFront form given before now
+IsFrontOf (Gauge spans) given before now = GainsFront before now (gauge_lines spans)
 
 -- what was written is such a front of what was read
 pub record WritesRead (job : Job) (input_before input_now : Inlet) (output_before output_now : Outlet) : Type 0 where
@@ -92,6 +94,32 @@ pub record EndsRun {K : Type 0} (outlet : K → Outlet) (job : Job) (ending : En
       (λ outcome. Writes (stage_of (status_of ending)) outcome.text (outlet output_before) (outlet output_now))
   pub line : OnOutcome job input_before.left
       (λ outcome. ending_line ending ≡ line_of (stage_of (status_of ending)) outcome)
+
+-- ---- the sizes of the gauge
+
+-- nothing is read, so nothing is refused
+abbrev pub IsGaugeEnding : Ending → Type 0
+IsGaugeEnding endings.Whole = Unit {0}
+IsGaugeEnding endings.OutputFailed = Unit {0}
+IsGaugeEnding endings.NoMemory = Unit {0}
+IsGaugeEnding other = ⊥
+
+abbrev pub IsGaugeStatus : ℕ → Type 0
+IsGaugeStatus status = (status ≡ 0) ⊎ ((status ≡ 6) ⊎ (status ≡ 7))
+
+-- The ending is true of an output as it was before and is now, whatever the input is.
+pub record EndsGauge {K : Type 0} (outlet : K → Outlet) (spans : ℕ) (ending : Ending) (before now : K) : Type 0 where
+  pub ending_is : IsGaugeEnding ending
+  pub output : EndsOutput outlet (status_of ending) before now
+  pub written : Writes (stage_of (status_of ending)) (gauge_lines spans) (outlet before) (outlet now)
+
+-- A run of `gauge` reads nothing. It wrote the lines of the gauge, the output failed within them, or memory was wanted.
+pub record EndsGaugeRun {S : Type 0} (spans code : ℕ) (input_before input_now : S) (output_before output_now notes_before notes_now : Outlet) : Type 0 where
+  pub unread : input_now ≡ input_before
+  pub status : IsGaugeStatus code
+  pub carried : CarriesOut code output_before output_now notes_before notes_now (gauge_outcome spans)
+
+-- ---- early ends
 
 -- a call that didn't come to the end says how the run ended
 abbrev pub EndsEarly : {K T : Type 0} → (K → Outlet) → Job → Result T Ending → Inlet → Inlet → K → K → Type 0

@@ -1,13 +1,18 @@
 //! The words of the command line.
-ghost use Rattle.std.specs.Prelude.{◌≡◌, ◌↔◌, ◌∷◌, [], Some};
-ghost use Rattle.span_cli.specs.Commands.{texts, Spells, GoesBetween, ShowsForm, ChecksForm, WritesHeaders, side_word, other_side, long_word, short_word, short_side};
+ghost use Rattle.std.specs.Prelude.{◌≡◌, ◌↔◌, ◌∷◌, [], ℕ, Some};
+ghost use Rattle.span_cli.specs.Commands.{texts, Spells, GoesBetween, ShowsForm, ChecksForm, WritesHeaders, WritesSizes, TellsSpans, side_word, other_side, long_word, short_word, short_option};
 ghost use Rattle.span_cli.specs.declared.command.Command.{Command};
 ghost use Rattle.span_cli.specs.declared.command.Long.{Long};
 ghost use Rattle.span_cli.specs.declared.command.Short.{Short};
 ghost use Rattle.span_cli.specs.declared.command.Side.{Side};
 
+use crate::serve_words::serve_of;
 use propagation::HeaderForm;
 use span_io::Form;
+use span_tags::decimal_in;
+
+/// The most spans that a gauge is asked for.
+const MOST_SPANS: u32 = 1_000_000;
 
 /// What a run is asked to do.
 #[derive(Clone, Copy, Debug, PartialEq, Eq)]
@@ -22,6 +27,14 @@ pub enum Command {
     Check(Form),
     /// Reads header lines and writes their context in this form.
     Headers(HeaderForm),
+    /// Reads nothing and writes how many bytes the gauge of so many spans has in each form.
+    Gauge(u32),
+    /// Serves so many connections at the address that is the word at this place, and answers in the form.
+    Serve {
+        address: usize,
+        to: Form,
+        count: u32,
+    },
 }
 
 /// Which form an option is of.
@@ -44,6 +57,7 @@ enum Short {
     Show,
     Check,
     Headers,
+    Gauge,
 }
 
 /// Reads the words after the program's name: the mode, and then each of its options once, in any
@@ -52,7 +66,7 @@ pub fn read_words(words: &[String]) -> Option<Command>
     ensures { (command : Command) → (result ≡ Some command) ↔ Spells command (texts words.now) }
 {
     match words {
-        [mode, option, word] => { one_option(mode.as_bytes(), option.as_bytes(), word.as_bytes()) }
+        [mode, option, word] => { one_option(mode.as_bytes(), option.as_bytes(), word.as_str()) }
         [mode, first, first_word, second, second_word] => command_of(
             mode.as_bytes(),
             first.as_bytes(),
@@ -60,30 +74,34 @@ pub fn read_words(words: &[String]) -> Option<Command>
             second.as_bytes(),
             second_word.as_bytes(),
         ),
+        [_, _, _, _, _, _, _] => serve_of(words),
         _ => None,
     }
 }
 
 // The command that a mode and one option with its word spell.
-fn one_option(mode: &[u8], option: &[u8], word: &[u8]) -> Option<Command>
+fn one_option(mode: &[u8], option: &[u8], word: &str) -> Option<Command>
     ensures { (command : Command) → (result ≡ Some command) ↔ Spells command (mode.now ∷ option.now ∷ word.now ∷ []) }
 {
+    let bytes = word.as_bytes();
     match short_mode(mode, option)? {
-        Short::Show => show(word),
-        Short::Check => check(word),
-        Short::Headers => headers(word),
+        Short::Show => show(bytes),
+        Short::Check => check(bytes),
+        Short::Headers => headers(bytes),
+        Short::Gauge => gauge(word),
     }
 }
 
 // The mode that two words are, and its option.
 fn short_mode(mode: &[u8], option: &[u8]) -> Option<Short>
     ensures { (short : Short) → (result ≡ Some short)
-        ↔ ((mode.now ≡ short_word short) × (option.now ≡ side_word (short_side short))) }
+        ↔ ((mode.now ≡ short_word short) × (option.now ≡ short_option short)) }
 {
     match (mode, option) {
         (b"show", b"--from") => Some(Short::Show),
         (b"check", b"--from") => Some(Short::Check),
         (b"headers", b"--to") => Some(Short::Headers),
+        (b"gauge", b"--spans") => Some(Short::Gauge),
         _ => None,
     }
 }
@@ -110,6 +128,25 @@ fn headers(target: &[u8]) -> Option<Command>
 {
     let target = HeaderForm::of_word(target)?;
     Some(Command::Headers(target))
+}
+
+// The command that writes the sizes of the gauge of as many spans as a word tells.
+fn gauge(spans: &str) -> Option<Command>
+    ensures { (command : Command) → (result ≡ Some command) ↔ WritesSizes command spans.now }
+{
+    let spans = spans_told(spans)?;
+    Some(Command::Gauge(spans))
+}
+
+// The number of spans that a word tells.
+fn spans_told(word: &str) -> Option<u32>
+    ensures { (spans : ℕ) → (result ≡ Some spans) ↔ TellsSpans word.now spans }
+{
+    let spans = decimal_in(word)?;
+    if spans == 0 || spans > MOST_SPANS {
+        return None;
+    }
+    Some(spans)
 }
 
 // The command that a mode and two options with their words spell.

@@ -1,5 +1,7 @@
 //! The line that tells on the notes how a run ended.
-ghost use Rattle.std.specs.Prelude.{◌≡◌, ◌++◌, [], codes};
+ghost use Rattle.std.specs.Prelude.{◌≡◌, ◌++◌, [], codes, OnOk, OnErr};
+ghost use Rattle.span_io.specs.Outside.{FailsAt, Gains, OutputHolds};
+ghost use Rattle.span_cli.specs.ServingSteps.{NotesMore};
 ghost use Rattle.span_cli.specs.Lines.{Notes, ending_line, named_cause_line, pieces_text, noted_line, refusal_line, usage_line};
 
 use crate::ending::Ending;
@@ -129,10 +131,34 @@ fn note_fault_in<'a, N: Sink>(
 fn note_pieces<N: Sink>(notes: &mut N, pieces: &[&[u8]])
     ensures { Notes (N.outlet notes.old) (N.outlet notes.new) (pieces_text pieces.now) }
 {
+    let _ = write_pieces(notes, pieces);
+}
+
+/// Notes pieces one after the other, where no note has failed, and answers whether none has then.
+pub(crate) fn note_more<N: Sink>(notes: &mut N, holds: bool, pieces: &[&[u8]]) -> bool
+    ensures { NotesMore holds result (N.outlet notes.old) (N.outlet notes.new) (pieces_text pieces.now) }
+{
+    gains_then();
+    if !holds {
+        return false;
+    }
+    match write_pieces(notes, pieces) {
+        Ok(()) => true,
+        Err(Failed) => false,
+    }
+}
+
+// Writes pieces one after the other, up to the first that fails.
+fn write_pieces<N: Sink>(notes: &mut N, pieces: &[&[u8]]) -> Result<(), Failed>
+    ensures ok { OnOk result (Gains (N.outlet notes.old) (N.outlet notes.new) (pieces_text pieces.now)) }
+    ensures holds { OnOk result (OutputHolds (N.outlet notes.old) (N.outlet notes.new)) }
+    ensures at { OnErr result (FailsAt (N.outlet notes.old) (N.outlet notes.new) (pieces_text pieces.now)) }
+{
     gains_then();
     'pieces: for piece in pieces {
         if let Err(Failed) = write_all(notes, piece) {
-            return;
+            return Err(Failed);
         }
     }
+    Ok(())
 }

@@ -1,59 +1,68 @@
 //! The top call.
 ghost use Rattle.std.specs.Prelude.{◌≡◌, ◌≢◌, ◌↔◌, IfSome, IsTrue, length};
 ghost use Rattle.span_io.specs.Outside.{InputFails, NoReadInVain, NoWriteInVain, OutputFails, OutputHolds, Takes, any_number};
-ghost use Rattle.span_cli.specs.Commands.{texts, Spells, OnJob, OnSpans, OnLosses, OnHeaders};
-ghost use Rattle.span_cli.specs.Inputs.{ReadsInput, IsAllRead};
-ghost use Rattle.span_cli.specs.Jobs.{Spans, job_of};
-ghost use Rattle.span_cli.specs.Runs.{EndsRun, WritesRead};
-ghost use Rattle.span_cli.specs.Lines.{IsRunStatus, Notes, stage_of, stage_line};
+ghost use Rattle.span_cli.specs.Commands.{texts, Spells, OnGauge, OnJob, OnServing, OnSpans, OnLosses, OnHeaders, UnlessServing};
+ghost use Rattle.span_cli.specs.Inputs.{ReadsInput, IsReadThrough};
+ghost use Rattle.span_cli.specs.Jobs.{IfGauge, IsInRange, Spans};
+ghost use Rattle.span_cli.specs.Runs.{EndsGauge, EndsGaugeRun, EndsRun, WritesRead};
+ghost use Rattle.span_cli.specs.Lines.{IsRunStatus, Notes, stage_of, stage_line, usage_line};
 ghost use Rattle.span_cli.specs.Outcomes.{OnOutcome, OnSameBatches, OnAgreeingDocuments, CarriesOut, WritesLinesOf, WritesLossesOf, IsJudgedAt, AgreesWith, Writes, line_of};
+ghost use Rattle.span_cli.specs.Servings.{ServesConnections};
 ghost use Rattle.span_cli.specs.declared.command.Command.{Command};
 
-use crate::command::{Command, read_words};
+use crate::command::read_words;
 use crate::ending::Ending;
+use crate::gauge::gauge;
 use crate::headers::headers;
 use crate::input::feed_input;
+use crate::job::{Job, Task};
 use crate::note::{note_ending, note_usage};
+use crate::serve::serve;
 use propagation::laws::{contexts_are_normal, headers_read_back, heads_are_sound};
 use span_convert::laws::{free_members, no_losses, same_batches};
-use span_convert::{Report, Walker, Written};
-use span_io::{Form, Limits, Sink, Source};
+use span_convert::{Walker, Written};
+use span_io::{Door, Form, Limits, Sink, Source};
 use std::alloc::Global;
 
 /// Runs the command that the words after the program's name spell: it reads the input to its end,
 /// writes its canonical text, its report or the lines of its context to the output, and notes a refusal
-/// or a fault in one line. The answer is the exit status: 0 the whole text was written, 2 the words are no command,
+/// or a fault in one line. `gauge` reads nothing, and writes the sizes of the gauge. `serve` serves connections of the
+/// door, and notes each of which a call was refused.
+/// The answer is the exit status: 0 the whole text was written or all connections were served, 2 the words are no command,
 /// 3 the input is refused, 4 the target can't hold a unit or a context (in both the text of the units
-/// before was written), 5 the input failed, 6 the output failed, 7 no memory was found.
-pub fn run<S: Source, K: Sink, N: Sink>(
+/// before was written), 5 the input or the door failed, 6 the output failed, 7 no memory was found.
+pub fn run<S: Source, K: Sink, N: Sink, D: Door>(
     alloc: Global,
     words: &[String],
     input: &mut S,
     output: &mut K,
     notes: &mut N,
+    door: &mut D,
 ) -> u8
     // Words that are no command are answered at once: nothing is read, and nothing written but a note.
     ensures usage { (result ≡ 2) ↔ ((command : Command) → ¬ Spells command (texts words.now)) }
-    ensures untouched { result ≡ 2 → (input.new ≡ input.old) × (output.new ≡ output.old) }
+    ensures untouched { result ≡ 2 → (input.new ≡ input.old) × (output.new ≡ output.old) × (door.new ≡ door.old) }
+    ensures usage_noted { result ≡ 2 → Notes (N.outlet notes.old) (N.outlet notes.new) usage_line }
     ensures statuses { IsRunStatus result }
 
-    // A device is at fault where its count rose, and only there; one that never fails never is.
-    ensures input_fails { result ≡ 5 → InputFails (S.inlet input.old) (S.inlet input.new) }
+    // A device is at fault where its count rose, and only there; one that never fails never is. What reads calls no door.
+    ensures input_fails { UnlessServing (texts words.now) (result ≡ 5 → InputFails (S.inlet input.old) (S.inlet input.new)) }
     ensures input_quiet { result ≢ 5 → (S.inlet input.new).faults ≡ (S.inlet input.old).faults }
-    ensures input_answers { IsTrue (S.inlet input.old).steady → result ≢ 5 }
+    ensures input_answers { UnlessServing (texts words.now) (IsTrue (S.inlet input.old).steady → result ≢ 5) }
     ensures unwritten { result ≡ 5 → output.new ≡ output.old }
     ensures output_fails { result ≡ 6 → OutputFails (K.outlet output.old) (K.outlet output.new) }
     ensures output_holds { result ≢ 6 → OutputHolds (K.outlet output.old) (K.outlet output.new) }
     ensures output_answers { (K.outlet output.old).sure ≡ any_number → result ≢ 6 }
+    ensures door_stays { UnlessServing (texts words.now) (door.new ≡ door.old) }
 
     // No read comes behind a failed one, or behind the end. No write is of nothing, or comes behind a failed one.
     ensures input_in_vain { NoReadInVain (S.inlet input.old) (S.inlet input.new) }
     ensures output_in_vain { NoWriteInVain (K.outlet output.old) (K.outlet output.new) }
     ensures notes_in_vain { NoWriteInVain (N.outlet notes.old) (N.outlet notes.new) }
 
-    // Reading stops at the first stop. After the whole text nothing of the input is left.
+    // Reading stops at the first stop. After the whole text nothing of the input is left, where any is read.
     ensures reads { OnJob (texts words.now) (λ job. ReadsInput job (S.inlet input.old) (S.inlet input.new)) }
-    ensures all_read { result ≡ 0 → IsAllRead (S.inlet input.old) (S.inlet input.new) }
+    ensures all_read { OnJob (texts words.now) (λ job. result ≡ 0 → IsReadThrough job (S.inlet input.old) (S.inlet input.new)) }
 
     // Whatever the status, only text of the first units of what was read was written, or lines of its context.
     ensures front { OnJob (texts words.now)
@@ -87,15 +96,32 @@ pub fn run<S: Source, K: Sink, N: Sink>(
     ensures read_back { OnHeaders (texts words.now) (λ form. result ≡ 0 → IfSome (S.inlet input.old).left
         (WritesLinesOf form (K.outlet output.old) (K.outlet output.new))) }
 
+    // The sizes of the gauge are written whatever the input is, which stays as it was. No status but 0, 6 and 7 is answered.
+    ensures gauge { OnGauge (texts words.now) (λ spans. EndsGaugeRun spans result input.old input.new
+        (K.outlet output.old) (K.outlet output.new) (N.outlet notes.old) (N.outlet notes.new)) }
+
     // The line of each status but 3 and 4 doesn't hang on the input. After the whole text nothing is noted.
-    ensures line { result ≢ 3 → result ≢ 4 → Notes (N.outlet notes.old) (N.outlet notes.new) (stage_line (stage_of result)) }
-    ensures silent { result ≡ 0 → notes.new ≡ notes.old }
+    ensures line { UnlessServing (texts words.now) (result ≢ 3 → result ≢ 4
+        → Notes (N.outlet notes.old) (N.outlet notes.new) (stage_line (stage_of result))) }
+    ensures silent { UnlessServing (texts words.now) (result ≡ 0 → notes.new ≡ notes.old) }
+
+    // Connections are served one after the other, each as `serve_connection` does, and neither input nor output is called.
+    ensures serves { OnServing (texts words.now) (λ address to count. ServesConnections address to count result
+        (D.doorway door.old) (D.doorway door.new) (N.outlet notes.old) (N.outlet notes.new)) }
+    ensures serves_alone { OnServing (texts words.now)
+        (λ address to count. (input.new ≡ input.old) × (output.new ≡ output.old)) }
 {
     let Some(command) = read_words(words) else {
         note_usage(notes);
         return 2;
     };
-    let ending = carry_out(alloc, command, input, output);
+    let job = match command.task() {
+        Task::Make(job) => job,
+        Task::Serve { address, to, count } => {
+            return serve(alloc, words[address].as_str(), to, count, notes, door);
+        }
+    };
+    let ending = carry_out(alloc, job, input, output);
     note_ending(notes, &ending);
     same_batches();
     free_members();
@@ -106,27 +132,16 @@ pub fn run<S: Source, K: Sink, N: Sink>(
     ending.status()
 }
 
-// Does what a command asks for.
-fn carry_out<S: Source, K: Sink>(
-    alloc: Global,
-    command: Command,
-    input: &mut S,
-    output: &mut K,
-) -> Ending
-    ensures { EndsRun K.outlet (job_of command) result (S.inlet input.old) (S.inlet input.new) output.old output.new }
+// Does a job.
+fn carry_out<S: Source, K: Sink>(alloc: Global, job: Job, input: &mut S, output: &mut K) -> Ending
+    requires { IsInRange job }
+    ensures run { EndsRun K.outlet job result (S.inlet input.old) (S.inlet input.new) output.old output.new }
+    ensures gauge { IfGauge job (λ spans. (input.new ≡ input.old) × EndsGauge K.outlet spans result output.old output.new) }
 {
-    match command {
-        Command::Convert(from, to) => spans(alloc, from, Written::Form(to), input, output),
-        Command::Losses(from, to) => spans(
-            alloc,
-            from,
-            Written::Report(Report::Losses(to)),
-            input,
-            output,
-        ),
-        Command::Show(from) => spans(alloc, from, Written::Report(Report::Show), input, output),
-        Command::Check(from) => spans(alloc, from, Written::Report(Report::Check), input, output),
-        Command::Headers(form) => headers(alloc, form, input, output),
+    match job {
+        Job::Spans(from, what) => spans(alloc, from, what, input, output),
+        Job::HeaderLines(form) => headers(alloc, form, input, output),
+        Job::Gauge(spans) => gauge(alloc, spans, output),
     }
 }
 

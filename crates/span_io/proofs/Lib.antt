@@ -1,3 +1,4 @@
+pub mod Addresses
 pub mod Copies
 pub mod Gains
 pub mod Places

@@ -30,3 +30,10 @@ gives left bytes lent buf given place n room most cut same is_left most_is room_
       sym is_left ∙ first ∙ ap (λ l. take n (given ++ drop n buf) ++ l) later,
       λ none some. sym later ∙ drop_all n (drop place bytes) (none_left (drop place bytes) given buf n room most cut most_is room_is long given_long none some),
     )
+
+-- a front that was turned to the end, and then cut off
+pub turned_front : (old turned new : List ℕ) (count rest : ℕ) → count ≤ length old → rest ≡ length old - count → turned ≡ drop count old ++ take count old
+    → new ≡ take rest turned → new ≡ drop count old
+turned_front old turned new count rest h r e f =
+    let n : rest ≡ length (drop count old) = omega (arith, r, length-drop count old) in
+    f ∙ ap (take rest) e ∙ ap (λ k. take k (drop count old ++ take count old)) n ∙ take-append_seam (drop count old) (take count old)

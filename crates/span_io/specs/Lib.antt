@@ -1,8 +1,10 @@
 pub mod Causes
 pub mod Clones
+pub mod Connections
 pub mod Counting
 pub mod Courses
 pub mod Cuts
+pub mod Doors
 pub mod Forms
 pub mod Frames
 pub mod FramingLaws
@@ -12,6 +14,7 @@ pub mod FreeItems
 pub mod Gathering
 pub mod GatheringLaws
 pub mod Limits
+pub mod Links
 pub mod Memory
 pub mod OffenceLaws
 pub mod Offences

@@ -1,5 +1,5 @@
 -- What contracts see of the outside: what a source has left, what a sink took, and how often each was refused.
-use Rattle.std.specs.Prelude.{◌≡◌, ◌≢◌, ℕ, ◌+◌, ◌-◌, ◌^◌, ◌≤◌, min, Bool, List, ◌∷◌, ◌++◌, length, Option, Some, None, ⊤}
+use Rattle.std.specs.Prelude.{◌≡◌, ◌≢◌, ℕ, ◌+◌, ◌-◌, ◌^◌, ◌≤◌, min, Bool, List, [], ◌∷◌, ◌++◌, length, Option, Some, None, ⊤}
 use Rattle.std.specs.Io.KnownBytes.{Appends}
 use Rattle.span_io.specs.declared.course.ReadCourse.{ReadCourse}
 use Rattle.span_io.specs.declared.course.ReadCourse.TheVariants as reads
@@ -120,9 +120,11 @@ pub record GrowsFront (old new bytes : List ℕ) : Type 0 where
   pub is_front : IsFront front bytes
   pub grows : new ≡ old ++ front
 
--- What a sink gains in one call after the other it gains in both, and where the second failed both did; and a count that rose
--- has risen since before.
+-- In no call a sink gains nothing. What it gains in one call after the other it gains in both, and where the second failed both
+-- did; and a count that rose has risen since before.
 pub record GainLaws : Type 0 where
+  pub none : (a : Outlet) → Gains a a []
+  pub still : (a : Outlet) → OutputHolds a a
   pub both : (a b c : Outlet) (first second : List ℕ) → Gains a b first → Gains b c second → Gains a c (first ++ second)
   pub front : (a b c : Outlet) (first second : List ℕ) → Gains a b first → GainsFront b c second
       → GainsFront a c (first ++ second)

@@ -136,6 +136,17 @@ impl Blob {
         self.bytes.truncate(count);
     }
 
+    /// Takes so many bytes away from the front, and keeps the room.
+    #[tactic(auto, using(crate::proofs::Places::turned_front))]
+    pub fn cut_front(&mut self, count: usize)
+        requires { count ≤ length self.old }
+        ensures { self.new ≡ drop count self.old }
+    {
+        let rest = self.bytes.len() - count;
+        self.bytes.rotate_left(count);
+        self.bytes.truncate(rest);
+    }
+
     /// Takes the vector that holds the bytes, and leaves an empty list.
     pub fn take(&mut self) -> Vec<u8>
         ensures taken { result.items ≡ self.old }

@@ -1,5 +1,5 @@
-ghost use Rattle.std.specs.Prelude.{◌≡◌, [], length, IfOk};
-ghost use Rattle.span_io.specs.Sizes.{IsShort};
+ghost use Rattle.std.specs.Prelude.{◌≡◌, ◌<◌, [], length, IfOk, MatchResult};
+ghost use Rattle.span_io.specs.Sizes.{IsShort, longest};
 
 use crate::halt::OutOfMemory;
 use crate::items::LONGEST;
@@ -15,7 +15,7 @@ pub struct Bytes {
 impl Model for Bytes {
     ghost use Rattle.std.specs.Prelude.{ℕ, List};
     ghost use Rattle.std.specs.Coded.{coded_ℕ, coded_list};
-    ghost use Rattle.span_io.specs.Sizes.{IsShort};
+    ghost use Rattle.span_io.specs.Sizes.{IsShort, longest};
 
     ghost Value = { List ℕ };
 
@@ -46,9 +46,9 @@ impl Bytes {
         Ok(Bytes { bytes })
     }
 
-    /// The bytes of a vector, which is taken over.
+    /// The bytes of a vector, which is taken over. Too many count as want of memory.
     pub fn from_vec(bytes: Vec<u8>) -> Result<Bytes, OutOfMemory>
-        ensures { IfOk result (λ held. held ≡ bytes.items) }
+        ensures { MatchResult result (λ held. held ≡ bytes.items) (λ _. longest < length bytes.items) }
     {
         if bytes.len() > LONGEST {
             return Err(OutOfMemory);

@@ -3,7 +3,7 @@ ghost use Rattle.span_io.specs.Frames.{AreBytes};
 ghost use Rattle.span_io.specs.Outside.{GainLaws};
 ghost use Rattle.span_io.specs.VarintLaws.{VarintLaws, ShortestLaws};
 
-/// What a sink gains in one call after the other it gains in both.
+/// What a sink gains in no call, and in one after the other.
 pub fn gains_then()
     ensures { GainLaws }
 {

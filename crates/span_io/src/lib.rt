@@ -1,4 +1,4 @@
-//! What the other crates stand on: the outside as counted sources and sinks, a cursor over borrowed
+//! What the other crates stand on: the outside as counted sources, sinks, connections and doors, a cursor over borrowed
 //! bytes, lists that answer want of memory, and the causes of a refusal.
 #![tactic(auto)]
 
@@ -8,11 +8,16 @@ mod cause;
 mod count_sink;
 mod course;
 mod cursor;
+mod door;
+mod duplex;
 mod form;
 mod halt;
 mod items;
 pub mod laws;
 mod limits;
+mod listener_door;
+mod mem_door;
+mod mem_duplex;
 mod mem_sink;
 mod mem_source;
 mod reader_source;
@@ -21,6 +26,7 @@ mod rows;
 mod sink;
 mod source;
 mod step;
+mod stream_duplex;
 mod text;
 mod varint;
 mod writer_sink;
@@ -31,10 +37,15 @@ pub use cause::Cause;
 pub use count_sink::CountSink;
 pub use course::{ReadCourse, WriteCourse};
 pub use cursor::{Cursor, Lack, Short};
+pub use door::Door;
+pub use duplex::{Duplex, Mark, send_all};
 pub use form::Form;
 pub use halt::{Halt, OutOfMemory};
 pub use items::{Items, LONGEST};
 pub use limits::Limits;
+pub use listener_door::ListenerDoor;
+pub use mem_door::MemDoor;
+pub use mem_duplex::MemDuplex;
 pub use mem_sink::MemSink;
 pub use mem_source::MemSource;
 pub use reader_source::ReaderSource;
@@ -43,6 +54,7 @@ pub use rows::{once, text_of, text_row};
 pub use sink::{Sink, write_all};
 pub use source::{Failed, Source};
 pub use step::Step;
+pub use stream_duplex::StreamDuplex;
 pub use text::Text;
 pub use varint::{Varint, zigzag};
 pub use writer_sink::WriterSink;

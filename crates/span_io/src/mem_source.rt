@@ -52,6 +52,13 @@ impl MemSource {
             course: ReadCourse::Going,
         }
     }
+
+    // The number of bytes still to come.
+    pub(crate) fn left(&self) -> usize
+        ensures { result ≡ length self.now.left }
+    {
+        self.bytes.len() - self.place
+    }
 }
 
 impl Source for MemSource {

@@ -1,5 +1,5 @@
-ghost use Rattle.std.specs.Prelude.{◌≡◌, [], ◌++◌, length, IfOk, OnOk, OnErr, IsUtf8, string_bytes};
-ghost use Rattle.span_io.specs.Sizes.{IsShort};
+ghost use Rattle.std.specs.Prelude.{◌≡◌, ◌<◌, [], ◌++◌, length, IfOk, MatchResult, OnOk, OnErr, IsUtf8, string_bytes};
+ghost use Rattle.span_io.specs.Sizes.{IsShort, longest};
 
 use crate::halt::OutOfMemory;
 use crate::items::LONGEST;
@@ -28,7 +28,7 @@ pub struct Text {
 impl Model for Text {
     ghost use Rattle.std.specs.Prelude.{ℕ, List};
     ghost use Rattle.std.specs.Coded.{coded_ℕ, coded_list};
-    ghost use Rattle.span_io.specs.Sizes.{IsShort};
+    ghost use Rattle.span_io.specs.Sizes.{IsShort, longest};
     ghost use Rattle.span_io.specs.Texts.{kept_bytes};
 
     ghost Value = { List ℕ };
@@ -73,9 +73,9 @@ impl Text {
         Ok(Text { kept })
     }
 
-    /// The text of a string, which is taken over.
+    /// The text of a string, which is taken over. One too long counts as want of memory.
     pub fn from_string(text: String) -> Result<Text, OutOfMemory>
-        ensures { IfOk result (λ held. held ≡ string_bytes text) }
+        ensures { MatchResult result (λ held. held ≡ string_bytes text) (λ _. longest < length (string_bytes text)) }
     {
         if text.len() > LONGEST {
             return Err(OutOfMemory);

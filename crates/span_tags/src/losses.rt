@@ -1,5 +1,5 @@
 //! Losses of a move to another form, added at the end of those before.
-ghost use Rattle.std.specs.Prelude.{◌≡◌, ◌+◌, ◌++◌, length, not, option_map, IfOk, OnOk};
+ghost use Rattle.std.specs.Prelude.{◌≡◌, ◌+◌, ◌^◌, ◌≤◌, ◌++◌, length, not, option_map, MatchResult, OnOk};
 ghost use Rattle.span_tags.specs.Losses as meant;
 
 use span_io::{Items, OutOfMemory, Text};
@@ -92,7 +92,8 @@ pub fn is_unspecified(kind: Kind) -> bool
 
 /// The number of spans, behind this scope. More than 32 bits count want memory.
 pub fn spans_behind(spans: u32, scope: &Scope) -> Result<u32, OutOfMemory>
-    ensures { IfOk result (λ behind. behind ≡ spans + length scope.now.spans) }
+    ensures { MatchResult result (λ behind. behind ≡ spans + length scope.now.spans)
+        (λ _. 2 ^ 32 ≤ spans + length scope.now.spans) }
 {
     match spans.checked_add(scope.spans.len() as u32) {
         Some(behind) => Ok(behind),

@@ -1,22 +1,10 @@
-//! Values from outside, as tables, and the tests that hold the trace, its forms and the tables against them. Each row stands
-//! once, and each library is proved without the rows: no crate stands on this one.
+//! The gauge: a trace that is made by numbers alone, by which sizes and speeds are told.
 #![tactic(auto)]
 
-#[cfg(test)]
-mod batches;
-#[cfg(test)]
-mod events;
-#[cfg(test)]
-mod groups_json;
-#[cfg(test)]
-mod jaeger_map;
-#[cfg(test)]
-mod requests;
-#[cfg(test)]
-mod spans_json;
-#[cfg(test)]
-mod traces;
-#[cfg(test)]
-mod written_requests;
-#[cfg(test)]
-mod zipkin_map;
+mod group;
+pub mod laws;
+mod size;
+mod span;
+
+pub use group::{groups_of, write_gauge_group};
+pub use size::gauge_size;

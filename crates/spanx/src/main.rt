@@ -2,7 +2,7 @@
 #![tactic(auto)]
 
 use span_cli::run;
-use span_io::{OutOfMemory, ReaderSource, WriterSink, write_all};
+use span_io::{ListenerDoor, OutOfMemory, ReaderSource, WriterSink, write_all};
 use std::env;
 use std::io::ErrorKind;
 use std::process::ExitCode;
@@ -16,12 +16,14 @@ fn main(rt: HostRuntime) -> ExitCode {
     };
     let mut input = ReaderSource::new(rt.stdin());
     let mut output = WriterSink::new(rt.stdout());
+    let mut door = ListenerDoor::new(rt);
     ExitCode::from(run(
         rt.alloc(),
         words.as_slice(),
         &mut input,
         &mut output,
         &mut notes,
+        &mut door,
     ))
 }
 

@@ -17,6 +17,13 @@ pub const NO_FAILS: Fails = Fails {
     notes: &[],
 };
 
+/// The first read fails, so that an answer shows that nothing was read.
+pub const UNREADABLE: Fails = Fails {
+    input: &[1],
+    output: &[],
+    notes: &[],
+};
+
 /// A run on bytes in hexadecimal: its words and the calls that fail, and its status, output and note.
 #[derive(Clone, Copy)]
 pub struct Case {
@@ -41,7 +48,7 @@ const SAMPLED: &str = "62333a20310a";
 // A line "b3", without a colon.
 const NO_HEADER: &str = "62330a";
 
-const USAGE: &str = "usage: spanx convert|losses|show|check|headers|gauge|serve OPTIONS\n";
+pub const USAGE: &str = "usage: spanx convert|losses|show|check|headers|gauge|serve OPTIONS\n";
 
 /// Notes that fail at a call keep what they gained, and change no status.
 pub const CASES: [Case; 23] = [

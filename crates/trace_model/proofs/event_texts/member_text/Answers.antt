@@ -1,5 +1,5 @@
 use Rattle.std.proofs.Common.{◌≡◌, ℕ, List, [], ◌∷◌, ◌++◌, sym, ap, ◌∙◌}
-use Rattle.std.proofs.lemmas.Result.{IfOk-weaker}
+use Rattle.std.proofs.lemmas.Result.{MatchResult-weaker}
 use Rattle.json.specs.Print.{print, quoted}
 use Rattle.json.specs.Token.{Token, key}
 use Rattle.trace_model.specs.WrittenTokens.{tokens_of, map_tokens}
@@ -17,6 +17,6 @@ returns c =
     c.in_ok-key.ensures.ok ∙ ap (λ (l : List Token). l ++ key c.as_str.result.now ∷ []) c.new-out.ensures.tokens ∙ ap (λ n. key n ∷ []) c.as_str.ensures.value in
     let tokens : c.write_map.new.out.tokens ≡ key name ∷ map_tokens attributes =
     c.in_ok-write_map.ensures.tokens ∙ ap (λ (l : List Token). l ++ map_tokens c.as_slice.result.now) front ∙ ap (λ l. key name ∷ map_tokens l) c.as_slice.ensures in
-    IfOk-weaker c.from_string.result _ _ (λ text held. held ∙ ap (λ v. v.items) c.in-Ok.ensures.ok ∙ c.into_inner.ensures.items
+    MatchResult-weaker c.from_string.result c.from_string.ensures (λ text held. held ∙ ap (λ v. v.items) c.in-Ok.ensures.ok ∙ c.into_inner.ensures.items
     ∙ ap (λ (l : List ℕ). l ++ print c.write_map.new.out.tokens) before ∙ ap print tokens ∙ member_print name (map_tokens attributes)
-    ∙ ap (λ ts. quoted name ++ 58 ∷ print ts) (sym (map_of_pairs attributes))) c.from_string.ensures
+    ∙ ap (λ ts. quoted name ++ 58 ∷ print ts) (sym (map_of_pairs attributes))) (λ wanted long. tt)

@@ -1,0 +1,249 @@
+#!/usr/bin/env python3
+"""Drives `serve` with real clients and with hostile ones, and compares each answer with what `convert` makes of the same body.
+
+Run it at the top as bench/gateway.py, after ./spanx has built the program. It needs `curl`, and takes a minute. It ends with 0 where
+all agree; its times and memory are no test. Words that are given choose the parts whose names hold one of them.
+"""
+import http.client
+import os
+import socket
+import struct
+import subprocess
+import sys
+import threading
+import time
+
+import forms
+from program import BUILD, PROGRAM, TOP, convert
+from protocols import PROTOCOLS
+
+BINARY, COMPACT = PROTOCOLS
+
+KINDS = {
+    forms.OTLP: "application/x-protobuf", forms.JSON: "application/json", BINARY: "application/vnd.apache.thrift.binary",
+    COMPACT: "application/vnd.apache.thrift.compact", forms.ZIPKIN: "application/json",
+}
+# The path, the media type and the form in which a body is read.
+TAKEN = [
+    ("/v1/traces", "application/x-protobuf", forms.OTLP), ("/v1/traces?a=b", "Application/JSON; charset=utf-8", forms.JSON),
+    ("/api/traces", "application/x-thrift", BINARY), ("/api/traces", "application/vnd.apache.thrift.binary", BINARY),
+    ("/api/v2/spans", "application/json", forms.ZIPKIN),
+]
+SPANS = b'[{"traceId":"1","id":"1","name":"a"}]'
+HEAD = b"POST /api/v2/spans HTTP/1.1\r\nHost: x\r\nContent-Type: application/json\r\nContent-Length: %d\r\n\r\n"
+MANY = 100_000
+BODY = 64 * 2**20
+
+
+def example(name):
+    with open(os.path.join(TOP, "examples", name), "rb") as held:
+        return held.read()
+
+
+def bodies():
+    """Bodies that are read, refused, or can't be held, by the form in which they are read."""
+    yield forms.OTLP, example("checkout.bin")
+    yield forms.OTLP, example("checkout.bin")[:-100]
+    yield forms.OTLP, b""
+    yield forms.JSON, example("checkout.json")
+    yield forms.JSON, b"{"
+    yield BINARY, example("checkout_batch.bin")
+    yield BINARY, b"\x0b"
+    yield forms.ZIPKIN, SPANS
+    yield forms.ZIPKIN, b"{}"
+    yield forms.ZIPKIN, b'[{"traceId":"1","id":"1","tags":{"otel.status_description":"x","span.kind":"y"}}]'
+
+
+def free_port():
+    with socket.socket() as probe:
+        probe.bind(("127.0.0.1", 0))
+        return probe.getsockname()[1]
+
+
+def listens(port):
+    with open("/proc/net/tcp") as table:
+        return any(row.split()[1].endswith(f":{port:04X}") and row.split()[3] == "0A" for row in list(table)[1:])
+
+
+class Gateway:
+    """The program, serving so many connections on a port of its own."""
+
+    def __init__(self, target, count):
+        self.port = free_port()
+        words = [PROGRAM, "serve", "--listen", f"127.0.0.1:{self.port}", "--to", target, "--count", str(count)]
+        self.process = subprocess.Popen(words, stdin=subprocess.DEVNULL, stdout=subprocess.PIPE, stderr=subprocess.PIPE)
+        while not listens(self.port) and self.process.poll() is None:
+            time.sleep(0.01)
+
+    def __enter__(self):
+        return self
+
+    def __exit__(self, *_):
+        if self.process.poll() is None:
+            self.process.kill()
+        self.process.wait()
+
+    def connect(self):
+        return socket.create_connection(("127.0.0.1", self.port))
+
+    def end(self):
+        """How the run ended: its status, output and notes."""
+        output, notes = self.process.communicate(timeout=60)
+        return self.process.returncode, output, notes.decode()
+
+    def memory(self):
+        with open(f"/proc/{self.process.pid}/status") as told:
+            return next(int(row.split()[1]) * 1024 for row in told if row.startswith("VmHWM"))
+
+
+def expected(body, source, target):
+    """The status, the media type and the content of an answer."""
+    status, text, note = convert(body, source, target)
+    return {0: (200, KINDS[target], text), 3: (400, "text/plain", note.encode()), 4: (422, "text/plain", note.encode())}[status]
+
+
+def answers(connection):
+    """What came of a connection until its end."""
+    held = b""
+    while piece := connection.recv(2**20):
+        held += piece
+    return held
+
+
+def text_of(status, words, kind, body, closes=False):
+    lines = [f"HTTP/1.1 {status} {words}"] + [f"Content-Type: {kind}"] * bool(kind) + [f"Content-Length: {len(body)}"]
+    return "".join(f"{line}\r\n" for line in lines + ["Connection: close"] * closes).encode() + b"\r\n" + body
+
+
+def post(body=SPANS):
+    return HEAD % len(body) + body
+
+
+def converted(target, body=SPANS):
+    return text_of(200, "OK", KINDS[target], expected(body, forms.ZIPKIN, target)[2])
+
+
+def raw(name, pieces, wanted, target=forms.OTLP, status=(0, ""), reset=False):
+    """What differs where these pieces are sent over one connection."""
+    with Gateway(target, 1) as gateway:
+        with gateway.connect() as connection:
+            connection.setsockopt(socket.IPPROTO_TCP, socket.TCP_NODELAY, 1)
+            for piece in pieces:
+                connection.sendall(piece)
+            if reset:
+                connection.setsockopt(socket.SOL_SOCKET, socket.SO_LINGER, struct.pack("ii", 1, 0))
+            else:
+                connection.shutdown(socket.SHUT_WR)
+                came = answers(connection)
+                if came != wanted:
+                    yield f"{name}: {came[:200]} instead of {wanted[:200]}"
+        done = gateway.end()
+        if done != (status[0], b"", status[1]):
+            yield f"{name}: ended with {done}"
+
+
+def clients():
+    """Each body to each form, by Python's client over one kept connection, and by curl over two."""
+    for target in forms.FORMS:
+        wanted = [(path, kind, body, expected(body, source, target)) for path, kind, source in TAKEN for form, body in bodies() if form == source]
+        with Gateway(target, 2) as gateway:
+            kept = http.client.HTTPConnection("127.0.0.1", gateway.port)
+            for path, kind, body, (status, media, content) in wanted:
+                kept.request("POST", path, body, {"Content-Type": kind})
+                came = kept.getresponse()
+                got = came.status, came.getheader("Content-Type"), came.read()
+                if got != (status, media, content):
+                    yield f"{path} of {kind} to {target}: {got}"
+            kept.close()
+            path, kind, body, answer = wanted[0]
+            url = f"http://127.0.0.1:{gateway.port}{path}"
+            one = ["-H", f"Content-Type: {kind}", "--data-binary", "@" + os.path.join(TOP, "examples", "checkout.bin"), "-w", "%{http_code} %{num_connects}\n", "-o", "/dev/null", url]
+            came = subprocess.run(["curl", "-s", *one, "--next", "-s", *one], capture_output=True, text=True).stdout
+            if came != f"{answer[0]} 1\n{answer[0]} 0\n":
+                yield f"curl to {target}: {came}"
+            if gateway.end() != (0, b"", ""):
+                yield f"to {target}: didn't end with 0"
+
+
+def edges():
+    """Connections that end in each way."""
+    one, to = post(), converted(forms.OTLP)
+    bare = b"GET /v1/traces HTTP/1.1\r\nHost: x\r\n\r\n"
+    yield from raw("two in one piece", [one + one], to + to)
+    yield from raw("one byte at a time", [bytes([b]) for b in one + one], to + to)
+    yield from raw("behind another method", [bare + one], text_of(405, "Method Not Allowed", "", b"") + to)
+    yield from raw("no such path", [bare.replace(b"/v1", b"/v2")], text_of(404, "Not Found", "", b""))
+    yield from raw("HTTP/1.0", [one.replace(b"HTTP/1.1", b"HTTP/1.0") + one], text_of(200, "OK", KINDS[forms.OTLP], expected(SPANS, forms.ZIPKIN, forms.OTLP)[2], True))
+    yield from raw("asked to close", [one.replace(b"Host: x", b"connection: CLOSE") + one], text_of(200, "OK", KINDS[forms.OTLP], expected(SPANS, forms.ZIPKIN, forms.OTLP)[2], True))
+    yield from raw("compressed", [one.replace(b"Host: x", b"Content-Encoding: gzip")], text_of(415, "Unsupported Media Type", "", b""))
+    yield from raw("expecting", [one.replace(b"Host: x", b"Expect: 100-continue")], to)
+    for name, bytes_, status, words in [
+        ("chunks", one.replace(b"Host: x", b"Transfer-Encoding: chunked"), 501, "Not Implemented"),
+        ("no length", b"POST /v1/traces HTTP/1.1\r\nHost: x\r\n\r\n", 411, "Length Required"),
+        ("a length of 10^17", HEAD % 10**17, 413, "Content Too Large"),
+        ("a length of 2^60", HEAD % 2**60, 400, "Bad Request"),
+        ("a body of the limit and one more", HEAD % (BODY + 1), 413, "Content Too Large"),
+        ("a lone line feed", one.replace(b"x\r\n", b"x\n", 1), 400, "Bad Request"),
+        ("no request", b"\x16\x03\x01\r\n\r\n", 400, "Bad Request"),
+        ("a head without an end", b"POST /" + b"a" * 16_384, 431, "Request Header Fields Too Large"),
+        ("a head without an end, byte by byte", [b"P"] + [b"a"] * 16_383, 431, "Request Header Fields Too Large"),
+    ]:
+        pieces = bytes_ if isinstance(bytes_, list) else [bytes_]
+        yield from raw(name, pieces, text_of(status, words, "", b"", True))
+    yield from raw("cut in its head", [one + one[:20]], to)
+    yield from raw("cut in its body", [one + one[:-1]], to)
+    yield from raw("nothing", [], b"")
+    yield from raw("a client that resets", [one[:20]], b"", status=(0, "connection 1: read failed\n"), reset=True)
+
+
+def addresses():
+    """Addresses at which nothing can be listened."""
+    with socket.socket() as other:
+        other.bind(("127.0.0.1", 0))
+        other.listen()
+        for address in [f"127.0.0.1:{other.getsockname()[1]}", "127.0.0.1", "nowhere:1", "", "127.0.0.1:99999"]:
+            done = subprocess.run([PROGRAM, "serve", "--listen", address, "--to", forms.OTLP, "--count", "1"], input=b"x", capture_output=True, timeout=60)
+            if (done.returncode, done.stdout, done.stderr) != (5, b"", b"door failed\n"):
+                yield f"{address!r}: {done}"
+
+
+def timed(name, gateway, connection, sent, wanted):
+    """Sends bytes while the answers are read, and compares their number."""
+    start = time.perf_counter()
+    sender = threading.Thread(target=lambda: (connection.sendall(sent), connection.shutdown(socket.SHUT_WR)))
+    sender.start()
+    came = answers(connection)
+    sender.join()
+    print(f"{name}: {time.perf_counter() - start:.1f} s, {gateway.memory() / 2**20:.0f} MB")
+    if came != wanted:
+        yield f"{name}: {len(came)} bytes instead of {len(wanted)}"
+
+
+def hostile():
+    """Many requests in one piece, and bodies of the limit."""
+    with Gateway(forms.OTLP, 3) as gateway:
+        with gateway.connect() as connection:
+            yield from timed("a thousand requests in one piece", gateway, connection, post() * 1000, converted(forms.OTLP) * 1000)
+        with gateway.connect() as connection:
+            yield from timed(f"{MANY} requests in one piece", gateway, connection, post() * MANY, converted(forms.OTLP) * MANY)
+        refused = b"[" + b" " * (BODY - 1)
+        status, media, content = expected(refused, forms.ZIPKIN, forms.OTLP)
+        with gateway.connect() as connection:
+            yield from timed("a body of 64 MiB that is refused", gateway, connection, post(refused), text_of(status, "Bad Request", media, content))
+        if gateway.end() != (0, b"", ""):
+            yield "didn't end with 0"
+
+
+PARTS = {"clients": clients, "edges": edges, "addresses": addresses, "hostile": hostile}
+
+if __name__ == "__main__":
+    if not os.path.exists(PROGRAM):
+        sys.exit(BUILD)
+    bad = 0
+    for name, part in PARTS.items():
+        if sys.argv[1:] and not any(word in name for word in sys.argv[1:]):
+            continue
+        found = list(part())
+        bad += len(found)
+        print(f"{name}: {len(found)} differences", *found, sep="\n  ")
+    sys.exit(bool(bad))

@@ -1,0 +1,153 @@
+//! The bytes of answers (RFC 9112, section 4).
+ghost use Rattle.std.specs.Prelude.{◌≡◌, IsTrue};
+ghost use Rattle.http_conn.specs.Replies as told;
+
+use http_conn::answer;
+use span_io::{Blob, OutOfMemory};
+use std::alloc::Global;
+use std::process::Abort;
+use std::test::Fail;
+
+// Statuses, and their status lines (RFC 9110, section 15; of 431 RFC 6585, section 5).
+const STATUSES: [(u16, &str); 10] = [
+    (200, "HTTP/1.1 200 OK\r\n"),
+    (400, "HTTP/1.1 400 Bad Request\r\n"),
+    (404, "HTTP/1.1 404 Not Found\r\n"),
+    (405, "HTTP/1.1 405 Method Not Allowed\r\n"),
+    (411, "HTTP/1.1 411 Length Required\r\n"),
+    (413, "HTTP/1.1 413 Content Too Large\r\n"),
+    (415, "HTTP/1.1 415 Unsupported Media Type\r\n"),
+    (422, "HTTP/1.1 422 Unprocessable Content\r\n"),
+    (431, "HTTP/1.1 431 Request Header Fields Too Large\r\n"),
+    (501, "HTTP/1.1 501 Not Implemented\r\n"),
+];
+
+// A media type, a content, whether the connection ends, and what stands behind the status line.
+const PARTS: [(&str, &str, bool, &str); 6] = [
+    ("", "", false, "Content-Length: 0\r\n\r\n"),
+    (
+        "",
+        "",
+        true,
+        "Content-Length: 0\r\nConnection: close\r\n\r\n",
+    ),
+    (
+        "application/json",
+        "[]",
+        false,
+        "Content-Type: application/json\r\nContent-Length: 2\r\n\r\n[]",
+    ),
+    (
+        "application/json",
+        "[]",
+        true,
+        "Content-Type: application/json\r\nContent-Length: 2\r\nConnection: close\r\n\r\n[]",
+    ),
+    (
+        "text/plain; charset=utf-8",
+        "0123456789",
+        false,
+        "Content-Type: text/plain; charset=utf-8\r\nContent-Length: 10\r\n\r\n0123456789",
+    ),
+    (
+        "",
+        "\r\n",
+        true,
+        "Content-Length: 2\r\nConnection: close\r\n\r\n\r\n",
+    ),
+];
+
+// Whether a status is one that is answered.
+fn is_status(status: u16) -> bool
+    ensures { result ≡ told.is_status status }
+{
+    matches!(
+        status,
+        200 | 400 | 404 | 405 | 411 | 413 | 415 | 422 | 431 | 501
+    )
+}
+
+// An answer behind what stands there already.
+fn answered(
+    alloc: Global,
+    front: &str,
+    status: u16,
+    kind: &str,
+    body: &str,
+    close: bool,
+) -> Result<Blob, OutOfMemory>
+    requires { IsTrue (told.is_status status) }
+{
+    let mut out = Blob::new(alloc);
+    out.append(front.as_bytes())?;
+    answer(&mut out, status, kind, body.as_bytes(), close)?;
+    Ok(out)
+}
+
+// Holds the answers of a status against its status line and all parts.
+fn writes_parts(rt: &impl Abort, alloc: Global, status: u16, line: &str) -> Result<(), OutOfMemory>
+    requires { IsTrue (told.is_status status) }
+{
+    for (kind, body, close, rest) in PARTS {
+        let out = answered(alloc, "", status, kind, body, close)?;
+        let wanted = format!(in alloc; "{line}{rest}")?;
+        assert_eq!(rt; out.as_slice(), wanted.as_bytes(), "{status} and {rest:?}");
+    }
+    Ok(())
+}
+
+#[test]
+fn writes_each_status(rt: HostRuntime) -> Result<(), Fail> {
+    for (status, line) in STATUSES {
+        assert!(rt; is_status(status));
+        writes_parts(&rt, rt.alloc(), status, line)?;
+    }
+    Ok(())
+}
+
+// What stands there already, a status, a media type, a content, whether the connection ends, and what stands there then.
+const ANSWERS: [(&str, u16, &str, &str, bool, &str); 4] = [
+    (
+        "",
+        200,
+        "application/json",
+        "[]",
+        false,
+        "HTTP/1.1 200 OK\r\nContent-Type: application/json\r\nContent-Length: 2\r\n\r\n[]",
+    ),
+    (
+        "",
+        415,
+        "",
+        "",
+        true,
+        "HTTP/1.1 415 Unsupported Media Type\r\nContent-Length: 0\r\nConnection: close\r\n\r\n",
+    ),
+    (
+        "HTTP/1.1 404 Not Found\r\nContent-Length: 0\r\n\r\n",
+        422,
+        "text/plain",
+        "unit 1: Truncated\n",
+        false,
+        "HTTP/1.1 404 Not Found\r\nContent-Length: 0\r\n\r\n\
+HTTP/1.1 422 Unprocessable Content\r\nContent-Type: text/plain\r\nContent-Length: 18\r\n\r\nunit 1: Truncated\n",
+    ),
+    (
+        "x",
+        501,
+        "",
+        "",
+        true,
+        "xHTTP/1.1 501 Not Implemented\r\nContent-Length: 0\r\nConnection: close\r\n\r\n",
+    ),
+];
+
+#[test]
+fn writes_answers(rt: HostRuntime) -> Result<(), Fail> {
+    for (front, status, kind, body, close, wanted) in ANSWERS {
+        assert!(rt; is_status(status));
+        let out = answered(rt.alloc(), front, status, kind, body, close)?;
+        assert_eq!(rt; out.as_slice(), wanted.as_bytes(), "{status}");
+    }
+    Ok(())
+}

@@ -1,0 +1,10 @@
+pub mod AnswerLemmas
+pub mod CountLemmas
+pub mod DigitLemmas
+pub mod EndLemmas
+pub mod FieldLemmas
+pub mod Growth
+pub mod HeadLemmas
+pub mod NextLemmas
+pub mod PlaceLemmas
+pub mod StatusLemmas

@@ -1,0 +1,8 @@
+pub mod Bodies
+pub mod Fields
+pub mod FoundFields
+pub mod Heads
+pub mod Laws
+pub mod NextRequests
+pub mod Replies
+pub mod Services

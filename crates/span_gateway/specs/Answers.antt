@@ -1,0 +1,53 @@
+-- What a whole request is answered, whose body is converted to one form.
+use Rattle.std.specs.Prelude.{◌≡◌, ℕ, Bool, List, [], ◌++◌, drop, length, nat_lt, if◌then◌else◌, Option, Some, None, codes}
+use Rattle.span_io.specs.declared.form.Form.{Form}
+use Rattle.span_io.specs.declared.form.Form.TheVariants.{OtlpProto, OtlpJson, JaegerBinary, JaegerCompact, ZipkinJson}
+use Rattle.span_io.specs.declared.limits.Limits.{Limits}
+use Rattle.span_convert.specs.Verdicts.{Verdict, IsVerdict, good, refused, faulted}
+use Rattle.http_conn.specs.Replies.{answer_text}
+use Rattle.http_conn.specs.declared.next.Request.{Request}
+use Rattle.span_gateway.specs.NoteLines.{fault_line, refusal_line}
+
+-- the media type of a text in a form; that of Jaeger's compact protocol is this project's own
+abbrev pub type_of : Form → List ℕ
+type_of OtlpProto = codes "application/x-protobuf"
+type_of OtlpJson = codes "application/json"
+type_of JaegerBinary = codes "application/vnd.apache.thrift.binary"
+type_of JaegerCompact = codes "application/vnd.apache.thrift.compact"
+type_of ZipkinJson = codes "application/json"
+
+abbrev pub plain_text : List ℕ
+plain_text = codes "text/plain"
+
+-- an answer without content
+abbrev pub bare_answer : ℕ → Bool → List ℕ
+bare_answer status close = answer_text status [] [] close
+
+-- by the verdict on the body: its text in the target form, where it isn't longer than an answer may be, or why it has none
+abbrev pub verdict_answer : Form → Limits → Bool → Verdict → List ℕ
+verdict_answer to limits close (good text tally) =
+    if nat_lt limits.reply (length text) then bare_answer 413 close else answer_text 200 (type_of to) text close
+verdict_answer to limits close (refused refusal text) = answer_text 400 plain_text (refusal_line refusal) close
+verdict_answer to limits close (faulted found text) = answer_text 422 plain_text (fault_line found) close
+
+-- by the form of the body: without one the request has its status, whatever its body holds
+abbrev pub AnswersForm : Form → Limits → Request → List ℕ → Option Form → List ℕ → Type 0
+AnswersForm to limits request bytes None text = text ≡ bare_answer request.verdict request.close
+AnswersForm to limits request bytes (Some from) text =
+    (verdict : Verdict) × IsVerdict from to limits (drop request.body_at bytes) verdict × (text ≡ verdict_answer to limits request.close verdict)
+
+-- the answer to a request that these bytes are
+abbrev pub IsAnswer : Form → Limits → Request → List ℕ → List ℕ → Type 0
+IsAnswer to limits request bytes text = AnswersForm to limits request bytes request.form text
+
+-- a list grew by that answer
+pub record AppendsAnswer (to : Form) (limits : Limits) (request : Request) (bytes old new : List ℕ) : Type 0 where
+  pub text : List ℕ
+  pub answers : IsAnswer to limits request bytes text
+  pub grows : new ≡ old ++ text
+
+-- a list grew by the answer to a request with this body
+pub record AppendsFormAnswer (from to : Form) (limits : Limits) (body : List ℕ) (close : Bool) (old new : List ℕ) : Type 0 where
+  pub verdict : Verdict
+  pub is_verdict : IsVerdict from to limits body verdict
+  pub grows : new ≡ old ++ verdict_answer to limits close verdict

@@ -1,7 +1,0 @@
-use Rattle.jaeger_model.specs.WritableLaws.{writable}
-use Rattle.span_vectors.proofs.batches.written.Goals as goal
-
-pub write_batch-requires : goal.write_batch-requires
-write_batch-requires c =
-    let times = c.reads_times.ensures c.in_ok-batch.batch c.in_ok-batch.ensures.0 c.in_ok-batch.ensures.1 in
-    writable c.in_ok-batch.batch c.proper_sizes.ensures times
