@@ -1,8 +1,10 @@
 #!/usr/bin/env python3
 """Drives `serve` with real clients and with hostile ones, and compares each answer with what `convert` makes of the same body.
 
-Run it at the top as bench/gateway.py, after ./spanx has built the program. It needs `curl`, and takes a minute. It ends with 0 where
-all agree; its times and memory are no test. Words that are given choose the parts whose names hold one of them.
+Run it at the top as bench/gateway.py, after ./spanx has built the program. It needs `curl`, and takes a minute. What exporters post
+is taken where they are there: Debian's python3-py-zipkin, ruby-jaeger-client, and golang-go with golang-github-openzipkin-zipkin-go-dev
+and golang-opentelemetry-otel-dev. It ends with 0 where all agree; its times and memory are no test. Words that are given choose the
+parts whose names hold one of them.
 """
 import http.client
 import os
@@ -12,6 +14,7 @@ import subprocess
 import sys
 import threading
 import time
+import urllib.request
 
 import forms
 from program import BUILD, PROGRAM, TOP, convert
@@ -234,7 +237,98 @@ def hostile():
             yield "didn't end with 0"
 
 
-PARTS = {"clients": clients, "edges": edges, "addresses": addresses, "hostile": hostile}
+class Relay:
+    """Passes one connection on to a port, and keeps what went both ways."""
+
+    def __init__(self, port):
+        self.listener = socket.create_server(("127.0.0.1", 0))
+        self.port, self.to = self.listener.getsockname()[1], port
+        self.sent, self.came = b"", b""
+        self.thread = threading.Thread(target=self.run, daemon=True)
+        self.thread.start()
+
+    def run(self):
+        client, _ = self.listener.accept()
+        with client, socket.create_connection(("127.0.0.1", self.to)) as gateway:
+            back = threading.Thread(target=self.back, args=(client, gateway), daemon=True)
+            back.start()
+            while piece := client.recv(2**16):
+                self.sent += piece
+                gateway.sendall(piece)
+            gateway.shutdown(socket.SHUT_WR)
+            back.join()
+
+    def back(self, client, gateway):
+        while piece := gateway.recv(2**16):
+            self.came += piece
+            client.sendall(piece)
+
+
+def zipkin_posts(url):
+    """Two spans by py_zipkin and Python's own client."""
+    from py_zipkin import Encoding
+    from py_zipkin.zipkin import zipkin_client_span, zipkin_server_span
+
+    def transport(payload):
+        # py_zipkin has no transport of its own for HTTP in every version: its pages show this one.
+        urllib.request.urlopen(urllib.request.Request(url, payload.encode() if isinstance(payload, str) else payload, {"Content-Type": "application/json"})).read()
+
+    with zipkin_server_span("shop", "GET /cart", port=8080, sample_rate=100.0, transport_handler=transport, encoding=Encoding.V2_JSON):
+        with zipkin_client_span("shop", "SELECT"):
+            pass
+
+
+def runs(*words):
+    """A client that is a command, to which the URL is added."""
+    def post(url):
+        environment = {**os.environ, "GO111MODULE": "off", "GOPATH": "/usr/share/gocode"}
+        subprocess.run([*words, url], check=True, capture_output=True, env=environment, timeout=120)
+    return post
+
+
+def here(*names):
+    return os.path.join(os.path.dirname(os.path.abspath(__file__)), *names)
+
+
+# Each client, its path, and the form of what it posts.
+EXPORTERS = {
+    "py_zipkin": (zipkin_posts, "/api/v2/spans", forms.ZIPKIN),
+    "zipkin-go": (runs("go", "run", here("posting_go", "zipkin.go")), "/api/v2/spans", forms.ZIPKIN),
+    "OpenTelemetry's exporter for Jaeger, in Go": (runs("go", "run", here("posting_go", "jaeger.go")), "/api/traces", BINARY),
+    "Jaeger's client in Ruby": (runs("ruby", here("posting_ruby", "main.rb")), "/api/traces", BINARY),
+}
+
+
+def body_of(message):
+    head, _, body = message.partition(b"\r\n\r\n")
+    return head, body
+
+
+def exporters():
+    """What real clients post, to each form."""
+    for name, (post, path, source) in EXPORTERS.items():
+        for target in forms.FORMS:
+            with Gateway(target, 1) as gateway:
+                relay = Relay(gateway.port)
+                try:
+                    post(f"http://127.0.0.1:{relay.port}{path}")
+                except (ImportError, FileNotFoundError, subprocess.CalledProcessError) as why:
+                    print(f"left out: {name}: {why}")
+                    gateway.connect().close()
+                    relay.listener.close()
+                    break
+                relay.thread.join(10)
+                status, kind, text = expected(body_of(relay.sent)[1], source, target)
+                head, came = body_of(relay.came)
+                if not head.startswith(f"HTTP/1.1 {status} ".encode()) or f"Content-Type: {kind}".encode() not in head or came != text:
+                    yield f"{name} to {target}: {relay.sent[:300]} was answered {relay.came[:300]}"
+                if gateway.end() != (0, b"", ""):
+                    yield f"{name} to {target}: didn't end with 0"
+        else:
+            print(f"{name}: {len(relay.sent)} bytes, answered {status}")
+
+
+PARTS = {"exporters": exporters, "clients": clients, "edges": edges, "addresses": addresses, "hostile": hostile}
 
 if __name__ == "__main__":
     if not os.path.exists(PROGRAM):

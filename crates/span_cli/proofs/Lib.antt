@@ -1,10 +1,10 @@
 pub mod BlockLemmas
 pub mod CommandLemmas
 pub mod ConversionEndings
+pub mod CountWords
 pub mod EndingLaws
 pub mod FrontVerdicts
 pub mod GaugeEndings
-pub mod GaugeWords
 pub mod HeadersEndings
 pub mod InputLemmas
 pub mod LinesBack

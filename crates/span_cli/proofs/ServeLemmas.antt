@@ -22,15 +22,15 @@ use Rattle.span_cli.proofs.EndingLaws.{gains_nothing, holds_nothing}
 -- ---- notes
 
 -- nothing more was noted
-pub notes_nothing : (held : Bool) (now : Outlet) → NotesMore held held now now []
+notes_nothing : (held : Bool) (now : Outlet) → NotesMore held held now now []
 notes_nothing held now = λ start text so. subst (λ (l : List ℕ). NotesSo held start now l) (sym (append-nil text)) so
 
-pub notes_both : (a b c : Bool) (x y z : Outlet) (first second : List ℕ) → NotesMore a b x y first → NotesMore b c y z second
+notes_both : (a b c : Bool) (x y z : Outlet) (first second : List ℕ) → NotesMore a b x y first → NotesMore b c y z second
     → NotesMore a c x z (first ++ second)
 notes_both a b c x y z first second more then = λ start text so.
     subst (λ (l : List ℕ). NotesSo c start z l) (append_assoc text first second) (then start (text ++ first) (more start text so))
 
-pub notes_all : (holds : Bool) (x y : Outlet) (text : List ℕ) → NotesMore true holds x y text → Notes x y text
+notes_all : (holds : Bool) (x y : Outlet) (text : List ℕ) → NotesMore true holds x y text → Notes x y text
 notes_all holds x y text more = by holds (more x [] (gains_nothing x, holds_nothing x))
   where
     by : (holds : Bool) → NotesSo holds x y text → Notes x y text
@@ -52,12 +52,12 @@ module _ (to : Form) where
   are_more [] visit are is = (is, tt)
   are_more (v ∷ visits) visit are is = (are.0, are_more visits visit are.1 is)
 
-  pub none_more : (visits : List Visit) (visit : Visit) → NoneWants visits → (WantsMemory visit → ⊥) → NoneWants (visits ++ visit ∷ [])
+  none_more : (visits : List Visit) (visit : Visit) → NoneWants visits → (WantsMemory visit → ⊥) → NoneWants (visits ++ visit ∷ [])
   none_more [] visit none no_want = (no_want, tt)
   none_more (v ∷ visits) visit none no_want = (none.0, none_more visits visit none.1 no_want)
 
   -- the line of one more
-  pub lines_more : (number : ℕ) (visits : List Visit) (visit : Visit)
+  lines_more : (number : ℕ) (visits : List Visit) (visit : Visit)
       → visit_lines number (visits ++ visit ∷ []) ≡ visit_lines number visits ++ visit_line (number + length visits) visit.ended
   lines_more number [] visit =
       append-nil (visit_line number visit.ended) ∙ ap (λ (n : ℕ). visit_line n visit.ended) (omega arith)
@@ -88,15 +88,7 @@ module _ (to : Form) where
   closes_more (Some all) b c links link first second =
       second ∙ ap (option_map (λ l. l ++ link ∷ [])) first ∙ ap (λ (l : List Link). Some l) (append_assoc all links (link ∷ []))
 
-  pub has_none : (door : Doorway) → HasServed to [] door door
-  has_none door = record {
-    served = tt;
-    waiting = loses_nothing door.waiting;
-    closed = closes_nothing door.closed;
-    same = record { out = refl; address = refl; listening = refl; astray = refl };
-  }
-
-  pub has_more : (visits : List Visit) (ended : Result Ended ServeFault) (a b c : Doorway) → HasServed to visits a b → (next : ServesNext to ended b c)
+  has_more : (visits : List Visit) (ended : Result Ended ServeFault) (a b c : Doorway) → HasServed to visits a b → (next : ServesNext to ended b c)
       → HasServed to (visits ++ next.visit ∷ []) a c
   has_more visits ended a b c has next =
       let before : Visit → Link = λ (v : Visit). v.before in

@@ -8,29 +8,18 @@ use Rattle.span_cli.specs.declared.command.Command.{Command}
 use Rattle.span_cli.specs.declared.command.Command.TheVariants as commands
 use Rattle.span_cli.specs.declared.job.Task.{Task}
 use Rattle.span_cli.specs.declared.job.Task.TheVariants as tasks
-use Rattle.span_cli.specs.Lines.{IsRunStatus}
 use Rattle.span_cli.specs.Servings.{end_status}
 use Rattle.span_cli.specs.declared.serve.ServeEnd.{ServeEnd}
 use Rattle.span_cli.specs.declared.serve.ServeEnd.TheVariants.{AllServed, DoorFailed, NoMemory}
 use Rattle.span_cli.proofs.CommandLemmas.{in_range}
 use Rattle.span_cli.proofs.ServeWords.{one_word, place_within}
 
--- ---- statuses of serving
+-- ---- the status of serving
 
 pub never_usage : (end : ServeEnd) → end_status end ≢ 2
 never_usage AllServed e = absurd (omega (arith, e))
 never_usage DoorFailed e = absurd (omega (arith, e))
 never_usage NoMemory e = absurd (omega (arith, e))
-
-pub is_status : (end : ServeEnd) → IsRunStatus (end_status end)
-is_status AllServed = refl
-is_status DoorFailed = refl
-is_status NoMemory = refl
-
-pub never_output_failed : (end : ServeEnd) → end_status end ≢ 6
-never_output_failed AllServed e = absurd (omega (arith, e))
-never_output_failed DoorFailed e = absurd (omega (arith, e))
-never_output_failed NoMemory e = absurd (omega (arith, e))
 
 -- ---- tasks
 
@@ -51,17 +40,13 @@ one_job : (job other : Job) → tasks.Make other ≡ tasks.Make job → other �
 one_job job other e = cc
 
 -- a job that a command has
-pub on_job : (task : Task) (P : Job → Type 0) (job : Job) → task ≡ tasks.Make job → P job → IfMakes task P
+on_job : (task : Task) (P : Job → Type 0) (job : Job) → task ≡ tasks.Make job → P job → IfMakes task P
 on_job task P job is p = subst (λ (t : Task). IfMakes t P) (sym is) p
-
--- where the words ask for serving, nothing is said of jobs
-no_job : (task : Task) (P : Job → Type 0) (address : ℕ) (to : Form) (count : ℕ) → task ≡ tasks.Serve address to count → IfMakes task P
-no_job task P address to count is = subst (λ (t : Task). IfMakes t P) (sym is) tt
 
 module _ (t : List (List ℕ)) (read : Command) (spelled : (command : Command) → (◌≡◌ {A = Option Command} (Some read) (Some command)) ↔ Spells command t)
     (task : Task) (is_task : task ≡ task_of read) where
   -- each command that the words spell is the one that was read
-  pub task_is : (command : Command) → Spells command t → task_of command ≡ task
+  task_is : (command : Command) → Spells command t → task_of command ≡ task
   task_is command spells = sym (is_task ∙ ap task_of (same command ((spelled command).1 spells)))
     where
       same : (other : Command) → ◌≡◌ {A = Option Command} (Some read) (Some other) → read ≡ other
@@ -87,9 +72,6 @@ module _ (t : List (List ℕ)) (read : Command) (spelled : (command : Command) �
     pub serve_spelled : SpellsServe address to count t
     serve_spelled = (spelled (commands.Serve address to count)).0
         (ap (λ (c : Command). Some c) (serve_command read address to count (sym is_task ∙ is)))
-
-    pub makes_none : (P : Job → Type 0) → OnJob t P
-    makes_none P command spells = no_job (task_of command) P address to count (task_is command spells ∙ is)
 
     pub no_other : (command : Command) (job : Job) → task_of command ≡ tasks.Make job → Spells command t → ⊥
     no_other command job is_made spells = make_or_serve job address to count (sym is_made ∙ task_is command spells ∙ is)

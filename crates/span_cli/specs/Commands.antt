@@ -128,11 +128,6 @@ OnJob words P = (command : Command) → Spells command words → IfMakes (task_o
 abbrev pub UnlessServing : List (List ℕ) → Type 0 → Type 0
 UnlessServing words P = OnJob words (λ job. P)
 
--- the fact holds of the word A, the form and the number of connections, where the words spell `serve`
-abbrev pub OnServing : List (List ℕ) → (List ℕ → Form → ℕ → Type 0) → Type 0
-OnServing words P = (address : ℕ) (to : Form) (count : ℕ) → Spells (Serve address to count) words
-    → (word : List ℕ) → slice_get words address ≡ Some word → P word to count
-
 -- the same of the form that is read and of what is written, where spans are
 abbrev pub OnSpans : List (List ℕ) → (Form → Written → Type 0) → Type 0
 OnSpans words P = OnJob words (λ job. IfSpans job P)
@@ -148,3 +143,8 @@ OnHeaders words P = (form : HeaderForm) → Spells (Headers form) words → P fo
 -- the same of the number of spans that the words of `gauge` spell
 abbrev pub OnGauge : List (List ℕ) → (ℕ → Type 0) → Type 0
 OnGauge words P = (spans : ℕ) → Spells (Gauge spans) words → P spans
+
+-- the fact holds of the word A, the form and the number of connections, where the words spell `serve`
+abbrev pub OnServing : List (List ℕ) → (List ℕ → Form → ℕ → Type 0) → Type 0
+OnServing words P = (address : ℕ) (to : Form) (count : ℕ) → Spells (Serve address to count) words
+    → (word : List ℕ) → slice_get words address ≡ Some word → P word to count

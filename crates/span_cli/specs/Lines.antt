@@ -62,7 +62,7 @@ HasKey faults.EventText = ⊥
 HasKey faults.ChildOfLink = ⊥
 HasKey faults.DoubleInText = ⊥
 
--- the line of a fault, of what is kept of it
+-- the line of a fault, by what is kept of it
 abbrev pub noted_key : Option (List ℕ) → List ℕ
 noted_key None = []
 noted_key (Some key) = key

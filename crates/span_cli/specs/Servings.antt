@@ -70,7 +70,7 @@ LosesFirsts (Some before) now links = (others : List Link) × (before ≡ links 
 
 -- ---- the end
 
--- the statuses are those of `run`, and the lines too
+-- the status and the last line
 abbrev pub end_status : ServeEnd → ℕ
 end_status AllServed = 0
 end_status DoorFailed = 5

@@ -1,4 +1,4 @@
-//! The line that tells on the notes how a run ended.
+//! What is noted: the line that tells how a run ended, and other lines in pieces.
 ghost use Rattle.std.specs.Prelude.{◌≡◌, ◌++◌, [], codes, OnOk, OnErr};
 ghost use Rattle.span_io.specs.Outside.{FailsAt, Gains, OutputHolds};
 ghost use Rattle.span_cli.specs.ServingSteps.{NotesMore};

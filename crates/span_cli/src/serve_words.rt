@@ -1,12 +1,11 @@
 //! The words of `serve`.
-ghost use Rattle.std.specs.Prelude.{ℕ, ◌≡◌, ◌≢◌, ◌↔◌, ◌≤◌, ◌<◌, ◌-◌, length, slice_get, decimal, Some, None, IfSome, IsTrue, bytes_eq};
+ghost use Rattle.std.specs.Prelude.{ℕ, ◌≡◌, ◌≢◌, ◌↔◌, ◌≤◌, ◌<◌, ◌-◌, length, slice_get, decimal, Some, None, IfSome, IsTrue};
 ghost use Rattle.span_cli.specs.Commands.{texts, IsWordPlace, Spells};
 ghost use Rattle.span_cli.specs.declared.command.Command.{Command};
 
 use crate::command::Command;
-use itoa::Buffer;
 use span_io::Form;
-use std::str::FromStr;
+use span_tags::decimal_in;
 
 /// Reads seven words: the mode, and then each of its three options once, in any order.
 pub(crate) fn serve_of(words: &[String]) -> Option<Command>
@@ -56,21 +55,9 @@ fn count_of(text: &str) -> Option<u32>
     ensures told { IfSome result (λ count. (text.now ≡ decimal count) × (1 ≤ count)) }
     ensures none { result ≡ None → (count : ℕ) → 1 ≤ count → count ≤ 4294967295 → text.now ≢ decimal count }
 {
-    let Ok(count) = u32::from_str(text) else {
-        return None;
-    };
+    let count = decimal_in(text)?;
     if count == 0 {
         return None;
     }
-    if !is_decimal_of(text, count) {
-        return None;
-    }
     Some(count)
-}
-
-fn is_decimal_of(text: &str, number: u32) -> bool
-    ensures { result ≡ bytes_eq (decimal number) text.now }
-{
-    let mut buffer = Buffer::new();
-    buffer.format(number) == text
 }

@@ -1,5 +1,5 @@
 use Rattle.std.proofs.Common.{◌≡◌, ℕ, None, Some, Option, sym, ap, ◌∙◌, arith}
-use Rattle.span_cli.proofs.GaugeWords.{none_told, one_told, told_by}
+use Rattle.span_cli.proofs.CountWords.{none_told, one_told, told_by}
 use Rattle.span_cli.proofs.command.spans_told.Goals as goal
 use Rattle.span_cli.proofs.command.spans_told.Goals.{then-spans-eq0-via-then-spans-eq0, then-spans-eq0-via-else-spans-eq0+then-spans-gt-MOST_SPANS}
 

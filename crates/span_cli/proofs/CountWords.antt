@@ -1,4 +1,4 @@
--- A word tells as many spans as it is the decimal of, where so many may be asked for.
+-- A word tells the number that it is the decimal of, where that is within its bounds.
 use Rattle.std.proofs.Common.{◌≡◌, ℕ, ◌≤◌, Bool, true, false, if◌then◌else◌, nat_le, List, Option, Some, None, option_and_then, decimal, refl, sym, ap, subst, ◌∙◌, arith}
 use Rattle.std.specs.Str.{bytes_eq}
 use Rattle.std.specs.Str.Parse.{digits_value}
@@ -38,5 +38,8 @@ told_by word n e = by (bytes_eq (decimal (digits_value 10 word)) word) refl e
 pub none_told : (word : List ℕ) (n : ℕ) → None ≡ word_count word → TellsSpans word n → ⊥
 none_told word n none told = let e : ◌≡◌ {A = Option ℕ} None (Some n) = none ∙ count_of word n (omega (arith, told.1.most)) told.0 in absurd (cc)
 
+pub one_count : (word : List ℕ) (m n : ℕ) → n ≤ 4294967295 → Some m ≡ word_count word → word ≡ decimal n → m ≡ n
+one_count word m n small some told = let e : ◌≡◌ {A = Option ℕ} (Some m) (Some n) = some ∙ count_of word n small told in cc
+
 pub one_told : (word : List ℕ) (m n : ℕ) → Some m ≡ word_count word → TellsSpans word n → m ≡ n
-one_told word m n some told = let e : ◌≡◌ {A = Option ℕ} (Some m) (Some n) = some ∙ count_of word n (omega (arith, told.1.most)) told.0 in cc
+one_told word m n some told = one_count word m n (omega (arith, told.1.most)) some told.0
