@@ -3,15 +3,17 @@
 
 Run it at the top as bench/gateway.py, after ./spanx has built the program. It needs `curl`, and takes a minute. What exporters post
 is taken where they are there: Debian's python3-py-zipkin, ruby-jaeger-client, and golang-go with golang-github-openzipkin-zipkin-go-dev
-and golang-opentelemetry-otel-dev. It ends with 0 where all agree; its times and memory are no test. Words that are given choose the
+and golang-opentelemetry-otel-dev; so is nginx-light, as the page sets it up. It ends with 0 where all agree; its times and memory are no test. Words that are given choose the
 parts whose names hold one of them.
 """
 import http.client
 import os
+import re
 import socket
 import struct
 import subprocess
 import sys
+import tempfile
 import threading
 import time
 import urllib.request
@@ -328,7 +330,33 @@ def exporters():
             print(f"{name}: {len(relay.sent)} bytes, answered {status}")
 
 
-PARTS = {"exporters": exporters, "clients": clients, "edges": edges, "addresses": addresses, "hostile": hostile}
+def proxied():
+    """Chunks by curl, through nginx as docs/GATEWAY.md sets it up."""
+    with open(os.path.join(TOP, "docs", "GATEWAY.md"), encoding="utf-8") as page:
+        block = re.search(r"(?m)^ {8}server \{\n(?: {8}.*\n)+", page.read())[0]
+    port, body = free_port(), example("checkout.bin")
+    with Gateway(forms.ZIPKIN, 2) as gateway, tempfile.TemporaryDirectory() as folder:
+        block = block.replace("listen 8080", f"listen 127.0.0.1:{port}").replace("127.0.0.1:4320", f"127.0.0.1:{gateway.port}")
+        config = os.path.join(folder, "nginx.conf")
+        with open(config, "w") as out:
+            out.write(f"pid {folder}/pid; error_log {folder}/error; events {{}} http {{ access_log off; {block} }}")
+        os.chmod(folder, 0o755)
+        try:
+            subprocess.run(["nginx", "-c", config], check=True, capture_output=True)
+        except FileNotFoundError:
+            print("left out: nginx isn't there")
+            return
+        words = ["curl", "-s", "-H", "Transfer-Encoding: chunked", "-H", "Content-Type: application/x-protobuf", "--data-binary", "@-"]
+        for _ in range(2):
+            came = subprocess.run([*words, f"http://127.0.0.1:{port}/v1/traces"], input=body, capture_output=True).stdout
+            if came != expected(body, forms.OTLP, forms.ZIPKIN)[2]:
+                yield f"by nginx: {came[:200]}"
+        subprocess.run(["nginx", "-s", "stop", "-c", config], capture_output=True)
+        if gateway.end() != (0, b"", ""):
+            yield "by nginx: the two requests weren't two connections"
+
+
+PARTS = {"exporters": exporters, "clients": clients, "edges": edges, "addresses": addresses, "proxied": proxied, "hostile": hostile}
 
 if __name__ == "__main__":
     if not os.path.exists(PROGRAM):

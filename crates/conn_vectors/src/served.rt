@@ -1,4 +1,6 @@
 //! Connections that are served whole: their streams, the bytes that are written to them, and how each ends.
+ghost use Rattle.std.specs.Prelude.{◌≤◌};
+
 use crate::doors::{Course, connection};
 use span_gateway::{Ended, ServeFault, serve_connection};
 use span_io::{Blob, Form, Limits};
@@ -640,4 +642,32 @@ fn fails_with_its_connection(rt: HostRuntime) -> Result<(), Fail> {
         expect_fault(&rt, rt.alloc(), course, fault, texts)?;
     }
     Ok(())
+}
+
+const TOO_LARGE: &str = "HTTP/1.1 413 Content Too Large\r\nContent-Length: 0\r\n\r\n";
+
+const WHOLE: Course = Course {
+    cut: 4_096,
+    room: ROOM,
+    reads: &[],
+    writes: &[],
+};
+
+// Serves one post, whose text has two bytes, where an answer may have so many.
+fn expect_reply(rt: &impl Abort, alloc: Global, reply: usize, written: &str) -> Result<(), Fail>
+    requires { (1 ≤ reply) × (reply ≤ 2) }
+{
+    let mut limits = Limits::shipped();
+    limits.reply = reply;
+    let mut conn = connection(alloc, POSTED.as_bytes(), WHOLE)?;
+    let ended = serve_connection(alloc, &mut conn, Form::ZipkinJson, &limits);
+    assert_eq!(rt; ended, Ok(Ended::Closed), "{reply}");
+    assert_eq!(rt; conn.written(), written.as_bytes(), "{reply}");
+    Ok(())
+}
+
+#[test]
+fn answers_within_their_limit(rt: HostRuntime) -> Result<(), Fail> {
+    expect_reply(&rt, rt.alloc(), 2, ANSWERED)?;
+    expect_reply(&rt, rt.alloc(), 1, TOO_LARGE)
 }
