@@ -27,6 +27,7 @@ from drawn_spans import Documents, DocumentSpoiler, ZipkinTraces
 from protocols import PROTOCOLS
 from real_input import Maker, newer, normal, request_class, schema
 from refused_batches import BatchSpoiler
+from worked_texts import worked_texts
 
 SEEDS = 150
 OTLP, JSON, JAEGER, COMPACT, ZIPKIN = "otlp-proto", "otlp-json", "jaeger-binary", "jaeger-compact", "zipkin-json"
@@ -43,40 +44,18 @@ def unwrapped(text):
 
 # ---- worked texts
 
+TEXTS = worked_texts()
+
 # One span of an SDK, as a request and as a batch.
-REQUEST = hexed("""
-0ac001 0a2b 0a11 0a09686f73742e6e616d65 1204 0a026e31 0a16 0a0c736572766963652e6e616d65 1206 0a0473686f70
-129001 0a0a 0a036c6962 1203312e30 128101
-0a100af7651916cd43dd8448eb211c80319c 1208b7ad6b7169203331
-2a09474554202f63617274 3003 3915cd853dfe9c9717 4115ae7b43fe9c9717
-4a1c 0a13687474702e726571756573742e6d6574686f64 1205 0a03474554
-4a20 0a19687474702e726573706f6e73652e7374617475735f636f6465 1203 18c801
-850101010000
-""")
-BATCH = hexed("""
-0c0001 0b00010000000473686f70 0f00020c00000001 0b000100000009686f73742e6e616d65 08000200000000 0b0003000000026e31 00 00
-0f00020c00000001 0a00018448eb211c80319c 0a00020af7651916cd43dd 0a0003b7ad6b7169203331 0a00040000000000000000
-0b000500000009474554202f63617274 08000700000001 0a000800060a2418202240 0a000900000000000186a0 0f000a0c00000005
-0b000100000013687474702e726571756573742e6d6574686f64 08000200000000 0b000300000003474554 00
-0b000100000019687474702e726573706f6e73652e7374617475735f636f6465 08000200000003 0a000600000000000000c8 00
-0b00010000000f6f74656c2e73636f70652e6e616d65 08000200000000 0b0003000000036c6962 00
-0b0001000000126f74656c2e73636f70652e76657273696f6e 08000200000000 0b000300000003312e30 00
-0b0001000000097370616e2e6b696e64 08000200000000 0b000300000006636c69656e74 00
-00 00
-""")
+REQUEST = TEXTS["SDK_REQUEST"]
+BATCH = TEXTS["SDK_BATCH"]
 # The request that the batch means: times in whole microseconds, and of the flags the first bit.
 FLOORED = REQUEST.replace(hexed("15cd85"), hexed("00ca85")).replace(hexed("15ae7b"), hexed("00ab7b"))[:-4] + hexed("01000000")
-SMALL_BATCH = hexed("""
-0c0001 0b00010000000173 00 0f00020c00000001 0a00010000000000000001 0a00020000000000000000 0a00030000000000000002
-0a00040000000000000000 0b00050000000161 08000700000000 0a00080000000000000000 0a00090000000000000000 00 00
-""")
+SMALL_BATCH = TEXTS["SPAN_BATCH"]
 PROCESS = SMALL_BATCH[:12]
 DOUBLE_BATCH = SMALL_BATCH[:-2] + hexed("0f000a0c00000001 0b00010000000164 08000200000001 0400043ff0000000000000 00") + SMALL_BATCH[-2:]
-SMALL = hexed("0a23 1221 121f 0a1000000000000000000000000000000001 12080000000000000002 2a0161")
-UNKNOWN = hexed("""
-0a3c 1238 1236 a00605 2a0161 12080000000000000002 0a1000000000000000000000000000000001
-a9060000000000000000 b20601ff bd0600000000 0a00
-""")
+SMALL = TEXTS["ONE_SPAN"]
+UNKNOWN = TEXTS["UNKNOWN_FIELDS"]
 
 
 def longer(more):
@@ -129,29 +108,15 @@ def check_worked():
 
 # The same in the compact protocol: the span of an SDK; one and two batches; a root with two CHILD_OF references, as a client
 # sends it and as it is written; all that a client's batch has; and repeated tags.
-BATCH_COMPACT = hexed("""
-1c 180473686f70 191c 1809686f73742e6e616d65 1500 18026e31 00 00
-191c 16c7b9feb7dcb78ab7f701 16ba8feaeca2c6b2f715 169db3feedd2a3cad29001 1600
-1809474554202f63617274 2502 168089818283898506 16c09a0c 195c
-1813687474702e726571756573742e6d6574686f64 1500 1803474554 00
-1819687474702e726573706f6e73652e7374617475735f636f6465 1506 469003 00
-180f6f74656c2e73636f70652e6e616d65 1500 18036c6962 00
-18126f74656c2e73636f70652e76657273696f6e 1500 1803312e30 00
-18097370616e2e6b696e64 1500 1806636c69656e74 00
-00 00
-""")
-SMALL_COMPACT = hexed("1c18017300 191c 1602 1600 1604 1600 180161 2500 1600 1600 00 00")
-DOUBLE_COMPACT = hexed("1c18017300 191c 1602 1600 1604 1600 180161 2500 1600 1600 191c 180164 1502 27000000000000f03f 00 00 00")
-REFERENCES = hexed("1c18017300 191c 1602 1600 1604 1600 180161 192c 1500160216001606 00 1500160216001608 00 1500 1600 1600 00 00")
-ONE_REFERENCE = hexed("1c18017300 191c 1602 1600 1604 1606 180161 191c 1500160216001608 00 1500 1600 1600 00 00")
-FLAGS = hexed("1c18017300 191c 1602 1600 1604 1600 180161 2506 1600 1600 00 00")
+BATCH_COMPACT = TEXTS["SDK_COMPACT"]
+SMALL_COMPACT = TEXTS["SPAN_COMPACT"]
+DOUBLE_COMPACT = TEXTS["DOUBLE_COMPACT"]
+REFERENCES = TEXTS["ROOT_COMPACT"]
+ONE_REFERENCE = TEXTS["PARENT_COMPACT"]
+FLAGS = TEXTS["FLAGS_COMPACT"]
 LONG_LIST = hexed("1c18017300 19fc01 1602 1600 1604 1600 180161 2506 1600 1600 00 00")
 KEY_COMPACT = hexed("1c180000 191c 1602 1600 1604 1600 180161 2500 1600 1600 191c 180f6f74656c2e617474722e6572726f72 1504 31 00 00 00")
-CLIENT = hexed("""
-1c 1803617069 192c 1808686f73746e616d65 1500 18026831 00 18026970 1500 180831302e302e302e31 00 00
-191c 160a 1600 160e 160a 1803676574 2502 1680897a 16f403 191c 18097370616e2e6b696e64 1500 1806736572766572 00
-191c 16c88a7a 191c 18056576656e74 1500 1804646f6e65 00 00 00 00
-""")
+CLIENT = TEXTS["CLIENT_COMPACT"]
 REPEATED = hexed("""
 1c18017300 191c 1602 1600 1604 1600 180161 2500 1600 1600
 193c 18016b 1500 180131 00 18016b 1500 180132 00 18056572726f72 1500 180474727565 00 00 00
@@ -187,40 +152,15 @@ def worked_compact():
 
 # The same in Zipkin's JSON: the span of an SDK, a client's batch, a client span with a null and as it is written, and two
 # spans of one identifier.
-SPAN_ZIPKIN = unwrapped("""
-[{"duration":100000,"id":"b7ad6b7169203331","kind":"CLIENT","localEndpoint":{"serviceName":"shop"},
-"name":"GET /cart","tags":{"http.request.method":"GET","http.response.status_code":"200",
-"otel.resource.host.name":"n1","otel.scope.name":"lib","otel.scope.version":"1.0"},
-"timestamp":1700000000123456,"traceId":"0af7651916cd43dd8448eb211c80319c"}]
-""")
-CLIENT_ZIPKIN = unwrapped("""
-[{"annotations":[{"timestamp":1000100,"value":"done"}],"duration":250,"id":"0000000000000007",
-"kind":"SERVER","localEndpoint":{"serviceName":"api"},"name":"get",
-"parentId":"0000000000000005","tags":{"otel.resource.hostname":"h1","otel.resource.ip":"10.0.0.1"},
-"timestamp":1000000,"traceId":"00000000000000000000000000000005"}]
-""")
-REFUSED_CALL = unwrapped("""
-[{"traceId":"463ac35c9f6413ad","parentId":null,"id":"463ac35c9f6413ad",
-"kind":"CLIENT","name":"get","timestamp":1472470996199000,"duration":207000,
-"localEndpoint":{"serviceName":"frontend","ipv4":"127.0.0.1"},
-"remoteEndpoint":{"serviceName":"backend","ipv4":"192.168.99.101","port":9000},
-"tags":{"error":"refused","http.path":"/api"}}]
-""")
-REFUSED_CALL_WRITTEN = unwrapped("""
-[{"duration":207000,"id":"463ac35c9f6413ad","kind":"CLIENT",
-"localEndpoint":{"ipv4":"127.0.0.1","serviceName":"frontend"},"name":"get",
-"remoteEndpoint":{"ipv4":"192.168.99.101","port":9000,"serviceName":"backend"},
-"tags":{"error":"refused","http.path":"/api","otel.status_code":"ERROR"},
-"timestamp":1472470996199000,"traceId":"0000000000000000463ac35c9f6413ad"}]
-""")
+SPAN_ZIPKIN = TEXTS["SDK_SPANS"]
+CLIENT_ZIPKIN = TEXTS["SPANS_OF_CLIENT"]
+REFUSED_CALL = TEXTS["CLIENT_SPANS"]
+REFUSED_CALL_WRITTEN = TEXTS["CLIENT_SPANS_WRITTEN"]
 SHARED = unwrapped("""
 [{"traceId":"463ac35c9f6413ad","id":"a2fb4a1d1a96d312","kind":"CLIENT"},
 {"traceId":"463ac35c9f6413ad","id":"a2fb4a1d1a96d312","kind":"SERVER","shared":true}]
 """)
-SHARED_WRITTEN = unwrapped("""
-[{"id":"a2fb4a1d1a96d312","kind":"CLIENT","traceId":"0000000000000000463ac35c9f6413ad"},
-{"id":"a2fb4a1d1a96d312","kind":"SERVER","shared":true,"traceId":"0000000000000000463ac35c9f6413ad"}]
-""")
+SHARED_WRITTEN = TEXTS["SHARED_SPANS"]
 NO_SERVICE = SMALL_BATCH.replace(hexed("0b00010000000173"), hexed("0b000100000000"))
 NAMELESS = NO_SERVICE.replace(hexed("0b00050000000161"), hexed("0b000500000000"))
 IDS = b'"traceId":"1","id":"2"'
@@ -313,20 +253,8 @@ def worked_causes():
 
 
 # The same in OTLP/JSON: the span of an SDK, and a root with two CHILD_OF references.
-REQUEST_JSON = unwrapped("""
-{"resourceSpans":[{"resource":{"attributes":[{"key":"host.name","value":{"stringValue":"n1"}},
-{"key":"service.name","value":{"stringValue":"shop"}}]},"scopeSpans":[{"scope":{"name":"lib","version":"1.0"},
-"spans":[{"attributes":[{"key":"http.request.method","value":{"stringValue":"GET"}},
-{"key":"http.response.status_code","value":{"intValue":"200"}}],"endTimeUnixNano":"1700000000223456789","flags":257,
-"kind":3,"name":"GET /cart","spanId":"b7ad6b7169203331","startTimeUnixNano":"1700000000123456789",
-"traceId":"0af7651916cd43dd8448eb211c80319c"}]}]}]}
-""")
-REFERENCES_JSON = unwrapped("""
-{"resourceSpans":[{"resource":{"attributes":[{"key":"service.name","value":{"stringValue":"s"}}]},
-"scopeSpans":[{"spans":[{"kind":1,"links":[{"attributes":[{"key":"opentracing.ref_type",
-"value":{"stringValue":"child_of"}}],"spanId":"0000000000000004","traceId":"00000000000000000000000000000001"}],
-"name":"a","parentSpanId":"0000000000000003","spanId":"0000000000000002","traceId":"00000000000000000000000000000001"}]}]}]}
-""")
+REQUEST_JSON = TEXTS["SDK_GROUPS"]
+REFERENCES_JSON = TEXTS["LINKED"]
 NO_GROUPS = b'{"resourceSpans":[]}'
 JSON_IDS = '"traceId":"00000000000000000000000000000001","spanId":"0000000000000002","name":"a"'
 

@@ -1,16 +1,38 @@
 #!/usr/bin/python3
-"""Writes the run of spanx that is stored in crates/spanx: its words, its input, and the text and status that it must answer.
+"""Writes the run of spanx that is stored in crates/spanx, its words and its output; or runs a built program on that and on a run that ends badly.
 
-The input is examples/checkout.bin without its last bytes: a whole unit, and one that ends too early. What must be answered is
-what the independent reader, tables and writer beside this say. It is run at the top as bench/stored_run.py.
+The stored run is the gauge of one span. It reads nothing, notes nothing and ends with 0, so it can't show that a program answers its
+status, reads its input and tells its output from its notes. The other run shows these: it converts examples/checkout.bin without its
+last bytes, a whole unit and one that ends too early. What both must answer is what the readers, tables and writers beside this say.
+
+It is run at the top: bench/stored_run.py writes, and bench/stored_run.py --check [PROGRAM] runs PROGRAM, or what ./spanx has built. It
+then ends with 0 where status, output and note of both runs are as they must be.
 """
 import os
+import sys
 
-from forms import OTLP, ZIPKIN, verdict
+import forms
+import gauge
+from program import BUILD, PROGRAM, TOP, answer, command
 
-TOP = os.path.join(os.path.dirname(os.path.abspath(__file__)), "..")
 RUN = os.path.join(TOP, "crates", "spanx")
+SPANS = 1
 CUT = 100
+
+
+def gauged():
+    """The words of the stored run, its input, and its status, output and note."""
+    read = list(forms.groups(gauge.request(SPANS), forms.OTLP))
+    sizes = {form: len(forms.write(read, form)) for form in forms.FORMS}
+    return ["gauge", "--spans", str(SPANS)], b"", (0, gauge.lines(SPANS, sizes), "")
+
+
+def cut():
+    """The same of the run on a request that is cut."""
+    with open(os.path.join(TOP, "examples", "checkout.bin"), "rb") as whole:
+        text = whole.read()[:-CUT]
+    status, note, written, _ = forms.verdict(text, forms.OTLP, forms.ZIPKIN)
+    return command(forms.OTLP, forms.ZIPKIN)[1:], text, (status, written, note)
 
 
 def store(name, text):
@@ -18,12 +40,32 @@ def store(name, text):
         out.write(text)
 
 
+def write():
+    words, _, (_, output, _) = gauged()
+    store("args", "".join(f"{word}\n" for word in words).encode())
+    store("stdout", output)
+    print(output.decode(), end="")
+
+
+def check(program):
+    """How many of both runs a program answers otherwise."""
+    wrong = 0
+    for words, text, wanted in [gauged(), cut()]:
+        got = answer([program, *words], text)
+        wrong += got != wanted
+        status, output, note = got
+        print(f"{'ok' if got == wanted else 'WRONG'}: {' '.join(words)}: status {status}, {len(output)} bytes, {note.strip()!r}")
+    return wrong
+
+
+def main():
+    if sys.argv[1:2] != ["--check"]:
+        return write()
+    program = os.path.abspath(sys.argv[2]) if len(sys.argv) > 2 else PROGRAM
+    if not os.path.exists(program):
+        sys.exit(BUILD)
+    return bool(check(program))
+
+
 if __name__ == "__main__":
-    with open(os.path.join(TOP, "examples", "checkout.bin"), "rb") as whole:
-        text = whole.read()[:-CUT]
-    status, note, written, name = verdict(text, OTLP, ZIPKIN)
-    store("args", "".join(f"{word}\n" for word in ["convert", "--from", OTLP, "--to", ZIPKIN]).encode())
-    store("stdin", text)
-    store("stdout", written)
-    store("status", f"{status}\n".encode())
-    print(f"status {status}, {note.strip()}, {len(written)} bytes")
+    sys.exit(main())

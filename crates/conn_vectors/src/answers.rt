@@ -4,6 +4,7 @@ ghost use Rattle.http_conn.specs.Replies as told;
 
 use http_conn::answer;
 use span_io::{Blob, OutOfMemory};
+use span_vectors::texts::ANSWERED;
 use std::alloc::Global;
 use std::process::Abort;
 use std::test::Fail;
@@ -107,14 +108,7 @@ fn writes_each_status(rt: HostRuntime) -> Result<(), Fail> {
 
 // What stands there already, a status, a media type, a content, whether the connection ends, and what stands there then.
 const ANSWERS: [(&str, u16, &str, &str, bool, &str); 4] = [
-    (
-        "",
-        200,
-        "application/json",
-        "[]",
-        false,
-        "HTTP/1.1 200 OK\r\nContent-Type: application/json\r\nContent-Length: 2\r\n\r\n[]",
-    ),
+    ("", 200, "application/json", "[]", false, ANSWERED),
     (
         "",
         415,

@@ -2,16 +2,23 @@
 ghost use Rattle.std.specs.Prelude.{◌<◌};
 
 use crate::requests::repeated;
+use crate::served::joined;
 use http_conn::laws::known_stays;
 use http_conn::{Known, Next, Request, next_request, next_request_from};
 use span_io::{Blob, Form, Limits, OutOfMemory};
+use span_vectors::texts::POSTED;
 use std::alloc::Global;
 use std::test::Fail;
 
-// A request with a body of two bytes behind a head of 91.
-const POSTED: &str = "POST /api/v2/spans HTTP/1.1\r\nHost: x\r\nContent-Type: application/json\r\n\
-Content-Length: 2\r\n\r\n[]";
+// A post without its last byte.
+pub(crate) const CUT_POST: &str =
+    "POST /api/v2/spans HTTP/1.1\r\nHost: x\r\nContent-Type: application/json\r\nContent-Length: 2\r\n\r\n[";
 
+// A post that asks first whether its body is wanted.
+pub(crate) const ASKED: &str =
+    "POST /api/v2/spans HTTP/1.1\r\nHost: x\r\nContent-Type: application/json\r\nContent-Length: 2\r\nExpect: 100-continue\r\n\r\n[]";
+
+// What a post of no spans is.
 const WHOLE: Next = Next::Whole(Request {
     verdict: 0,
     form: Some(Form::ZipkinJson),
@@ -21,24 +28,12 @@ const WHOLE: Next = Next::Whole(Request {
 });
 
 // Bytes, how many of them have come by an answer other than the want of more, and the answer.
-const STREAMS: [(&str, usize, Next); 14] = [
-    (POSTED, 93, WHOLE),
+const STREAMS: [(&[&str], usize, Next); 14] = [
+    (&[POSTED], 93, WHOLE),
+    (&[CUT_POST], 92, Next::Need),
+    (&[POSTED, POSTED], 93, WHOLE),
     (
-        "POST /api/v2/spans HTTP/1.1\r\nHost: x\r\nContent-Type: application/json\r\n\
-Content-Length: 2\r\n\r\n[",
-        92,
-        Next::Need,
-    ),
-    (
-        "POST /api/v2/spans HTTP/1.1\r\nHost: x\r\nContent-Type: application/json\r\n\
-Content-Length: 2\r\n\r\n[]POST /api/v2/spans HTTP/1.1\r\nHost: x\r\nContent-Type: application/json\r\n\
-Content-Length: 2\r\n\r\n[]",
-        93,
-        WHOLE,
-    ),
-    (
-        "POST /api/v2/spans HTTP/1.1\r\nHost: x\r\nContent-Type: application/json\r\n\
-Content-Length: 2\r\nExpect: 100-continue\r\n\r\n[]",
+        &[ASKED],
         115,
         Next::Whole(Request {
             verdict: 0,
@@ -49,7 +44,7 @@ Content-Length: 2\r\nExpect: 100-continue\r\n\r\n[]",
         }),
     ),
     (
-        "\r\nGET / HTTP/1.0\r\n\r\n[]",
+        &["\r\nGET / HTTP/1.0\r\n\r\n[]"],
         20,
         Next::Whole(Request {
             verdict: 404,
@@ -59,22 +54,26 @@ Content-Length: 2\r\nExpect: 100-continue\r\n\r\n[]",
             close: true,
         }),
     ),
-    ("GET / HTTP/1.1\nHost: x\r\n\r\n[]", 26, Next::Refuse(400)),
-    ("\r\n\r\nGET /", 4, Next::Refuse(400)),
-    ("\r\n\n\r\n\r\nGET /", 7, Next::Refuse(400)),
     (
-        "POST / HTTP/1.1\r\nContent-Length: 67108865\r\n\r\n[]",
+        &["GET / HTTP/1.1\nHost: x\r\n\r\n[]"],
+        26,
+        Next::Refuse(400),
+    ),
+    (&["\r\n\r\nGET /"], 4, Next::Refuse(400)),
+    (&["\r\n\n\r\n\r\nGET /"], 7, Next::Refuse(400)),
+    (
+        &["POST / HTTP/1.1\r\nContent-Length: 67108865\r\n\r\n[]"],
         45,
         Next::Refuse(413),
     ),
     (
-        "POST / HTTP/1.1\r\nHost: x\r\n\r\n[]",
+        &["POST / HTTP/1.1\r\nHost: x\r\n\r\n[]"],
         28,
         Next::Refuse(411),
     ),
-    ("", 0, Next::Need),
+    (&[], 0, Next::Need),
     (
-        "GET /v1/traces HTTP/1.1\r\nContent-Length: 2\r\n\r\n[]GET",
+        &["GET /v1/traces HTTP/1.1\r\nContent-Length: 2\r\n\r\n[]GET"],
         48,
         Next::Whole(Request {
             verdict: 405,
@@ -85,12 +84,12 @@ Content-Length: 2\r\nExpect: 100-continue\r\n\r\n[]",
         }),
     ),
     (
-        "GET /v1/traces HTTP/1.1\r\nContent-Length: 2\r\n\r\n[",
+        &["GET /v1/traces HTTP/1.1\r\nContent-Length: 2\r\n\r\n["],
         47,
         Next::Need,
     ),
     (
-        "GET /v1/traces HTTP/1.1\r\nContent-Length: 67108865\r\n\r\n",
+        &["GET /v1/traces HTTP/1.1\r\nContent-Length: 67108865\r\n\r\n"],
         53,
         Next::Refuse(413),
     ),
@@ -117,10 +116,15 @@ fn in_pieces(alloc: Global, bytes: &[u8], size: usize) -> Result<(usize, Next), 
 
 #[test]
 fn reads_bytes_one_by_one(rt: HostRuntime) -> Result<(), Fail> {
-    for (text, count, next) in STREAMS {
-        let bytes = text.as_bytes();
-        assert_eq!(rt; next_request(bytes, &Limits::shipped()), next, "{text:?}");
-        assert_eq!(rt; in_pieces(rt.alloc(), bytes, 1)?, (count, next), "{text:?}");
+    for (texts, count, next) in STREAMS {
+        let stream = joined(rt.alloc(), texts)?;
+        let bytes = stream.as_slice();
+        assert_eq!(rt; next_request(bytes, &Limits::shipped()), next, "{texts:?}");
+        assert_eq!(rt;
+            in_pieces(rt.alloc(), bytes, 1)?,
+            (count, next),
+            "{texts:?}"
+        );
     }
     let long = repeated(rt.alloc(), "GET /", "a", 20_000, "")?;
     let refused = (16_384, Next::Refuse(431));

@@ -2,20 +2,33 @@
 ghost use Rattle.std.specs.Prelude.{◌≤◌};
 
 use crate::doors::{Course, connection};
+use crate::pieces::{ASKED, CUT_POST};
 use span_gateway::{Ended, ServeFault, serve_connection};
 use span_io::{Blob, Form, Limits};
+use span_vectors::texts::{
+    ANSWERED, CUT_SPAN, MICROS_REQUEST, ONE_SPAN, ONE_ZIPKIN_SPAN, POSTED, POSTED_OBJECT,
+    REFUSED_OBJECT, SDK_BATCH, SDK_COMPACT, SDK_GROUPS, SDK_REQUEST, SDK_SPANS,
+};
 use std::alloc::Global;
 use std::process::Abort;
 use std::test::Fail;
 
-// A request of no spans.
-const POSTED: &str =
-    "POST /api/v2/spans HTTP/1.1\r\nHost: x\r\nContent-Type: application/json\r\nContent-Length: 2\r\n\r\n[]";
+// The answer to what is no request.
+const BROKEN: &str = "HTTP/1.1 400 Bad Request\r\nContent-Length: 0\r\nConnection: close\r\n\r\n";
 
-const ANSWERED: &str =
-    "HTTP/1.1 200 OK\r\nContent-Type: application/json\r\nContent-Length: 2\r\n\r\n[]";
+// The head of a post of a request of 195 bytes.
+const REQUEST_HEAD: &str =
+    "POST /v1/traces HTTP/1.1\r\nHost: x\r\nContent-Type: application/x-protobuf\r\nContent-Length: 195\r\n\r\n";
 
-// The same request with a content coding that isn't read.
+// The head of the answer of such a request.
+const REQUEST_ANSWER: &str =
+    "HTTP/1.1 200 OK\r\nContent-Type: application/x-protobuf\r\nContent-Length: 195\r\n\r\n";
+
+// The head of the answer of spans of Zipkin of 346 bytes.
+const SPANS_ANSWER: &str =
+    "HTTP/1.1 200 OK\r\nContent-Type: application/json\r\nContent-Length: 346\r\n\r\n";
+
+// The post of no spans with a content coding that isn't read.
 const ENCODED: &str =
     "POST /api/v2/spans HTTP/1.1\r\nHost: x\r\nContent-Type: application/json\r\nContent-Length: 2\r\nContent-Encoding: gzip\r\n\r\n[]";
 
@@ -25,7 +38,7 @@ const FETCHED: &str = "GET /v1/traces HTTP/1.1\r\nHost: x\r\n\r\n";
 
 const NOT_ALLOWED: &str = "HTTP/1.1 405 Method Not Allowed\r\nContent-Length: 0\r\n\r\n";
 
-// The same answer where the connection ends.
+// The answer to a post of no spans where the connection ends.
 const LAST: &str =
     "HTTP/1.1 200 OK\r\nContent-Type: application/json\r\nContent-Length: 2\r\nConnection: close\r\n\r\n[]";
 
@@ -49,10 +62,7 @@ const ROWS: [Row; 29] = [
     Row {
         name: "two requests without the last byte",
         to: Form::ZipkinJson,
-        stream: &[
-            POSTED,
-            "POST /api/v2/spans HTTP/1.1\r\nHost: x\r\nContent-Type: application/json\r\nContent-Length: 2\r\n\r\n[",
-        ],
+        stream: &[POSTED, CUT_POST],
         written: &[ANSWERED],
         ended: Ended::Cut,
     },
@@ -140,9 +150,7 @@ const ROWS: [Row; 29] = [
     Row {
         name: "a body that is asked about",
         to: Form::ZipkinJson,
-        stream: &[
-            "POST /api/v2/spans HTTP/1.1\r\nHost: x\r\nContent-Type: application/json\r\nContent-Length: 2\r\nExpect: 100-continue\r\n\r\n[]",
-        ],
+        stream: &[ASKED],
         written: &[ANSWERED],
         ended: Ended::Closed,
     },
@@ -162,14 +170,8 @@ const ROWS: [Row; 29] = [
     Row {
         name: "a body with a cause",
         to: Form::ZipkinJson,
-        stream: &[
-            "POST /api/v2/spans HTTP/1.1\r\nHost: x\r\nContent-Type: application/json\r\nContent-Length: 2\r\n\r\n{}",
-            POSTED,
-        ],
-        written: &[
-            "HTTP/1.1 400 Bad Request\r\nContent-Type: text/plain\r\nContent-Length: 26\r\n\r\nunit 0: cause 11 BadShape\n",
-            ANSWERED,
-        ],
+        stream: &[POSTED_OBJECT, POSTED],
+        written: &[REFUSED_OBJECT, ANSWERED],
         ended: Ended::Closed,
     },
     Row {
@@ -231,17 +233,14 @@ const ROWS: [Row; 29] = [
         name: "an LF alone",
         to: Form::ZipkinJson,
         stream: &[POSTED, "GET / HTTP/1.1\nHost: x\r\n\r\n", POSTED],
-        written: &[
-            ANSWERED,
-            "HTTP/1.1 400 Bad Request\r\nContent-Length: 0\r\nConnection: close\r\n\r\n",
-        ],
+        written: &[ANSWERED, BROKEN],
         ended: Ended::Refused(400),
     },
     Row {
         name: "two empty lines",
         to: Form::ZipkinJson,
         stream: &["\r\n\r\n", POSTED],
-        written: &["HTTP/1.1 400 Bad Request\r\nContent-Length: 0\r\nConnection: close\r\n\r\n"],
+        written: &[BROKEN],
         ended: Ended::Refused(400),
     },
     Row {
@@ -322,9 +321,11 @@ const ROWS: [Row; 29] = [
     },
 ];
 
-/// One request and its answer: a text, and in hexadecimal what stands behind it.
+/// One post and its answer: the text of each up to what stands in the form that is posted and in the form that is
+/// answered. What is no JSON is in hexadecimal.
 struct Converted {
     name: &'static str,
+    from: Form,
     to: Form,
     head: &'static str,
     body: &'static str,
@@ -335,81 +336,91 @@ struct Converted {
 const CONVERTED: [Converted; 10] = [
     Converted {
         name: "one span of OTLP protobuf",
+        from: Form::OtlpProto,
         to: Form::ZipkinJson,
         head: "POST /v1/traces HTTP/1.1\r\nHost: x\r\nContent-Type: application/x-protobuf\r\nContent-Length: 37\r\n\r\n",
-        body: "0a231221121f0a1000000000000000000000000000000001120800000000000000022a0161",
-        answer: "HTTP/1.1 200 OK\r\nContent-Type: application/json\r\nContent-Length: 83\r\n\r\n[{\"id\":\"0000000000000002\",\"name\":\"a\",\"traceId\":\"00000000000000000000000000000001\"}]",
-        text: "",
+        body: ONE_SPAN,
+        answer: "HTTP/1.1 200 OK\r\nContent-Type: application/json\r\nContent-Length: 83\r\n\r\n",
+        text: ONE_ZIPKIN_SPAN,
     },
     Converted {
         name: "OTLP protobuf as OTLP protobuf",
+        from: Form::OtlpProto,
         to: Form::OtlpProto,
-        head: "POST /v1/traces HTTP/1.1\r\nHost: x\r\nContent-Type: application/x-protobuf\r\nContent-Length: 195\r\n\r\n",
-        body: "0ac0010a2b0a110a09686f73742e6e616d6512040a026e310a160a0c736572766963652e6e616d6512060a0473686f701290010a0a0a036c69621203312e301281010a100af7651916cd43dd8448eb211c80319c1208b7ad6b71692033312a09474554202f6361727430033915cd853dfe9c97174115ae7b43fe9c97174a1c0a13687474702e726571756573742e6d6574686f6412050a034745544a200a19687474702e726573706f6e73652e7374617475735f636f6465120318c801850101010000",
-        answer: "HTTP/1.1 200 OK\r\nContent-Type: application/x-protobuf\r\nContent-Length: 195\r\n\r\n",
-        text: "0ac0010a2b0a110a09686f73742e6e616d6512040a026e310a160a0c736572766963652e6e616d6512060a0473686f701290010a0a0a036c69621203312e301281010a100af7651916cd43dd8448eb211c80319c1208b7ad6b71692033312a09474554202f6361727430033915cd853dfe9c97174115ae7b43fe9c97174a1c0a13687474702e726571756573742e6d6574686f6412050a034745544a200a19687474702e726573706f6e73652e7374617475735f636f6465120318c801850101010000",
+        head: REQUEST_HEAD,
+        body: SDK_REQUEST,
+        answer: REQUEST_ANSWER,
+        text: SDK_REQUEST,
     },
     Converted {
         name: "OTLP protobuf as OTLP/JSON",
+        from: Form::OtlpProto,
         to: Form::OtlpJson,
-        head: "POST /v1/traces HTTP/1.1\r\nHost: x\r\nContent-Type: application/x-protobuf\r\nContent-Length: 195\r\n\r\n",
-        body: "0ac0010a2b0a110a09686f73742e6e616d6512040a026e310a160a0c736572766963652e6e616d6512060a0473686f701290010a0a0a036c69621203312e301281010a100af7651916cd43dd8448eb211c80319c1208b7ad6b71692033312a09474554202f6361727430033915cd853dfe9c97174115ae7b43fe9c97174a1c0a13687474702e726571756573742e6d6574686f6412050a034745544a200a19687474702e726573706f6e73652e7374617475735f636f6465120318c801850101010000",
-        answer: "HTTP/1.1 200 OK\r\nContent-Type: application/json\r\nContent-Length: 553\r\n\r\n{\"resourceSpans\":[{\"resource\":{\"attributes\":[{\"key\":\"host.name\",\"value\":{\"stringValue\":\"n1\"}},{\"key\":\"service.name\",\"value\":{\"stringValue\":\"shop\"}}]},\"scopeSpans\":[{\"scope\":{\"name\":\"lib\",\"version\":\"1.0\"},\"spans\":[{\"attributes\":[{\"key\":\"http.request.method\",\"value\":{\"stringValue\":\"GET\"}},{\"key\":\"http.response.status_code\",\"value\":{\"intValue\":\"200\"}}],\"endTimeUnixNano\":\"1700000000223456789\",\"flags\":257,\"kind\":3,\"name\":\"GET /cart\",\"spanId\":\"b7ad6b7169203331\",\"startTimeUnixNano\":\"1700000000123456789\",\"traceId\":\"0af7651916cd43dd8448eb211c80319c\"}]}]}]}",
-        text: "",
+        head: REQUEST_HEAD,
+        body: SDK_REQUEST,
+        answer: "HTTP/1.1 200 OK\r\nContent-Type: application/json\r\nContent-Length: 553\r\n\r\n",
+        text: SDK_GROUPS,
     },
     Converted {
         name: "OTLP protobuf as Jaeger binary",
+        from: Form::OtlpProto,
         to: Form::JaegerBinary,
-        head: "POST /v1/traces HTTP/1.1\r\nHost: x\r\nContent-Type: application/x-protobuf\r\nContent-Length: 195\r\n\r\n",
-        body: "0ac0010a2b0a110a09686f73742e6e616d6512040a026e310a160a0c736572766963652e6e616d6512060a0473686f701290010a0a0a036c69621203312e301281010a100af7651916cd43dd8448eb211c80319c1208b7ad6b71692033312a09474554202f6361727430033915cd853dfe9c97174115ae7b43fe9c97174a1c0a13687474702e726571756573742e6d6574686f6412050a034745544a200a19687474702e726573706f6e73652e7374617475735f636f6465120318c801850101010000",
+        head: REQUEST_HEAD,
+        body: SDK_REQUEST,
         answer: "HTTP/1.1 200 OK\r\nContent-Type: application/vnd.apache.thrift.binary\r\nContent-Length: 378\r\n\r\n",
-        text: "0c00010b00010000000473686f700f00020c000000010b000100000009686f73742e6e616d65080002000000000b0003000000026e3100000f00020c000000010a00018448eb211c80319c0a00020af7651916cd43dd0a0003b7ad6b71692033310a000400000000000000000b000500000009474554202f63617274080007000000010a000800060a24182022400a000900000000000186a00f000a0c000000050b000100000013687474702e726571756573742e6d6574686f64080002000000000b000300000003474554000b000100000019687474702e726573706f6e73652e7374617475735f636f6465080002000000030a000600000000000000c8000b00010000000f6f74656c2e73636f70652e6e616d65080002000000000b0003000000036c6962000b0001000000126f74656c2e73636f70652e76657273696f6e080002000000000b000300000003312e30000b0001000000097370616e2e6b696e64080002000000000b000300000006636c69656e74000000",
+        text: SDK_BATCH,
     },
     Converted {
         name: "OTLP protobuf as Jaeger compact",
+        from: Form::OtlpProto,
         to: Form::JaegerCompact,
-        head: "POST /v1/traces HTTP/1.1\r\nHost: x\r\nContent-Type: application/x-protobuf\r\nContent-Length: 195\r\n\r\n",
-        body: "0ac0010a2b0a110a09686f73742e6e616d6512040a026e310a160a0c736572766963652e6e616d6512060a0473686f701290010a0a0a036c69621203312e301281010a100af7651916cd43dd8448eb211c80319c1208b7ad6b71692033312a09474554202f6361727430033915cd853dfe9c97174115ae7b43fe9c97174a1c0a13687474702e726571756573742e6d6574686f6412050a034745544a200a19687474702e726573706f6e73652e7374617475735f636f6465120318c801850101010000",
+        head: REQUEST_HEAD,
+        body: SDK_REQUEST,
         answer: "HTTP/1.1 200 OK\r\nContent-Type: application/vnd.apache.thrift.compact\r\nContent-Length: 231\r\n\r\n",
-        text: "1c180473686f70191c1809686f73742e6e616d65150018026e310000191c16c7b9feb7dcb78ab7f70116ba8feaeca2c6b2f715169db3feedd2a3cad2900116001809474554202f63617274250216808981828389850616c09a0c195c1813687474702e726571756573742e6d6574686f6415001803474554001819687474702e726573706f6e73652e7374617475735f636f6465150646900300180f6f74656c2e73636f70652e6e616d65150018036c69620018126f74656c2e73636f70652e76657273696f6e15001803312e300018097370616e2e6b696e6415001806636c69656e74000000",
+        text: SDK_COMPACT,
     },
     Converted {
         name: "OTLP protobuf as Zipkin",
+        from: Form::OtlpProto,
         to: Form::ZipkinJson,
-        head: "POST /v1/traces HTTP/1.1\r\nHost: x\r\nContent-Type: application/x-protobuf\r\nContent-Length: 195\r\n\r\n",
-        body: "0ac0010a2b0a110a09686f73742e6e616d6512040a026e310a160a0c736572766963652e6e616d6512060a0473686f701290010a0a0a036c69621203312e301281010a100af7651916cd43dd8448eb211c80319c1208b7ad6b71692033312a09474554202f6361727430033915cd853dfe9c97174115ae7b43fe9c97174a1c0a13687474702e726571756573742e6d6574686f6412050a034745544a200a19687474702e726573706f6e73652e7374617475735f636f6465120318c801850101010000",
-        answer: "HTTP/1.1 200 OK\r\nContent-Type: application/json\r\nContent-Length: 346\r\n\r\n[{\"duration\":100000,\"id\":\"b7ad6b7169203331\",\"kind\":\"CLIENT\",\"localEndpoint\":{\"serviceName\":\"shop\"},\"name\":\"GET /cart\",\"tags\":{\"http.request.method\":\"GET\",\"http.response.status_code\":\"200\",\"otel.resource.host.name\":\"n1\",\"otel.scope.name\":\"lib\",\"otel.scope.version\":\"1.0\"},\"timestamp\":1700000000123456,\"traceId\":\"0af7651916cd43dd8448eb211c80319c\"}]",
-        text: "",
+        head: REQUEST_HEAD,
+        body: SDK_REQUEST,
+        answer: SPANS_ANSWER,
+        text: SDK_SPANS,
     },
     Converted {
         name: "Jaeger binary as Zipkin",
+        from: Form::JaegerBinary,
         to: Form::ZipkinJson,
         head: "POST /api/traces HTTP/1.1\r\nHost: x\r\nContent-Type: application/x-thrift\r\nContent-Length: 378\r\n\r\n",
-        body: "0c00010b00010000000473686f700f00020c000000010b000100000009686f73742e6e616d65080002000000000b0003000000026e3100000f00020c000000010a00018448eb211c80319c0a00020af7651916cd43dd0a0003b7ad6b71692033310a000400000000000000000b000500000009474554202f63617274080007000000010a000800060a24182022400a000900000000000186a00f000a0c000000050b000100000013687474702e726571756573742e6d6574686f64080002000000000b000300000003474554000b000100000019687474702e726573706f6e73652e7374617475735f636f6465080002000000030a000600000000000000c8000b00010000000f6f74656c2e73636f70652e6e616d65080002000000000b0003000000036c6962000b0001000000126f74656c2e73636f70652e76657273696f6e080002000000000b000300000003312e30000b0001000000097370616e2e6b696e64080002000000000b000300000006636c69656e74000000",
-        answer: "HTTP/1.1 200 OK\r\nContent-Type: application/json\r\nContent-Length: 346\r\n\r\n[{\"duration\":100000,\"id\":\"b7ad6b7169203331\",\"kind\":\"CLIENT\",\"localEndpoint\":{\"serviceName\":\"shop\"},\"name\":\"GET /cart\",\"tags\":{\"http.request.method\":\"GET\",\"http.response.status_code\":\"200\",\"otel.resource.host.name\":\"n1\",\"otel.scope.name\":\"lib\",\"otel.scope.version\":\"1.0\"},\"timestamp\":1700000000123456,\"traceId\":\"0af7651916cd43dd8448eb211c80319c\"}]",
-        text: "",
+        body: SDK_BATCH,
+        answer: SPANS_ANSWER,
+        text: SDK_SPANS,
     },
     Converted {
         name: "Jaeger binary as OTLP protobuf",
+        from: Form::JaegerBinary,
         to: Form::OtlpProto,
         head: "POST /api/traces HTTP/1.1\r\nHost: x\r\nContent-Type: application/vnd.apache.thrift.binary\r\nContent-Length: 378\r\n\r\n",
-        body: "0c00010b00010000000473686f700f00020c000000010b000100000009686f73742e6e616d65080002000000000b0003000000026e3100000f00020c000000010a00018448eb211c80319c0a00020af7651916cd43dd0a0003b7ad6b71692033310a000400000000000000000b000500000009474554202f63617274080007000000010a000800060a24182022400a000900000000000186a00f000a0c000000050b000100000013687474702e726571756573742e6d6574686f64080002000000000b000300000003474554000b000100000019687474702e726573706f6e73652e7374617475735f636f6465080002000000030a000600000000000000c8000b00010000000f6f74656c2e73636f70652e6e616d65080002000000000b0003000000036c6962000b0001000000126f74656c2e73636f70652e76657273696f6e080002000000000b000300000003312e30000b0001000000097370616e2e6b696e64080002000000000b000300000006636c69656e74000000",
-        answer: "HTTP/1.1 200 OK\r\nContent-Type: application/x-protobuf\r\nContent-Length: 195\r\n\r\n",
-        text: "0ac0010a2b0a110a09686f73742e6e616d6512040a026e310a160a0c736572766963652e6e616d6512060a0473686f701290010a0a0a036c69621203312e301281010a100af7651916cd43dd8448eb211c80319c1208b7ad6b71692033312a09474554202f6361727430033900ca853dfe9c97174100ab7b43fe9c97174a1c0a13687474702e726571756573742e6d6574686f6412050a034745544a200a19687474702e726573706f6e73652e7374617475735f636f6465120318c801850101000000",
+        body: SDK_BATCH,
+        answer: REQUEST_ANSWER,
+        text: MICROS_REQUEST,
     },
     Converted {
         name: "one span of Zipkin",
+        from: Form::ZipkinJson,
         to: Form::OtlpProto,
-        head: "POST /api/v2/spans HTTP/1.1\r\nHost: x\r\nContent-Type: application/json\r\nContent-Length: 37\r\n\r\n[{\"traceId\":\"1\",\"id\":\"2\",\"name\":\"a\"}]",
-        body: "",
+        head: "POST /api/v2/spans HTTP/1.1\r\nHost: x\r\nContent-Type: application/json\r\nContent-Length: 37\r\n\r\n",
+        body: r#"[{"traceId":"1","id":"2","name":"a"}]"#,
         answer: "HTTP/1.1 200 OK\r\nContent-Type: application/x-protobuf\r\nContent-Length: 39\r\n\r\n",
         text: "0a25122312210a1000000000000000000000000000000001120800000000000000022a01613001",
     },
     Converted {
         name: "OTLP protobuf without its end",
+        from: Form::OtlpProto,
         to: Form::ZipkinJson,
         head: "POST /v1/traces HTTP/1.1\r\nHost: x\r\nContent-Type: application/x-protobuf\r\nContent-Length: 36\r\n\r\n",
-        body: "0a231221121f0a1000000000000000000000000000000001120800000000000000022a01",
+        body: CUT_SPAN,
         answer: "HTTP/1.1 400 Bad Request\r\nContent-Type: text/plain\r\nContent-Length: 26\r\n\r\nunit 1: cause 1 Truncated\n",
         text: "",
     },
@@ -467,7 +478,7 @@ fn expect_served(
 }
 
 // Some texts, one behind the other.
-fn joined(alloc: Global, texts: &[&str]) -> Result<Blob, Fail> {
+pub(crate) fn joined(alloc: Global, texts: &[&str]) -> Result<Blob, Fail> {
     let mut bytes = Blob::new(alloc);
     for text in texts {
         bytes.append(text.as_bytes())?;
@@ -497,16 +508,20 @@ fn serves_connections(rt: HostRuntime) -> Result<(), Fail> {
     Ok(())
 }
 
-// A text, and behind it what is told in hexadecimal.
-fn decoded(alloc: Global, text: &str, told: &str) -> Result<Blob, Fail> {
+// A text, and behind it what is told in a form.
+fn with_body(alloc: Global, text: &str, form: Form, told: &str) -> Result<Blob, Fail> {
     let mut bytes = Blob::new(alloc);
-    bytes.append_both(text.as_bytes(), hex::decode(alloc, told)?.as_slice())?;
+    bytes.append(text.as_bytes())?;
+    match form {
+        Form::OtlpJson | Form::ZipkinJson => bytes.append(told.as_bytes())?,
+        _ => bytes.append(hex::decode(alloc, told)?.as_slice())?,
+    }
     Ok(bytes)
 }
 
 fn expect_converted(rt: &impl Abort, alloc: Global, row: &Converted) -> Result<(), Fail> {
-    let stream = decoded(alloc, row.head, row.body)?;
-    let written = decoded(alloc, row.answer, row.text)?;
+    let stream = with_body(alloc, row.head, row.from, row.body)?;
+    let written = with_body(alloc, row.answer, row.to, row.text)?;
     expect_served(
         rt,
         alloc,

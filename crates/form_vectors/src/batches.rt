@@ -6,11 +6,11 @@ ghost use Rattle.thrift_binary.specs.Spelling.{binary_spells};
 use jaeger_model::laws::reads_times;
 use jaeger_model::{Batch, SpanRef, TagValue, proper_sizes, read_batch, write_batch};
 use span_ids::{SpanId, TraceId};
-use span_io::{Blob, Cause, Halt, OutOfMemory, Step};
+use span_io::{Blob, Cause, Halt, OutOfMemory, Scan, Step};
 use std::alloc::Global;
 use std::test::Fail;
 use thrift_binary::Binary;
-use thrift_core::first_frame;
+use thrift_core::StructScanner;
 
 // A batch of a process `s`, up to the fields of its one span.
 const BEFORE: &[u8] = b"\x0c\0\x01\x0b\0\x01\0\0\0\x01s\0\x0f\0\x02\x0c\0\0\0\x01";
@@ -37,7 +37,8 @@ const SPAN: &[u8] =
 fn read_text(alloc: Global, bytes: &[u8]) -> Result<Batch, Halt<Cause>>
     ensures { IfOk result (λ batch. (text : List ℕ) × IsBatchText binary_spells batch text) }
 {
-    match first_frame::<Binary>(bytes, bytes.len()) {
+    let mut scanner = StructScanner::<Binary>::new(bytes.len());
+    match scanner.push(bytes) {
         Step::Unit(size) => read_batch::<Binary>(alloc, &bytes[..size]),
         Step::Need => Err(Halt::Why(Cause::Truncated)),
         Step::Refused(cause) => Err(Halt::Why(cause)),

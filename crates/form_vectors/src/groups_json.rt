@@ -1,6 +1,7 @@
 //! Groups in OTLP/JSON: what is written of those that are read, and how many remarks there are.
 use otlp_json::{read_text, write_group};
 use span_io::Blob;
+use span_vectors::texts::{BARE_GROUP, FULL_GROUP, LINKED, SDK_GROUPS, VALUES_GROUP};
 use std::alloc::Global;
 use std::test::Fail;
 
@@ -16,32 +17,32 @@ struct Row {
 const ROWS: [Row; 6] = [
     Row {
         name: "a group with attributes, a scope and a span",
-        text: r#"{"resourceSpans":[{"resource":{"attributes":[{"key":"host.name","value":{"stringValue":"n1"}},{"key":"service.name","value":{"stringValue":"shop"}}]},"scopeSpans":[{"scope":{"name":"lib","version":"1.0"},"spans":[{"attributes":[{"key":"http.request.method","value":{"stringValue":"GET"}},{"key":"http.response.status_code","value":{"intValue":"200"}}],"endTimeUnixNano":"1700000000223456789","flags":257,"kind":3,"name":"GET /cart","spanId":"b7ad6b7169203331","startTimeUnixNano":"1700000000123456789","traceId":"0af7651916cd43dd8448eb211c80319c"}]}]}]}"#,
-        written: r#"{"resourceSpans":[{"resource":{"attributes":[{"key":"host.name","value":{"stringValue":"n1"}},{"key":"service.name","value":{"stringValue":"shop"}}]},"scopeSpans":[{"scope":{"name":"lib","version":"1.0"},"spans":[{"attributes":[{"key":"http.request.method","value":{"stringValue":"GET"}},{"key":"http.response.status_code","value":{"intValue":"200"}}],"endTimeUnixNano":"1700000000223456789","flags":257,"kind":3,"name":"GET /cart","spanId":"b7ad6b7169203331","startTimeUnixNano":"1700000000123456789","traceId":"0af7651916cd43dd8448eb211c80319c"}]}]}]}"#,
+        text: SDK_GROUPS,
+        written: SDK_GROUPS,
         remarks: 0,
     },
     Row {
         name: "a link",
-        text: r#"{"resourceSpans":[{"resource":{"attributes":[{"key":"service.name","value":{"stringValue":"s"}}]},"scopeSpans":[{"spans":[{"kind":1,"links":[{"attributes":[{"key":"opentracing.ref_type","value":{"stringValue":"child_of"}}],"spanId":"0000000000000004","traceId":"00000000000000000000000000000001"}],"name":"a","parentSpanId":"0000000000000003","spanId":"0000000000000002","traceId":"00000000000000000000000000000001"}]}]}]}"#,
-        written: r#"{"resourceSpans":[{"resource":{"attributes":[{"key":"service.name","value":{"stringValue":"s"}}]},"scopeSpans":[{"spans":[{"kind":1,"links":[{"attributes":[{"key":"opentracing.ref_type","value":{"stringValue":"child_of"}}],"spanId":"0000000000000004","traceId":"00000000000000000000000000000001"}],"name":"a","parentSpanId":"0000000000000003","spanId":"0000000000000002","traceId":"00000000000000000000000000000001"}]}]}]}"#,
+        text: LINKED,
+        written: LINKED,
         remarks: 0,
     },
     Row {
         name: "every field",
-        text: r#"{"resourceSpans":[{"resource":{"attributes":[{"key":"service.name","value":{"stringValue":"shop"}}],"droppedAttributesCount":1},"schemaUrl":"r","scopeSpans":[{"schemaUrl":"s","scope":{"attributes":[{"key":"a","value":{"boolValue":true}}],"droppedAttributesCount":300,"name":"lib","version":"1.0"},"spans":[{"attributes":[{"key":"k","value":{"intValue":"-5"}}],"droppedAttributesCount":4,"droppedEventsCount":6,"droppedLinksCount":8,"endTimeUnixNano":"1544712661000000000","events":[{"attributes":[{"key":"k","value":{"intValue":"1"}}],"droppedAttributesCount":5,"name":"e","timeUnixNano":"7"},{}],"flags":257,"kind":2,"links":[{"attributes":[{"key":"l","value":{"intValue":"2"}}],"droppedAttributesCount":7,"flags":769,"spanId":"0505050505050506","traceId":"04040404040404040404040404040405","traceState":"u=2"}],"name":"buy","parentSpanId":"0303030303030304","spanId":"0202020202020203","startTimeUnixNano":"1544712660000000000","status":{"code":2,"message":"no"},"traceId":"01010101010101010101010101010102","traceState":"t=1"}]},{}]}]}"#,
-        written: r#"{"resourceSpans":[{"resource":{"attributes":[{"key":"service.name","value":{"stringValue":"shop"}}],"droppedAttributesCount":1},"schemaUrl":"r","scopeSpans":[{"schemaUrl":"s","scope":{"attributes":[{"key":"a","value":{"boolValue":true}}],"droppedAttributesCount":300,"name":"lib","version":"1.0"},"spans":[{"attributes":[{"key":"k","value":{"intValue":"-5"}}],"droppedAttributesCount":4,"droppedEventsCount":6,"droppedLinksCount":8,"endTimeUnixNano":"1544712661000000000","events":[{"attributes":[{"key":"k","value":{"intValue":"1"}}],"droppedAttributesCount":5,"name":"e","timeUnixNano":"7"},{}],"flags":257,"kind":2,"links":[{"attributes":[{"key":"l","value":{"intValue":"2"}}],"droppedAttributesCount":7,"flags":769,"spanId":"0505050505050506","traceId":"04040404040404040404040404040405","traceState":"u=2"}],"name":"buy","parentSpanId":"0303030303030304","spanId":"0202020202020203","startTimeUnixNano":"1544712660000000000","status":{"code":2,"message":"no"},"traceId":"01010101010101010101010101010102","traceState":"t=1"}]},{}]}]}"#,
+        text: FULL_GROUP,
+        written: FULL_GROUP,
         remarks: 0,
     },
     Row {
         name: "identifiers alone",
-        text: r#"{"resourceSpans":[{"scopeSpans":[{"spans":[{"spanId":"0202020202020203","traceId":"01010101010101010101010101010102"}]}]}]}"#,
-        written: r#"{"resourceSpans":[{"scopeSpans":[{"spans":[{"spanId":"0202020202020203","traceId":"01010101010101010101010101010102"}]}]}]}"#,
+        text: BARE_GROUP,
+        written: BARE_GROUP,
         remarks: 0,
     },
     Row {
         name: "each value",
         text: r#"{"resourceSpans":[{"resource":{"attributes":[{},{"key":"text","value":{"stringValue":""}},{"key":"false","value":{"boolValue":false}},{"key":"zero","value":{"intValue":"0"}},{"key":"low","value":{"intValue":"-9223372036854775808"}},{"key":"bytes","value":{"bytesValue":""}},{"key":"list","value":{"arrayValue":{}}},{"key":"map","value":{"kvlistValue":{}}},{"key":"nested","value":{"arrayValue":{"values":[{},{"arrayValue":{"values":[{"boolValue":true}]}},{"kvlistValue":{"values":[{"key":"k"},{"value":{"intValue":"300"}}]}}]}}}]}}]}"#,
-        written: r#"{"resourceSpans":[{"resource":{"attributes":[{},{"key":"bytes","value":{"bytesValue":""}},{"key":"false","value":{"boolValue":false}},{"key":"list","value":{"arrayValue":{}}},{"key":"low","value":{"intValue":"-9223372036854775808"}},{"key":"map","value":{"kvlistValue":{}}},{"key":"nested","value":{"arrayValue":{"values":[{},{"arrayValue":{"values":[{"boolValue":true}]}},{"kvlistValue":{"values":[{"value":{"intValue":"300"}},{"key":"k"}]}}]}}},{"key":"text","value":{"stringValue":""}},{"key":"zero","value":{"intValue":"0"}}]}}]}"#,
+        written: VALUES_GROUP,
         remarks: 0,
     },
     Row {

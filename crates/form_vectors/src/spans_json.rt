@@ -1,5 +1,6 @@
 //! Spans of Zipkin: what is written of those that are read.
 use span_io::Blob;
+use span_vectors::texts::SHARED_SPANS;
 use std::alloc::Global;
 use std::test::Fail;
 use zipkin_json::{read_text, write_span};
@@ -16,7 +17,7 @@ const ROWS: [Row; 5] = [
     Row {
         name: "two spans that share an identifier",
         text: r#"[{"traceId":"463ac35c9f6413ad","id":"a2fb4a1d1a96d312","kind":"CLIENT"},{"traceId":"463ac35c9f6413ad","id":"A2FB4A1D1A96D312","kind":"SERVER","shared":true,"debug":false}]"#,
-        written: r#"[{"id":"a2fb4a1d1a96d312","kind":"CLIENT","traceId":"0000000000000000463ac35c9f6413ad"},{"id":"a2fb4a1d1a96d312","kind":"SERVER","shared":true,"traceId":"0000000000000000463ac35c9f6413ad"}]"#,
+        written: SHARED_SPANS,
     },
     Row {
         name: "every member",

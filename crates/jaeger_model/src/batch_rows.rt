@@ -22,7 +22,7 @@ use crate::rows::number_row;
 use crate::span::JSpan;
 use span_io::{Cause, Cursor, Halt, Items, once};
 use std::alloc::Global;
-use thrift_core::{Field, Protocol, TypeCode};
+use thrift_core::{Field, Parts, TypeCode};
 
 /// How many levels of containers are left in a struct that no other holds.
 const OUTER_LEVELS: u8 = 31;
@@ -38,7 +38,7 @@ pub(crate) struct BatchRows {
 
 impl BatchRows {
     // Nothing was read.
-    fn none<P: Protocol>() -> BatchRows
+    fn none<P: Parts>() -> BatchRows
         ensures { (left : ℕ) → GaveBatch P.spells left result [] }
     {
         BatchRows {
@@ -60,7 +60,7 @@ fn passed_row(row: &mut Option<()>) -> Result<(), Cause>
     Ok(())
 }
 
-impl<P: Protocol> Rows<P> for BatchRows {
+impl<P: Parts> Rows<P> for BatchRows {
     ghost use Rattle.jaeger_model.specs.Batches.{batch_table, batch_ends};
     ghost use Rattle.jaeger_model.specs.BatchSoFar.{GaveBatch};
 
@@ -94,7 +94,7 @@ impl<P: Protocol> Rows<P> for BatchRows {
 }
 
 // The batch of the rows.
-fn batch_of<P: Protocol>(rows: BatchRows) -> Result<Batch, Cause>
+fn batch_of<P: Parts>(rows: BatchRows) -> Result<Batch, Cause>
     ensures value { (left : ℕ) (items : List FieldItem) → GaveBatch P.spells left rows items
         → IfOk result (λ batch. IsBatch batch (fields_of items)) }
     ensures counted { (left : ℕ) (items : List FieldItem) → GaveBatch P.spells left rows items → IfOk result IsCountedBatch }
@@ -116,7 +116,7 @@ fn batch_of<P: Protocol>(rows: BatchRows) -> Result<Batch, Cause>
 }
 
 // Reads the rows of a batch, and makes it of them.
-fn read_rows_of<P: Protocol>(alloc: Global, unit: &[u8]) -> Result<Batch, Halt<Cause>>
+fn read_rows_of<P: Parts>(alloc: Global, unit: &[u8]) -> Result<Batch, Halt<Cause>>
     requires stands { (fields : Fields) × StructText P.spells outer_levels fields unit.now }
     ensures value { IfOk result (λ batch. IsBatchText P.spells batch unit.now) }
     ensures counted { IfOk result IsCountedBatch }
@@ -127,8 +127,8 @@ fn read_rows_of<P: Protocol>(alloc: Global, unit: &[u8]) -> Result<Batch, Halt<C
     Ok(batch_of::<P>(rows)?)
 }
 
-/// Reads a batch from the text of one struct, as `thrift_core::first_frame` finds it.
-pub fn read_batch<P: Protocol>(alloc: Global, unit: &[u8]) -> Result<Batch, Halt<Cause>>
+/// Reads a batch from the text of one struct, as a scanner of structs finds it.
+pub fn read_batch<P: Parts>(alloc: Global, unit: &[u8]) -> Result<Batch, Halt<Cause>>
     requires stands { (fields : Fields) × StructText P.spells outer_levels fields unit.now }
     ensures value { IfOk result (λ batch. IsBatchText P.spells batch unit.now) }
     ensures judged { Judges result (BatchOffends P.spells unit.now) }

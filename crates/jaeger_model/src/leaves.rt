@@ -6,10 +6,10 @@ ghost use Rattle.thrift_core.specs.Values.{BeginsValue};
 ghost use Rattle.thrift_core.specs.declared.field.ListHead.{ListHead};
 
 use span_io::Cursor;
-use thrift_core::{Field, ListHead, Protocol, bytes, skip};
+use thrift_core::{Field, ListHead, Parts, bytes, skip};
 
 /// The truth value, which the head of its field may hold already.
-pub fn sure_truth<P: Protocol>(c: &mut Cursor<'_>, held: Option<bool>) -> bool
+pub fn sure_truth<P: Parts>(c: &mut Cursor<'_>, held: Option<bool>) -> bool
     ensures stands { (b : Bool) (rest : List ℕ) → Begins P.spells (truth held) b c.old.rest rest
         → (result ≡ b) × (c.new.rest ≡ rest) }
     ensures shorter { length c.new.rest ≤ length c.old.rest }
@@ -18,7 +18,7 @@ pub fn sure_truth<P: Protocol>(c: &mut Cursor<'_>, held: Option<bool>) -> bool
 }
 
 /// The number of 32 bits.
-pub fn sure_int<P: Protocol>(c: &mut Cursor<'_>) -> i32
+pub fn sure_int<P: Parts>(c: &mut Cursor<'_>) -> i32
     ensures stands { (n : ℤ) (rest : List ℕ) → Begins P.spells int n c.old.rest rest → (result ≡ n) × (c.new.rest ≡ rest) }
     ensures shorter { length c.new.rest ≤ length c.old.rest }
 {
@@ -26,7 +26,7 @@ pub fn sure_int<P: Protocol>(c: &mut Cursor<'_>) -> i32
 }
 
 /// The number of 64 bits.
-pub fn sure_long<P: Protocol>(c: &mut Cursor<'_>) -> i64
+pub fn sure_long<P: Parts>(c: &mut Cursor<'_>) -> i64
     ensures stands { (n : ℤ) (rest : List ℕ) → Begins P.spells long n c.old.rest rest → (result ≡ n) × (c.new.rest ≡ rest) }
     ensures shorter { length c.new.rest ≤ length c.old.rest }
 {
@@ -34,7 +34,7 @@ pub fn sure_long<P: Protocol>(c: &mut Cursor<'_>) -> i64
 }
 
 /// The eight bytes of a double.
-pub fn sure_eight<P: Protocol>(c: &mut Cursor<'_>) -> [u8; 8]
+pub fn sure_eight<P: Parts>(c: &mut Cursor<'_>) -> [u8; 8]
     ensures stands { (held rest : List ℕ) → Begins P.spells eight held c.old.rest rest → (result ≡ held) × (c.new.rest ≡ rest) }
     ensures shorter { length c.new.rest ≤ length c.old.rest }
 {
@@ -42,7 +42,7 @@ pub fn sure_eight<P: Protocol>(c: &mut Cursor<'_>) -> [u8; 8]
 }
 
 /// The bytes of a binary, which are lent.
-pub fn sure_bytes<'a, P: Protocol>(c: &mut Cursor<'a>) -> &'a [u8]
+pub fn sure_bytes<'a, P: Parts>(c: &mut Cursor<'a>) -> &'a [u8]
     ensures stands { (held rest : List ℕ) → BinaryThen P.spells held c.old.rest rest → (result.now ≡ held) × (c.new.rest ≡ rest) }
     ensures shorter { length c.new.rest ≤ length c.old.rest }
 {
@@ -50,7 +50,7 @@ pub fn sure_bytes<'a, P: Protocol>(c: &mut Cursor<'a>) -> &'a [u8]
 }
 
 /// The head of a list.
-pub fn sure_list<P: Protocol>(c: &mut Cursor<'_>, left: u8) -> ListHead
+pub fn sure_list<P: Parts>(c: &mut Cursor<'_>, left: u8) -> ListHead
     ensures stands { (head : ListHead) (rest : List ℕ) → Begins P.spells (list_head left) head c.old.rest rest
         → (result ≡ head) × (c.new.rest ≡ rest) }
     ensures shorter { length c.new.rest ≤ length c.old.rest }
@@ -62,7 +62,7 @@ pub fn sure_list<P: Protocol>(c: &mut Cursor<'_>, left: u8) -> ListHead
 }
 
 /// Passes over the value of a field of this head.
-pub fn pass_over<P: Protocol>(c: &mut Cursor<'_>, found: Field, left: u8)
+pub fn pass_over<P: Parts>(c: &mut Cursor<'_>, found: Field, left: u8)
     requires levels { left ≤ outer_levels }
     ensures stands { (rest : List ℕ) → BeginsValue P.spells left found.kind found.held c.old.rest rest → c.new.rest ≡ rest }
     ensures shorter { length c.new.rest ≤ length c.old.rest }

@@ -14,10 +14,10 @@ ghost use Rattle.jaeger_model.specs.ListsSoFar.{AreElements, ListRowOffends, Lis
 use crate::leaves::sure_list;
 use span_io::{Cause, Cursor, Halt, Items, once};
 use std::alloc::Global;
-use thrift_core::{ListHead, Protocol, TypeCode};
+use thrift_core::{ListHead, Parts, TypeCode};
 
 /// What a list of structs holds, element by element.
-pub(crate) trait Element<P: Protocol>: Drop {
+pub(crate) trait Element<P: Parts>: Drop {
     // The fields of a struct are those of this element.
     ghost means: { Self → Fields → Type 0 };
     // How a struct offends in which so many levels are left.
@@ -37,7 +37,7 @@ pub(crate) trait Element<P: Protocol>: Drop {
 const ROOM: u32 = 32;
 
 // Reads so many elements, which are known to stand at the cursor.
-fn read_elements<P: Protocol, E: Element<P>>(
+fn read_elements<P: Parts, E: Element<P>>(
     alloc: Global,
     c: &mut Cursor<'_>,
     size: u32,
@@ -74,7 +74,7 @@ fn only_structs(head: ListHead) -> Result<(), Cause>
 }
 
 /// Reads the list of structs that is known to stand at the cursor, in a struct in which so many levels are left.
-pub(crate) fn read_list<P: Protocol, E: Element<P>>(
+pub(crate) fn read_list<P: Parts, E: Element<P>>(
     alloc: Global,
     c: &mut Cursor<'_>,
     left: u8,
@@ -95,7 +95,7 @@ pub(crate) fn read_list<P: Protocol, E: Element<P>>(
 }
 
 /// Sets a row that holds a list of structs.
-pub(crate) fn structures_row<P: Protocol, E: Element<P>>(
+pub(crate) fn structures_row<P: Parts, E: Element<P>>(
     alloc: Global,
     row: &mut Option<Items<E>>,
     c: &mut Cursor<'_>,
@@ -116,7 +116,7 @@ pub(crate) fn structures_row<P: Protocol, E: Element<P>>(
 }
 
 /// Sets a row that holds a struct.
-pub(crate) fn structure_row<P: Protocol, E: Element<P>>(
+pub(crate) fn structure_row<P: Parts, E: Element<P>>(
     alloc: Global,
     row: &mut Option<E>,
     c: &mut Cursor<'_>,

@@ -16,7 +16,7 @@ use crate::tag::Tag;
 use span_ids::Nanos;
 use span_io::{Cause, Cursor, Halt, Items};
 use std::alloc::Global;
-use thrift_core::{Field, Protocol, TypeCode};
+use thrift_core::{Field, Parts, TypeCode};
 
 /// What was gathered of a log so far.
 #[derive(Debug, Drop)]
@@ -27,7 +27,7 @@ pub(crate) struct LogRows {
 
 impl LogRows {
     // Nothing was read.
-    fn none<P: Protocol>() -> LogRows
+    fn none<P: Parts>() -> LogRows
         ensures { (left : ℕ) → GaveLog P.spells left result [] }
     {
         LogRows {
@@ -37,7 +37,7 @@ impl LogRows {
     }
 }
 
-impl<P: Protocol> Rows<P> for LogRows {
+impl<P: Parts> Rows<P> for LogRows {
     ghost use Rattle.jaeger_model.specs.Logs.{log_table, log_ends};
     ghost use Rattle.jaeger_model.specs.LogSoFar.{GaveLog};
 
@@ -66,7 +66,7 @@ impl<P: Protocol> Rows<P> for LogRows {
 }
 
 // The log of the rows.
-fn log_of<P: Protocol>(rows: LogRows) -> Result<Log, Cause>
+fn log_of<P: Parts>(rows: LogRows) -> Result<Log, Cause>
     ensures value { (left : ℕ) (items : List FieldItem) → GaveLog P.spells left rows items
         → IfOk result (λ log. IsLog log (fields_of items)) }
     ensures ended { (left : ℕ) (items : List FieldItem) → GaveLog P.spells left rows items
@@ -83,7 +83,7 @@ fn log_of<P: Protocol>(rows: LogRows) -> Result<Log, Cause>
 }
 
 /// Reads the log whose struct is known to stand at the cursor.
-pub(crate) fn read_log<P: Protocol>(
+pub(crate) fn read_log<P: Parts>(
     alloc: Global,
     c: &mut Cursor<'_>,
     left: u8,
@@ -99,7 +99,7 @@ pub(crate) fn read_log<P: Protocol>(
     Ok(log_of::<P>(rows)?)
 }
 
-impl<P: Protocol> Element<P> for Log {
+impl<P: Parts> Element<P> for Log {
     ghost use Rattle.jaeger_model.specs.Logs.{IsLog, log_rules};
 
     ghost means = { IsLog };

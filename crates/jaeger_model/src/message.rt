@@ -10,10 +10,10 @@ ghost use Rattle.jaeger_model.specs.RowsSoFar.{GatheredStruct};
 
 use span_io::{Cause, Cursor, Halt};
 use std::alloc::Global;
-use thrift_core::{Field, Protocol};
+use thrift_core::{Field, Parts};
 
 /// The rows of a struct in which so many levels of containers are left, as they are gathered field by field.
-pub trait Rows<P: Protocol>: Drop {
+pub trait Rows<P: Parts>: Drop {
     // The struct's table by these levels, and how the struct offends at its end.
     ghost table: { ℕ → List (Row FieldItem) };
 
@@ -38,7 +38,7 @@ pub trait Rows<P: Protocol>: Drop {
 }
 
 /// Gathers the rows of a struct that is known to stand at the cursor, from rows that gave nothing yet.
-pub fn read_rows<P: Protocol, R: Rows<P>>(
+pub fn read_rows<P: Parts, R: Rows<P>>(
     alloc: Global,
     first: R,
     c: &mut Cursor<'_>,

@@ -14,7 +14,7 @@ use crate::process::Process;
 use crate::tag::Tag;
 use span_io::{Cause, Cursor, Halt, Items, Text, text_row};
 use std::alloc::Global;
-use thrift_core::{Field, Protocol, TypeCode};
+use thrift_core::{Field, Parts, TypeCode};
 
 /// What was gathered of a process so far.
 #[derive(Debug, Drop)]
@@ -25,7 +25,7 @@ pub(crate) struct ProcessRows {
 
 impl ProcessRows {
     // Nothing was read.
-    fn none<P: Protocol>() -> ProcessRows
+    fn none<P: Parts>() -> ProcessRows
         ensures { (left : ℕ) → GaveProcess P.spells left result [] }
     {
         ProcessRows {
@@ -35,7 +35,7 @@ impl ProcessRows {
     }
 }
 
-impl<P: Protocol> Rows<P> for ProcessRows {
+impl<P: Parts> Rows<P> for ProcessRows {
     ghost use Rattle.jaeger_model.specs.Processes.{process_table, process_ends};
     ghost use Rattle.jaeger_model.specs.ProcessSoFar.{GaveProcess};
 
@@ -64,7 +64,7 @@ impl<P: Protocol> Rows<P> for ProcessRows {
 }
 
 // The process of the rows.
-fn process_of<P: Protocol>(alloc: Global, rows: ProcessRows) -> Result<Process, Cause>
+fn process_of<P: Parts>(alloc: Global, rows: ProcessRows) -> Result<Process, Cause>
     ensures value { (left : ℕ) (items : List FieldItem) → GaveProcess P.spells left rows items
         → IfOk result (λ process. IsProcess process (fields_of items)) }
     ensures ended { (left : ℕ) (items : List FieldItem) → GaveProcess P.spells left rows items
@@ -81,7 +81,7 @@ fn process_of<P: Protocol>(alloc: Global, rows: ProcessRows) -> Result<Process, 
 }
 
 /// Reads the process whose struct is known to stand at the cursor.
-pub(crate) fn read_process<P: Protocol>(
+pub(crate) fn read_process<P: Parts>(
     alloc: Global,
     c: &mut Cursor<'_>,
     left: u8,
@@ -97,7 +97,7 @@ pub(crate) fn read_process<P: Protocol>(
     Ok(process_of::<P>(alloc, rows)?)
 }
 
-impl<P: Protocol> Element<P> for Process {
+impl<P: Parts> Element<P> for Process {
     ghost use Rattle.jaeger_model.specs.Processes.{IsProcess, process_rules};
 
     ghost means = { IsProcess };

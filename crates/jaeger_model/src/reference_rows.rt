@@ -19,7 +19,7 @@ use crate::rows::number_row;
 use crate::span::SpanRef;
 use span_io::{Cause, Cursor, Halt, once};
 use std::alloc::Global;
-use thrift_core::{Field, Protocol, TypeCode};
+use thrift_core::{Field, Parts, TypeCode};
 
 /// What was gathered of a reference so far.
 #[derive(Debug, Drop)]
@@ -66,7 +66,7 @@ fn reference_type_row(row: &mut Option<bool>, held: i32) -> Result<(), Cause>
     Ok(())
 }
 
-impl<P: Protocol> Rows<P> for ReferenceRows {
+impl<P: Parts> Rows<P> for ReferenceRows {
     ghost use Rattle.jaeger_model.specs.References.{reference_table, reference_ends};
     ghost use Rattle.jaeger_model.specs.ReferenceSoFar.{GaveReference};
 
@@ -131,7 +131,7 @@ fn reference_of(rows: &ReferenceRows) -> Result<Option<SpanRef>, Cause>
 }
 
 /// Reads the reference whose struct is known to stand at the cursor, or None where it points to no span.
-pub(crate) fn read_reference<P: Protocol>(
+pub(crate) fn read_reference<P: Parts>(
     alloc: Global,
     c: &mut Cursor<'_>,
     left: u8,
@@ -147,7 +147,7 @@ pub(crate) fn read_reference<P: Protocol>(
     Ok(reference_of(&rows)?)
 }
 
-impl<P: Protocol> Element<P> for Option<SpanRef> {
+impl<P: Parts> Element<P> for Option<SpanRef> {
     ghost use Rattle.jaeger_model.specs.References.{IsSpanRef, reference_rules};
 
     ghost means = { IsSpanRef };

@@ -14,7 +14,7 @@ use crate::lists::read_list;
 use crate::span::SpanRef;
 use span_io::{Cause, Cursor, Halt, Items, OutOfMemory, once};
 use std::alloc::Global;
-use thrift_core::Protocol;
+use thrift_core::Parts;
 
 /// The references that point to a span, in their order, and the number of the others.
 #[derive(Debug, Drop)]
@@ -52,7 +52,7 @@ impl References {
 }
 
 /// Sets the row of the references.
-pub(crate) fn references_row<P: Protocol>(
+pub(crate) fn references_row<P: Parts>(
     alloc: Global,
     row: &mut Option<References>,
     c: &mut Cursor<'_>,

@@ -21,7 +21,7 @@ use crate::tag::Tag;
 use span_ids::Nanos;
 use span_io::{Cause, Cursor, Halt, Items, Text, text_row};
 use std::alloc::Global;
-use thrift_core::{Field, Protocol, TypeCode};
+use thrift_core::{Field, Parts, TypeCode};
 
 /// What was gathered of a span so far.
 #[derive(Debug, Drop)]
@@ -57,7 +57,7 @@ pub(crate) struct SpanParts {
 
 impl SpanRows {
     // Nothing was read.
-    fn none<P: Protocol>() -> SpanRows
+    fn none<P: Parts>() -> SpanRows
         ensures { (left : ℕ) → GaveJSpan P.spells left result [] }
     {
         SpanRows {
@@ -76,7 +76,7 @@ impl SpanRows {
     }
 }
 
-impl<P: Protocol> Rows<P> for SpanRows {
+impl<P: Parts> Rows<P> for SpanRows {
     ghost use Rattle.jaeger_model.specs.Spans.{jspan_table, jspan_ends};
     ghost use Rattle.jaeger_model.specs.SpanSoFar.{GaveJSpan};
 
@@ -114,7 +114,7 @@ impl<P: Protocol> Rows<P> for SpanRows {
 }
 
 // The parts of the rows.
-fn parts_of<P: Protocol>(alloc: Global, rows: SpanRows) -> Result<SpanParts, Cause>
+fn parts_of<P: Parts>(alloc: Global, rows: SpanRows) -> Result<SpanParts, Cause>
     ensures value { (left : ℕ) (items : List FieldItem) → GaveJSpan P.spells left rows items
         → IfOk result (λ parts. HasParts parts (fields_of items)) }
     ensures counted { (left : ℕ) (items : List FieldItem) → GaveJSpan P.spells left rows items → IfOk result HasCountedParts }
@@ -190,7 +190,7 @@ fn span_of_parts(parts: SpanParts) -> Result<JSpan, Cause>
 }
 
 // The span of the rows.
-fn span_of_rows<P: Protocol>(alloc: Global, rows: SpanRows) -> Result<JSpan, Cause>
+fn span_of_rows<P: Parts>(alloc: Global, rows: SpanRows) -> Result<JSpan, Cause>
     ensures value { (left : ℕ) (items : List FieldItem) → GaveJSpan P.spells left rows items
         → IfOk result (λ span. IsReadJSpan span (fields_of items)) }
     ensures ended { (left : ℕ) (items : List FieldItem) → GaveJSpan P.spells left rows items
@@ -203,7 +203,7 @@ fn span_of_rows<P: Protocol>(alloc: Global, rows: SpanRows) -> Result<JSpan, Cau
 }
 
 /// Reads the span whose struct is known to stand at the cursor.
-pub(crate) fn read_span<P: Protocol>(
+pub(crate) fn read_span<P: Parts>(
     alloc: Global,
     c: &mut Cursor<'_>,
     left: u8,
@@ -219,7 +219,7 @@ pub(crate) fn read_span<P: Protocol>(
     Ok(span_of_rows::<P>(alloc, rows)?)
 }
 
-impl<P: Protocol> Element<P> for JSpan {
+impl<P: Parts> Element<P> for JSpan {
     ghost use Rattle.jaeger_model.specs.Spans.{jspan_rules};
     ghost use Rattle.jaeger_model.specs.SpanSoFar.{IsReadJSpan};
 

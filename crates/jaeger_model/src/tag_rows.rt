@@ -17,7 +17,7 @@ use crate::rows::{bytes_row, double_row, number_row, truth_row};
 use crate::tag::{Tag, TagValue};
 use span_io::{Bytes, Cause, Cursor, Halt, Text, once, text_row};
 use std::alloc::Global;
-use thrift_core::{Field, Protocol, TypeCode};
+use thrift_core::{Field, Parts, TypeCode};
 
 /// What a tag holds (jaeger.thrift `TagType`).
 #[derive(Clone, Copy, Debug, PartialEq, Eq)]
@@ -83,7 +83,7 @@ fn tag_type_row(row: &mut Option<TagType>, held: i32) -> Result<(), Cause>
     Ok(())
 }
 
-impl<P: Protocol> Rows<P> for TagRows {
+impl<P: Parts> Rows<P> for TagRows {
     ghost use Rattle.jaeger_model.specs.Tags.{tag_table, tag_ends};
     ghost use Rattle.jaeger_model.specs.TagSoFar.{GaveTag};
 
@@ -171,7 +171,7 @@ fn tag_of(alloc: Global, rows: TagRows) -> Result<Tag, Cause>
 }
 
 /// Reads the tag whose struct is known to stand at the cursor.
-pub(crate) fn read_tag<P: Protocol>(
+pub(crate) fn read_tag<P: Parts>(
     alloc: Global,
     c: &mut Cursor<'_>,
     left: u8,
@@ -187,7 +187,7 @@ pub(crate) fn read_tag<P: Protocol>(
     Ok(tag_of(alloc, rows)?)
 }
 
-impl<P: Protocol> Element<P> for Tag {
+impl<P: Parts> Element<P> for Tag {
     ghost use Rattle.jaeger_model.specs.Tags.{IsTag, tag_rules};
 
     ghost means = { IsTag };

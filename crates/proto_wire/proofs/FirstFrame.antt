@@ -1,19 +1,17 @@
 -- Records keep what a wire format must, and what reading their first frame comes to.
-use Rattle.std.proofs.Common.{◌≡◌, ◌≢◌, ◌+◌, ◌*◌, ◌≤◌, ◌↔◌, ◌%◌, ◌++◌, inl, inr, ℕ, List, [], length, min, take, Option, Some, None, IfOk, IfSome, Result, Ok, Err, refl, ap, sym, ◌∙◌, subst, arith}
-use Rattle.std.proofs.lemmas.List.{length-append, length-take, append-nil, take-append-le, take_all, take_min, take-take}
+use Rattle.std.proofs.Common.{◌≡◌, ◌≢◌, ◌+◌, ◌*◌, ◌≤◌, ◌↔◌, ◌%◌, ◌++◌, inl, inr, ℕ, List, [], length, min, take, Option, Some, None, Result, Ok, Err, refl, ap, sym, ◌∙◌, subst, arith}
+use Rattle.std.proofs.lemmas.List.{length-append, append-nil, take_min}
 use Rattle.span_io.specs.declared.cause.Cause.{Cause}
 use Rattle.span_io.specs.declared.cause.Cause.TheVariants as causes
 use Rattle.span_io.specs.declared.step.Step.{Step}
 use Rattle.span_io.specs.declared.step.Step.TheVariants as steps
 use Rattle.span_io.specs.VarintLaws.{VarintLaws}
 use Rattle.span_io.specs.Varint.{SpellsVarint}
-use Rattle.span_io.specs.Frames.{EndsInVarint, IsRefused, BeginsFrame}
-use Rattle.span_io.specs.FramingLaws.{Place, is_open, is_begun, is_refused, FramingLaws, exact, item_first, first_item, item_size, refused_first, needs_more, too_long_first, of_front}
-use Rattle.proto_wire.specs.declared.record.Frame.{Frame}
-use Rattle.proto_wire.specs.Records.{Record, plain_record}
-use Rattle.proto_wire.specs.Wire.{SpellsRecord, BeginsRecord, IsOpenRecord, HoldsLengthPast, records, RefusedBy, FirstIs, NeedsMoreBytes, IsRefusedAs}
+use Rattle.span_io.specs.Frames.{EndsInVarint, IsRefused}
+use Rattle.span_io.specs.FramingLaws.{Place, is_open, is_begun, is_refused, FramingLaws, exact, item_first, refused_first, needs_more, too_long_first, of_front}
+use Rattle.proto_wire.specs.Records.{Record}
+use Rattle.proto_wire.specs.Wire.{BeginsRecord, IsOpenRecord, HoldsLengthPast, records, RefusedBy, FirstIs, NeedsMoreBytes, IsRefusedAs}
 use Rattle.proto_wire.specs.Reading.{record_at}
-use Rattle.proto_wire.specs.FirstFrames.{step_of, IsFirst}
 use Rattle.proto_wire.proofs.Payloads.{wire_cases}
 use Rattle.proto_wire.proofs.Spellings.{field_is, spelled_some, append_some, inside_read, overlong_read, bad_key_read}
 use Rattle.proto_wire.proofs.Refusals.{empty_proper, no_key, RecordIs, record_is, told, whole_read, record_fronts, overlong_has, bad_key_has}
@@ -29,18 +27,6 @@ no_varint text others n h e = append_some text others (spelled_some text n h) (s
 -- at most `limit` bytes are looked at
 pub looked_at : (size limit : ℕ) (bytes : List ℕ) → size ≡ min (length bytes) limit → take size bytes ≡ take limit bytes
 looked_at size limit bytes e = ap (λ n. take n bytes) (omega (arith, e)) ∙ take_min limit bytes
-
--- what stands at the front of them stands at the front of all
-pub first_of_all : (limit : ℕ) (bytes piece : List ℕ) → piece ≡ take limit bytes → (result : Result (Option Frame) Cause)
-    → IfOk result (λ next. IfSome next (λ frame. IsFirst limit frame piece)) → IfOk result (λ next. IfSome next (λ frame. IsFirst limit frame bytes))
-first_of_all limit bytes piece looked (Ok None) h = tt
-first_of_all limit bytes piece looked (Ok (Some frame)) h = record {
-  spelled = subst (λ l. SpellsRecord l (plain_record frame.record)) (ap (take frame.size) looked ∙ take-take frame.size limit bytes h.within) h.spelled;
-  some = h.some;
-  within = h.within;
-  there = omega (arith, h.there, ap length looked, length-take limit bytes);
-}
-first_of_all limit bytes piece looked (Err cause) h = tt
 
 module _ (L : VarintLaws) where
   not_inside : (text : List ℕ) → records.Whole text → EndsInVarint records text → ⊥
@@ -125,70 +111,26 @@ module _ (L : VarintLaws) where
         by_cause causes.BadWire other h = refused_first records RefusedBy record_laws limit (RefusedBy causes.BadWire) piece within (bad_key_has L piece h)
         by_cause cause other h = absurd h
 
-    module _ (frame : Frame) (rest : List ℕ) (place : frame.size + length rest ≡ length piece) (e : record_at piece ≡ Ok (Some (plain_record frame.record), rest)) where
-      begins : BeginsFrame records limit frame.size piece
-      begins =
-          let h : BeginsRecord (plain_record frame.record) piece rest = told L piece (Ok (Some (plain_record frame.record), rest)) e in
-          record {
-            text = h.text;
-            rest = rest;
-            whole = (plain_record frame.record, h.spelled);
-            parts = h.parts;
-            size = omega (arith, place, ap length h.parts, length-append h.text rest);
-            within = omega (arith, within, place);
-          }
-
-      pub unit_is : FirstIs limit piece (steps.Unit frame.size)
-      unit_is = item_first records RefusedBy record_laws limit frame.size piece begins
-
-      pub frame_is : IsFirst limit frame piece
-      frame_is =
-          let h : BeginsRecord (plain_record frame.record) piece rest = told L piece (Ok (Some (plain_record frame.record), rest)) e in
-          let size : frame.size ≡ length h.text = omega (arith, place, ap length h.parts, length-append h.text rest) in
-          let sizes = item_size records RefusedBy record_laws limit frame.size piece begins in
-          let text : h.text ≡ take frame.size piece = sym (ap (take frame.size) h.parts ∙ take-append-le frame.size h.text rest (omega (arith, size)) ∙ take_all frame.size h.text (omega (arith, size))) in
-          record {
-            spelled = subst (λ l. SpellsRecord l (plain_record frame.record)) text h.spelled;
-            some = sizes.0;
-            within = sizes.1;
-            there = sizes.2;
-          }
+    pub unit_is : (size : ℕ) (found : Record) (rest : List ℕ) → size + length rest ≡ length piece → record_at piece ≡ Ok (Some found, rest) → FirstIs limit piece (steps.Unit size)
+    unit_is size found rest place e =
+        let h : BeginsRecord found piece rest = told L piece (Ok (Some found, rest)) e in
+        item_first records RefusedBy record_laws limit size piece (record {
+          text = h.text;
+          rest = rest;
+          whole = (found, h.spelled);
+          parts = h.parts;
+          size = omega (arith, place, ap length h.parts, length-append h.text rest);
+          within = omega (arith, within, place);
+        })
 
   -- ---- what follows of an answer that is true
 
   module _ (limit : ℕ) (bytes piece : List ℕ) (looked : piece ≡ take limit bytes) (answer : Step) (front_is : FirstIs limit piece answer) where
-    is : FirstIs limit bytes answer
+    pub is : FirstIs limit bytes answer
     is = of_front records RefusedBy record_laws limit bytes answer (subst (λ l. FirstIs limit l answer) looked front_is)
 
     pub exactly : (step : Step) → (answer ≡ step) ↔ FirstIs limit bytes step
     exactly step = exact records RefusedBy record_laws limit bytes answer is step
 
-    pub frame_exactly : (n : ℕ) → (answer ≡ steps.Unit n) ↔ BeginsFrame records limit n bytes
-    frame_exactly n = (
-      λ e. first_item records RefusedBy record_laws limit n bytes ((exactly (steps.Unit n)).0 e),
-      λ h. (exactly (steps.Unit n)).1 (item_first records RefusedBy record_laws limit n bytes h),
-    )
-
-  -- the same of an answer with its record
-  module _ (limit : ℕ) (bytes piece : List ℕ) (looked : piece ≡ take limit bytes) (result : Result (Option Frame) Cause) (front_is : FirstIs limit piece (step_of result)) where
-    pub needs_exactly : (result ≡ Ok None) ↔ NeedsMoreBytes limit bytes
-    needs_exactly = (
-      λ e. (exactly limit bytes piece looked (step_of result) front_is steps.Need).0 (ap step_of e),
-      λ h. none_of result ((exactly limit bytes piece looked (step_of result) front_is steps.Need).1 h),
-    )
-      where
-        none_of : (r : Result (Option Frame) Cause) → step_of r ≡ steps.Need → r ≡ Ok None
-        none_of (Ok None) e = refl
-        none_of (Ok (Some frame)) e = cc
-        none_of (Err cause) e = cc
-
-    pub refused_exactly : (cause : Cause) → (result ≡ Err cause) ↔ IsRefusedAs limit bytes cause
-    refused_exactly cause = (
-      λ e. (exactly limit bytes piece looked (step_of result) front_is (steps.Refused cause)).0 (ap step_of e),
-      λ h. err_of result ((exactly limit bytes piece looked (step_of result) front_is (steps.Refused cause)).1 h),
-    )
-      where
-        err_of : (r : Result (Option Frame) Cause) → step_of r ≡ steps.Refused cause → r ≡ Err cause
-        err_of (Ok None) e = cc
-        err_of (Ok (Some frame)) e = cc
-        err_of (Err other) e = cc
+    pub needs_exactly : (answer ≡ steps.Need) ↔ NeedsMoreBytes limit bytes
+    needs_exactly = exactly steps.Need

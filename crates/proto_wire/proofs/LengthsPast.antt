@@ -46,10 +46,10 @@ pub record ReadsLengthPast (limit : ℕ) (text : List ℕ) : Type 0 where
   pub size_read : number_at behind ≡ Ok (size, others)
   pub past : limit - (length text - length others) < size
 
-abbrev Number : ℕ × List ℕ → Result (ℕ × List ℕ) Cause
+abbrev pub Number : ℕ × List ℕ → Result (ℕ × List ℕ) Cause
 Number x = Ok x
 
-same_number : (x y : ℕ × List ℕ) → Number x ≡ Number y → x ≡ y
+pub same_number : (x y : ℕ × List ℕ) → Number x ≡ Number y → x ≡ y
 same_number x y e = cc
 
 known_field : (key n : ℕ) → field_number key ≡ Ok n → IsFieldNumber (key / 8)

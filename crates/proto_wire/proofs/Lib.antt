@@ -1,4 +1,5 @@
 pub mod FirstFrame
+pub mod Heads
 pub mod LengthsPast
 pub mod LengthsSet
 pub mod Messages
@@ -6,6 +7,7 @@ pub mod NextClauses
 pub mod OffenceFormat
 pub mod OpenBytes
 pub mod Payloads
+pub mod Pushes
 pub mod Refusals
 pub mod Shortest
 pub mod Spellings

@@ -1,6 +1,6 @@
-pub mod FirstFrames
 pub mod Laws
 pub mod Messages
 pub mod Reading
 pub mod Records
+pub mod Scanners
 pub mod Wire

@@ -1,5 +1,6 @@
 //! Laws of the wire format, as contracts of functions that do nothing.
 ghost use Rattle.span_io.specs.Framings.{OneFraming, OneStep};
+ghost use Rattle.span_io.specs.Pieces.{PieceLaws};
 ghost use Rattle.proto_wire.specs.Laws.{OneWireReading, ShortestRecord, OpenWireFronts, MessageCuts};
 ghost use Rattle.proto_wire.specs.Wire.{records, RefusedBy};
 
@@ -38,6 +39,14 @@ pub fn one_framing()
 /// The empty bytes need more.
 pub fn one_step()
     ensures { OneStep records RefusedBy }
+{
+    span_io::laws::varint_readings();
+}
+
+/// What the bytes so far decide stays decided, and a record that needed more of them ends in what
+/// came then.
+pub fn pieces()
+    ensures { PieceLaws records RefusedBy }
 {
     span_io::laws::varint_readings();
 }

@@ -13,10 +13,3 @@ pub struct WireRecord<'a> {
     pub number: u32,
     pub payload: Payload<'a>,
 }
-
-/// A record at the front of some bytes, and how many of them it has.
-#[derive(Clone, Copy, Debug, PartialEq, Eq)]
-pub struct Frame<'a> {
-    pub size: usize,
-    pub record: WireRecord<'a>,
-}

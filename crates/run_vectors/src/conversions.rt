@@ -3,32 +3,25 @@ ghost use Rattle.std.specs.Prelude.{[]};
 ghost use Rattle.span_convert.specs.Converters.{Fed};
 ghost use Rattle.span_io.specs.Limits.{AreLimits};
 
-use span_convert::{Bad, Converter, Stop, Tally, Why, convert_all};
+use span_convert::{Bad, Converter, Stop, Tally, Why, Written, convert_all};
 use span_io::{Blob, Cause, Form, Items, Limits, MemSink, Refusal};
+use span_vectors::texts::{CUT_SPAN, LONG_NAME, LONGER_NAME, ONE_GROUP, ONE_SPAN};
 use std::alloc::Global;
 use std::test::Fail;
 
-// A group with one span: its two identifiers, and its name "a".
-const SMALL: [u8; 37] = [
-    0x0a, 0x23, 0x12, 0x21, 0x12, 0x1f, 0x0a, 0x10, 0x00, 0x00, 0x00, 0x00, 0x00, 0x00, 0x00, 0x00,
-    0x00, 0x00, 0x00, 0x00, 0x00, 0x00, 0x00, 0x01, 0x12, 0x08, 0x00, 0x00, 0x00, 0x00, 0x00, 0x00,
-    0x00, 0x02, 0x2a, 0x01, 0x61,
-];
+// What is told in a form by pieces. What is no JSON is in hexadecimal.
+fn joined_in(alloc: Global, form: Form, pieces: &[&str]) -> Result<Blob, Fail> {
+    let mut bytes = Blob::new(alloc);
+    for piece in pieces {
+        match form {
+            Form::OtlpJson | Form::ZipkinJson => bytes.append(piece.as_bytes())?,
+            _ => bytes.append(hex::decode(alloc, piece)?.as_slice())?,
+        }
+    }
+    Ok(bytes)
+}
 
-// The same twice, without the last byte.
-const CUT: &[u8] =
-    b"\x0a#\x12!\x12\x1f\x0a\x10\0\0\0\0\0\0\0\0\0\0\0\0\0\0\0\x01\x12\x08\0\0\0\0\0\0\0\x02*\x01a\x0a#\x12!\x12\x1f\x0a\x10\0\0\0\0\0\0\0\0\0\0\0\0\0\0\0\x01\x12\x08\0\0\0\0\0\0\0\x02*\x01";
-
-// A group with one span whose name has 28 letters: 64 bytes.
-const NAMED: &[u8] =
-    b"\x0a>\x12<\x12:\x0a\x10\0\0\0\0\0\0\0\0\0\0\0\0\0\0\0\x01\x12\x08\0\0\0\0\0\0\0\x02*\x1caaaaaaaaaaaaaaaaaaaaaaaaaaaa";
-
-// The same with 29 letters.
-const LONGER: &[u8] =
-    b"\x0a?\x12=\x12;\x0a\x10\0\0\0\0\0\0\0\0\0\0\0\0\0\0\0\x01\x12\x08\0\0\0\0\0\0\0\x02*\x1daaaaaaaaaaaaaaaaaaaaaaaaaaaaa";
-
-const DOCUMENT: &[u8] =
-    b"{\"resourceSpans\":[{\"scopeSpans\":[{\"spans\":[{\"name\":\"a\",\"spanId\":\"0000000000000002\",\"traceId\":\"00000000000000000000000000000001\"}]}]}]}";
+const TO_REQUEST: Written = Written::Form(Form::OtlpProto);
 
 fn refusal_of(converter: &Converter) -> Option<Refusal> {
     match converter.why() {
@@ -40,7 +33,7 @@ fn refusal_of(converter: &Converter) -> Option<Refusal> {
 fn proto_converter(alloc: Global) -> Converter
     ensures { Fed result [] }
 {
-    Converter::new(alloc, Form::OtlpProto, Form::OtlpProto, &Limits::shipped())
+    Converter::new(alloc, Form::OtlpProto, TO_REQUEST, &Limits::shipped())
 }
 
 // What is answered for an input that is fed as one piece. A refusal is told where there is one.
@@ -53,6 +46,9 @@ fn converted(
 {
     if converter.feed(input, out).is_err() {
         return Err(refusal_of(&converter));
+    }
+    if converter.ended() {
+        return Err(None);
     }
     match converter.finish(out) {
         Ok(tally) => Ok(tally),
@@ -94,66 +90,75 @@ fn limits_of(lowered: Lowered) -> Limits
     limits
 }
 
-// An input under limits, what is written of it, and the unit and cause of its refusal.
+// An input under limits, what is written of it as a request, and the unit and cause of its refusal.
 type LimitRow = (
     Form,
-    &'static [u8],
+    &'static [&'static str],
     Lowered,
-    &'static [u8],
+    &'static str,
     Option<(u64, Cause)>,
 );
 
 const LIMITED: [LimitRow; 7] = [
-    (Form::OtlpProto, &SMALL, Lowered::None, &SMALL, None),
+    (Form::OtlpProto, &[ONE_SPAN], Lowered::None, ONE_SPAN, None),
     (
         Form::OtlpProto,
-        CUT,
+        &[ONE_SPAN, CUT_SPAN],
         Lowered::None,
-        &SMALL,
+        ONE_SPAN,
         Some((2, Cause::Truncated)),
     ),
     (
         Form::OtlpProto,
-        CUT,
+        &[ONE_SPAN, CUT_SPAN],
         Lowered::Binary,
-        &SMALL,
+        ONE_SPAN,
         Some((2, Cause::InputTooLong)),
     ),
-    (Form::OtlpProto, NAMED, Lowered::Unit, NAMED, None),
     (
         Form::OtlpProto,
-        LONGER,
+        &[LONG_NAME],
         Lowered::Unit,
-        b"",
+        LONG_NAME,
+        None,
+    ),
+    (
+        Form::OtlpProto,
+        &[LONGER_NAME],
+        Lowered::Unit,
+        "",
         Some((1, Cause::UnitTooLong)),
     ),
     (
         Form::OtlpJson,
-        DOCUMENT,
+        &[ONE_GROUP],
         Lowered::LongJson,
-        b"",
+        "",
         Some((0, Cause::InputTooLong)),
     ),
     (
         Form::ZipkinJson,
-        b"[ ]",
+        &["[ ]"],
         Lowered::ShortJson,
-        b"",
+        "",
         Some((0, Cause::InputTooLong)),
     ),
 ];
 
 #[test]
 fn keeps_limits(rt: HostRuntime) -> Result<(), Fail> {
-    for (form, input, lowered, written, found) in LIMITED {
+    for (form, pieces, lowered, told, found) in LIMITED {
         let limits = limits_of(lowered);
+        let input = joined_in(rt.alloc(), form, pieces)?;
+        let written = joined_in(rt.alloc(), Form::OtlpProto, &[told])?;
         let refusal = found.map(|(unit, cause)| Refusal { unit, cause });
         let mut out = MemSink::new(rt.alloc(), 100, Items::new(rt.alloc()))?;
-        let converter = Converter::new(rt.alloc(), form, Form::OtlpProto, &limits);
-        let answer = converted(converter, input, &mut out);
+        let converter = Converter::new(rt.alloc(), form, TO_REQUEST, &limits);
+        let answer = converted(converter, input.as_slice(), &mut out);
         assert_eq!(rt; answer.err().flatten(), refusal);
-        assert_eq!(rt; out.bytes(), written);
-        assert_eq!(rt; refused_at_once(rt.alloc(), form, input, &limits), refusal);
+        assert_eq!(rt; out.bytes(), written.as_slice());
+        let at_once = refused_at_once(rt.alloc(), form, input.as_slice(), &limits);
+        assert_eq!(rt; at_once, refusal);
     }
     Ok(())
 }
@@ -266,13 +271,11 @@ fn stays_stopped(rt: HostRuntime) -> Result<(), Fail> {
     let mut out = MemSink::new(rt.alloc(), 40, Items::new(rt.alloc()))?;
     let mut converter = proto_converter(rt.alloc());
     let fed = converter.feed(&[0x0a, 0, 0x0b], &mut out);
-    assert_eq!(rt; fed, Ok(()));
-    let Err(stop) = converter.finish(&mut out) else {
-        panic!(rt; "not refused");
-    };
-    assert_eq!(rt; stop, Stop::Refused);
+    assert_eq!(rt; fed, Err(Stop::Refused));
     assert_eq!(rt; converter.finish(&mut out), Err(Stop::Refused));
-    assert_eq!(rt; converter.feed(&SMALL, &mut out), Err(Stop::Refused));
+    let more = joined_in(rt.alloc(), Form::OtlpProto, &[ONE_SPAN])?;
+    let fed = converter.feed(more.as_slice(), &mut out);
+    assert_eq!(rt; fed, Err(Stop::Refused));
     assert_eq!(rt;
         refusal_of(&converter),
         Some(Refusal {

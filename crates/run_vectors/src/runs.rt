@@ -19,6 +19,7 @@ mod headers_multi;
 mod headers_states;
 mod headers_stops;
 mod headers_stops_b3;
+mod joined;
 mod long;
 mod losses;
 mod reports;
@@ -27,6 +28,7 @@ mod servings;
 mod spans;
 mod spans_stops;
 mod texts;
+mod there_and_back;
 mod to_groups;
 mod to_spans;
 mod trace;
@@ -34,6 +36,7 @@ mod trace;
 use devices::{CASES, Case, Fails, HEADER_CASES, LOSS_CASES, NO_FAILS, REPORT_CASES, UNREADABLE};
 use documents::{DOCUMENTS, Documents};
 use gauges::{GAUGES, Unread};
+use joined::{JOINED, Joined};
 use servings::{SERVINGS, Serving};
 use span_cli::run;
 use span_io::{Blob, Door, Items, MemDoor, MemDuplex, MemSink, MemSource, Text};
@@ -177,6 +180,18 @@ fn bytes_in(alloc: Global, form: &str, told: &str) -> Result<Blob, Fail> {
     Ok(blob)
 }
 
+// What a row tells in a form by pieces. Lines have no form.
+fn joined_in(alloc: Global, form: Option<&str>, pieces: &[&str]) -> Result<Blob, Fail> {
+    let mut blob = Blob::new(alloc);
+    for piece in pieces {
+        match form {
+            Some(form) => blob.append(bytes_in(alloc, form, piece)?.as_slice())?,
+            None => blob.append(piece.as_bytes())?,
+        }
+    }
+    Ok(blob)
+}
+
 fn calls(alloc: Global, listed: &[u64]) -> Result<Items<u64>, Fail> {
     let mut items = Items::new(alloc);
     for call in listed {
@@ -295,6 +310,32 @@ fn stops(rt: HostRuntime) -> Result<(), Fail> {
         for row in rows {
             expect_stop(&rt, rt.alloc(), row)?;
         }
+    }
+    Ok(())
+}
+
+// Runs the words of a row on its units, in pieces of each size, and looks at each answer.
+fn expect_joined(rt: &impl Abort, alloc: Global, row: &Joined) -> Result<(), Fail> {
+    let output = joined_in(alloc, row.to, row.outputs)?;
+    for cut in CUTS {
+        let input = joined_in(alloc, Some(row.from), row.inputs)?;
+        let answer = run_cut(alloc, row.words, input, cut, NO_FAILS)?;
+        expect_answer(
+            rt,
+            row.name,
+            &answer,
+            row.status,
+            output.as_slice(),
+            row.note,
+        );
+    }
+    Ok(())
+}
+
+#[test]
+fn takes_units_one_by_one(rt: HostRuntime) -> Result<(), Fail> {
+    for row in &JOINED {
+        expect_joined(&rt, rt.alloc(), row)?;
     }
     Ok(())
 }

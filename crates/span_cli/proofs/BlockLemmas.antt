@@ -1,17 +1,11 @@
 -- A block of header lines, read piece by piece.
-use Rattle.std.proofs.Common.{◌≡◌, ◌≤◌, ◌<◌, ℕ, List, [], ◌++◌, length, Option, Some, None, refl, sym, subst, ◌∙◌, arith, length-append}
+use Rattle.std.proofs.Common.{◌≡◌, ◌≤◌, ◌<◌, ℕ, List, [], ◌++◌, length, refl, subst, ◌∙◌, arith, length-append}
 use Rattle.std.specs.Prelude.{IsTrue}
 use Rattle.std.specs.Io.KnownBytes.{Consumes, IsAtEnd, Keeps}
 use Rattle.span_io.specs.Outside.{Inlet, InputFails, NoReadInVain, Rose}
 use Rattle.span_cli.specs.Inputs.{IsReadWhole, BlockHalts, header_limit, piece}
 use Rattle.span_cli.specs.declared.ending.Ending.TheVariants as endings
-use Rattle.span_cli.proofs.InputLemmas.{Consumes-then, Reading, Reading-end, Reading-start}
-
-gave_kept : (before here now : Option (List ℕ)) (given : List ℕ) → Consumes before here given → Keeps here now → Consumes before now given
-gave_kept None here now given gave kept = tt
-gave_kept (Some xs) None now given gave kept = absurd gave
-gave_kept (Some xs) (Some ys) None given gave kept = absurd kept
-gave_kept (Some xs) (Some ys) (Some zs) given gave kept = subst (λ (l : List ℕ). xs ≡ given ++ l) (sym kept) gave
+use Rattle.span_cli.proofs.InputLemmas.{Consumes-then, Reading, Reading-end, Reading-start, gave_kept}
 
 module _ (before here now : Inlet) (block : List ℕ) (reading : Reading before here block) (within : length block ≤ header_limit) where
   -- a read failed

@@ -1,33 +1,38 @@
 -- Each way for a conversion or a report to end.
-use Rattle.std.proofs.Common.{◌≡◌, ◌≢◌, ◌≤◌, ◌<◌, ◌⊎◌, ℕ, List, [], length, Option, Some, None, Ok, Err, refl, sym, ap, subst, ◌∙◌, inl, inr, arith, append-nil}
-use Rattle.std.specs.Prelude.{IfSome, Result}
-use Rattle.std.proofs.lemmas.Bool.{cases_lt}
+use Rattle.std.proofs.Common.{◌≡◌, ◌≢◌, ◌⊎◌, ℕ, Bool, List, [], Option, Some, None, Ok, Err, refl, sym, ap, subst, ◌∙◌, inl, inr, arith, append-nil}
+use Rattle.std.specs.Io.KnownBytes.{Keeps}
+use Rattle.std.specs.Prelude.{IfSome, IsTrue, Result}
+use Rattle.span_io.specs.Frames.{AreBytes}
 use Rattle.span_io.specs.Limits.{shipped_limits}
-use Rattle.span_io.specs.Outside.{Inlet, Outlet, Gains, GainsFront, NoReadInVain, OutputFails, OutputHolds, FailsWithin}
+use Rattle.span_io.specs.Outside.{Inlet, Outlet, Gains, GainsFront, GainLaws, InputFails, IsFront, NoReadInVain, OutputFails, OutputHolds, FailsWithin, Rose}
 use Rattle.span_io.specs.declared.form.Form.{Form}
 use Rattle.span_io.specs.declared.limits.Limits.{Limits}
 use Rattle.span_io.specs.declared.refusal.Refusal.{Refusal}
-use Rattle.span_convert.specs.Converters.{KeepsWhy, OnlyWants, stop_in, refusal_in, fault_in}
-use Rattle.span_convert.specs.Units.{input_limit}
-use Rattle.span_convert.specs.Reports.{IsVerdictAs, IsJudgedAs, WritesFrontAs}
-use Rattle.span_convert.specs.Verdicts.{Verdict, good, refused, faulted, Stops, Ends}
+use Rattle.span_convert.specs.Converters.{KeepsWhy, stop_in, refusal_in, fault_in}
+use Rattle.span_convert.specs.Outlooks.{IfDocument, IsOutlookAs, EndsFrom, StopsFrom, WritesFrontFrom}
+use Rattle.span_convert.specs.Reports.{IsVerdictAs, IsJudgedAs, written_target}
+use Rattle.span_convert.specs.Units.{input_form}
+use Rattle.span_convert.specs.Verdicts.{Verdict, good, refused, faulted, Stops, Ends, verdict_text}
+use Rattle.span_convert.specs.Walks.{WritesWhole}
 use Rattle.span_convert.specs.declared.converter.State.{State}
 use Rattle.span_convert.specs.declared.converter.State.TheVariants as states
+use Rattle.span_convert.specs.declared.converter.Walker.{Walker}
 use Rattle.span_convert.specs.declared.stop.Stop.{Stop}
 use Rattle.span_convert.specs.declared.stop.Stop.TheVariants as stops
 use Rattle.span_convert.specs.declared.tally.Tally.{Tally}
 use Rattle.span_convert.specs.declared.target_fault.TargetFault.{TargetFault}
 use Rattle.span_convert.specs.declared.written.Written.{Written}
-use Rattle.span_cli.specs.Inputs.{GaveInput, ReadsInput, IsAllRead}
+use Rattle.span_cli.specs.Inputs.{GaveInput, ReadsInput, IsAllRead, WritesUnits}
 use Rattle.span_cli.specs.Jobs.{Spans}
 use Rattle.span_cli.specs.Lines.{said, refusal_line, fault_line, noted_line}
 use Rattle.span_cli.specs.Outcomes.{Outcome, OnOutcome, IsJudgedAt, verdict_outcome}
-use Rattle.span_cli.specs.Runs.{IsEndingAt, EndsRun}
+use Rattle.span_cli.specs.Runs.{IsEndingAt, EndsRun, WritesAllUnits, WritesWholeUnits}
 use Rattle.span_cli.specs.declared.ending.Ending.{Ending}
 use Rattle.span_cli.specs.declared.ending.Ending.TheVariants as endings
 use Rattle.span_cli.specs.declared.noted_fault.NotedFault.{NotedFault}
-use Rattle.span_cli.proofs.EndingLaws.{RunCourse, SaidBy, all_told, ends_no_memory, ends_output_failed, ends_said, unlike, wants}
-use Rattle.span_cli.proofs.FrontVerdicts.{judged_told, verdict_told}
+use Rattle.span_cli.proofs.EndingLaws.{RunCourse, SaidBy, all_told, ends_input_failed, ends_output_failed, ends_said, unlike, wants}
+use Rattle.span_cli.proofs.InputLemmas.{Feeding, FeedSays, gave_kept, given_within}
+use Rattle.span_cli.proofs.WrittenSoFar.{Begins, Lasts, OneVerdict, SomeOutlook, ends_on, feed_kept, front_of_units, judged_whole, shipped_valid, stops_kept, stops_whole, told_behind}
 
 -- ---- verdicts and outcomes
 
@@ -115,54 +120,28 @@ line_whole (faulted why text) counts before now s = absurd s
 front_faulted : (verdict : Verdict) (before now : Outlet) → Stops verdict stops.Faulted before now → GainsFront before now (verdict_outcome verdict).text
 front_faulted verdict before now s = record { front = (verdict_outcome verdict).text; is_front = ([], sym (append-nil (verdict_outcome verdict).text)); gains = gains_faulted verdict before now s }
 
--- ---- devices
+-- ---- ends
 
--- what a feed of a converter that was fed these bytes says where it stopped
-pub record StopsFeed {K : Type 0} (outlet : K → Outlet) (from : Form) (what : Written) (limits : Limits) (fed : List ℕ) (stop : Stop) (state : State) (old new : K) : Type 0 where
-  pub kept : length fed ≤ input_limit from limits → OnlyWants {T = Unit} (Err stop) × (new ≡ old)
-  pub beyond : input_limit from limits < length fed → IsJudgedAs {T = Unit} from what limits fed (Err stop)
-  pub carried : input_limit from limits < length fed → (v : Verdict) → IsVerdictAs from what limits fed v → Stops v stop (outlet old) (outlet new) × KeepsWhy v state
-  pub front : WritesFrontAs from what limits fed (outlet old) (outlet new)
-  pub fails : stop ≡ stops.Write → OutputFails (outlet old) (outlet new)
-  pub holds : stop ≢ stops.Write → OutputHolds (outlet old) (outlet new)
-
--- the same by equal forms and limits
-pub same_feed : {K : Type 0} (outlet : K → Outlet) (from from' : Form) (what what' : Written) (limits limits' : Limits) (fed : List ℕ) (stop : Stop) (state : State) (old new : K) → from ≡ from' → what ≡ what' → limits ≡ limits'
-    → StopsFeed outlet from what limits fed stop state old new → StopsFeed outlet from' what' limits' fed stop state old new
-same_feed outlet from from' what what' limits limits' fed stop state old new e f l feed =
-    subst (λ (x : Limits). StopsFeed outlet from' what' x fed stop state old new) l (
-    subst (λ (x : Written). StopsFeed outlet from' x limits fed stop state old new) f (subst (λ (x : Form). StopsFeed outlet x what limits fed stop state old new) e feed))
-
--- what the end of a converter that was fed these bytes says where it stopped
-pub record StopsFinish {K : Type 0} (outlet : K → Outlet) (from : Form) (what : Written) (limits : Limits) (fed : List ℕ) (stop : Stop) (state : State) (old new : K) : Type 0 where
+-- what the end of a converter says that was fed these bytes, where it stopped
+pub record StopsFinish {K : Type 0} (outlet : K → Outlet) (fed : List ℕ) (stop : Stop) (state : State) (old new : K) (from : Form) (what : Written) (limits : Limits) : Type 0 where
   pub judged : IsJudgedAs {T = Tally} from what limits fed (Err stop)
-  pub carried : (v : Verdict) → IsVerdictAs from what limits fed v → Stops v stop (outlet old) (outlet new) × KeepsWhy v state
-  pub front : WritesFrontAs from what limits fed (outlet old) (outlet new)
+  pub carried : (said : List ℕ) (tally : Tally) → IsOutlookAs from what limits fed (good said tally)
+      → (v : Verdict) → IsVerdictAs from what limits fed v → StopsFrom said v stop (outlet old) (outlet new) × KeepsWhy v state
+  pub front : (said : List ℕ) (tally : Tally) → IsOutlookAs from what limits fed (good said tally)
+      → WritesFrontFrom (input_form from) (written_target what) limits fed said (outlet old) (outlet new)
   pub fails : stop ≡ stops.Write → OutputFails (outlet old) (outlet new)
   pub holds : stop ≢ stops.Write → OutputHolds (outlet old) (outlet new)
 
--- the same by equal forms, limits and output
-pub same_finish : {K : Type 0} (outlet : K → Outlet) (from from' : Form) (what what' : Written) (limits limits' : Limits) (fed : List ℕ) (stop : Stop) (state : State) (old old' new : K) → from ≡ from' → what ≡ what' → limits ≡ limits' → old ≡ old'
-    → StopsFinish outlet from what limits fed stop state old new → StopsFinish outlet from' what' limits' fed stop state old' new
-same_finish outlet from from' what what' limits limits' fed stop state old old' new e f l o end =
-    subst (λ k. StopsFinish outlet from' what' limits' fed stop state k new) o (
-    subst (λ (x : Limits). StopsFinish outlet from' what' x fed stop state old new) l (
-    subst (λ (x : Written). StopsFinish outlet from' x limits fed stop state old new) f (subst (λ (x : Form). StopsFinish outlet x what limits fed stop state old new) e end)))
-
--- what the end of a converter that was fed these bytes says where it came to the end
-pub record WholeFinish {K : Type 0} (outlet : K → Outlet) (from : Form) (what : Written) (limits : Limits) (fed : List ℕ) (counts : Tally) (old new : K) : Type 0 where
+-- where it came to the end
+pub record WholeFinish {K : Type 0} (outlet : K → Outlet) (fed : List ℕ) (counts : Tally) (old new : K) (from : Form) (what : Written) (limits : Limits) : Type 0 where
   pub judged : IsJudgedAs from what limits fed (Ok counts)
-  pub carried : (v : Verdict) → IsVerdictAs from what limits fed v → Ends v counts (outlet old) (outlet new)
-  pub front : WritesFrontAs from what limits fed (outlet old) (outlet new)
+  pub carried : (said : List ℕ) (tally : Tally) → IsOutlookAs from what limits fed (good said tally)
+      → (v : Verdict) → IsVerdictAs from what limits fed v → EndsFrom said v counts (outlet old) (outlet new)
+  pub whole : (said : List ℕ) (tally : Tally) → IsOutlookAs from what limits fed (good said tally)
+      → WritesWhole (input_form from) (written_target what) limits fed counts said (outlet old) (outlet new)
+  pub front : (said : List ℕ) (tally : Tally) → IsOutlookAs from what limits fed (good said tally)
+      → WritesFrontFrom (input_form from) (written_target what) limits fed said (outlet old) (outlet new)
   pub holds : OutputHolds (outlet old) (outlet new)
-
--- the same by equal forms, limits and output
-pub same_whole : {K : Type 0} (outlet : K → Outlet) (from from' : Form) (what what' : Written) (limits limits' : Limits) (fed : List ℕ) (counts : Tally) (old old' new : K) → from ≡ from' → what ≡ what' → limits ≡ limits' → old ≡ old'
-    → WholeFinish outlet from what limits fed counts old new → WholeFinish outlet from' what' limits' fed counts old' new
-same_whole outlet from from' what what' limits limits' fed counts old old' new e f l o end =
-    subst (λ k. WholeFinish outlet from' what' limits' fed counts k new) o (
-    subst (λ (x : Limits). WholeFinish outlet from' what' x fed counts old new) l (
-    subst (λ (x : Written). WholeFinish outlet from' x limits fed counts old new) f (subst (λ (x : Form). WholeFinish outlet x what limits fed counts old new) e end)))
 
 -- a stop that is answered is one
 pub stop_of : {T : Type 0} (a b : Stop) → ◌≡◌ {A = Result T Stop} (Err a) (Err b) → a ≡ b
@@ -184,7 +163,8 @@ module _ {K : Type 0} (outlet : K → Outlet) (from : Form) (what : Written) (be
   ends_refused : (refusal : Refusal) → Course → now.faults ≡ before.faults → OutputHolds (outlet old) (outlet new) → IfSome before.left (λ bytes. IsJudgedAs {T = Unit} from what shipped_limits bytes (Err stops.Refused))
       → OnVerdict from what before.left (λ v. Stops v stops.Refused (outlet old) (outlet new) × KeepsWhy v (states.Refused refusal)) → EndsRun outlet (Spans from what) (endings.Refused refusal) before now old new
   ends_refused refusal course still holds judged on =
-      ends_said outlet (Spans from what) before now old new (endings.Refused refusal) refl (unlike 3 5 (inl (omega arith))) (unlike 3 6 (inl (omega arith))) (λ e. absurd (unlike 3 0 (inr (omega arith)) e)) course still holds
+      ends_said outlet (Spans from what) before now old new (endings.Refused refusal) refl (unlike 3 5 (inl (omega arith))) (unlike 3 6 (inl (omega arith))) (λ e. absurd (unlike 3 0 (inr (omega arith)) e))
+      (λ e. absurd (unlike 3 0 (inr (omega arith)) e)) course still holds
       (judged_outcome from what before.left judged)
       (on_verdict from what before.left _ (SaidBy outlet (Spans from what) before now old new (endings.Refused refusal)) (λ v carried. record {
         agrees = agrees_refused v (outlet old) (outlet new) carried.0;
@@ -195,7 +175,8 @@ module _ {K : Type 0} (outlet : K → Outlet) (from : Form) (what : Written) (be
   ends_faulted : (noted : NotedFault) (found : TargetFault) → noted_line noted ≡ fault_line found → Course → now.faults ≡ before.faults → OutputHolds (outlet old) (outlet new) → IfSome before.left (λ bytes. IsJudgedAs {T = Unit} from what shipped_limits bytes (Err stops.Faulted))
       → OnVerdict from what before.left (λ v. Stops v stops.Faulted (outlet old) (outlet new) × KeepsWhy v (states.Faulted found)) → EndsRun outlet (Spans from what) (endings.Faulted noted) before now old new
   ends_faulted noted found says course still holds judged on =
-      ends_said outlet (Spans from what) before now old new (endings.Faulted noted) refl (unlike 4 5 (inl (omega arith))) (unlike 4 6 (inl (omega arith))) (λ e. absurd (unlike 4 0 (inr (omega arith)) e)) course still holds
+      ends_said outlet (Spans from what) before now old new (endings.Faulted noted) refl (unlike 4 5 (inl (omega arith))) (unlike 4 6 (inl (omega arith))) (λ e. absurd (unlike 4 0 (inr (omega arith)) e))
+      (λ e. absurd (unlike 4 0 (inr (omega arith)) e)) course still holds
       (judged_outcome from what before.left judged)
       (on_verdict from what before.left _ (SaidBy outlet (Spans from what) before now old new (endings.Faulted noted)) (λ v carried. record {
         agrees = agrees_faulted v (outlet old) (outlet new) carried.0;
@@ -243,72 +224,103 @@ module _ {K : Type 0} (outlet : K → Outlet) (from : Form) (what : Written) (be
       wants outlet (Spans from what) before now old new there.devices.course there.devices.still (there.devices.holds (λ e. absurd (cc)))
       (on_verdict from what before.left _ (λ o. GainsFront (outlet old) (outlet new) o.text) (λ v carried. stops_wanting v (outlet old) (outlet new) carried.0) there.carried)
 
-  wanting : (ending : Ending) (stop : Stop) (state : State) → IsEndingAt ending stop state → StopsDevices stop → OnlyWants {T = Unit} (Err stop) → new ≡ old → EndsRun outlet (Spans from what) ending before now old new
-  wanting ending stops.Refused state at devices only same = absurd only
-  wanting ending stops.Faulted state at devices only same = absurd only
-  wanting ending stops.Write state at devices only same = absurd only
-  wanting endings.Whole stops.OutOfMemory state at devices only same = absurd at
-  wanting (endings.Refused refusal) stops.OutOfMemory state (stopped, kept) devices only same = absurd (cc)
-  wanting (endings.Faulted noted) stops.OutOfMemory state at devices only same = absurd (let e : stops.OutOfMemory ≡ stops.Faulted = at.stopped in cc)
-  wanting (endings.BadHeaders cause) stops.OutOfMemory state at devices only same = absurd at
-  wanting endings.TooLong stops.OutOfMemory state at devices only same = absurd at
-  wanting endings.NoIds stops.OutOfMemory state at devices only same = absurd at
-  wanting endings.InputFailed stops.OutOfMemory state at devices only same = absurd at
-  wanting endings.OutputFailed stops.OutOfMemory state at devices only same = absurd (cc)
-  wanting endings.NoMemory stops.OutOfMemory state at devices only same = ends_no_memory outlet (Spans from what) before now old new devices.course devices.still same
+  -- ---- a source that failed
 
-  -- A feed that stopped: within the limit for want of memory alone, and beyond it by the verdict.
-  pub ends_at_feed : (fed : List ℕ) (ending : Ending) (stop : Stop) (state : State) → GaveInput before now fed → IsEndingAt ending stop state → ReadsInput (Spans from what) before now → NoReadInVain before now → now.faults ≡ before.faults
-      → StopsFeed outlet from what shipped_limits fed stop state old new → EndsRun outlet (Spans from what) ending before now old new
-  ends_at_feed fed ending stop state gave at reads in_vain still feed = by_length (cases_lt (input_limit from shipped_limits) (length fed))
-    where
-      devices : StopsDevices stop
-      devices = record {
-        course = record { reads = reads; in_vain = in_vain; front = record { given = fed; gave = gave; front = feed.front } };
-        still = still;
-        fails = feed.fails;
-        holds = feed.holds;
-      }
+  front_text : (part : List ℕ) (v : Verdict) → IsFront part (verdict_text v) → IsFront part (verdict_outcome v).text
+  front_text part (good text tally) front = front
+  front_text part (refused why text) front = front
+  front_text part (faulted why text) front = front
 
-      by_length : (input_limit from shipped_limits < length fed) ⊎ (length fed ≤ input_limit from shipped_limits) → EndsRun outlet (Spans from what) ending before now old new
-      by_length (inr within) = wanting ending stop state at devices (feed.kept within).0 (feed.kept within).1
-      by_length (inl long) = ends_at_stop ending stop state at (record {
-        devices = devices;
-        judged = judged_told from what shipped_limits fed long before.left now.left stop gave (feed.beyond long);
-        carried = verdict_told from what shipped_limits fed long before.left now.left (λ v. Stops v stop (outlet old) (outlet new) × KeepsWhy v state) gave (feed.carried long);
+  -- the text of the whole units of what was read is a front of that of all
+  pub ends_unread : Begins → (here : Inlet) (c : Walker) → Feeding from what before here (outlet old) (outlet new) c → IfDocument from (new ≡ old) → Keeps here.left now.left → InputFails here now
+      → (IsTrue here.steady → ⊥) → NoReadInVain before now → EndsRun outlet (Spans from what) endings.InputFailed before now old new
+  ends_unread begins here c feeding unwritten kept fails unsteady in_vain =
+      let writes = feeding.writes in
+      let gave = gave_kept before.left here.left now.left feeding.given feeding.reading.gave kept in
+      let units : WritesWholeUnits from what before now (outlet old) (outlet new) = record { given = feeding.given; gave = gave; writes = writes } in
+      let bound = given_within c from feeding.given feeding.fed feeding.forms.0 feeding.limits in
+      let course : Course = record {
+        reads = record { given = feeding.given; gave = gave; within = omega (arith, bound) };
+        in_vain = in_vain;
+        front = record { given = feeding.given; gave = gave; front = feeding.front };
+      } in
+      ends_input_failed outlet (Spans from what) before now old new course (subst (λ (n : ℕ). Rose n now.faults) feeding.reading.quiet fails)
+      (λ steady. unsteady (subst (λ (b : Bool). IsTrue b) (sym feeding.reading.steady) steady)) feeding.holds (units, unwritten)
+      (on_verdict from what before.left (λ v. IsFront writes.said (verdict_outcome v).text) (λ o. GainsFront (outlet old) (outlet new) o.text)
+      (λ v front. record { front = writes.said; is_front = front; gains = writes.gains })
+      (told_behind before.left now.left feeding.given (λ bytes. (v : Verdict) → IsVerdictAs from what shipped_limits bytes v → IsFront writes.said (verdict_outcome v).text) gave
+      (λ rest v is. front_text writes.said v (begins from what shipped_limits feeding.given rest writes.said writes.tally v shipped_valid writes.outlook is))))
+
+module _ {K : Type 0} (outlet : K → Outlet) (from : Form) (what : Written) (before now : Inlet) (old here new : K) (gain : GainLaws)
+    (fed : List ℕ) (writes : WritesUnits from what fed (outlet old) (outlet here)) (held : OutputHolds (outlet old) (outlet here)) where
+  -- a call that came behind what was written before
+  devices_behind : (given : List ℕ) (stop : Stop) → GaveInput before now given → ReadsInput (Spans from what) before now → NoReadInVain before now → now.faults ≡ before.faults
+      → WritesFrontFrom (input_form from) (written_target what) shipped_limits given writes.said (outlet here) (outlet new)
+      → (stop ≡ stops.Write → OutputFails (outlet here) (outlet new)) → (stop ≢ stops.Write → OutputHolds (outlet here) (outlet new)) → StopsDevices outlet from what before now old new stop
+  devices_behind given stop gave reads in_vain still front fails holds = record {
+    course = record {
+      reads = reads;
+      in_vain = in_vain;
+      front = record { given = given; gave = gave; front = front_of_units gain writes.said (outlet old) (outlet here) (outlet new) writes.gains from what given front };
+    };
+    still = still;
+    fails = λ e. gain.failing (outlet old) (outlet here) (outlet new) held (fails e);
+    holds = λ other. gain.holding (outlet old) (outlet here) (outlet new) held (holds other);
+  }
+
+  -- a feed that stopped, by the outlook on what was read so far, which is the verdict on all or leaves a front of it
+  pub ends_at_feed : Begins → Lasts → OneVerdict → SomeOutlook → (given : List ℕ) → AreBytes given → (ending : Ending) (stop : Stop) (state : State) → GaveInput before now given → IsEndingAt ending stop state
+      → ReadsInput (Spans from what) before now → NoReadInVain before now → now.faults ≡ before.faults
+      → FeedSays from what shipped_limits fed given (Err stop) (λ v. KeepsWhy v state) (outlet here) (outlet new)
+      → (stop ≡ stops.Write → OutputFails (outlet here) (outlet new)) → (stop ≢ stops.Write → OutputHolds (outlet here) (outlet new)) → EndsRun outlet (Spans from what) ending before now old new
+  ends_at_feed begins lasts one some given are_bytes ending stop state gave at reads in_vain still says fails holds =
+      ends_at_stop outlet from what before now old new ending stop state at (record {
+        devices = devices_behind given stop gave reads in_vain still (says.front writes.said writes.tally writes.outlook) fails holds;
+        judged = told_behind before.left now.left given (λ bytes. IsJudgedAs {T = Unit} from what shipped_limits bytes (Err stop)) gave
+            (λ rest. judged_whole begins lasts one from what given rest (outlet old) (outlet new) stop says.exists (λ o is. (carried_out o is).0));
+        carried = told_behind before.left now.left given (λ bytes. (v : Verdict) → IsVerdictAs from what shipped_limits bytes v → Stops v stop (outlet old) (outlet new) × KeepsWhy v state) gave
+            (λ rest v is_verdict. stops_whole begins lasts one from what given rest (outlet old) (outlet new) stop state foreseen.0 v foreseen.1 is_verdict (carried_out foreseen.0 foreseen.1));
       })
+    where
+      foreseen : (outlook : Verdict) × IsOutlookAs from what shipped_limits given outlook
+      foreseen = some from what shipped_limits given are_bytes
 
-  -- An end that came to the end, by the verdict on all that was read.
-  pub ends_whole : (fed : List ℕ) (counts : Tally) → GaveInput before now fed → IsAllRead before now → ReadsInput (Spans from what) before now
-      → NoReadInVain before now → now.faults ≡ before.faults → WholeFinish outlet from what shipped_limits fed counts old new → EndsRun outlet (Spans from what) endings.Whole before now old new
-  ends_whole fed counts gave all reads in_vain still end =
+      carried_out : (outlook : Verdict) → IsOutlookAs from what shipped_limits given outlook → Stops outlook stop (outlet old) (outlet new) × KeepsWhy outlook state
+      carried_out outlook is = feed_kept gain writes.said (outlet old) (outlet here) (outlet new) writes.gains outlook stop (KeepsWhy outlook state)
+          (says.outlook writes.said writes.tally writes.outlook outlook is)
+
+  -- what the end wrote goes on with what was written before
+  all_written : (counts : Tally) → WritesWhole (input_form from) (written_target what) shipped_limits fed counts writes.said (outlet here) (outlet new) → WritesAllUnits from what (outlet old) (outlet new) fed
+  all_written counts w = record {
+    text = w.text;
+    tally = counts;
+    all = w.is_good;
+    sized = w.sized;
+    gains = (ends_on gain writes.said (outlet old) (outlet here) (outlet new) writes.gains (good w.text counts) counts (refl, w.gains)).1;
+  }
+
+  -- an end that came to the end, by the verdict on all that was read
+  pub ends_whole : (counts : Tally) → GaveInput before now fed → IsAllRead before now → ReadsInput (Spans from what) before now
+      → NoReadInVain before now → now.faults ≡ before.faults → WholeFinish outlet fed counts here new from what shipped_limits → EndsRun outlet (Spans from what) endings.Whole before now old new
+  ends_whole counts gave all reads in_vain still end =
       ends_said outlet (Spans from what) before now old new endings.Whole refl (unlike 0 5 (inl (omega arith))) (unlike 0 6 (inl (omega arith))) (λ e. all)
-      (record { reads = reads; in_vain = in_vain; front = record { given = fed; gave = gave; front = end.front } }) still end.holds
+      (λ e. all_told before.left now.left fed (WritesAllUnits from what (outlet old) (outlet new)) gave all.told (all_written counts (end.whole writes.said writes.tally writes.outlook)))
+      (record { reads = reads; in_vain = in_vain; front = record { given = fed; gave = gave; front = front_of_units gain writes.said (outlet old) (outlet here) (outlet new) writes.gains from what fed (end.front writes.said writes.tally writes.outlook) } })
+      still (gain.holding (outlet old) (outlet here) (outlet new) held end.holds)
       (judged_outcome from what before.left (all_told before.left now.left fed (λ bytes. (verdict : Verdict) × IsVerdictAs from what shipped_limits bytes verdict) gave all.told end.judged))
       (on_verdict from what before.left (λ v. Ends v counts (outlet old) (outlet new)) (SaidBy outlet (Spans from what) before now old new endings.Whole) (λ v carried. record {
         agrees = agrees_whole v counts (outlet old) (outlet new) carried;
         writes = gains_whole v counts (outlet old) (outlet new) carried;
         line = line_whole v counts (outlet old) (outlet new) carried;
-      }) (all_told before.left now.left fed (λ bytes. (v : Verdict) → IsVerdictAs from what shipped_limits bytes v → Ends v counts (outlet old) (outlet new)) gave all.told end.carried))
+      }) (all_told before.left now.left fed (λ bytes. (v : Verdict) → IsVerdictAs from what shipped_limits bytes v → Ends v counts (outlet old) (outlet new)) gave all.told
+      (λ v is. ends_on gain writes.said (outlet old) (outlet here) (outlet new) writes.gains v counts (end.carried writes.said writes.tally writes.outlook v is))))
 
-  -- An end that stopped, by the verdict on all that was read.
-  pub ends_at_finish : (fed : List ℕ) (ending : Ending) (stop : Stop) (state : State) → GaveInput before now fed → IfSome before.left (λ bytes. now.left ≡ Some []) → IsEndingAt ending stop state → ReadsInput (Spans from what) before now
-      → NoReadInVain before now → now.faults ≡ before.faults → StopsFinish outlet from what shipped_limits fed stop state old new → EndsRun outlet (Spans from what) ending before now old new
-  ends_at_finish fed ending stop state gave told at reads in_vain still end = ends_at_stop ending stop state at (record {
-    devices = record {
-      course = record { reads = reads; in_vain = in_vain; front = record { given = fed; gave = gave; front = end.front } };
-      still = still;
-      fails = end.fails;
-      holds = end.holds;
-    };
+  -- an end that stopped, by the verdict on all that was read
+  pub ends_at_finish : (ending : Ending) (stop : Stop) (state : State) → GaveInput before now fed → IfSome before.left (λ bytes. now.left ≡ Some []) → IsEndingAt ending stop state → ReadsInput (Spans from what) before now
+      → NoReadInVain before now → now.faults ≡ before.faults → StopsFinish outlet fed stop state here new from what shipped_limits → EndsRun outlet (Spans from what) ending before now old new
+  ends_at_finish ending stop state gave told at reads in_vain still end = ends_at_stop outlet from what before now old new ending stop state at (record {
+    devices = devices_behind fed stop gave reads in_vain still (end.front writes.said writes.tally writes.outlook) end.fails end.holds;
     judged = all_told before.left now.left fed (λ bytes. IsJudgedAs {T = Unit} from what shipped_limits bytes (Err stop)) gave told (judged_as from what shipped_limits fed stop end.judged);
-    carried = all_told before.left now.left fed (λ bytes. (v : Verdict) → IsVerdictAs from what shipped_limits bytes v → Stops v stop (outlet old) (outlet new) × KeepsWhy v state) gave told end.carried;
+    carried = all_told before.left now.left fed (λ bytes. (v : Verdict) → IsVerdictAs from what shipped_limits bytes v → Stops v stop (outlet old) (outlet new) × KeepsWhy v state) gave told
+        (λ v is. stops_kept gain writes.said (outlet old) (outlet here) (outlet new) writes.gains v stop (KeepsWhy v state) (end.carried writes.said writes.tally writes.outlook v is));
   })
-
--- a feed that came to the end wrote nothing
-pub fed_within : {K : Type 0} (limit size : ℕ) (old new : K) → (size ≤ limit → OnlyWants {T = Unit} (Ok tt) × (new ≡ old)) → (limit < size → ⊥) → new ≡ old
-fed_within limit size old new kept beyond = by_size (cases_lt limit size)
-  where
-    by_size : (limit < size) ⊎ (size ≤ limit) → new ≡ old
-    by_size (inl long) = absurd (beyond long)
-    by_size (inr within) = (kept within).1

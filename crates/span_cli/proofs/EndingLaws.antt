@@ -9,7 +9,7 @@ use Rattle.span_cli.specs.Inputs.{ReadsInput, IsReadThrough}
 use Rattle.span_cli.specs.Jobs.{Job}
 use Rattle.span_cli.specs.Lines.{Stage, said, input_failed, output_failed, no_memory, IsRunStatus, Notes, status_of, stage_line, stage_of, ending_line}
 use Rattle.span_cli.specs.Outcomes.{Outcome, IsOutcome, OnOutcome, AgreesWith, Writes, line_of, IsJudgedAt}
-use Rattle.span_cli.specs.Runs.{EndsInput, EndsOutput, WritesRead, EndsRun}
+use Rattle.span_cli.specs.Runs.{EndsInput, EndsOutput, WritesAllOf, WritesRead, WritesSoFar, EndsRun}
 use Rattle.span_cli.specs.declared.ending.Ending.{Ending}
 use Rattle.span_cli.specs.declared.ending.Ending.TheVariants as endings
 
@@ -137,15 +137,11 @@ module _ {K : Type 0} (outlet : K → Outlet) (job : Job) (before now : Inlet) (
   input_left : (status : ℕ) → status ≢ 5 → status ≢ 0 → now.faults ≡ before.faults → RunCourse → EndsInput job status before now
   input_left status other some quiet course = input_quiet status other (λ e. absurd (some e)) quiet course
 
-  output_holds : (status : ℕ) → status ≢ 6 → (status ≡ 5 → new ≡ old) → OutputHolds (outlet old) (outlet new) → EndsOutput outlet status old new
-  output_holds status other same holds = record { fails = λ e. absurd (other e); holds = λ e. holds; unwritten = same }
+  output_holds : (status : ℕ) → status ≢ 6 → OutputHolds (outlet old) (outlet new) → EndsOutput status (outlet old) (outlet new)
+  output_holds status other holds = record { fails = λ e. absurd (other e); holds = λ e. holds }
 
   held_same : new ≡ old → OutputHolds (outlet old) (outlet new)
   held_same same = subst (λ (k : K). OutputHolds (outlet old) (outlet k)) (sym same) (holds_nothing (outlet old))
-
-  -- nothing was written
-  output_same : (status : ℕ) → status ≢ 6 → new ≡ old → EndsOutput outlet status old new
-  output_same status other same = output_holds status other (λ e. same) (held_same same)
 
   same_front : new ≡ old → OnOutcome job before.left (λ o. GainsFront (outlet old) (outlet new) o.text)
   same_front same = always before.left (λ bytes. (o : Outcome) → IsOutcome job bytes o → GainsFront (outlet old) (outlet new) o.text)
@@ -153,8 +149,9 @@ module _ {K : Type 0} (outlet : K → Outlet) (job : Job) (before now : Inlet) (
 
   -- ---- each ending
 
-  pub ends_input_failed : RunCourse → InputFails before now → (IsTrue before.steady → ⊥) → new ≡ old → EndsRun outlet job endings.InputFailed before now old new
-  ends_input_failed course fails unsteady same = record {
+  pub ends_input_failed : RunCourse → InputFails before now → (IsTrue before.steady → ⊥) → OutputHolds (outlet old) (outlet new) → WritesSoFar outlet job before now old new
+      → OnOutcome job before.left (λ o. GainsFront (outlet old) (outlet new) o.text) → EndsRun outlet job endings.InputFailed before now old new
+  ends_input_failed course fails unsteady holds so_far gains = record {
     input = record {
       fails = λ e. fails;
       quiet = λ other. absurd (other refl);
@@ -163,24 +160,31 @@ module _ {K : Type 0} (outlet : K → Outlet) (job : Job) (before now : Inlet) (
       reads = course.reads;
       all_read = λ e. absurd (unlike 5 0 (inr (omega arith)) e);
     };
-    output = output_same 5 (unlike 5 6 (inl (omega arith))) same;
+    output = output_holds 5 (unlike 5 6 (inl (omega arith))) holds;
+    so_far = λ e. so_far;
     front = course.front;
     judged = always before.left (λ bytes. IsJudgedAt job input_failed bytes) (λ bytes. tt);
     agrees = always before.left (λ bytes. (o : Outcome) → IsOutcome job bytes o → AgreesWith input_failed 5 o) (λ bytes o is. tt);
-    written = always before.left (λ bytes. (o : Outcome) → IsOutcome job bytes o → Writes input_failed o.text (outlet old) (outlet new))
-        (λ bytes o is. subst (λ (k : K). Gains (outlet old) (outlet k) []) (sym same) (gains_nothing (outlet old)));
+    written = gains;
     line = always before.left (λ bytes. (o : Outcome) → IsOutcome job bytes o → codes "input failed\n" ≡ line_of input_failed o) (λ bytes o is. refl);
+    whole = λ e. absurd (unlike 5 0 (inr (omega arith)) e);
   }
+
+  -- before anything was written
+  pub ends_input_unwritten : RunCourse → InputFails before now → (IsTrue before.steady → ⊥) → new ≡ old → WritesSoFar outlet job before now old new → EndsRun outlet job endings.InputFailed before now old new
+  ends_input_unwritten course fails unsteady same so_far = ends_input_failed course fails unsteady (held_same same) so_far (same_front same)
 
   pub wants : RunCourse → now.faults ≡ before.faults → OutputHolds (outlet old) (outlet new) → OnOutcome job before.left (λ o. GainsFront (outlet old) (outlet new) o.text) → EndsRun outlet job endings.NoMemory before now old new
   wants course still holds gains = record {
     input = input_left 7 (unlike 7 5 (inr (omega arith))) (unlike 7 0 (inr (omega arith))) still course;
-    output = output_holds 7 (unlike 7 6 (inr (omega arith))) (λ e. absurd (unlike 7 5 (inr (omega arith)) e)) holds;
+    output = output_holds 7 (unlike 7 6 (inr (omega arith))) holds;
+    so_far = λ e. absurd (unlike 7 5 (inr (omega arith)) e);
     front = course.front;
     judged = always before.left (λ bytes. IsJudgedAt job no_memory bytes) (λ bytes. tt);
     agrees = always before.left (λ bytes. (o : Outcome) → IsOutcome job bytes o → AgreesWith no_memory 7 o) (λ bytes o is. tt);
     written = gains;
     line = always before.left (λ bytes. (o : Outcome) → IsOutcome job bytes o → codes "out of memory\n" ≡ line_of no_memory o) (λ bytes o is. refl);
+    whole = λ e. absurd (unlike 7 0 (inr (omega arith)) e);
   }
 
   pub ends_no_memory : RunCourse → now.faults ≡ before.faults → new ≡ old → EndsRun outlet job endings.NoMemory before now old new
@@ -192,13 +196,14 @@ module _ {K : Type 0} (outlet : K → Outlet) (job : Job) (before now : Inlet) (
     output = record {
       fails = λ e. fails;
       holds = λ other. absurd (other refl);
-      unwritten = λ e. absurd (unlike 6 5 (inr (omega arith)) e);
     };
+    so_far = λ e. absurd (unlike 6 5 (inr (omega arith)) e);
     front = course.front;
     judged = always before.left (λ bytes. IsJudgedAt job output_failed bytes) (λ bytes. tt);
     agrees = always before.left (λ bytes. (o : Outcome) → IsOutcome job bytes o → AgreesWith output_failed 6 o) (λ bytes o is. tt);
     written = within;
     line = always before.left (λ bytes. (o : Outcome) → IsOutcome job bytes o → codes "output failed\n" ≡ line_of output_failed o) (λ bytes o is. refl);
+    whole = λ e. absurd (unlike 6 0 (inr (omega arith)) e);
   }
 
   -- ---- an outcome that was carried out
@@ -209,11 +214,13 @@ module _ {K : Type 0} (outlet : K → Outlet) (job : Job) (before now : Inlet) (
     pub writes : Gains (outlet old) (outlet new) outcome.text
     pub line : ending_line ending ≡ outcome.line
 
-  pub ends_said : (ending : Ending) → stage_of (status_of ending) ≡ said → status_of ending ≢ 5 → status_of ending ≢ 6 → (status_of ending ≡ 0 → IsReadThrough job before now) → RunCourse → now.faults ≡ before.faults
+  pub ends_said : (ending : Ending) → stage_of (status_of ending) ≡ said → status_of ending ≢ 5 → status_of ending ≢ 6 → (status_of ending ≡ 0 → IsReadThrough job before now)
+      → (status_of ending ≡ 0 → IfSome before.left (WritesAllOf job (outlet old) (outlet new))) → RunCourse → now.faults ≡ before.faults
       → OutputHolds (outlet old) (outlet new) → IfSome before.left (IsJudgedAt job said) → OnOutcome job before.left (SaidBy ending) → EndsRun outlet job ending before now old new
-  ends_said ending stage fifth sixth all course still holds judged on = record {
+  ends_said ending stage fifth sixth all whole course still holds judged on = record {
     input = input_quiet (status_of ending) fifth all still course;
-    output = output_holds (status_of ending) sixth (λ e. absurd (fifth e)) holds;
+    output = output_holds (status_of ending) sixth holds;
+    so_far = λ e. absurd (fifth e);
     front = course.front;
     judged = subst (λ (s : Stage). IfSome before.left (IsJudgedAt job s)) (sym stage) judged;
     agrees = subst (λ (s : Stage). OnOutcome job before.left (AgreesWith s (status_of ending))) (sym stage)
@@ -222,10 +229,11 @@ module _ {K : Type 0} (outlet : K → Outlet) (job : Job) (before now : Inlet) (
         (on_outcome job before.left (SaidBy ending) (λ o. Writes said o.text (outlet old) (outlet new)) (λ o by. by.writes) on);
     line = subst (λ (s : Stage). OnOutcome job before.left (λ o. ending_line ending ≡ line_of s o)) (sym stage)
         (on_outcome job before.left (SaidBy ending) (λ o. ending_line ending ≡ line_of said o) (λ o by. by.line) on);
+    whole = whole;
   }
 
 -- whatever the ending, no write was in vain
-pub output_in_vain : {K : Type 0} (outlet : K → Outlet) (ending : Ending) (old new : K) → EndsOutput outlet (status_of ending) old new → NoWriteInVain (outlet old) (outlet new)
+pub output_in_vain : {K : Type 0} (outlet : K → Outlet) (ending : Ending) (old new : K) → EndsOutput (status_of ending) (outlet old) (outlet new) → NoWriteInVain (outlet old) (outlet new)
 output_in_vain outlet endings.Whole old new output = holds_in_vain (outlet old) (outlet new) (output.holds (unlike 0 6 (inl (omega arith))))
 output_in_vain outlet (endings.Refused refusal) old new output = holds_in_vain (outlet old) (outlet new) (output.holds (unlike 3 6 (inl (omega arith))))
 output_in_vain outlet (endings.Faulted noted) old new output = holds_in_vain (outlet old) (outlet new) (output.holds (unlike 4 6 (inl (omega arith))))

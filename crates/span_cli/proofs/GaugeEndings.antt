@@ -10,7 +10,7 @@ use Rattle.span_cli.specs.Outcomes.{Outcome, OnOutcome, IsJudgedAt, CarriesOut, 
 use Rattle.span_cli.specs.Runs.{EndsRun, EndsGauge, IsGaugeStatus}
 use Rattle.span_cli.specs.declared.ending.Ending.{Ending}
 use Rattle.span_cli.specs.declared.ending.Ending.TheVariants as endings
-use Rattle.span_cli.proofs.EndingLaws.{RunCourse, SaidBy, ends_output_failed, ends_said, wants, holds_nothing, front_nothing, unlike, untouched_in_vain}
+use Rattle.span_cli.proofs.EndingLaws.{RunCourse, SaidBy, always, ends_output_failed, ends_said, wants, holds_nothing, front_nothing, unlike, untouched_in_vain}
 
 -- ---- what a call did to the output
 
@@ -21,7 +21,6 @@ module _ {K : Type 0} (outlet : K → Outlet) (spans : ℕ) (old new : K) where
     output = record {
       fails = λ e. absurd (unlike 7 6 (inr (omega arith)) e);
       holds = λ e. subst (λ (k : K). OutputHolds (outlet old) (outlet k)) (sym same) (holds_nothing (outlet old));
-      unwritten = λ e. same;
     };
     written = subst (λ (k : K). GainsFront (outlet old) (outlet k) (gauge_lines spans)) (sym same) (front_nothing (outlet old) (gauge_lines spans));
   }
@@ -29,14 +28,14 @@ module _ {K : Type 0} (outlet : K → Outlet) (spans : ℕ) (old new : K) where
   pub gauge_written : Gains (outlet old) (outlet new) (gauge_lines spans) → OutputHolds (outlet old) (outlet new) → EndsGauge outlet spans endings.Whole old new
   gauge_written gains holds = record {
     ending_is = tt;
-    output = record { fails = λ e. absurd (unlike 0 6 (inl (omega arith)) e); holds = λ e. holds; unwritten = λ e. absurd (unlike 0 5 (inl (omega arith)) e) };
+    output = record { fails = λ e. absurd (unlike 0 6 (inl (omega arith)) e); holds = λ e. holds };
     written = gains;
   }
 
   pub gauge_failed : OutputFails (outlet old) (outlet new) → FailsWithin (outlet old) (outlet new) (gauge_lines spans) → EndsGauge outlet spans endings.OutputFailed old new
   gauge_failed fails inside = record {
     ending_is = tt;
-    output = record { fails = λ e. fails; holds = λ other. absurd (other refl); unwritten = λ e. absurd (unlike 6 5 (inr (omega arith)) e) };
+    output = record { fails = λ e. fails; holds = λ other. absurd (other refl) };
     written = inside;
   }
 
@@ -65,7 +64,7 @@ module _ {K : Type 0} (outlet : K → Outlet) (spans : ℕ) (now : Inlet) (old n
 
   pub ends_gauge : (ending : Ending) → EndsGauge outlet spans ending old new → EndsRun outlet (Gauge spans) ending now now old new
   ends_gauge endings.Whole ends =
-      ends_said outlet (Gauge spans) now now old new endings.Whole refl (unlike 0 5 (inl (omega arith))) (unlike 0 6 (inl (omega arith))) (λ e. refl)
+      ends_said outlet (Gauge spans) now now old new endings.Whole refl (unlike 0 5 (inl (omega arith))) (unlike 0 6 (inl (omega arith))) (λ e. refl) (λ e. always now.left (λ bytes. Unit {0}) (λ bytes. tt))
       (course (record { front = gauge_lines spans; is_front = ([], sym (append-nil (gauge_lines spans))); gains = ends.written })) refl
       (ends.output.holds (unlike 0 6 (inl (omega arith)))) (judged_lines spans now.left)
       (on_lines spans now.left (SaidBy outlet (Gauge spans) now now old new endings.Whole) (record { agrees = refl; writes = ends.written; line = refl }))

@@ -16,7 +16,7 @@ use Rattle.span_cli.specs.Outcomes.{Outcome, IsHeadersOutcome, too_long, bad, no
 use Rattle.span_cli.specs.Runs.{none, some, EndsRun, TellsLines, HaltsLines}
 use Rattle.span_cli.specs.declared.ending.Ending.{Ending}
 use Rattle.span_cli.specs.declared.ending.Ending.TheVariants as endings
-use Rattle.span_cli.proofs.EndingLaws.{RunCourse, SaidBy, all_told, ends_input_failed, ends_no_memory, ends_output_failed, ends_said, gains_nothing, holds_nothing, unlike}
+use Rattle.span_cli.proofs.EndingLaws.{RunCourse, SaidBy, all_told, always, ends_input_unwritten, ends_no_memory, ends_output_failed, ends_said, gains_nothing, holds_nothing, unlike}
 
 -- ---- a block has one outcome
 
@@ -79,6 +79,9 @@ module _ {K : Type 0} (outlet : K → Outlet) (law : OneHeaderVerdict) (form : H
     front = record { given = given; gave = gave; front = none (gains_nothing (outlet old)) };
   }
 
+  nothing_whole : IfSome before.left (λ bytes. Unit {0})
+  nothing_whole = always before.left (λ bytes. Unit {0}) (λ bytes. tt)
+
   -- an outcome of which nothing is written
   says_nothing : (ending : Ending) (found : Outcome) → IfSome before.left (λ bytes. IsHeadersOutcome form bytes found) → SaidBy outlet (HeaderLines form) before now old old ending found
       → OnOutcome (HeaderLines form) before.left (SaidBy outlet (HeaderLines form) before now old old ending)
@@ -88,7 +91,7 @@ module _ {K : Type 0} (outlet : K → Outlet) (law : OneHeaderVerdict) (form : H
       → EndsRun outlet (HeaderLines form) endings.TooLong before now old old
   ends_too_long given gave within in_vain still long =
       let is = too_long_told form before.left now.left given gave long in
-      ends_said outlet (HeaderLines form) before now old old endings.TooLong refl (unlike 3 5 (inl (omega arith))) (unlike 3 6 (inl (omega arith))) (λ e. absurd (unlike 3 0 (inr (omega arith)) e))
+      ends_said outlet (HeaderLines form) before now old old endings.TooLong refl (unlike 3 5 (inl (omega arith))) (unlike 3 6 (inl (omega arith))) (λ e. absurd (unlike 3 0 (inr (omega arith)) e)) (λ e. nothing_whole)
       (course_unwritten given gave within in_vain) still (holds_nothing (outlet old)) (judged_told form before.left _ is)
       (says_nothing endings.TooLong _ is (record { agrees = refl; writes = gains_nothing (outlet old); line = refl }))
 
@@ -101,7 +104,7 @@ module _ {K : Type 0} (outlet : K → Outlet) (law : OneHeaderVerdict) (form : H
   ends_block endings.NoIds halts = absurd halts.why
   ends_block endings.OutputFailed halts = absurd halts.why
   ends_block endings.TooLong halts = ends_too_long halts.given halts.gave halts.within halts.in_vain halts.why.0 halts.why.1
-  ends_block endings.InputFailed halts = ends_input_failed outlet (HeaderLines form) before now old old (course_unwritten halts.given halts.gave halts.within halts.in_vain) halts.why.0 halts.why.1 refl
+  ends_block endings.InputFailed halts = ends_input_unwritten outlet (HeaderLines form) before now old old (course_unwritten halts.given halts.gave halts.within halts.in_vain) halts.why.0 halts.why.1 refl refl
   ends_block endings.NoMemory halts = ends_no_memory outlet (HeaderLines form) before now old old (course_unwritten halts.given halts.gave halts.within halts.in_vain) halts.why refl
 
   -- ---- the block was read to its end
@@ -124,12 +127,12 @@ module _ {K : Type 0} (outlet : K → Outlet) (law : OneHeaderVerdict) (form : H
     ends_lines endings.NoMemory halts = ends_no_memory outlet (HeaderLines form) before now old old (course_unwritten block read.gave few read.in_vain) read.quiet refl
     ends_lines (endings.BadHeaders cause) halts =
         let is = whole_told _ (bad cause within halts refl) in
-        ends_said outlet (HeaderLines form) before now old old (endings.BadHeaders cause) refl (unlike 3 5 (inl (omega arith))) (unlike 3 6 (inl (omega arith))) (λ e. absurd (unlike 3 0 (inr (omega arith)) e))
+        ends_said outlet (HeaderLines form) before now old old (endings.BadHeaders cause) refl (unlike 3 5 (inl (omega arith))) (unlike 3 6 (inl (omega arith))) (λ e. absurd (unlike 3 0 (inr (omega arith)) e)) (λ e. nothing_whole)
         (course_unwritten block read.gave few read.in_vain) read.quiet (holds_nothing (outlet old)) (judged_told form before.left _ is)
         (says_nothing (endings.BadHeaders cause) _ is (record { agrees = refl; writes = gains_nothing (outlet old); line = refl }))
     ends_lines endings.NoIds halts =
         let is = whole_told _ (no_ids halts.context halts.dropped within halts.told halts.cannot refl) in
-        ends_said outlet (HeaderLines form) before now old old endings.NoIds refl (unlike 4 5 (inl (omega arith))) (unlike 4 6 (inl (omega arith))) (λ e. absurd (unlike 4 0 (inr (omega arith)) e))
+        ends_said outlet (HeaderLines form) before now old old endings.NoIds refl (unlike 4 5 (inl (omega arith))) (unlike 4 6 (inl (omega arith))) (λ e. absurd (unlike 4 0 (inr (omega arith)) e)) (λ e. nothing_whole)
         (course_unwritten block read.gave few read.in_vain) read.quiet (holds_nothing (outlet old)) (judged_told form before.left _ is)
         (says_nothing endings.NoIds _ is (record { agrees = refl; writes = gains_nothing (outlet old); line = refl }))
 
@@ -154,7 +157,7 @@ module _ {K : Type 0} (outlet : K → Outlet) (law : OneHeaderVerdict) (form : H
 
       pub ends_written : Gains (outlet old) (outlet new) lines → OutputHolds (outlet old) (outlet new) → EndsRun outlet (HeaderLines form) endings.Whole before now old new
       ends_written gains holds =
-          ends_said outlet (HeaderLines form) before now old new endings.Whole refl (unlike 0 5 (inl (omega arith))) (unlike 0 6 (inl (omega arith))) (λ e. read.all_read)
+          ends_said outlet (HeaderLines form) before now old new endings.Whole refl (unlike 0 5 (inl (omega arith))) (unlike 0 6 (inl (omega arith))) (λ e. read.all_read) (λ e. nothing_whole)
           (course_written (record { front = lines; is_front = ([], sym (append-nil lines)); gains = gains })) read.quiet holds (judged_told form before.left found found_told)
           (on_told law form before.left found (SaidBy outlet (HeaderLines form) before now old new endings.Whole) found_told
           (record { agrees = refl; writes = subst (λ (l : List ℕ). Gains (outlet old) (outlet new) l) tells.are_lines gains; line = refl }))

@@ -1,21 +1,30 @@
 -- Bytes that a source gave, piece by piece.
-use Rattle.std.proofs.Common.{◌≡◌, ◌≢◌, ◌≤◌, ℕ, Bool, true, false, List, [], ◌++◌, length, Option, Some, None, Result, Ok, refl, sym, ap, subst, ◌∙◌, append_assoc, append-nil, arith, length-append}
-use Rattle.std.specs.Io.KnownBytes.{Consumes, IsAtEnd}
+use Rattle.std.proofs.Common.{◌≡◌, ◌≢◌, ◌≤◌, ◌<◌, ◌-◌, suc, ℕ, Bool, true, false, List, [], ◌++◌, length, Option, Some, None, Result, Ok, refl, sym, ap, subst, ◌∙◌, append_assoc, append-nil, arith, length-append}
+use Rattle.std.specs.Io.KnownBytes.{Consumes, IsAtEnd, Keeps}
 use Rattle.std.specs.Prelude.{IfSome}
 use Rattle.std.proofs.lemmas.Bool.{ne_eqb}
+use Rattle.std.proofs.lemmas.List.Elements.{All-nil}
 use Rattle.span_io.specs.Courses.{course_of_reads, read_next, is_last}
+use Rattle.span_io.specs.Frames.{AreBytes}
 use Rattle.span_io.specs.Limits.{shipped_limits}
-use Rattle.span_io.specs.Outside.{Inlet, NoReadInVain}
+use Rattle.span_io.specs.Outside.{Inlet, Outlet, GainLaws, NoReadInVain, OutputHolds}
 use Rattle.span_io.specs.declared.course.ReadCourse.{ReadCourse}
 use Rattle.span_io.specs.declared.course.ReadCourse.TheVariants as reads
 use Rattle.span_io.specs.declared.form.Form.{Form}
 use Rattle.span_io.specs.declared.limits.Limits.{Limits}
-use Rattle.span_convert.specs.Converters.{Fed, HasForms}
-use Rattle.span_convert.specs.Units.{input_limit}
+use Rattle.span_convert.specs.Converters.{Fed, HasForms, IsOutlookBy, form_of, what_of}
+use Rattle.span_convert.specs.Outlooks.{IsOutlookAs, ReachesFrom, WritesFrontFrom}
+use Rattle.span_convert.specs.Reports.{WritesFrontAs, written_target}
+use Rattle.span_convert.specs.Targets.{open_target}
+use Rattle.span_convert.specs.Units.{input_form, input_limit, open_form}
+use Rattle.span_convert.specs.Verdicts.{Verdict, good, IsJudgedOn, tally_of}
 use Rattle.span_convert.specs.declared.converter.Walker.{Walker}
+use Rattle.span_convert.specs.declared.stop.Stop.{Stop}
+use Rattle.span_convert.specs.declared.tally.Tally.{Tally}
 use Rattle.span_convert.specs.declared.written.Written.{Written}
-use Rattle.span_cli.specs.Inputs.{GaveInput, ReadsInput, IsAllRead, IsFed, piece}
+use Rattle.span_cli.specs.Inputs.{GaveInput, ReadsInput, IsAllRead, IsFed, WritesUnits, piece}
 use Rattle.span_cli.specs.Jobs.{Job, Spans}
+use Rattle.span_cli.proofs.WrittenSoFar.{same_by, front_of_units, units_on}
 
 Consumes-nothing : (left : Option (List ℕ)) → Consumes left left []
 Consumes-nothing None = tt
@@ -26,6 +35,13 @@ Consumes-then None b c x y p q = tt
 Consumes-then (Some xs) None c x y p q = absurd p
 Consumes-then (Some xs) (Some ys) None x y p q = absurd q
 Consumes-then (Some xs) (Some ys) (Some zs) x y p q = p ∙ ap (λ (l : List ℕ). x ++ l) q ∙ sym (append_assoc x y zs)
+
+-- a read that failed took nothing
+pub gave_kept : (before here now : Option (List ℕ)) (given : List ℕ) → Consumes before here given → Keeps here now → Consumes before now given
+gave_kept None here now given gave kept = tt
+gave_kept (Some xs) None now given gave kept = absurd gave
+gave_kept (Some xs) (Some ys) None given gave kept = absurd kept
+gave_kept (Some xs) (Some ys) (Some zs) given gave kept = subst (λ (l : List ℕ). xs ≡ given ++ l) (sym kept) gave
 
 -- a read that gave bytes isn't the last
 pub goes_on : (E : Type 0) (now after : Option ReadCourse) (n : ℕ) → n ≢ 0 → after ≡ course_of_reads {E = E} now (Ok n) → now ≡ Some reads.Going → after ≡ Some reads.Going
@@ -45,8 +61,8 @@ pub reads_nothing : (job : Job) (now : Inlet) → ReadsInput job now now
 reads_nothing job now = record { given = []; gave = Consumes-nothing now.left; within = omega arith }
 
 -- a converter was fed no more than the limit of its form
-pub given_within : (c : Walker Written) (from : Form) (given : List ℕ) → Fed c given → c.from ≡ from → c.limits ≡ shipped_limits → length given ≤ input_limit from shipped_limits
-given_within c from given fed form limits = subst (λ (f : Form). length given ≤ input_limit f shipped_limits) form (subst (λ (l : Limits). length given ≤ input_limit c.from l) limits fed.within)
+pub given_within : (c : Walker) (from : Form) (given : List ℕ) → Fed c given → form_of c ≡ from → c.limits ≡ shipped_limits → length given ≤ input_limit from shipped_limits
+given_within c from given fed form limits = subst (λ (f : Form). length given ≤ input_limit f shipped_limits) form (subst (λ (l : Limits). length given ≤ input_limit (form_of c) l) limits fed.within)
 
 -- the source gave these bytes so far without a fault
 pub record Reading (before now : Inlet) (given : List ℕ) : Type 0 where
@@ -77,40 +93,58 @@ Reading-end before now after given reading here ended =
     let all = Consumes-then before.left now.left after.left given [] reading.gave here in
     (subst (λ (l : List ℕ). GaveInput before after l) (append-nil given) all, record { ended = ended; told = told_end before.left after.left (given ++ []) all ended })
 
--- the source gave some bytes so far without a fault, and the converter was fed them
-pub record Feeding (from : Form) (what : Written) (before now : Inlet) (c : Walker Written) : Type 0 where
+-- what a call says that feeds a piece to a converter that was fed these bytes, so that it was fed those
+pub record FeedSays (from : Form) (what : Written) (limits : Limits) (fed bytes : List ℕ) (result : Result (Unit {0}) Stop) (kept : Verdict → Type 0) (old new : Outlet) : Type 0 where
+  pub exists : IsJudgedOn (open_form from) (open_target (written_target what)) limits bytes result
+  pub outlook : (said : List ℕ) (tally : Tally) → IsOutlookAs from what limits fed (good said tally)
+      → (outlook : Verdict) → IsOutlookAs from what limits bytes outlook → ReachesFrom said outlook result old new × kept outlook
+  pub front : (said : List ℕ) (tally : Tally) → IsOutlookAs from what limits fed (good said tally)
+      → WritesFrontFrom (input_form from) (written_target what) limits bytes said old new
+
+-- The source gave some bytes so far without a fault, the converter was fed them, and the text of their whole units was written.
+pub record Feeding (from : Form) (what : Written) (input_before input_now : Inlet) (output_before output_now : Outlet) (c : Walker) : Type 0 where
   pub given : List ℕ
-  pub reading : Reading before now given
+  pub are_bytes : AreBytes given
+  pub reading : Reading input_before input_now given
   pub fed : Fed c given
   pub forms : HasForms c from what
   pub limits : c.limits ≡ shipped_limits
+  pub writes : WritesUnits from what given output_before output_now
+  pub front : WritesFrontAs from what shipped_limits given output_before output_now
+  pub holds : OutputHolds output_before output_now
+
+pub Feeding-start : (laws : GainLaws) (now : Inlet) (output : Outlet) (c : Walker) → Fed c [] → c.limits ≡ shipped_limits → IsOutlookBy c [] (good [] (tally_of 0 0))
+    → WritesFrontAs (form_of c) (what_of c) shipped_limits [] output output → Feeding (form_of c) (what_of c) now now output output c
+Feeding-start laws now output c fresh limits outlook front = record {
+  given = [];
+  are_bytes = All-nil (λ (b : ℕ). b < 256);
+  reading = Reading-start now;
+  fed = fresh;
+  forms = (refl, refl);
+  limits = limits;
+  writes = record {
+    said = [];
+    tally = tally_of 0 0;
+    outlook = subst (λ (l : Limits). IsOutlookAs (form_of c) (what_of c) l [] (good [] (tally_of 0 0))) limits outlook;
+    gains = laws.none output;
+  };
+  front = front;
+  holds = laws.still output;
+}
 
 module _ (from : Form) (what : Written) where
-  pub Feeding-start : (now : Inlet) (c : Walker Written) → Fed c [] → HasForms c from what → c.limits ≡ shipped_limits → Feeding from what now now c
-  Feeding-start now c fresh forms limits = record { given = []; reading = Reading-start now; fed = fresh; forms = forms; limits = limits }
-
-  pub Feeding-step : (before now after : Inlet) (old new : Walker Written) (more : List ℕ) (feeding : Feeding from what before now old) → Consumes now.left after.left more → after.faults ≡ now.faults → after.steady ≡ now.steady → (now.course ≡ Some reads.Going → after.course ≡ Some reads.Going)
-      → Fed new (feeding.given ++ more) → HasForms new old.from old.what → new.limits ≡ old.limits → Feeding from what before after new
-  Feeding-step before now after old new more feeding here quiet steady goes fed forms limits = record {
-    given = feeding.given ++ more;
-    reading = Reading-step before now after feeding.given more feeding.reading here quiet steady goes;
-    fed = fed;
-    forms = (forms.0 ∙ feeding.forms.0, forms.1 ∙ feeding.forms.1);
-    limits = limits ∙ feeding.limits;
-  }
-
-  -- what was read so far, and another piece that the converter took or not
-  pub Feeding-reads : (before now after : Inlet) (c : Walker Written) (more : List ℕ) (feeding : Feeding from what before now c) → Consumes now.left after.left more → length more ≤ piece → ReadsInput (Spans from what) before after
-  Feeding-reads before now after c more feeding here small =
+  -- what was read so far
+  pub Feeding-reads : (before now after : Inlet) (a b : Outlet) (c : Walker) (more : List ℕ) (feeding : Feeding from what before now a b c) → Consumes now.left after.left more → length more ≤ piece → ReadsInput (Spans from what) before after
+  Feeding-reads before now after a b c more feeding here small =
       let bound = given_within c from feeding.given feeding.fed feeding.forms.0 feeding.limits in
       record {
         given = feeding.given ++ more;
         gave = Consumes-then before.left now.left after.left feeding.given more feeding.reading.gave here;
-        within = omega (arith, length-append feeding.given more);
+        within = omega (arith, bound, small, length-append feeding.given more);
       }
 
-  pub Feeding-end : (before now after : Inlet) (c : Walker Written) → Feeding from what before now c → Consumes now.left after.left [] → after.faults ≡ now.faults → NoReadInVain before after → IsAtEnd after.left → IsFed from what before after c
-  Feeding-end before now after c feeding here quiet in_vain ended =
+  pub Feeding-end : (before now after : Inlet) (a b : Outlet) (c : Walker) → Feeding from what before now a b c → Consumes now.left after.left [] → after.faults ≡ now.faults → NoReadInVain before after → IsAtEnd after.left → IsFed from what before after a b c
+  Feeding-end before now after a b c feeding here quiet in_vain ended =
       let all = Reading-end before now after feeding.given feeding.reading here ended in
       record {
         given = feeding.given;
@@ -121,4 +155,47 @@ module _ (from : Form) (what : Written) where
         fed = feeding.fed;
         forms = feeding.forms;
         limits = feeding.limits;
+        writes = feeding.writes;
+        holds = feeding.holds;
       }
+
+  -- each piece brings the converter nearer to its limit
+  pub Feeding-smaller : (before now : Inlet) (a b : Outlet) (old new : Walker) (more : List ℕ) (feeding : Feeding from what before now a b old) → 0 < length more
+      → Fed new (feeding.given ++ more) → HasForms new (form_of old) (what_of old) → new.limits ≡ old.limits
+      → suc (input_limit from shipped_limits) - new.fed < suc (input_limit from shipped_limits) - old.fed
+  Feeding-smaller before now a b old new more feeding some fed forms limits =
+      let bound = given_within new from (feeding.given ++ more) fed (forms.0 ∙ feeding.forms.0) (limits ∙ feeding.limits) in
+      omega (arith, bound, some, fed.size, feeding.fed.size, length-append feeding.given more)
+
+module _ (laws : GainLaws) (from : Form) (what : Written) where
+  -- another piece, which the converter took
+  pub Feeding-step : (before now after : Inlet) (a b d : Outlet) (old new : Walker) (more : List ℕ) (kept : Verdict → Type 0) (feeding : Feeding from what before now a b old) → AreBytes (feeding.given ++ more)
+      → Consumes now.left after.left more → after.faults ≡ now.faults → after.steady ≡ now.steady → (now.course ≡ Some reads.Going → after.course ≡ Some reads.Going)
+      → Fed new (feeding.given ++ more) → HasForms new (form_of old) (what_of old) → new.limits ≡ old.limits
+      → FeedSays from what shipped_limits feeding.given (feeding.given ++ more) (Ok tt) kept b d → OutputHolds b d → Feeding from what before after a d new
+  Feeding-step before now after a b d old new more kept feeding are_bytes here quiet steady goes fed forms limits says holds =
+      let (outlook, is) = says.exists in
+      let first = feeding.writes in
+      record {
+        given = feeding.given ++ more;
+        are_bytes = are_bytes;
+        reading = Reading-step before now after feeding.given more feeding.reading here quiet steady goes;
+        fed = fed;
+        forms = (forms.0 ∙ feeding.forms.0, forms.1 ∙ feeding.forms.1);
+        limits = limits ∙ feeding.limits;
+        writes = units_on laws first.said a b d first.gains from what (feeding.given ++ more) outlook is (says.outlook first.said first.tally first.outlook outlook is).0;
+        front = front_of_units laws first.said a b d first.gains from what (feeding.given ++ more) (says.front first.said first.tally first.outlook);
+        holds = laws.holding a b d feeding.holds holds;
+      }
+
+-- what it says of the converter it says of the form that this reads, of what it writes, and of the limits shipped
+pub says_of : (from : Form) (what : Written) (c : Walker) (fed bytes : List ℕ) (result : Result (Unit {0}) Stop) (kept : Verdict → Type 0) (old new : Outlet) → HasForms c from what → c.limits ≡ shipped_limits
+    → FeedSays (form_of c) (what_of c) c.limits fed bytes result kept old new → FeedSays from what shipped_limits fed bytes result kept old new
+says_of from what c fed bytes result kept old new forms limits =
+    same_by (λ f w l. FeedSays f w l fed bytes result kept old new) (form_of c) from (what_of c) what c.limits shipped_limits forms.0 forms.1 limits
+
+-- a converter that was fed an input reads the one form, and writes the other or the report
+pub fed_by : (from : Form) (what : Written) (before now : Inlet) (a b : Outlet) (first c : Walker) → HasForms first from what
+    → IsFed (form_of first) (what_of first) before now a b c → IsFed from what before now a b c
+fed_by from what before now a b first c forms fed =
+    subst (λ (w : Written). IsFed from w before now a b c) forms.1 (subst (λ (f : Form). IsFed f (what_of first) before now a b c) forms.0 fed)

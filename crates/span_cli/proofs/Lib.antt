@@ -3,7 +3,6 @@ pub mod CommandLemmas
 pub mod ConversionEndings
 pub mod CountWords
 pub mod EndingLaws
-pub mod FrontVerdicts
 pub mod GaugeEndings
 pub mod HeadersEndings
 pub mod InputLemmas
@@ -14,4 +13,6 @@ pub mod SameRuns
 pub mod ServeLemmas
 pub mod ServeWords
 pub mod TaskLemmas
+pub mod TextsBack
 pub mod WholeRuns
+pub mod WrittenSoFar

@@ -1,6 +1,6 @@
 -- What a run says of the verdict on its input it says of the verdicts on inputs that hold the same batches, or that differ in unknown
 -- members alone.
-use Rattle.std.proofs.Common.{◌↔◌, ℕ, List, Option, Some, None, arith}
+use Rattle.std.proofs.Common.{◌↔◌, ℕ, List, Option, Some, None}
 use Rattle.span_io.specs.Limits.{AreLimits, shipped_limits}
 use Rattle.span_io.specs.Outside.{Outlet}
 use Rattle.span_io.specs.declared.form.Form.{Form}
@@ -13,16 +13,7 @@ use Rattle.span_convert.specs.declared.written.Written.{Written}
 use Rattle.span_cli.specs.Jobs.{Job, Spans, HeaderLines, Gauge, IfSpans}
 use Rattle.span_cli.specs.Lines.{Notes, stage_of}
 use Rattle.span_cli.specs.Outcomes.{Outcome, OnOutcome, OnSameBatches, OnAgreeingDocuments, CarriesOut, AgreesWith, Writes, line_of}
-
-shipped_valid : AreLimits shipped_limits
-shipped_valid = record {
-  unit = (omega arith, omega arith);
-  json = (omega arith, omega arith);
-  binary = (omega arith, omega arith);
-  head = (omega arith, omega arith);
-  body = (omega arith, omega arith);
-  reply = (omega arith, omega arith);
-}
+use Rattle.span_cli.proofs.WrittenSoFar.{shipped_valid}
 
 on_same_batches : ((from other : Form) (what : Written) (limits : Limits) (bytes others : List ℕ) → AreLimits limits → SameBatches limits from bytes other others
     → (verdict : Verdict) → IsVerdictAs from what limits bytes verdict ↔ IsVerdictAs other what limits others verdict)

@@ -132,6 +132,10 @@ UnlessServing words P = OnJob words (λ job. P)
 abbrev pub OnSpans : List (List ℕ) → (Form → Written → Type 0) → Type 0
 OnSpans words P = OnJob words (λ job. IfSpans job P)
 
+-- the same of the forms between which the words of `convert` ask for a conversion
+abbrev pub OnConversions : List (List ℕ) → (Form → Form → Type 0) → Type 0
+OnConversions words P = (from to : Form) → Spells (Convert from to) words → P from to
+
 -- the same of the forms between which the words of `losses` ask for a report
 abbrev pub OnLosses : List (List ℕ) → (Form → Form → Type 0) → Type 0
 OnLosses words P = (from to : Form) → Spells (Losses from to) words → P from to

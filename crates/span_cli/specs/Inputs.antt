@@ -2,11 +2,14 @@
 use Rattle.std.specs.Prelude.{◌≡◌, ℕ, ◌+◌, ◌≤◌, ◌<◌, List, [], length, Some, IfSome, IsTrue}
 use Rattle.std.specs.Io.KnownBytes.{Consumes, IsAtEnd}
 use Rattle.span_io.specs.Limits.{shipped_limits}
-use Rattle.span_io.specs.Outside.{Inlet, InputFails, NoReadInVain}
+use Rattle.span_io.specs.Outside.{Inlet, Outlet, Gains, InputFails, NoReadInVain, OutputHolds}
 use Rattle.span_io.specs.declared.form.Form.{Form}
 use Rattle.span_convert.specs.Converters.{Fed, HasForms}
+use Rattle.span_convert.specs.Outlooks.{IsOutlookAs}
 use Rattle.span_convert.specs.Units.{input_limit}
+use Rattle.span_convert.specs.Verdicts.{good}
 use Rattle.span_convert.specs.declared.converter.Walker.{Walker}
+use Rattle.span_convert.specs.declared.tally.Tally.{Tally}
 use Rattle.span_convert.specs.declared.written.Written.{Written}
 use Rattle.span_cli.specs.Jobs.{Job, Spans, HeaderLines, Gauge}
 use Rattle.span_cli.specs.declared.ending.Ending.{Ending}
@@ -47,16 +50,26 @@ IsReadThrough (Spans from what) before now = IsAllRead before now
 IsReadThrough (HeaderLines form) before now = IsAllRead before now
 IsReadThrough (Gauge spans) before now = now ≡ before
 
--- the source gave all its bytes without a fault and without a read in vain, and what writes this form so was fed them
-pub record IsFed (from : Form) (what : Written) (before now : Inlet) (c : Walker Written) : Type 0 where
+-- Nothing in these bytes stops what writes this form so, and the output gained the text of their whole units.
+pub record WritesUnits (from : Form) (what : Written) (given : List ℕ) (before now : Outlet) : Type 0 where
+  pub said : List ℕ
+  pub tally : Tally
+  pub outlook : IsOutlookAs from what shipped_limits given (good said tally)
+  pub gains : Gains before now said
+
+-- The source gave all its bytes without a fault and without a read in vain, and what writes this form so was fed them. The text of
+-- their whole units was written without a fault.
+pub record IsFed (from : Form) (what : Written) (input_before input_now : Inlet) (output_before output_now : Outlet) (c : Walker) : Type 0 where
   pub given : List ℕ
-  pub gave : GaveInput before now given
-  pub all_read : IsAllRead before now
-  pub quiet : now.faults ≡ before.faults
-  pub in_vain : NoReadInVain before now
+  pub gave : GaveInput input_before input_now given
+  pub all_read : IsAllRead input_before input_now
+  pub quiet : input_now.faults ≡ input_before.faults
+  pub in_vain : NoReadInVain input_before input_now
   pub fed : Fed c given
   pub forms : HasForms c from what
   pub limits : c.limits ≡ shipped_limits
+  pub writes : WritesUnits from what given output_before output_now
+  pub holds : OutputHolds output_before output_now
 
 -- the source gave all its bytes without a fault and without a read in vain, and these are they
 pub record IsReadWhole (before now : Inlet) (given : List ℕ) : Type 0 where

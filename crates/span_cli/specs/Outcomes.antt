@@ -1,5 +1,5 @@
 -- What a job makes of its input: the status, what is written, and the line that is noted.
-use Rattle.std.specs.Prelude.{◌↔◌, false, ◌≡◌, ◌≤◌, ◌<◌, ℕ, Bool, List, [], length, Option, IfSome, codes}
+use Rattle.std.specs.Prelude.{◌↔◌, false, ◌≡◌, ◌≤◌, ◌<◌, ◌^◌, ℕ, Bool, List, [], length, Option, IfSome, codes}
 use Rattle.propagation.specs.Heads.{Head, IsHeaderCause}
 use Rattle.propagation.specs.Laws.{AreProperIds}
 use Rattle.propagation.specs.NormalContexts.{IsSoundContext, CannotTell, context_lines, normal_context}
@@ -9,6 +9,7 @@ use Rattle.propagation.specs.declared.header_form.HeaderForm.{HeaderForm}
 use Rattle.span_io.specs.Limits.{shipped_limits}
 use Rattle.span_io.specs.Outside.{Outlet, Gains, GainsFront, FailsWithin}
 use Rattle.span_io.specs.declared.form.Form.{Form}
+use Rattle.span_convert.specs.Canonical.{ReadsBack}
 use Rattle.span_convert.specs.Reports.{IsVerdictAs, report_target}
 use Rattle.span_convert.specs.SameBatches.{SameBatches}
 use Rattle.span_convert.specs.SameDocuments.{AgreeingDocuments}
@@ -86,12 +87,12 @@ AgreesWith input_failed status outcome = Unit {0}
 AgreesWith output_failed status outcome = Unit {0}
 AgreesWith no_memory status outcome = Unit {0}
 
--- What the output gains: the text where the outcome was carried out, a front of it where the output failed within it or memory
--- was wanted, and nothing before.
+-- What the output gains: the text where the outcome was carried out, a front of it where a device failed or memory was wanted, and
+-- nothing where the words are no command.
 abbrev pub Writes : Stage → List ℕ → Outlet → Outlet → Type 0
 Writes usage text before now = Gains before now []
 Writes said text before now = Gains before now text
-Writes input_failed text before now = Gains before now []
+Writes input_failed text before now = GainsFront before now text
 Writes output_failed text before now = FailsWithin before now text
 Writes no_memory text before now = GainsFront before now text
 
@@ -109,6 +110,15 @@ pub record CarriesOut (status : ℕ) (output_before output_now notes_before note
   pub agrees : AgreesWith (stage_of status) status outcome
   pub writes : Writes (stage_of status) outcome.text output_before output_now
   pub notes : Notes notes_before notes_now (line_of (stage_of status) outcome)
+
+-- ---- conversions, there and back
+
+-- The output gained the text of all units of the bytes. Where it has fewer than 2 ^ 63 bytes, it is read back as the normal form of the
+-- trace of these units, which keeps the trace's spans and which the other form leaves as it is, and converts back.
+pub record WritesTextOf (from to : Form) (before now : Outlet) (bytes : List ℕ) : Type 0 where
+  pub out : List ℕ
+  pub gains : Gains before now out
+  pub back : length out < 2 ^ 63 → ReadsBack from to shipped_limits bytes out
 
 -- ---- losses
 

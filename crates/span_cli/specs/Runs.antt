@@ -1,19 +1,25 @@
 -- How a run ends, and what it does to its input and output.
-use Rattle.std.specs.Prelude.{◌≡◌, ◌≢◌, ◌⊎◌, ℕ, Bool, List, [], IfSome, IsTrue, Result, Ok, Err}
+use Rattle.std.specs.Prelude.{◌≡◌, ◌≢◌, ◌⊎◌, ℕ, Bool, List, [], All, IfSome, IsTrue, Result, Ok, Err}
 use Rattle.propagation.specs.Heads.{Head, IsHeaderCause}
 use Rattle.propagation.specs.NormalContexts.{CannotTell, context_lines}
 use Rattle.propagation.specs.declared.context.Context.{Context}
 use Rattle.propagation.specs.declared.header_form.HeaderForm.{HeaderForm}
 use Rattle.span_io.specs.Limits.{shipped_limits}
 use Rattle.span_io.specs.Outside.{Inlet, Outlet, Gains, GainsFront, InputFails, NoReadInVain, OutputFails, OutputHolds}
-use Rattle.span_convert.specs.Reports.{WritesFrontAs}
+use Rattle.span_io.specs.declared.form.Form.{Form}
+use Rattle.span_convert.specs.Outlooks.{IfDocument}
+use Rattle.span_convert.specs.Reports.{WritesFrontAs, written_target}
+use Rattle.span_convert.specs.Units.{input_form}
+use Rattle.span_convert.specs.Verdicts.{IsGood}
 use Rattle.span_convert.specs.declared.converter.State.{State}
 use Rattle.span_convert.specs.declared.converter.State.TheVariants as states
 use Rattle.span_convert.specs.declared.stop.Stop.{Stop}
 use Rattle.span_convert.specs.declared.stop.Stop.TheVariants as stops
+use Rattle.span_convert.specs.declared.tally.Tally.{Tally}
 use Rattle.span_convert.specs.declared.target_fault.TargetFault.{TargetFault}
+use Rattle.span_convert.specs.declared.written.Written.{Written}
 use Rattle.span_cli.specs.GaugeLines.{gauge_lines}
-use Rattle.span_cli.specs.Inputs.{GaveInput, ReadsInput, IsReadThrough}
+use Rattle.span_cli.specs.Inputs.{GaveInput, ReadsInput, IsReadThrough, WritesUnits}
 use Rattle.span_cli.specs.Jobs.{Job, Spans, HeaderLines, Gauge}
 use Rattle.span_cli.specs.Lines.{HasKey, stage_of, status_of, fault_line, noted_line, ending_line}
 use Rattle.span_cli.specs.Outcomes.{OnOutcome, IsJudgedAt, AgreesWith, Writes, CarriesOut, gauge_outcome, line_of}
@@ -57,11 +63,24 @@ pub record EndsInput (job : Job) (status : ℕ) (before now : Inlet) : Type 0 wh
   pub reads : ReadsInput job before now
   pub all_read : status ≡ 0 → IsReadThrough job before now
 
--- The same of its output, which a failure of the input leaves as it was.
-pub record EndsOutput {K : Type 0} (outlet : K → Outlet) (status : ℕ) (before now : K) : Type 0 where
-  pub fails : status ≡ 6 → OutputFails (outlet before) (outlet now)
-  pub holds : status ≢ 6 → OutputHolds (outlet before) (outlet now)
-  pub unwritten : status ≡ 5 → now ≡ before
+-- the same of its output
+pub record EndsOutput (status : ℕ) (before now : Outlet) : Type 0 where
+  pub fails : status ≡ 6 → OutputFails before now
+  pub holds : status ≢ 6 → OutputHolds before now
+
+-- Nothing stops the bytes that the source gave, and the output gained the text of their whole units.
+pub record WritesWholeUnits (from : Form) (what : Written) (input_before input_now : Inlet) (output_before output_now : Outlet) : Type 0 where
+  pub given : List ℕ
+  pub gave : GaveInput input_before input_now given
+  pub writes : WritesUnits from what given output_before output_now
+
+-- What was written before the input failed: of binary input the text of the whole units that were read, and of all other input nothing,
+-- so that the output is as it was.
+abbrev pub WritesSoFar : {K : Type 0} → (K → Outlet) → Job → Inlet → Inlet → K → K → Type 0
+WritesSoFar outlet (Spans from what) input_before input_now before now =
+    WritesWholeUnits from what input_before input_now (outlet before) (outlet now) × IfDocument from (now ≡ before)
+WritesSoFar outlet (HeaderLines form) input_before input_now before now = now ≡ before
+WritesSoFar outlet (Gauge spans) input_before input_now before now = now ≡ before
 
 -- what was written is nothing, or a front of the lines of a context that these bytes tell
 pub data IsContextFront (form : HeaderForm) (given : List ℕ) (before now : Outlet) : Type 0 where
@@ -81,12 +100,27 @@ pub record WritesRead (job : Job) (input_before input_now : Inlet) (output_befor
   pub gave : GaveInput input_before input_now given
   pub front : IsFrontOf job given output_before output_now
 
+-- The output gained the whole text of all units of the bytes, and no part of a unit is longer than the target can tell.
+pub record WritesAllUnits (from : Form) (what : Written) (before now : Outlet) (bytes : List ℕ) : Type 0 where
+  pub text : List ℕ
+  pub tally : Tally
+  pub all : IsGood (input_form from) (written_target what) shipped_limits bytes text tally
+  pub sized : All (written_target what).IsSized all.noted
+  pub gains : Gains before now text
+
+-- the same of a job that writes spans
+abbrev pub WritesAllOf : Job → Outlet → Outlet → List ℕ → Type 0
+WritesAllOf (Spans from what) before now bytes = WritesAllUnits from what before now bytes
+WritesAllOf (HeaderLines form) before now bytes = Unit {0}
+WritesAllOf (Gauge spans) before now bytes = Unit {0}
+
 -- The ending is true of an input and an output as they were before and are now. Where the input told its bytes, the outcome on
 -- them was carried out as the ending says.
 pub record EndsRun {K : Type 0} (outlet : K → Outlet) (job : Job) (ending : Ending)
     (input_before input_now : Inlet) (output_before output_now : K) : Type 0 where
   pub input : EndsInput job (status_of ending) input_before input_now
-  pub output : EndsOutput outlet (status_of ending) output_before output_now
+  pub output : EndsOutput (status_of ending) (outlet output_before) (outlet output_now)
+  pub so_far : status_of ending ≡ 5 → WritesSoFar outlet job input_before input_now output_before output_now
   pub front : WritesRead job input_before input_now (outlet output_before) (outlet output_now)
   pub judged : IfSome input_before.left (IsJudgedAt job (stage_of (status_of ending)))
   pub agrees : OnOutcome job input_before.left (AgreesWith (stage_of (status_of ending)) (status_of ending))
@@ -94,6 +128,7 @@ pub record EndsRun {K : Type 0} (outlet : K → Outlet) (job : Job) (ending : En
       (λ outcome. Writes (stage_of (status_of ending)) outcome.text (outlet output_before) (outlet output_now))
   pub line : OnOutcome job input_before.left
       (λ outcome. ending_line ending ≡ line_of (stage_of (status_of ending)) outcome)
+  pub whole : status_of ending ≡ 0 → IfSome input_before.left (WritesAllOf job (outlet output_before) (outlet output_now))
 
 -- ---- the sizes of the gauge
 
@@ -110,7 +145,7 @@ IsGaugeStatus status = (status ≡ 0) ⊎ ((status ≡ 6) ⊎ (status ≡ 7))
 -- The ending is true of an output as it was before and is now, whatever the input is.
 pub record EndsGauge {K : Type 0} (outlet : K → Outlet) (spans : ℕ) (ending : Ending) (before now : K) : Type 0 where
   pub ending_is : IsGaugeEnding ending
-  pub output : EndsOutput outlet (status_of ending) before now
+  pub output : EndsOutput (status_of ending) (outlet before) (outlet now)
   pub written : Writes (stage_of (status_of ending)) (gauge_lines spans) (outlet before) (outlet now)
 
 -- A run of `gauge` reads nothing. It wrote the lines of the gauge, the output failed within them, or memory was wanted.

@@ -6,7 +6,7 @@ ghost use Rattle.span_cli.specs.Runs.{IsEndingAt};
 
 use crate::noted_fault::NotedFault;
 use propagation::HeaderCause;
-use span_convert::{Stop, Walker, Why, Written};
+use span_convert::{Stop, Walker, Why};
 use span_io::{OutOfMemory, Refusal};
 use std::alloc::Global;
 
@@ -31,7 +31,7 @@ pub enum Ending {
 
 impl Ending {
     /// How a run ends whose converter or reporter answered this stop.
-    pub fn at_stop(alloc: Global, walker: &Walker<Written>, stop: Stop) -> Ending
+    pub fn at_stop(alloc: Global, walker: &Walker, stop: Stop) -> Ending
         requires kept { stop_in walker.now.state ≡ Some stop }
         ensures { IsEndingAt result stop walker.now.state }
     {

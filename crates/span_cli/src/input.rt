@@ -1,33 +1,38 @@
 //! Feeding an input to what converts or reports it.
 ghost use Rattle.std.specs.Prelude.{◌≡◌, [], length, vec_len, IfOk, OnOk};
 ghost use Rattle.span_io.specs.Limits.{shipped_limits};
-ghost use Rattle.span_convert.specs.Converters.{Fed};
+ghost use Rattle.span_convert.specs.Converters.{Fed, IsOutlookBy, form_of, what_of};
+ghost use Rattle.span_convert.specs.Verdicts.{good, tally_of};
 ghost use Rattle.span_cli.specs.Inputs.{IsFed, piece};
 ghost use Rattle.span_cli.specs.Jobs.{Spans};
 ghost use Rattle.span_cli.specs.Runs.{EndsEarly};
 
 use crate::ending::Ending;
-use span_convert::laws::nothing_written;
-use span_convert::{Walker, Written};
+use span_convert::Walker;
+use span_convert::laws::{
+    nothing_written, one_verdict, outlook_begins, outlook_lasts, some_outlook,
+};
+use span_io::laws::{gains_then, proper_bytes};
 use span_io::{OutOfMemory, Sink, Source};
 use std::alloc::Global;
 
 /// The most bytes that one read asks for.
 pub(crate) const PIECE: usize = 65_536;
 
-/// Feeds an input to what converts or reports it, piece by piece, to the end of the input. Where the run ends before,
-/// the answer is how.
+/// Feeds an input to what converts or reports it, piece by piece, to the end of the input. What is converted of a piece is
+/// written before the next is read. Where the run ends before, the answer is how.
 pub fn feed_input<S: Source, K: Sink>(
     alloc: Global,
-    walker: &mut Walker<Written>,
+    walker: &mut Walker,
     input: &mut S,
     output: &mut K,
 ) -> Result<(), Ending>
     requires fresh { Fed walker.old [] }
     requires limits { walker.old.limits ≡ shipped_limits }
-    ensures fed { OnOk result (IsFed walker.old.from walker.old.what (S.inlet input.old) (S.inlet input.new) walker.new) }
-    ensures unwritten { OnOk result (output.new ≡ output.old) }
-    ensures ended { EndsEarly K.outlet (Spans walker.old.from walker.old.what) result
+    requires outlook { IsOutlookBy walker.old [] (good [] (tally_of 0 0)) }
+    ensures fed { OnOk result (IsFed (form_of walker.old) (what_of walker.old) (S.inlet input.old) (S.inlet input.new)
+        (K.outlet output.old) (K.outlet output.new) walker.new) }
+    ensures ended { EndsEarly K.outlet (Spans (form_of walker.old) (what_of walker.old)) result
         (S.inlet input.old) (S.inlet input.new) output.old output.new }
 {
     nothing_written();
@@ -47,7 +52,7 @@ pub(crate) fn room(alloc: Global, size: usize) -> Result<Vec<u8>, OutOfMemory>
 // The same with room for a piece.
 fn feed_pieces<S: Source, K: Sink>(
     alloc: Global,
-    walker: &mut Walker<Written>,
+    walker: &mut Walker,
     input: &mut S,
     output: &mut K,
     buffer: &mut [u8],
@@ -55,12 +60,18 @@ fn feed_pieces<S: Source, K: Sink>(
     requires room { length buffer.old ≡ piece }
     requires fresh { Fed walker.old [] }
     requires limits { walker.old.limits ≡ shipped_limits }
-    ensures fed { OnOk result (IsFed walker.old.from walker.old.what (S.inlet input.old) (S.inlet input.new) walker.new) }
-    ensures unwritten { OnOk result (output.new ≡ output.old) }
-    ensures ended { EndsEarly K.outlet (Spans walker.old.from walker.old.what) result
+    requires outlook { IsOutlookBy walker.old [] (good [] (tally_of 0 0)) }
+    ensures fed { OnOk result (IsFed (form_of walker.old) (what_of walker.old) (S.inlet input.old) (S.inlet input.new)
+        (K.outlet output.old) (K.outlet output.new) walker.new) }
+    ensures ended { EndsEarly K.outlet (Spans (form_of walker.old) (what_of walker.old)) result
         (S.inlet input.old) (S.inlet input.new) output.old output.new }
 {
     nothing_written();
+    gains_then();
+    one_verdict();
+    some_outlook();
+    outlook_lasts();
+    outlook_begins();
     'pieces: loop {
         let Ok(given) = input.read(buffer) else {
             return Err(Ending::InputFailed);
@@ -68,7 +79,9 @@ fn feed_pieces<S: Source, K: Sink>(
         if given == 0 {
             return Ok(());
         }
-        if let Err(stop) = walker.feed(&buffer[..given], output) {
+        let piece = &buffer[..given];
+        proper_bytes(piece);
+        if let Err(stop) = walker.feed(piece, output) {
             return Err(Ending::at_stop(alloc, walker, stop));
         }
     }

@@ -1,12 +1,12 @@
 //! The top call.
 ghost use Rattle.std.specs.Prelude.{◌≡◌, ◌≢◌, ◌↔◌, IfSome, IsTrue, length};
 ghost use Rattle.span_io.specs.Outside.{InputFails, NoReadInVain, NoWriteInVain, OutputFails, OutputHolds, Takes, any_number};
-ghost use Rattle.span_cli.specs.Commands.{texts, Spells, OnGauge, OnJob, OnServing, OnSpans, OnLosses, OnHeaders, UnlessServing};
+ghost use Rattle.span_cli.specs.Commands.{texts, Spells, OnConversions, OnGauge, OnJob, OnServing, OnSpans, OnLosses, OnHeaders, UnlessServing};
 ghost use Rattle.span_cli.specs.Inputs.{ReadsInput, IsReadThrough};
 ghost use Rattle.span_cli.specs.Jobs.{IfGauge, IsInRange, Spans};
-ghost use Rattle.span_cli.specs.Runs.{EndsGauge, EndsGaugeRun, EndsRun, WritesRead};
+ghost use Rattle.span_cli.specs.Runs.{EndsGauge, EndsGaugeRun, EndsRun, WritesRead, WritesSoFar};
 ghost use Rattle.span_cli.specs.Lines.{IsRunStatus, Notes, stage_of, stage_line, usage_line};
-ghost use Rattle.span_cli.specs.Outcomes.{OnOutcome, OnSameBatches, OnAgreeingDocuments, CarriesOut, WritesLinesOf, WritesLossesOf, IsJudgedAt, AgreesWith, Writes, line_of};
+ghost use Rattle.span_cli.specs.Outcomes.{OnOutcome, OnSameBatches, OnAgreeingDocuments, CarriesOut, WritesLinesOf, WritesLossesOf, WritesTextOf, IsJudgedAt, AgreesWith, Writes, line_of};
 ghost use Rattle.span_cli.specs.Servings.{ServesConnections};
 ghost use Rattle.span_cli.specs.declared.command.Command.{Command};
 
@@ -19,18 +19,23 @@ use crate::job::{Job, Task};
 use crate::note::{note_ending, note_usage};
 use crate::serve::serve;
 use propagation::laws::{contexts_are_normal, headers_read_back, heads_are_sound};
-use span_convert::laws::{free_members, no_losses, same_batches};
+use span_convert::laws::{free_members, no_losses, output_read_back, same_batches};
 use span_convert::{Walker, Written};
+use span_io::laws::gains_then;
 use span_io::{Door, Form, Limits, Sink, Source};
 use std::alloc::Global;
 
 /// Runs the command that the words after the program's name spell: it reads the input to its end,
 /// writes its canonical text, its report or the lines of its context to the output, and notes a refusal
-/// or a fault in one line. `gauge` reads nothing, and writes the sizes of the gauge. `serve` serves connections of the
+/// or a fault in one line. Each unit of binary input is written once it was read, and a document at its end. The clauses speak
+/// of the source's bytes alone, however it cuts them into reads: binary input may be cut anywhere.
+/// What `convert` wrote converts back to the form that was read where it fits as an input, and no second trip loses more.
+/// `gauge` reads nothing, and writes the sizes of the gauge. `serve` serves connections of the
 /// door, and notes each of which a call was refused.
 /// The answer is the exit status: 0 the whole text was written or all connections were served, 2 the words are no command,
 /// 3 the input is refused, 4 the target can't hold a unit or a context (in both the text of the units
-/// before was written), 5 the input or the door failed, 6 the output failed, 7 no memory was found.
+/// before was written), 5 the input failed (the text of the whole units of binary input before was written) or the door, 6 the
+/// output failed, 7 no memory was found.
 pub fn run<S: Source, K: Sink, N: Sink, D: Door>(
     alloc: Global,
     words: &[String],
@@ -49,7 +54,6 @@ pub fn run<S: Source, K: Sink, N: Sink, D: Door>(
     ensures input_fails { UnlessServing (texts words.now) (result ≡ 5 → InputFails (S.inlet input.old) (S.inlet input.new)) }
     ensures input_quiet { result ≢ 5 → (S.inlet input.new).faults ≡ (S.inlet input.old).faults }
     ensures input_answers { UnlessServing (texts words.now) (IsTrue (S.inlet input.old).steady → result ≢ 5) }
-    ensures unwritten { result ≡ 5 → output.new ≡ output.old }
     ensures output_fails { result ≡ 6 → OutputFails (K.outlet output.old) (K.outlet output.new) }
     ensures output_holds { result ≢ 6 → OutputHolds (K.outlet output.old) (K.outlet output.new) }
     ensures output_answers { (K.outlet output.old).sure ≡ any_number → result ≢ 6 }
@@ -67,6 +71,10 @@ pub fn run<S: Source, K: Sink, N: Sink, D: Door>(
     // Whatever the status, only text of the first units of what was read was written, or lines of its context.
     ensures front { OnJob (texts words.now)
         (λ job. WritesRead job (S.inlet input.old) (S.inlet input.new) (K.outlet output.old) (K.outlet output.new)) }
+
+    // Where the input failed, of binary input the text of the whole units that were read was written, and else nothing.
+    ensures so_far { OnJob (texts words.now) (λ job. result ≡ 5
+        → WritesSoFar K.outlet job (S.inlet input.old) (S.inlet input.new) output.old output.new) }
 
     // Where the input tells its bytes, the outcome of the command's job on them says the status, the output and the note.
     ensures judged { OnJob (texts words.now)
@@ -87,6 +95,11 @@ pub fn run<S: Source, K: Sink, N: Sink, D: Door>(
     // So do those on other bytes that differ in members alone that a form in JSON doesn't know.
     ensures free_members { OnSpans (texts words.now) (λ from what. OnAgreeingDocuments from what (S.inlet input.old).left
         (CarriesOut result (K.outlet output.old) (K.outlet output.new) (N.outlet notes.old) (N.outlet notes.new))) }
+
+    // A converted text that has fewer than 2^63 bytes is read back as the normal form of the trace that was read, which keeps all
+    // its spans. Where it fits it converts back to the form that was read, which leaves that normal form as it is.
+    ensures there_and_back { OnConversions (texts words.now) (λ from to. result ≡ 0 → IfSome (S.inlet input.old).left
+        (WritesTextOf from to (K.outlet output.old) (K.outlet output.new))) }
 
     // Of losses the one line `losses 0` is written exactly where the trace that was read is its own normal form of the target.
     ensures nothing_lost { OnLosses (texts words.now) (λ from to. result ≡ 0 → IfSome (S.inlet input.old).left
@@ -125,6 +138,7 @@ pub fn run<S: Source, K: Sink, N: Sink, D: Door>(
     note_ending(notes, &ending);
     same_batches();
     free_members();
+    output_read_back();
     no_losses();
     contexts_are_normal();
     heads_are_sound();
@@ -155,6 +169,7 @@ fn spans<S: Source, K: Sink>(
 ) -> Ending
     ensures { EndsRun K.outlet (Spans from what) result (S.inlet input.old) (S.inlet input.new) output.old output.new }
 {
+    gains_then();
     let mut walker = Walker::new(alloc, from, what, &Limits::shipped());
     if let Err(ending) = feed_input(alloc, &mut walker, input, output) {
         return ending;

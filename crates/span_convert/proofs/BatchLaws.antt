@@ -20,7 +20,7 @@ use Rattle.span_convert.specs.FramedForms.{FramedForm}
 use Rattle.span_convert.specs.InputLaws.{BatchLaws}
 use Rattle.span_convert.specs.Units.{batch_form}
 use Rattle.span_convert.proofs.BatchRemarks.{remarks_once, some_remarks}
-use Rattle.span_convert.proofs.FrameLemmas.{no_items, FirstItems, first_items, nothing_begins, stops_ends, one_stop, end_fine, behind_all, same_items}
+use Rattle.span_convert.proofs.FrameLemmas.{none_framed, no_items, FirstItems, first_items, framed_longer, same_items}
 use Rattle.span_convert.proofs.SourceLaws.{SourceLaws, HeldBy, GoOn, AllUnits, IsDecidedUnit}
 
 module _ (protocol : ProtocolWords) (L : BatchLaws protocol) where
@@ -53,7 +53,7 @@ module _ (protocol : ProtocolWords) (L : BatchLaws protocol) where
         rest = w.rest;
         held = w.framed.items_then;
         framed = all_framed limits.unit w.items w.rest (take limits.binary bytes) w.framed.items_then;
-        behind = behind_all (batches protocol) (RefusedBatch protocol) L.step limits (length bytes) w.rest w.rest_is;
+        rest_is = w.rest_is;
       }
 
   -- ---- two walks over one file
@@ -85,10 +85,10 @@ module _ (protocol : ProtocolWords) (L : BatchLaws protocol) where
     fine = λ unit g is. L.batch.fine is.batch unit is.text;
     walks = units_walk;
     before = before_unit;
-    empty = λ limits valid. nothing_begins (batches protocol) (RefusedBatch protocol) L.step limits.unit valid.unit.0;
-    rest_ends = stops_ends (batches protocol) (RefusedBatch protocol) L.step;
-    one_cause = one_stop (batches protocol) (RefusedBatch protocol) L.step;
-    end_fine = λ limits valid size. end_fine (batches protocol) (RefusedBatch protocol) L.step limits size valid;
+    nothing = λ limits. none_framed (batches protocol) limits.unit limits.binary;
+    longer = λ limits text more units rest. framed_longer (batches protocol) (RefusedBatch protocol) L.pieces limits.unit limits.binary units rest text more;
+    step = L.step;
+    pieces = L.pieces;
   }
 
   -- ---- a file is read as one trace

@@ -39,7 +39,7 @@ pub record IsNormal (g : Group) : Type 0 where
   sized : IsWritable (batch_of g)
   itself : normal_group g ≡ g
 
-all_held : (groups : List Group) → IsSoundTrace groups → IsProperTrace groups → All HasNoFault groups → All IsHeld groups
+pub all_held : (groups : List Group) → IsSoundTrace groups → IsProperTrace groups → All HasNoFault groups → All IsHeld groups
 all_held [] sound proper fine = All-nil IsHeld
 all_held (g ∷ groups) sound proper fine =
     All-cons IsHeld g groups (record { sound = All-head IsSoundGroup g groups sound; proper = All-head IsProperGroup g groups proper; no_fault = All-head HasNoFault g groups fine })

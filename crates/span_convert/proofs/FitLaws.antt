@@ -14,7 +14,7 @@ use Rattle.span_convert.specs.BatchFiles.{ProtocolWords, binary, compact, batche
 use Rattle.span_convert.specs.Canonical.{AreFramesWithin, Fits, ReadsNoted}
 use Rattle.span_convert.specs.FramedForms.{AreAllUnits}
 use Rattle.span_convert.specs.InputLaws.{BatchLaws, InputLaws, RequestLaws}
-use Rattle.span_convert.specs.Requests.{ReadsRequest}
+use Rattle.span_convert.specs.Requests.{HoldsRequestUnits, ReadsRequest}
 use Rattle.span_convert.specs.Units.{batch_form, input_form, request_form}
 use Rattle.span_convert.proofs.FrameLemmas.{same_items}
 
@@ -66,6 +66,35 @@ reads_whole L forms.OtlpJson limits bytes noted h fits = record { within = fits;
 reads_whole L forms.JaegerBinary limits bytes noted h fits = batches_whole binary L.binary limits bytes noted h fits
 reads_whole L forms.JaegerCompact limits bytes noted h fits = batches_whole compact L.compact limits bytes noted h fits
 reads_whole L forms.ZipkinJson limits bytes noted h fits = record { within = fits; text = h }
+
+-- ---- what is all of an input is read of its bytes
+
+request_reads : (limits : Limits) (bytes : List ℕ) (noted : List NotedGroup) → AreAllUnits request_form limits bytes noted → ReadsRequest bytes noted
+request_reads limits bytes noted h =
+    let held : HoldsRequestUnits limits bytes h.units_then.units [] = h.units_then.held in
+    record {
+      frames = held.frames;
+      framed = items_within records limits.unit (length bytes) held.frames [] bytes (omega arith)
+          (subst (λ (l : List ℕ). ItemsThen records limits.unit held.frames [] l) (take_all limits.binary bytes h.within) held.framed);
+      units = h.units_then.units;
+      are_units = held.are_units;
+      are_groups = h.units_then.are_groups;
+    }
+
+batches_read : (protocol : ProtocolWords) (limits : Limits) (bytes : List ℕ) (noted : List NotedGroup) → AreAllUnits (batch_form protocol) limits bytes noted → ReadsBatches protocol bytes noted
+batches_read protocol limits bytes noted h = record {
+  units = h.units_then.units;
+  framed = items_within (batches protocol) limits.unit (length bytes) h.units_then.units [] bytes (omega arith)
+      (subst (λ (l : List ℕ). ItemsThen (batches protocol) limits.unit h.units_then.units [] l) (take_all limits.binary bytes h.within) h.units_then.held);
+  are_groups = h.units_then.are_groups;
+}
+
+pub whole_reads : (from : Form) (limits : Limits) (bytes : List ℕ) (noted : List NotedGroup) → (input_form from).IsWhole limits bytes noted → ReadsNoted from bytes noted
+whole_reads forms.OtlpProto limits bytes noted h = request_reads limits bytes noted h
+whole_reads forms.OtlpJson limits bytes noted h = h.text
+whole_reads forms.JaegerBinary limits bytes noted h = batches_read binary limits bytes noted h
+whole_reads forms.JaegerCompact limits bytes noted h = batches_read compact limits bytes noted h
+whole_reads forms.ZipkinJson limits bytes noted h = h.text
 
 pub fits_sized : (from : Form) (limits : Limits) (bytes : List ℕ) → AreLimits limits → Fits from limits bytes → length bytes < 2 ^ 63
 fits_sized forms.OtlpProto limits bytes valid fits = omega (arith, fits.within, valid.binary.1)

@@ -14,7 +14,8 @@ use Rattle.span_convert.specs.Canonical.{IsHeldBy}
 use Rattle.span_convert.specs.Targets.{CanHoldUnits, AreHeldBy, TargetLaws, form_target}
 use Rattle.span_convert.specs.Units.{groups_in, CanHold, IsSizedGroup, partial_text, span_count}
 use Rattle.span_convert.specs.Verdicts.{CanHoldTrace, tally_of, units_tally}
-use Rattle.span_convert.specs.Walks.{StandsForAny, WritesUnit}
+use Rattle.span_convert.specs.Pens.{StandsForAny}
+use Rattle.span_convert.specs.Walks.{WritesUnit}
 use Rattle.span_convert.specs.declared.tally.Tally.{Tally}
 use Rattle.span_convert.proofs.TargetLaws as by_form
 use Rattle.span_convert.proofs.WalkLemmas.{as_many, groups_push, held_one}

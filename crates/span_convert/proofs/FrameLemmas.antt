@@ -1,19 +1,42 @@
 -- What holds of the frames of every wire format, and of the rest behind them.
-use Rattle.std.proofs.Common.{◌≡◌, ◌≢◌, ◌+◌, ◌<◌, ◌≤◌, ◌++◌, ◌∷◌, ◌⊎◌, inl, inr, ℕ, List, [], length, refl, ap, sym, ◌∙◌, subst, arith}
+use Rattle.std.proofs.Common.{◌≡◌, ◌≢◌, ◌+◌, ◌-◌, ◌<◌, ◌≤◌, ◌++◌, ◌∷◌, ◌⊎◌, inl, inr, ℕ, List, [], length, take, refl, ap, sym, ◌∙◌, subst, arith}
+use Rattle.std.proofs.Math.Seq.{take-nil, take-append-add}
 use Rattle.std.proofs.lemmas.Bool.{cases_lt}
-use Rattle.std.proofs.lemmas.List.{append-nil}
+use Rattle.std.proofs.lemmas.List.{append-nil, take-append-le, take_all}
 use Rattle.span_io.specs.Frames.{Framing, ItemsThen, BeginsFrame, NeedsMore, GoesOn}
-use Rattle.span_io.specs.Framings.{OneFraming, OneStep, RestIs}
-use Rattle.span_io.specs.Limits.{AreLimits}
-use Rattle.span_io.specs.Steps.{NoFrame}
+use Rattle.span_io.specs.Framings.{OneFraming, OneStep}
+use Rattle.span_io.specs.Pieces.{PieceLaws}
 use Rattle.span_io.specs.declared.cause.Cause.{Cause}
 use Rattle.span_io.specs.declared.cause.Cause.TheVariants as causes
-use Rattle.span_io.specs.declared.limits.Limits.{Limits}
 use Rattle.span_convert.specs.Rests.{StopsRest}
+
+-- ---- more bytes
+
+-- of more bytes no more are looked at than there is room for
+take_more : (most : ℕ) (bytes more : List ℕ) → (length bytes < most) ⊎ (most ≤ length bytes) → take most (bytes ++ more) ≡ take most bytes ++ take (most - length bytes) more
+take_more most bytes more (inr full) =
+    let none : 0 ≡ most - length bytes = omega (arith, full) in
+    take-append-le most bytes more full ∙ sym (append-nil (take most bytes)) ∙ ap (λ n. take most bytes ++ take n more) none
+take_more most bytes more (inl room) =
+    let whole : take most bytes ≡ bytes = take_all most bytes (omega (arith, room)) in
+    let sum : most ≡ length bytes + (most - length bytes) = omega (arith, room) in
+    ap (λ n. take n (bytes ++ more)) sum ∙ take-append-add bytes more (most - length bytes) ∙ ap (λ l. l ++ take (most - length bytes) more) (sym whole)
+
+-- items at the front of some bytes are items of more of them
+pub framed_longer : (F : Framing) (EndsIn : Cause → List ℕ → Type 0) → PieceLaws F EndsIn → (limit most : ℕ) (items : List (List ℕ)) (rest bytes more : List ℕ) → ItemsThen F limit items rest (take most bytes)
+    → ItemsThen F limit items (rest ++ take (most - length bytes) more) (take most (bytes ++ more))
+framed_longer F EndsIn P limit most items rest bytes more h =
+    subst (λ (l : List ℕ). ItemsThen F limit items (rest ++ take (most - length bytes) more) l) (sym (take_more most bytes more (cases_lt (length bytes) most)))
+    (P.items_more limit items rest (take most bytes) (take (most - length bytes) more) h)
 
 -- ---- items
 
 module _ (F : Framing) (limit : ℕ) where
+  -- no bytes are no items
+  pub none_framed : (most : ℕ) → ItemsThen F limit [] [] (take most [])
+  unfolding ItemsThen
+  none_framed most = take-nil most
+
   -- where no item begins there is none
   pub no_items : (items : List (List ℕ)) (other rest : List ℕ) → ((n : ℕ) → BeginsFrame F limit n rest → ⊥) → ItemsThen F limit items other rest → (items ≡ []) × (rest ≡ other)
   unfolding ItemsThen
@@ -49,47 +72,37 @@ stops_weaker F EndsIn limit Long Longer Short Shorter f g rest cause (inr (needs
 
 -- ---- every format whose bytes have one first step and one framing
 
-module _ (F : Framing) (EndsIn : Cause → List ℕ → Type 0) (S : OneStep F EndsIn) (limits : Limits) (size : ℕ) where
-  -- why the rest of an input of so many bytes isn't read
+module _ (F : Framing) (EndsIn : Cause → List ℕ → Type 0) (S : OneStep F EndsIn) (limit : ℕ) (Others None : Type 0) where
+  -- why the rest of an input isn't read, that has others, or has none
   abbrev StopsThere : List ℕ → Cause → Type 0
-  StopsThere = StopsRest F EndsIn limits.unit (limits.binary < size) (size ≤ limits.binary)
+  StopsThere = StopsRest F EndsIn limit Others None
 
   -- nothing begins there
-  pub stops_ends : (rest : List ℕ) (cause : Cause) → StopsThere rest cause → (n : ℕ) → BeginsFrame F limits.unit n rest → ⊥
-  stops_ends rest cause (inl h) n b = S.no_frame limits.unit n rest cause h b
-  stops_ends rest cause (inr h) n b = S.open_frame limits.unit n rest h.0 b
+  pub stops_ends : (rest : List ℕ) (cause : Cause) → StopsThere rest cause → (n : ℕ) → BeginsFrame F limit n rest → ⊥
+  stops_ends rest cause (inl h) n b = S.no_frame limit n rest cause h b
+  stops_ends rest cause (inr h) n b = S.open_frame limit n rest h.0 b
 
-  -- at the end of an input within its limit nothing is wrong
-  pub end_fine : AreLimits limits → (rest : List ℕ) (cause : Cause) → rest ≡ [] → size ≤ limits.binary → StopsThere rest cause → ⊥
-  end_fine valid rest cause e within (inl h) = S.open_refused limits.unit [] cause (S.empty limits.unit valid.unit.0) (subst (λ (l : List ℕ). NoFrame F EndsIn limits.unit l cause) e h)
-  end_fine valid rest cause e within (inr (needs, inl h)) = omega (arith, h.1, within)
-  end_fine valid rest cause e within (inr (needs, inr h)) = h.2 e
+  -- where a frame may yet come, and there are no others, it is the end that stops it
+  pub end_stops : (Others → ⊥) → (rest : List ℕ) (cause : Cause) → NeedsMore F limit rest → StopsThere rest cause → None × (rest ≢ [])
+  end_stops no_others rest cause needs (inl h) = absurd (S.open_refused limit rest cause needs h)
+  end_stops no_others rest cause needs (inr (open_there, inl h)) = absurd (no_others h.1)
+  end_stops no_others rest cause needs (inr (open_there, inr h)) = (h.1, h.2)
 
-  one_open : (rest : List ℕ) (a b : Cause) → (a ≡ causes.InputTooLong) × (limits.binary < size) ⊎ (a ≡ causes.Truncated) × (size ≤ limits.binary) × (rest ≢ []) → (b ≡ causes.InputTooLong) × (limits.binary < size) ⊎ (b ≡ causes.Truncated) × (size ≤ limits.binary) × (rest ≢ []) → a ≡ b
-  one_open rest a b (inl x) (inl y) = x.0 ∙ sym y.0
-  one_open rest a b (inl x) (inr y) = absurd (omega (arith, x.1, y.1))
-  one_open rest a b (inr x) (inl y) = absurd (omega (arith, x.1, y.1))
-  one_open rest a b (inr x) (inr y) = x.0 ∙ sym y.0
+  one_open : (Others → None → ⊥) → (rest : List ℕ) (a b : Cause) → (a ≡ causes.InputTooLong) × Others ⊎ (a ≡ causes.Truncated) × None × (rest ≢ []) → (b ≡ causes.InputTooLong) × Others ⊎ (b ≡ causes.Truncated) × None × (rest ≢ []) → a ≡ b
+  one_open never rest a b (inl x) (inl y) = x.0 ∙ sym y.0
+  one_open never rest a b (inl x) (inr y) = absurd (never x.1 y.1)
+  one_open never rest a b (inr x) (inl y) = absurd (never y.1 x.1)
+  one_open never rest a b (inr x) (inr y) = x.0 ∙ sym y.0
 
-  pub one_stop : (rest : List ℕ) (a b : Cause) → StopsThere rest a → StopsThere rest b → a ≡ b
-  one_stop rest a b (inl h) (inl g) = S.one_cause limits.unit rest a b h g
-  one_stop rest a b (inl h) (inr g) = absurd (S.open_refused limits.unit rest a g.0 h)
-  one_stop rest a b (inr h) (inl g) = absurd (S.open_refused limits.unit rest b h.0 g)
-  one_stop rest a b (inr h) (inr g) = one_open rest a b h.1 g.1
-
-  -- the rest ends the input, or a cause stops a walk there
-  open_rest : (rest : List ℕ) → NeedsMore F limits.unit rest → (limits.binary < size) ⊎ (size ≤ limits.binary) → (rest ≡ []) × (size ≤ limits.binary) ⊎ ((cause : Cause) × StopsThere rest cause)
-  open_rest rest needs (inl long) = inr (causes.InputTooLong, inr (needs, inl (refl, long)))
-  open_rest [] needs (inr short) = inl (refl, short)
-  open_rest (x ∷ rest) needs (inr short) = inr (causes.Truncated, inr (needs, inr (refl, short, λ e. cc)))
-
-  pub behind_all : (rest : List ℕ) → RestIs F EndsIn limits.unit rest → (rest ≡ []) × (size ≤ limits.binary) ⊎ ((cause : Cause) × StopsThere rest cause)
-  behind_all rest (inr (cause, none)) = inr (cause, inl none)
-  behind_all rest (inl needs) = open_rest rest needs (cases_lt limits.binary size)
+  pub one_stop : (Others → None → ⊥) → (rest : List ℕ) (a b : Cause) → StopsThere rest a → StopsThere rest b → a ≡ b
+  one_stop never rest a b (inl h) (inl g) = S.one_cause limit rest a b h g
+  one_stop never rest a b (inl h) (inr g) = absurd (S.open_refused limit rest a g.0 h)
+  one_stop never rest a b (inr h) (inl g) = absurd (S.open_refused limit rest b h.0 g)
+  one_stop never rest a b (inr h) (inr g) = one_open never rest a b h.1 g.1
 
 module _ (F : Framing) (EndsIn : Cause → List ℕ → Type 0) (S : OneStep F EndsIn) where
   -- nothing begins in no bytes
-  pub nothing_begins : (limit : ℕ) → 1 ≤ limit → (n : ℕ) → BeginsFrame F limit n [] → ⊥
+  nothing_begins : (limit : ℕ) → 1 ≤ limit → (n : ℕ) → BeginsFrame F limit n [] → ⊥
   nothing_begins limit some n b = S.open_frame limit n [] (S.empty limit some) b
 
   none_left : (limit n : ℕ) → BeginsFrame F limit n [] → ⊥

@@ -1,4 +1,4 @@
--- Inputs of frames: each has one list of groups, or is refused in one way.
+-- Inputs of frames: each has one list of groups, or is refused in one way, whatever is fine of the rest behind its units.
 use Rattle.std.proofs.Common.{◌≡◌, ◌+◌, ◌≤◌, ◌++◌, ◌∷◌, ◌⊎◌, inl, inr, ℕ, List, [], length, refl, ap, sym, ◌∙◌, subst, arith}
 use Rattle.std.specs.List.{AllByRecursion, AllZip}
 use Rattle.std.proofs.lemmas.List.{append_assoc, append-nil, length-append}
@@ -18,14 +18,15 @@ use Rattle.trace_model.specs.OtlpParts.{NotedGroup}
 use Rattle.otlp_proto.specs.Laws.{SomeGroup}
 use Rattle.map_jaeger.specs.Laws.{ReadIsSound, ReadIsProper}
 use Rattle.span_convert.specs.BatchFiles.{ProtocolWords}
-use Rattle.span_convert.specs.FramedForms.{FramedForm, RestCause, UnitsThen, UnitsBegin, AreAllUnits, UnitOffends, RestStops, UnitsRefused}
+use Rattle.span_convert.specs.FramedForms.{FramedForm, RestCause, UnitsThen, UnitsBegin, AreAllUnits, UnitOffends, RestStopsBy, UnitsRefusedBy}
 use Rattle.span_convert.specs.InputLaws.{RequestLaws, BatchLaws}
-use Rattle.span_convert.specs.Units.{request_form, batch_form, framed_input, input_form, groups_in}
+use Rattle.span_convert.specs.Units.{InputForm, request_form, batch_form, framed_input, input_form, groups_in}
 use Rattle.span_convert.specs.Verdicts.{IsProperTrace}
 use Rattle.span_convert.proofs.BatchLaws.{batch_laws}
 use Rattle.span_convert.proofs.CauseNumbers.{same_cause}
 use Rattle.span_convert.proofs.InputForms.{ComesFirst, InputFormLaws, IsDecidedInput, SomeInput}
 use Rattle.span_convert.proofs.RequestLaws.{head_is, tail_is, request_laws}
+use Rattle.span_convert.proofs.RestLaws.{RestLaws, AreUnitsThen, NothingLeft, ended_rests}
 use Rattle.span_convert.proofs.SourceLaws.{AreBytes, AllBytes, Ends, HeldBy, GoOn, AllUnits, SourceLaws, IsDecidedUnit, UnitLaws}
 use Rattle.span_convert.proofs.UnitGroups.{GroupIsProper, request_unit_laws, batch_unit_laws}
 
@@ -48,6 +49,10 @@ next_is (b ∷ before) (o ∷ others) x y behind n e = next_is before others x y
 
 same_refusal : (r q : Refusal) → r.unit ≡ q.unit → r.cause ≡ q.cause → r ≡ q
 same_refusal r q e f = ap (λ u. record { unit = u; cause = r.cause }) e ∙ ap (λ c. record { unit = q.unit; cause = c }) f
+
+-- what begins with units, and is whole or refused for a cause of this kind
+abbrev pub read_input : FramedForm → (Limits → ℕ → List ℕ → Cause → Type 0) → (Limits → List ℕ → List NotedGroup → Type 0) → InputForm
+read_input from Why Whole = record { Begins = UnitsBegin from; IsWhole = Whole; Refuses = UnitsRefusedBy from Why }
 
 module _ (from : FramedForm) (S : SourceLaws from) where
   -- ---- groups of units
@@ -129,16 +134,6 @@ module _ (from : FramedForm) (S : SourceLaws from) where
         let w : UnitsOf h.units_then.units a = units_of h.units_then.units a b h.units_then.are_groups in
         begins_with w.first a (held_first w.first w.behind h.rest (subst (λ (l : List (List ℕ)). from.HoldsUnits limits text l h.rest) w.parts h.units_then.held)) w.are_groups
 
-    whole_begins : (a : List NotedGroup) → AreAllUnits from limits text a → UnitsBegin from limits text a
-    whole_begins a h = record { rest = []; units_then = h.units_then }
-
-    refused_begins : (a : List NotedGroup) (r : Refusal) → UnitsRefused from limits text a r → UnitsBegin from limits text a
-    refused_begins a r h = of h.why
-      where
-        of : UnitOffends from limits text a r.cause ⊎ RestStops from limits text a r.cause → UnitsBegin from limits text a
-        of (inl o) = begins_with o.before a (S.before limits text o.before o.unit o.rest o.held) o.are_groups
-        of (inr s) = record { rest = s.rest; units_then = s.units_then }
-
     -- ---- where nothing begins at the rest
 
     last_groups : (a b : List NotedGroup) (rest other : List ℕ) → Ends from limits rest → UnitsThen from limits text a rest → UnitsThen from limits text b other → ComesFirst b a
@@ -165,22 +160,6 @@ module _ (from : FramedForm) (S : SourceLaws from) where
         of (inl w) = never [] (sym (w.ended ends).0 ∙ sym (append-nil (o.before ++ o.unit ∷ [])))
         of (inr w) = never w.behind w.parts
 
-    -- ---- refusals
-
-    refused_ends : (a b : List NotedGroup) (r : Refusal) → UnitsRefused from limits text a r → UnitsBegin from limits text b → ComesFirst b a
-    refused_ends a b r h g = of h.why
-      where
-        by_unit : (o : UnitOffends from limits text a r.cause) → GoOn from limits (o.before ++ o.unit ∷ []) g.units_then.units o.rest g.rest ⊎ GoOn from limits g.units_then.units (o.before ++ o.unit ∷ []) g.rest o.rest → ComesFirst b a
-        by_unit o (inl w) = absurd (no_groups o.before o.unit w.behind b (bad_halts o.unit (cause_number r.cause) o.least) (subst (λ (l : List (List ℕ)). AllZip from.IsUnit l b) w.parts g.units_then.are_groups))
-        by_unit o (inr w) = first_before o.before o.unit g.units_then.units w.behind a b (bad_halts o.unit (cause_number r.cause) o.least) w.parts o.are_groups g.units_then.are_groups
-
-        of : UnitOffends from limits text a r.cause ⊎ RestStops from limits text a r.cause → ComesFirst b a
-        of (inl o) = by_unit o (S.walks limits text (o.before ++ o.unit ∷ []) g.units_then.units o.rest g.rest o.held g.units_then.held)
-        of (inr s) = last_groups a b s.rest g.rest (S.rest_ends limits (length text) s.rest r.cause s.why) s.units_then g.units_then
-
-    same_groups : (a b : List NotedGroup) (r q : Refusal) → UnitsRefused from limits text a r → UnitsRefused from limits text b q → a ≡ b
-    same_groups a b r q h g = both_first a b (refused_ends b a q g (refused_begins a r h)) (refused_ends a b r h (refused_begins b q g))
-
     same_unit : (a b : List NotedGroup) (r q : Cause) → a ≡ b → (h : UnitOffends from limits text a r) (g : UnitOffends from limits text b q) → h.unit ≡ g.unit
     same_unit a b r q e h g = of (S.walks limits text (h.before ++ h.unit ∷ []) (g.before ++ g.unit ∷ []) h.rest g.rest h.held g.held)
       where
@@ -191,37 +170,78 @@ module _ (from : FramedForm) (S : SourceLaws from) where
         of (inl w) = next_is h.before g.before h.unit g.unit w.behind as_many w.parts
         of (inr w) = sym (next_is g.before h.before g.unit h.unit w.behind (sym as_many) w.parts)
 
-    same_why : (a b : List NotedGroup) (r q : Cause) → a ≡ b → UnitOffends from limits text a r ⊎ RestStops from limits text a r → UnitOffends from limits text b q ⊎ RestStops from limits text b q → r ≡ q
-    same_why a b r q e (inl h) (inl g) = same_cause r q (one_cause (from.Offends g.unit) (cause_number r) (cause_number q) (subst (λ (u : List ℕ). Least (from.Offends u) (cause_number r)) (same_unit a b r q e h g) h.least) g.least)
-    same_why a b r q e (inl h) (inr g) = absurd (not_beyond b a g.rest r (S.rest_ends limits (length text) g.rest q g.why) g.units_then h)
-    same_why a b r q e (inr h) (inl g) = absurd (not_beyond a b h.rest q (S.rest_ends limits (length text) h.rest r h.why) h.units_then g)
-    same_why a b r q e (inr h) (inr g) =
-        let same : h.rest ≡ g.rest = same_rest a b h.rest g.rest (S.rest_ends limits (length text) h.rest r h.why) (S.rest_ends limits (length text) g.rest q g.why) h.units_then g.units_then in
-        S.one_cause limits (length text) g.rest r q (subst (λ (l : List ℕ). RestCause from limits (length text) l r) same h.why) g.why
+    -- ---- refusals, and why the rest isn't read
 
-    refused_once : (a b : List NotedGroup) (r q : Refusal) → UnitsRefused from limits text a r → UnitsRefused from limits text b q → (a ≡ b) × (r ≡ q)
-    refused_once a b r q h g =
-        let e : a ≡ b = same_groups a b r q h g in
-        (e, same_refusal r q (h.number ∙ ap (λ (l : List NotedGroup). length l + 1) e ∙ sym g.number) (same_why a b r.cause q.cause e h.why g.why))
+    module _ (Fine : Limits → ℕ → List ℕ → Type 0) (Why : Limits → ℕ → List ℕ → Cause → Type 0) (R : RestLaws from Fine Why) where
+      abbrev Refuses : List NotedGroup → Refusal → Type 0
+      Refuses noted refusal = UnitsRefusedBy from Why limits text noted refusal
 
-    whole_or_refused : AreLimits limits → (a b : List NotedGroup) (r : Refusal) → AreAllUnits from limits text a → UnitsRefused from limits text b r → ⊥
-    whole_or_refused valid a b r h g = of g.why
-      where
-        of : UnitOffends from limits text b r.cause ⊎ RestStops from limits text b r.cause → ⊥
-        of (inl o) = not_beyond a b [] r.cause (S.empty limits valid) h.units_then o
-        of (inr s) = S.end_fine limits valid (length text) s.rest r.cause (sym (same_rest a b [] s.rest (S.empty limits valid) (S.rest_ends limits (length text) s.rest r.cause s.why) h.units_then s.units_then)) h.within s.why
+      abbrev Stops : List NotedGroup → Cause → Type 0
+      Stops noted cause = RestStopsBy from Why limits text noted cause
 
-  pub framed_laws : InputFormLaws (framed_input from)
-  framed_laws = record {
-    compare = compare;
-    shorter = shorter;
-    whole_begins = whole_begins;
-    whole_ends = λ limits text a b valid h g. last_groups limits text a b [] g.rest (S.empty limits valid) h.units_then g.units_then;
-    refused_begins = λ limits text a r h. inr (refused_begins limits text a r h);
-    refused_ends = λ limits text a b r valid h g. refused_ends limits text a b r h g;
-    whole_or_refused = λ limits text a b r valid h g. whole_or_refused limits text valid a b r h g;
-    refused_once = λ limits text a b r q valid h g. refused_once limits text a b r q h g;
-  }
+      refused_begins : (a : List NotedGroup) (r : Refusal) → Refuses a r → UnitsBegin from limits text a
+      refused_begins a r h = of h.why
+        where
+          of : UnitOffends from limits text a r.cause ⊎ Stops a r.cause → UnitsBegin from limits text a
+          of (inl o) = begins_with o.before a (S.before limits text o.before o.unit o.rest o.held) o.are_groups
+          of (inr s) = record { rest = s.rest; units_then = s.units_then }
+
+      refused_ends : (a b : List NotedGroup) (r : Refusal) → Refuses a r → UnitsBegin from limits text b → ComesFirst b a
+      refused_ends a b r h g = of h.why
+        where
+          by_unit : (o : UnitOffends from limits text a r.cause) → GoOn from limits (o.before ++ o.unit ∷ []) g.units_then.units o.rest g.rest ⊎ GoOn from limits g.units_then.units (o.before ++ o.unit ∷ []) g.rest o.rest → ComesFirst b a
+          by_unit o (inl w) = absurd (no_groups o.before o.unit w.behind b (bad_halts o.unit (cause_number r.cause) o.least) (subst (λ (l : List (List ℕ)). AllZip from.IsUnit l b) w.parts g.units_then.are_groups))
+          by_unit o (inr w) = first_before o.before o.unit g.units_then.units w.behind a b (bad_halts o.unit (cause_number r.cause) o.least) w.parts o.are_groups g.units_then.are_groups
+
+          of : UnitOffends from limits text a r.cause ⊎ Stops a r.cause → ComesFirst b a
+          of (inl o) = by_unit o (S.walks limits text (o.before ++ o.unit ∷ []) g.units_then.units o.rest g.rest o.held g.units_then.held)
+          of (inr s) = last_groups a b s.rest g.rest (R.rest_ends limits (length text) s.rest r.cause s.why) s.units_then g.units_then
+
+      same_groups : (a b : List NotedGroup) (r q : Refusal) → Refuses a r → Refuses b q → a ≡ b
+      same_groups a b r q h g = both_first a b (refused_ends b a q g (refused_begins a r h)) (refused_ends a b r h (refused_begins b q g))
+
+      same_why : (a b : List NotedGroup) (r q : Cause) → a ≡ b → UnitOffends from limits text a r ⊎ Stops a r → UnitOffends from limits text b q ⊎ Stops b q → r ≡ q
+      same_why a b r q e (inl h) (inl g) = same_cause r q (one_cause (from.Offends g.unit) (cause_number r) (cause_number q) (subst (λ (u : List ℕ). Least (from.Offends u) (cause_number r)) (same_unit a b r q e h g) h.least) g.least)
+      same_why a b r q e (inl h) (inr g) = absurd (not_beyond b a g.rest r (R.rest_ends limits (length text) g.rest q g.why) g.units_then h)
+      same_why a b r q e (inr h) (inl g) = absurd (not_beyond a b h.rest q (R.rest_ends limits (length text) h.rest r h.why) h.units_then g)
+      same_why a b r q e (inr h) (inr g) =
+          let same : h.rest ≡ g.rest = same_rest a b h.rest g.rest (R.rest_ends limits (length text) h.rest r h.why) (R.rest_ends limits (length text) g.rest q g.why) h.units_then g.units_then in
+          R.one_cause limits (length text) g.rest r q (subst (λ (l : List ℕ). Why limits (length text) l r) same h.why) g.why
+
+      refused_once : (a b : List NotedGroup) (r q : Refusal) → Refuses a r → Refuses b q → (a ≡ b) × (r ≡ q)
+      refused_once a b r q h g =
+          let e : a ≡ b = same_groups a b r q h g in
+          (e, same_refusal r q (h.number ∙ ap (λ (l : List NotedGroup). length l + 1) e ∙ sym g.number) (same_why a b r.cause q.cause e h.why g.why))
+
+      read_or_refused : AreLimits limits → (a b : List NotedGroup) (r : Refusal) → AreUnitsThen from Fine limits text a → Refuses b r → ⊥
+      read_or_refused valid a b r h g = of g.why
+        where
+          ends : Ends from limits h.rest
+          ends = R.fine_ends limits (length text) h.rest valid h.fine
+
+          of : UnitOffends from limits text b r.cause ⊎ Stops b r.cause → ⊥
+          of (inl o) = not_beyond a b h.rest r.cause ends h.units_then o
+          of (inr s) =
+              let same : s.rest ≡ h.rest = same_rest b a s.rest h.rest (R.rest_ends limits (length text) s.rest r.cause s.why) ends s.units_then h.units_then in
+              R.not_both limits (length text) h.rest r.cause valid h.fine (subst (λ (l : List ℕ). Why limits (length text) l r.cause) same s.why)
+
+  -- ---- all inputs
+
+  module _ (Fine : Limits → ℕ → List ℕ → Type 0) (Why : Limits → ℕ → List ℕ → Cause → Type 0) (R : RestLaws from Fine Why)
+      (Whole : Limits → List ℕ → List NotedGroup → Type 0) where
+    pub read_laws : ((limits : Limits) (text : List ℕ) (a : List NotedGroup) → Whole limits text a → AreUnitsThen from Fine limits text a) → InputFormLaws (read_input from Why Whole)
+    read_laws read = record {
+      compare = compare;
+      shorter = shorter;
+      whole_begins = λ limits text a h. (let w : AreUnitsThen from Fine limits text a = read limits text a h in record { rest = w.rest; units_then = w.units_then });
+      whole_ends = λ limits text a b valid h g.
+          (let w : AreUnitsThen from Fine limits text a = read limits text a h in
+          last_groups limits text a b w.rest g.rest (R.fine_ends limits (length text) w.rest valid w.fine) w.units_then g.units_then);
+      refused_begins = λ limits text a r h. inr (refused_begins limits text Fine Why R a r h);
+      refused_ends = λ limits text a b r valid h g. refused_ends limits text Fine Why R a b r h g;
+      whole_or_refused = λ limits text a b r valid h g. read_or_refused limits text Fine Why R valid a b r (read limits text a h) g;
+      refused_once = λ limits text a b r q valid h g. refused_once limits text Fine Why R a b r q h g;
+    }
 
   -- ---- each input has groups, or is refused behind some
 
@@ -263,52 +283,67 @@ module _ (from : FramedForm) (S : SourceLaws from) where
     decided_units [] all framed = inr (record { groups = []; are_groups = tt })
     decided_units (unit ∷ units) all framed = by_unit unit units (U.decides unit all.0 framed.0) (decided_units units all.1 framed.1)
 
-    module _ (limits : Limits) (text : List ℕ) where
-      at_offence : (w : AllUnits from limits text) → FirstOffence w.units → IsDecidedInput (framed_input from) limits text
-      at_offence w h =
-          let u : HeldBy from limits text (h.before ++ h.unit ∷ []) = held_first limits text (h.before ++ h.unit ∷ []) h.more w.rest (subst (λ (l : List (List ℕ)). from.HoldsUnits limits text l w.rest) h.parts w.held) in
-          inr (
-            h.groups,
-            record { unit = length h.groups + 1; cause = h.cause },
-            record {
-              why = inl (record { before = h.before; unit = h.unit; rest = u.rest; held = u.held; are_groups = h.are_groups; least = h.least });
-              number = refl;
-            },
-          )
+    module _ (Fine : Limits → ℕ → List ℕ → Type 0) (Why : Limits → ℕ → List ℕ → Cause → Type 0) (R : RestLaws from Fine Why)
+        (Whole : Limits → List ℕ → List NotedGroup → Type 0) (whole : (limits : Limits) (text : List ℕ) (groups : List NotedGroup) → AreUnitsThen from Fine limits text groups → Whole limits text groups) where
+      module _ (limits : Limits) (text : List ℕ) where
+        abbrev Decided : Type 0
+        Decided = IsDecidedInput (read_input from Why Whole) limits text
 
-      at_end : (w : AllUnits from limits text) → AllGroups w.units → (w.rest ≡ []) × (length text ≤ limits.binary) ⊎ ((cause : Cause) × RestCause from limits (length text) w.rest cause) → IsDecidedInput (framed_input from) limits text
-      at_end w f (inl end) = inl (
-        f.groups,
-        record {
-          units_then = record { units = w.units; held = subst (λ (l : List ℕ). from.HoldsUnits limits text w.units l) end.0 w.held; are_groups = f.are_groups };
-          within = end.1;
-        },
-      )
-      at_end w f (inr (cause, why)) = inr (
-        f.groups,
-        record { unit = length f.groups + 1; cause = cause },
-        record {
-          why = inr (record { rest = w.rest; units_then = record { units = w.units; held = w.held; are_groups = f.are_groups }; why = why });
-          number = refl;
-        },
-      )
+        at_offence : (w : AllUnits from limits text) → FirstOffence w.units → Decided
+        at_offence w h =
+            let u : HeldBy from limits text (h.before ++ h.unit ∷ []) = held_first limits text (h.before ++ h.unit ∷ []) h.more w.rest (subst (λ (l : List (List ℕ)). from.HoldsUnits limits text l w.rest) h.parts w.held) in
+            inr (
+              h.groups,
+              record { unit = length h.groups + 1; cause = h.cause },
+              record {
+                why = inl (record { before = h.before; unit = h.unit; rest = u.rest; held = u.held; are_groups = h.are_groups; least = h.least });
+                number = refl;
+              },
+            )
 
-      decided : AreBytes text → IsDecidedInput (framed_input from) limits text
-      decided all = of (decided_units w.units (U.are_bytes limits text w.units w.rest all w.held) w.framed)
-        where
-          w : AllUnits from limits text
-          w = U.all_units limits text
+        at_rest : (w : AllUnits from limits text) → AllGroups w.units → Fine limits (length text) w.rest ⊎ ((cause : Cause) × Why limits (length text) w.rest cause) → Decided
+        at_rest w f (inl fine) = inl (
+          f.groups,
+          whole limits text f.groups (record { rest = w.rest; units_then = record { units = w.units; held = w.held; are_groups = f.are_groups }; fine = fine }),
+        )
+        at_rest w f (inr (cause, why)) = inr (
+          f.groups,
+          record { unit = length f.groups + 1; cause = cause },
+          record {
+            why = inr (record { rest = w.rest; units_then = record { units = w.units; held = w.held; are_groups = f.are_groups }; why = why });
+            number = refl;
+          },
+        )
 
-          of : FirstOffence w.units ⊎ AllGroups w.units → IsDecidedInput (framed_input from) limits text
-          of (inl h) = at_offence w h
-          of (inr f) = at_end w f w.behind
+        decided : AreBytes text → Decided
+        decided all = of (decided_units w.units (U.are_bytes limits text w.units w.rest all w.held) w.framed)
+          where
+            w : AllUnits from limits text
+            w = U.all_units limits text
 
-    pub framed_some : SomeInput (framed_input from)
-    framed_some = record {
-      decided = decided;
-      sound = λ limits text groups h. sound_groups h.units_then.units groups h.units_then.are_groups;
-      proper = λ limits text groups all h. proper_groups h.units_then.units groups (U.are_bytes limits text h.units_then.units h.rest all h.units_then.held) h.units_then.are_groups;
-    }
+            of : FirstOffence w.units ⊎ AllGroups w.units → Decided
+            of (inl h) = at_offence w h
+            of (inr f) = at_rest w f (R.some limits (length text) w.rest w.rest_is)
+
+      pub read_some : SomeInput (read_input from Why Whole)
+      read_some = record {
+        decided = decided;
+        sound = λ limits text groups h. sound_groups h.units_then.units groups h.units_then.are_groups;
+        proper = λ limits text groups all h. proper_groups h.units_then.units groups (U.are_bytes limits text h.units_then.units h.rest all h.units_then.held) h.units_then.are_groups;
+      }
+
+-- ---- inputs that have ended
+
+module _ (from : FramedForm) (S : SourceLaws from) where
+  pub framed_laws : InputFormLaws (framed_input from)
+  framed_laws = read_laws from S NothingLeft (RestCause from) (ended_rests from S.step) (AreAllUnits from)
+      (λ limits text groups h. record { rest = []; units_then = h.units_then; fine = (refl, h.within) })
+
+  ended : (limits : Limits) (text : List ℕ) (groups : List NotedGroup) → AreUnitsThen from NothingLeft limits text groups → AreAllUnits from limits text groups
+  ended limits text groups h = record { units_then = subst (λ (l : List ℕ). UnitsThen from limits text groups l) h.fine.0 h.units_then; within = h.fine.1 }
+
+  pub framed_some : UnitLaws from → SomeInput (framed_input from)
+  framed_some U = read_some from S U NothingLeft (RestCause from) (ended_rests from S.step) (AreAllUnits from) ended
 
 -- ---- requests, and batches in a protocol
 

@@ -1,3 +1,4 @@
+pub mod AnswerLemmas
 pub mod BatchLaws
 pub mod BatchProper
 pub mod BatchRemarks
@@ -14,6 +15,7 @@ pub mod DocumentTexts
 pub mod DocumentTwins
 pub mod DocumentWalks
 pub mod FaultTargets
+pub mod FeedLemmas
 pub mod FitLaws
 pub mod FormTargets
 pub mod FrameLemmas
@@ -22,12 +24,21 @@ pub mod GroupFileInputs
 pub mod GroupFileTexts
 pub mod GroupFileWalks
 pub mod InputForms
+pub mod IntakeLemmas
 pub mod JsonTexts
+pub mod LeftTexts
 pub mod LossTargets
+pub mod MoveLaws
 pub mod NoLosses
+pub mod OpenInputs
+pub mod OutlookExamples
+pub mod OutlookLaws
+pub mod PenLemmas
+pub mod PieceWalks
 pub mod ReportTargets
 pub mod RequestLaws
 pub mod RequestUnits
+pub mod RestLaws
 pub mod SameVerdicts
 pub mod SomeVerdict
 pub mod SourceLaws

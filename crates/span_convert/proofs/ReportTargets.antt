@@ -13,7 +13,8 @@ use Rattle.loss_report.specs.Lines.{counts_text}
 use Rattle.span_convert.specs.Reports.{check_end, group_shown, remark_count, report_target, unit_checked, units_checked, units_shown, written_target}
 use Rattle.span_convert.specs.Targets.{TargetLaws, form_target}
 use Rattle.span_convert.specs.Verdicts.{units_tally}
-use Rattle.span_convert.specs.Walks.{StandsForAny, WritesUnit}
+use Rattle.span_convert.specs.Pens.{StandsForAny}
+use Rattle.span_convert.specs.Walks.{WritesUnit}
 use Rattle.span_convert.specs.declared.report.Report.{Report}
 use Rattle.span_convert.specs.declared.report.Report.TheVariants as reports
 use Rattle.span_convert.specs.declared.tally.Tally.{Tally}

@@ -1,8 +1,9 @@
 -- Two walks over one request, and the units that are in it.
-use Rattle.std.proofs.Common.{◌≡◌, ◌≤◌, ◌++◌, ◌∷◌, ◌⊎◌, inl, inr, ℕ, List, [], length, take, Bool, true, false, refl, ap, sym, ◌∙◌, subst}
+use Rattle.std.proofs.Common.{◌≡◌, ◌≤◌, ◌-◌, ◌++◌, ◌∷◌, ◌⊎◌, inl, inr, ℕ, List, [], length, take, Bool, true, false, refl, ap, sym, ◌∙◌, subst}
 use Rattle.std.specs.Prelude.{◌==◌, if◌then◌else◌}
 use Rattle.std.proofs.lemmas.List.{append_assoc, append-nil}
 use Rattle.span_io.specs.Frames.{ItemsThen, GoesOn}
+use Rattle.span_io.specs.Pieces.{PieceLaws}
 use Rattle.span_io.specs.declared.limits.Limits.{Limits}
 use Rattle.proto_wire.specs.Records.{Held, varint, fixed64, bytes, fixed32, Record}
 use Rattle.proto_wire.specs.Wire.{SpellsRecord, records, RefusedBy}
@@ -11,7 +12,7 @@ use Rattle.otlp_proto.specs.Rows.{bytes_in}
 use Rattle.span_convert.specs.InputLaws.{RequestLaws}
 use Rattle.span_convert.specs.Requests.{AreRequestUnits, HoldsRequestUnits, IsRequestUnit}
 use Rattle.span_convert.specs.Units.{request_form}
-use Rattle.span_convert.proofs.FrameLemmas.{no_items, nothing_begins, stops_ends, one_stop, end_fine}
+use Rattle.span_convert.proofs.FrameLemmas.{none_framed, no_items, framed_longer}
 use Rattle.span_convert.proofs.SourceLaws.{SourceLaws, HeldBy, GoOn}
 
 -- ---- lists
@@ -37,6 +38,17 @@ one_or_none number (bytes inner) = of (number == 1)
 one_or_none number (varint n) = inl refl
 one_or_none number (fixed64 n) = inl refl
 one_or_none number (fixed32 n) = inl refl
+
+-- ---- no bytes, and more bytes
+
+pub no_requests : (limits : Limits) → HoldsRequestUnits limits [] [] []
+unfolding AreRequestUnits
+no_requests limits = record { frames = []; framed = none_framed records limits.unit limits.binary; are_units = refl }
+
+pub requests_longer : PieceLaws records RefusedBy → (limits : Limits) (text more : List ℕ) (units : List (List ℕ)) (rest : List ℕ) → HoldsRequestUnits limits text units rest
+    → HoldsRequestUnits limits (text ++ more) units (rest ++ take (limits.binary - length text) more)
+requests_longer P limits text more units rest h =
+    record { frames = h.frames; framed = framed_longer records RefusedBy P limits.unit limits.binary h.frames rest text more h.framed; are_units = h.are_units }
 
 module _ (L : RequestLaws) where
   -- ---- units of frames
@@ -146,8 +158,8 @@ module _ (L : RequestLaws) where
     fine = λ unit g is. L.group.fine unit g.means g.notes is;
     walks = units_walk;
     before = before_unit;
-    empty = λ limits valid. nothing_begins records RefusedBy L.step limits.unit valid.unit.0;
-    rest_ends = stops_ends records RefusedBy L.step;
-    one_cause = one_stop records RefusedBy L.step;
-    end_fine = λ limits valid size. end_fine records RefusedBy L.step limits size valid;
+    nothing = no_requests;
+    longer = requests_longer L.pieces;
+    step = L.step;
+    pieces = L.pieces;
   }

@@ -1,5 +1,5 @@
 -- Each input has units, and behind them all it ends or isn't read for a cause.
-use Rattle.std.proofs.Common.{ℕ, List, [], ◌∷◌, ◌++◌, length, take, refl}
+use Rattle.std.proofs.Common.{ℕ, List, [], ◌∷◌, ◌++◌, take, refl}
 use Rattle.std.specs.List.{AllByRecursion}
 use Rattle.span_io.specs.Frames.{ItemsThen}
 use Rattle.span_io.specs.Framings.{Framed}
@@ -9,7 +9,6 @@ use Rattle.otlp_proto.specs.Rows.{bytes_in}
 use Rattle.span_convert.specs.InputLaws.{RequestLaws}
 use Rattle.span_convert.specs.Requests.{AreRequestUnits}
 use Rattle.span_convert.specs.Units.{request_form}
-use Rattle.span_convert.proofs.FrameLemmas.{behind_all}
 use Rattle.span_convert.proofs.SourceLaws.{AllUnits}
 
 -- the units in frames
@@ -37,5 +36,5 @@ request_units L limits bytes =
       rest = w.rest;
       held = record { frames = w.items; framed = w.framed.items_then; are_units = u.are_units };
       framed = all_framed u.units;
-      behind = behind_all records RefusedBy L.step limits (length bytes) w.rest w.rest_is;
+      rest_is = w.rest_is;
     }

@@ -1,5 +1,5 @@
 -- Inputs of Jaeger that hold the same batches have the same verdicts.
-use Rattle.std.proofs.Common.{◌≡◌, ◌↔◌, ◌++◌, ◌∷◌, ◌⊎◌, inl, inr, ℕ, List, [], length, take, refl, ap, sym, ◌∙◌, subst}
+use Rattle.std.proofs.Common.{◌≡◌, ◌↔◌, ◌++◌, ◌∷◌, ◌⊎◌, inl, inr, ℕ, List, [], length, take, refl, ap, sym, ◌∙◌, subst, arith}
 use Rattle.std.proofs.lemmas.List.{append-nil}
 use Rattle.std.specs.List.{AllZip}
 use Rattle.span_io.specs.Causes.{cause_number}
@@ -14,7 +14,7 @@ use Rattle.thrift_core.specs.Messages.{fields_of}
 use Rattle.trace_model.specs.OtlpParts.{NotedGroup}
 use Rattle.jaeger_model.specs.Laws.{OneTree}
 use Rattle.span_convert.specs.BatchFiles.{ProtocolWords, binary, compact, batches, HoldsBatches}
-use Rattle.span_convert.specs.FramedForms.{FramedForm, UnitsBegin, AreAllUnits, UnitOffends, RestStops, UnitsRefused}
+use Rattle.span_convert.specs.FramedForms.{FramedForm, RestCause, UnitsBegin, AreAllUnits, UnitOffends, RestStops, UnitsRefused}
 use Rattle.span_convert.specs.InputLaws.{BatchLaws, InputLaws, TreeLaws}
 use Rattle.span_convert.specs.SameBatches.{SaysTheSame, AreAllBatches, HoldSameBatches, SameBatches}
 use Rattle.span_convert.specs.Units.{batch_form, framed_input, input_form}
@@ -22,6 +22,7 @@ use Rattle.span_convert.specs.Targets.{Target}
 use Rattle.span_convert.specs.Verdicts.{Verdict, good, refused, faulted, IsVerdictOn}
 use Rattle.span_convert.proofs.BatchLaws.{batch_laws}
 use Rattle.span_convert.proofs.FrameLemmas.{FirstItems, first_items}
+use Rattle.span_convert.proofs.RestLaws.{RestLaws, NothingLeft, ended_rests}
 use Rattle.span_convert.proofs.SourceLaws.{SourceLaws, Ends, GoOn}
 
 -- ---- pairs
@@ -120,13 +121,19 @@ module _ (protocol another : ProtocolWords) (L : BatchLaws protocol) (limits : L
   S : SourceLaws from
   S = batch_laws protocol L
 
+  R : RestLaws from NothingLeft (RestCause from)
+  R = ended_rests from L.step
+
+  nothing_begins : Ends from limits []
+  nothing_begins = R.fine_ends limits 0 [] valid (refl, omega arith)
+
   -- the units that an input begins with are the first of all
   first_of_all : (units : List (List ℕ)) (rest : List ℕ) → HoldsBatches protocol limits bytes units rest → (more : List (List ℕ)) × (H.units ≡ units ++ more)
   first_of_all units rest held = of (S.walks limits bytes units H.units rest [] held H.all.held)
     where
       of : GoOn from limits units H.units rest [] ⊎ GoOn from limits H.units units [] rest → (more : List (List ℕ)) × (H.units ≡ units ++ more)
       of (inl w) = (w.behind, w.parts)
-      of (inr w) = ([], sym (w.ended (S.empty limits valid)).0 ∙ sym (append-nil units))
+      of (inr w) = ([], sym (w.ended nothing_begins).0 ∙ sym (append-nil units))
 
   -- where nothing begins at the rest, they are all, and nothing is left
   all_of_them : (units : List (List ℕ)) (rest : List ℕ) → HoldsBatches protocol limits bytes units rest → Ends from limits rest → (H.units ≡ units) × (rest ≡ [])
@@ -134,7 +141,7 @@ module _ (protocol another : ProtocolWords) (L : BatchLaws protocol) (limits : L
     where
       of : GoOn from limits units H.units rest [] ⊎ GoOn from limits H.units units [] rest → (H.units ≡ units) × (rest ≡ [])
       of (inl w) = w.ended ends
-      of (inr w) = let e : (units ≡ H.units) × ([] ≡ rest) = w.ended (S.empty limits valid) in (sym e.0, sym e.1)
+      of (inr w) = let e : (units ≡ H.units) × ([] ≡ rest) = w.ended nothing_begins in (sym e.0, sym e.1)
 
   -- the first units of the other input, whose groups are the same
   twins_held : (before behind : List (List ℕ)) → H.twins ≡ before ++ behind → FirstItems (batches another) limits.unit before (take limits.binary others)
@@ -164,7 +171,7 @@ module _ (protocol another : ProtocolWords) (L : BatchLaws protocol) (limits : L
 
   whole : (groups : List NotedGroup) → AreAllUnits from limits bytes groups → AreAllUnits other limits others groups
   whole groups h =
-      let e : (H.units ≡ h.units_then.units) × ([] ≡ []) = all_of_them h.units_then.units [] h.units_then.held (S.empty limits valid) in
+      let e : (H.units ≡ h.units_then.units) × ([] ≡ []) = all_of_them h.units_then.units [] h.units_then.held nothing_begins in
       record {
         units_then = record { units = H.twins; held = H.all_twins.held; are_groups = groups_also H.units H.twins groups H.same (subst (λ (l : List (List ℕ)). AllZip from.IsUnit l groups) (sym e.0) h.units_then.are_groups) };
         within = H.all_twins.within;
@@ -187,8 +194,8 @@ module _ (protocol another : ProtocolWords) (L : BatchLaws protocol) (limits : L
   -- nothing is left behind its batches
   never_stops : (groups : List NotedGroup) (cause : Cause) → RestStops from limits bytes groups cause → ⊥
   never_stops groups cause s =
-      let e : (H.units ≡ s.units_then.units) × (s.rest ≡ []) = all_of_them s.units_then.units s.rest s.units_then.held (S.rest_ends limits (length bytes) s.rest cause s.why) in
-      S.end_fine limits valid (length bytes) s.rest cause e.1 H.all.within s.why
+      let e : (H.units ≡ s.units_then.units) × (s.rest ≡ []) = all_of_them s.units_then.units s.rest s.units_then.held (R.rest_ends limits (length bytes) s.rest cause s.why) in
+      R.not_both limits (length bytes) s.rest cause valid (e.1, H.all.within) s.why
 
   refuses : (groups : List NotedGroup) (refusal : Refusal) → UnitsRefused from limits bytes groups refusal → UnitsRefused other limits others groups refusal
   refuses groups refusal h = record { why = inl (of h.why); number = h.number }

@@ -1,16 +1,17 @@
 -- What the laws of verdicts rest on, over what a form of frames says of an input.
-use Rattle.std.proofs.Common.{◌≡◌, ◌<◌, ◌≤◌, ◌++◌, ◌∷◌, ◌⊎◌, ℕ, List, [], length, All}
+use Rattle.std.proofs.Common.{◌≡◌, ◌<◌, ◌-◌, ◌++◌, ◌∷◌, ◌⊎◌, ℕ, List, [], length, take, All}
 use Rattle.std.specs.List.{AllByRecursion}
 use Rattle.span_io.specs.Causes.{cause_number}
 use Rattle.span_io.specs.Frames.{BeginsFrame}
-use Rattle.span_io.specs.Limits.{AreLimits}
+use Rattle.span_io.specs.Framings.{OneStep, RestIs}
 use Rattle.span_io.specs.Offences.{Least}
+use Rattle.span_io.specs.Pieces.{PieceLaws}
 use Rattle.span_io.specs.declared.cause.Cause.{Cause}
 use Rattle.span_io.specs.declared.limits.Limits.{Limits}
 use Rattle.trace_model.specs.Proper.{IsProperGroup}
 use Rattle.trace_model.specs.Soundness.{IsSoundGroup}
 use Rattle.trace_model.specs.OtlpParts.{NotedGroup}
-use Rattle.span_convert.specs.FramedForms.{FramedForm, RestCause}
+use Rattle.span_convert.specs.FramedForms.{FramedForm}
 
 abbrev pub AreBytes : List ℕ → Type 0
 AreBytes text = All (λ b. b < 256) text
@@ -34,25 +35,28 @@ module _ (from : FramedForm) (limits : Limits) where
     pub parts : others ≡ units ++ behind
     pub ended : Ends rest → (others ≡ units) × (rest ≡ other)
 
-  -- the units of an input, and what stands behind them all
+  -- the units of an input, and what comes of the rest behind them all
   pub record AllUnits (text : List ℕ) : Type 0 where
     pub units : List (List ℕ)
     pub rest : List ℕ
     pub held : from.HoldsUnits limits text units rest
     pub framed : AllByRecursion from.Tells units
-    pub behind : (rest ≡ []) × (length text ≤ limits.binary) ⊎ ((cause : Cause) × RestCause from limits (length text) rest cause)
+    pub rest_is : RestIs from.frames from.Refused limits.unit rest
 
--- two walks over one input, its rest, and what a unit is
+-- what a unit is, two walks over one input, and one that goes on
 pub record SourceLaws (from : FramedForm) : Type 0 where
   pub one_group : (unit : List ℕ) (g h : NotedGroup) → from.IsUnit unit g → from.IsUnit unit h → g ≡ h
   pub fine : (unit : List ℕ) (g : NotedGroup) → from.IsUnit unit g → (place n : ℕ) → from.Offends unit place n → ⊥
   pub walks : (limits : Limits) (text : List ℕ) (units others : List (List ℕ)) (rest other : List ℕ) → from.HoldsUnits limits text units rest → from.HoldsUnits limits text others other
       → GoOn from limits units others rest other ⊎ GoOn from limits others units other rest
   pub before : (limits : Limits) (text : List ℕ) (before : List (List ℕ)) (unit rest : List ℕ) → from.HoldsUnits limits text (before ++ unit ∷ []) rest → HeldBy from limits text before
-  pub empty : (limits : Limits) → AreLimits limits → Ends from limits []
-  pub rest_ends : (limits : Limits) (size : ℕ) (rest : List ℕ) (cause : Cause) → RestCause from limits size rest cause → Ends from limits rest
-  pub one_cause : (limits : Limits) (size : ℕ) (rest : List ℕ) (a b : Cause) → RestCause from limits size rest a → RestCause from limits size rest b → a ≡ b
-  pub end_fine : (limits : Limits) → AreLimits limits → (size : ℕ) (rest : List ℕ) (cause : Cause) → rest ≡ [] → size ≤ limits.binary → RestCause from limits size rest cause → ⊥
+  -- no bytes hold no unit
+  pub nothing : (limits : Limits) → from.HoldsUnits limits [] [] []
+  -- units of some bytes are units of more of them, with more at their rest as far as the limit goes
+  pub longer : (limits : Limits) (text more : List ℕ) (units : List (List ℕ)) (rest : List ℕ) → from.HoldsUnits limits text units rest
+      → from.HoldsUnits limits (text ++ more) units (rest ++ take (limits.binary - length text) more)
+  pub step : OneStep from.frames from.Refused
+  pub pieces : PieceLaws from.frames from.Refused
 
 -- ---- what is known of units
 

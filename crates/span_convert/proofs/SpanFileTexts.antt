@@ -36,7 +36,7 @@ use Rattle.span_convert.proofs.SpanFileInputs.{groups_read, proper_read, timely_
 
 -- ---- what groups add
 
-held_groups : (groups : List Group) → CanHoldTrace forms.ZipkinJson groups → All IsHeldByZipkin groups
+pub held_groups : (groups : List Group) → CanHoldTrace forms.ZipkinJson groups → All IsHeldByZipkin groups
 held_groups groups held = of groups held.sound held.proper held.no_fault
   where
     of : (groups : List Group) → IsSoundTrace groups → IsProperTrace groups → All HasNoZipkinFault groups → All IsHeldByZipkin groups

@@ -19,7 +19,8 @@ use Rattle.span_convert.specs.SpanFiles.{spans_of_groups, span_file}
 use Rattle.span_convert.specs.Targets.{form_target}
 use Rattle.span_convert.specs.Units.{groups_in, CanHold, partial_text, span_count}
 use Rattle.span_convert.specs.Verdicts.{CanHoldTrace, tally_of}
-use Rattle.span_convert.specs.Walks.{ClosesText, StandsForAny, WritesUnit}
+use Rattle.span_convert.specs.Pens.{StandsForAny}
+use Rattle.span_convert.specs.Walks.{ClosesText, WritesUnit}
 use Rattle.span_convert.specs.declared.tally.Tally.{Tally}
 use Rattle.span_convert.proofs.DocumentTexts.{added_text, is_some_piece}
 use Rattle.span_convert.proofs.DocumentWalks.{is_closing, is_opening}

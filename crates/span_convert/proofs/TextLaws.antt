@@ -57,7 +57,7 @@ request_fine [] = All-nil (CanHold forms.OtlpProto)
 request_fine (g ∷ groups) = All-cons (CanHold forms.OtlpProto) g groups tt (request_fine groups)
 
 -- groups without remarks are the groups
-plain_means : (groups : List Group) → groups_in (map plain_noted groups) ≡ groups
+pub plain_means : (groups : List Group) → groups_in (map plain_noted groups) ≡ groups
 plain_means groups = all_back (λ (unit : NotedGroup). unit.means) plain_noted (λ group. refl) groups
 
 -- ---- normal forms

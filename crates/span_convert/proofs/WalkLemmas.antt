@@ -1,24 +1,27 @@
 -- How a walk over the units of an input goes on, and how it ends.
-use Rattle.std.proofs.Common.{◌≡◌, ℕ, ◌+◌, min, ◌<◌, ◌≤◌, inl, inr, Bool, true, false, List, [], ◌∷◌, ◌++◌, length, All, take, drop, get_or, Option, Some, None, Result, Ok, Err, IfOk, IfErr, refl, sym, ap, subst, ◌∙◌, append_assoc, arith, length-append}
-use Rattle.std.proofs.lemmas.List.{append-nil, map-append, length-map, take_at, take_more, take-append-drop, length-take-le, length-drop}
+use Rattle.std.proofs.Common.{◌≡◌, ℕ, ◌+◌, min, ◌<◌, ◌≤◌, inl, inr, Bool, true, false, List, [], ◌∷◌, ◌++◌, length, All, take, get_or, Option, Some, None, Result, Ok, Err, IfOk, IfErr, OnErr, refl, sym, ap, subst, ◌∙◌, append_assoc, arith, length-append}
+use Rattle.std.proofs.lemmas.List.{append-nil, map-append, length-map, take_more, nil_from_length}
 use Rattle.std.proofs.lemmas.List.Concat.{flat_map-append, flat_map-cons}
 use Rattle.std.proofs.lemmas.List.Elements.{All-nil, All-cons, All-append}
 use Rattle.std.proofs.KnownBytes.{Appends-nil}
+use Rattle.std.proofs.Math.Logic.{∥∥₁_elim}
+use Rattle.std.specs.Coded.{le_prop}
+use mathlib.Core.HLevel.{⊥_prop}
 use Rattle.std.specs.Prelude.{◌==◌, if◌then◌else◌}
 use Rattle.std.specs.List.{flat_map}
-use Rattle.span_io.specs.RowLaws.{all_zip_push}
 use Rattle.span_io.specs.TableLaws.{flat_more}
-use Rattle.span_io.specs.Causes.{cause_number}
 use Rattle.span_io.specs.Frames.{Framing, BeginsFrame, ItemsThen}
-use Rattle.span_io.specs.Offences.{Least}
+use Rattle.span_io.specs.Framings.{OneStep}
 use Rattle.span_io.specs.Outside.{Outlet, Sure, so_many, any_number, less, Gains, OutputHolds, FailsWithin, Rises, last_count}
+use Rattle.span_io.specs.Pieces.{PieceLaws}
+use Rattle.span_io.specs.Steps.{StepIs}
 use Rattle.span_io.specs.declared.cause.Cause.{Cause}
 use Rattle.span_io.specs.declared.limits.Limits.{Limits}
-use Rattle.proto_wire.specs.FirstFrames.{IsFirst}
+use Rattle.span_io.specs.declared.step.Step.{Step}
+use Rattle.span_io.specs.declared.step.Step.TheVariants as steps
 use Rattle.proto_wire.specs.Records as wire
-use Rattle.proto_wire.specs.Records.{Record, plain_record}
-use Rattle.proto_wire.specs.Wire.{SpellsHeld, SpellsRecord, records}
-use Rattle.proto_wire.specs.declared.record.Frame.{Frame}
+use Rattle.proto_wire.specs.Records.{Record}
+use Rattle.proto_wire.specs.Wire.{SpellsHeld, SpellsRecord, records, RefusedBy}
 use Rattle.trace_model.specs.Proper.{IsProperGroup}
 use Rattle.trace_model.specs.Soundness.{IsSoundGroup}
 use Rattle.trace_model.specs.OtlpParts.{NotedGroup}
@@ -26,54 +29,23 @@ use Rattle.trace_model.specs.declared.fault.Fault.{Fault}
 use Rattle.trace_model.specs.declared.trace.Group.{Group}
 use Rattle.trace_model.specs.declared.trace.Scope.{Scope}
 use Rattle.otlp_proto.specs.Rows.{bytes_in}
-use Rattle.span_convert.specs.BatchFiles.{ProtocolWords, batches, IsOwnUnit, HoldsBatches}
-use Rattle.span_convert.specs.FramedForms.{FramedForm, RestCause, UnitsThen, UnitsBegin, UnitsRefused}
+use Rattle.span_convert.specs.BatchFiles.{ProtocolWords, batches, RefusedBatch, IsOwnUnit, HoldsBatches}
+use Rattle.span_convert.specs.Outlooks.{FailsFrom, GainsFrom, GainsFrontFrom, WritesFrontFrom}
+use Rattle.span_convert.specs.Pens.{StartsAs, pen_stands, pen_target, written_by}
+use Rattle.span_convert.specs.Reports.{written_target}
 use Rattle.span_convert.specs.Requests.{HoldsUnit, AreRequestUnits, HoldsRequestUnits}
 use Rattle.span_convert.specs.Rests.{Cuts}
-use Rattle.span_convert.specs.Targets.{Target, TargetLaws, CanHoldUnits, AreHeldBy}
-use Rattle.span_convert.specs.Units.{InputForm, groups_in, framed_input, request_form, batch_form, span_count}
-use Rattle.span_convert.specs.Verdicts.{tally_of, units_tally, IsTextSoFar, first, all, WritesFrontOn, FailsFrontOn}
-use Rattle.span_convert.specs.Walks.{Exceeds, IsLookedAt, CutsFrame, HeldByFrames, StopsFrames, IsNextUnit, Converted, WalkedUnits, AddsUnit, AddsNothing, WritesFrontOf, FailsFrontOf, StopsUnit, EndsText, StopsText, StopsWalk, EndsWalk, WritesOut}
+use Rattle.span_convert.specs.Targets.{Target, TargetLaws, CanHoldUnits, AreHeldBy, open_target}
+use Rattle.span_convert.specs.Units.{InputForm, groups_in, request_form, batch_form, span_count}
+use Rattle.span_convert.specs.Verdicts.{tally_of, units_tally, IsTextSoFar, first, all}
+use Rattle.span_convert.specs.Walks.{HeldByFrames, ClosesText, StandsFor, Converted, WritesUnit, AddsUnit, AddsNothing, WritesFrontOf, FailsFrontOf, FailsFrontFrom, StopsUnit, EndsText, StopsText, StopsWalk, EndsWalk, WritesOut}
+use Rattle.span_convert.specs.declared.pen.Pen.{Pen}
 use Rattle.span_convert.specs.declared.progress.Progress.{Progress}
 use Rattle.span_convert.specs.declared.progress.WalkStop.{WalkStop}
 use Rattle.span_convert.specs.declared.progress.WalkStop.TheVariants as walk_stops
 use Rattle.span_convert.specs.declared.tally.Tally.{Tally}
-use Rattle.span_convert.proofs.FrameLemmas.{items_push, stops_weaker}
-
--- ---- a frame at the front
-
-module _ (limit : ℕ) (rest behind : List ℕ) (found : Frame) (first : IsFirst limit found rest) (others : behind ≡ drop found.size rest) where
-  pub cut_at : (units : List (List ℕ)) → bytes_in 1 (plain_record found.record) ≡ units → Cuts records HoldsUnit limit rest units behind
-  cut_at units holds = record {
-    frame = take found.size rest;
-    whole = (plain_record found.record, first.spelled);
-    within = omega (arith, first.within, length-take-le found.size rest first.there);
-    holds = record { this = plain_record found.record; spelled = first.spelled; holds = sym holds };
-    parts = sym (take-append-drop found.size rest) ∙ ap (λ l. take found.size rest ++ l) (sym others);
-  }
-
-  pub nearer_at : length behind < length rest
-  nearer_at = omega (arith, first.some, first.there, ap length others, length-drop found.size rest)
-
--- the first bytes are a batch
-module _ (F : Framing) (limit size : ℕ) (rest unit behind : List ℕ) (h : BeginsFrame F limit size rest) (front : unit ≡ take size rest) where
-  unit_is : unit ≡ h.text
-  unit_is = front ∙ ap (λ l. take size l) h.parts ∙ take_at h.text h.rest size h.size
-
-  pub batch_whole : F.Whole unit
-  batch_whole = subst F.Whole (sym unit_is) h.whole
-
-  pub batch_at : behind ≡ drop size rest → Cuts F IsOwnUnit limit rest (unit ∷ []) behind
-  batch_at others = record {
-    frame = unit;
-    whole = batch_whole;
-    within = omega (arith, ap length unit_is, h.size, h.within);
-    holds = refl;
-    parts = sym (take-append-drop size rest) ∙ ap (λ l. l ++ drop size rest) (sym front) ∙ ap (λ l. unit ++ l) (sym others);
-  }
-
-  pub batch_nearer : 1 ≤ size → behind ≡ drop size rest → length behind < length rest
-  batch_nearer some others = omega (arith, some, ap length others, length-drop size rest, ap length h.parts, length-append h.text h.rest, h.size)
+use Rattle.span_convert.specs.declared.written.Written.{Written}
+use Rattle.span_convert.proofs.FrameLemmas.{framed_longer, items_push, none_framed}
 
 -- ---- lists that grow by one
 
@@ -152,13 +124,56 @@ request_within limit rest behind unit cut =
 batch_within : (protocol : ProtocolWords) (limit : ℕ) (rest behind unit : List ℕ) → Cuts (batches protocol) IsOwnUnit limit rest (unit ∷ []) behind → length unit ≤ limit
 batch_within protocol limit rest behind unit cut = let same : length unit ≡ length cut.frame = ap first_size cut.holds in omega (arith, same, cut.within)
 
-pub request_frames : HeldByFrames request_form
-unfolding ItemsThen AreRequestUnits
-request_frames = record { none = λ limits whole looked front. record { frames = []; framed = front; are_units = refl }; next = request_next; within = request_within }
+-- ---- a frame that is merely known to be whole is told by its first step
 
-pub batch_frames : (protocol : ProtocolWords) → HeldByFrames (batch_form protocol)
+module _ (F : Framing) (EndsIn : Cause → List ℕ → Type 0) (S : OneStep F EndsIn) (P : PieceLaws F EndsIn) (frame : List ℕ) (there : ∥ F.Whole frame ∥₁) where
+  begun : F.Whole frame → BeginsFrame F (length frame) (length frame) frame
+  begun whole = record { text = frame; rest = []; whole = whole; parts = sym (append-nil frame); size = refl; within = omega arith }
+
+  same_size : (n : ℕ) → StepIs F EndsIn (length frame) frame (steps.Unit n) → F.Whole frame → length frame ≤ n
+  same_size n h whole =
+      let same : steps.Unit n ≡ steps.Unit (length frame) = S.one_step (length frame) frame (steps.Unit n) (steps.Unit (length frame)) h ((P.begins (length frame) (length frame) frame).1 (begun whole)) in
+      let size : n ≡ length frame = cc in
+      omega (arith, size)
+
+  as_long : (n : ℕ) → StepIs F EndsIn (length frame) frame (steps.Unit n) → length frame ≤ n
+  as_long n h = ∥∥₁_elim there le_prop (same_size n h)
+
+  all_of_it : (n : ℕ) → length frame ≤ n → (b : BeginsFrame F (length frame) n frame) → F.Whole frame
+  all_of_it n long b =
+      let none : b.rest ≡ [] = nil_from_length b.rest (omega (arith, long, ap length b.parts, length-append b.text b.rest, b.size)) in
+      subst F.Whole (sym (b.parts ∙ ap (λ l. b.text ++ l) none ∙ append-nil b.text)) b.whole
+
+  by_step : (step : Step) → StepIs F EndsIn (length frame) frame step → F.Whole frame
+  by_step steps.Need h = absurd (∥∥₁_elim there ⊥_prop (λ whole. S.open_frame (length frame) (length frame) frame h (begun whole)))
+  by_step (steps.Unit n) h = all_of_it n (as_long n h) ((P.begins (length frame) n frame).0 h)
+  by_step (steps.Refused cause) h = absurd (∥∥₁_elim there ⊥_prop (λ whole. S.no_frame (length frame) (length frame) frame cause h (begun whole)))
+
+  found_whole : F.Whole frame
+  found_whole = let first = S.some_step (length frame) frame in by_step first.0 first.1
+
+pub request_frames : OneStep records RefusedBy → PieceLaws records RefusedBy → HeldByFrames request_form
+unfolding ItemsThen AreRequestUnits
+request_frames S P = record {
+  none = λ limits. record { frames = []; framed = none_framed records limits.unit limits.binary; are_units = refl };
+  empty = λ limits valid. S.empty limits.unit valid.unit.0;
+  next = request_next;
+  longer = λ limits bytes more rest units held.
+      record { frames = held.frames; framed = framed_longer records RefusedBy P limits.unit limits.binary held.frames rest bytes more held.framed; are_units = held.are_units };
+  within = request_within;
+  found = λ frame there. found_whole records RefusedBy S P frame there;
+}
+
+pub batch_frames : (protocol : ProtocolWords) → OneStep (batches protocol) (RefusedBatch protocol) → PieceLaws (batches protocol) (RefusedBatch protocol) → HeldByFrames (batch_form protocol)
 unfolding ItemsThen
-batch_frames protocol = record { none = λ limits whole looked front. front; next = batch_next protocol; within = batch_within protocol }
+batch_frames protocol S P = record {
+  none = λ limits. none_framed (batches protocol) limits.unit limits.binary;
+  empty = λ limits valid. S.empty limits.unit valid.unit.0;
+  next = batch_next protocol;
+  longer = λ limits bytes more rest units held. framed_longer (batches protocol) (RefusedBatch protocol) P limits.unit limits.binary units rest bytes more held;
+  within = batch_within protocol;
+  found = λ frame there. found_whole (batches protocol) (RefusedBatch protocol) S P frame there;
+}
 
 -- ---- what was converted so far
 
@@ -172,6 +187,22 @@ gains_none a = record { held = Appends-nil a.held; taken = rises_none a.taken; s
     less_none : (s : Sure) → s ≡ less s 0
     less_none (so_many most) = ap so_many (omega arith)
     less_none any_number = refl
+
+-- the sink gained nothing behind what was said
+pub gains_nothing : (said : List ℕ) (now : Outlet) → GainsFrom said now now said
+gains_nothing said now = record { added = []; parts = sym (append-nil said); gains = gains_none now }
+
+pub front_of_nothing : (said : List ℕ) (now : Outlet) → GainsFrontFrom said now now said
+front_of_nothing said now = record { added = []; parts = sym (append-nil said); gains = record { front = []; is_front = ([], refl); gains = gains_none now } }
+
+-- a call that wants memory alone stops so
+pub only_memory : {T : Type 0} (result : Result T WalkStop) (P : WalkStop → Type 0) → OnErr result (result ≡ Err walk_stops.OutOfMemory) → P walk_stops.OutOfMemory → IfErr result P
+only_memory (Ok x) P e p = tt
+only_memory (Err stop) P e p = (let same : stop ≡ walk_stops.OutOfMemory = cc in subst P (sym same) p)
+
+-- a call that passes a stop on
+pub if_err : {T : Type 0} (P : WalkStop → Type 0) (result : Result T WalkStop) (stop : WalkStop) → result ≡ Err stop → P stop → IfErr result P
+if_err P result stop e p = subst (λ r. IfErr r P) (sym e) p
 
 pub holds_none : (a : Outlet) → OutputHolds a a
 holds_none a = record { quiet = refl; sure = λ any. any; goes = λ going. going }
@@ -223,268 +254,267 @@ counts_push units unit old next is more spans =
     (more ∙ ap (λ (t : Tally). t.units + 1) is ∙ sym (length-append units (unit ∷ [])))
     (spans_more old.spans next.spans (span_count (groups_in units)) (span_count (unit.means ∷ [])) (ap (λ (t : Tally). t.spans) is) spans ∙ ap (λ n. min n last_count) (sym all))
 
-module _ (to : Target) {W : Type 0} (Stands : W → List NotedGroup → Type 0) where
-  pub converted_none : TargetLaws to → (before : Outlet) (progress : Progress W) → progress.unwritten ≡ [] → progress.tally ≡ counts 0 0 → Stands progress.writer [] → Converted to Stands [] before before progress
-  converted_none laws before progress empty none stands = record {
-    held = record { can_hold = holds_no_unit to; sized = All-nil to.IsSized };
-    written = [];
-    gains = gains_none before;
-    is_text = empty ∙ sym laws.none;
-    counts = none;
-    stands = stands;
-  }
+-- no unit was converted, and what was said is their text
+pub converted_none : (what : Written) (said : List ℕ) (now : Outlet) (progress : Progress) (noted : List NotedGroup) → StandsFor what noted progress → progress.unwritten ≡ [] → said ≡ (written_target what).partial_text noted → Converted what noted said now now progress
+converted_none what said now progress noted done empty is_said = record {
+  done = done;
+  written = [];
+  gains = gains_none now;
+  is_text = ap (λ l. said ++ l) empty ∙ append-nil said ∙ is_said;
+}
 
-  module _ (units : List NotedGroup) (before now : Outlet) (progress : Progress W) (w : Converted to Stands units before now progress) where
-    -- with another unit
-    pub converted_more : (unit : NotedGroup) (next : Progress W) → AddsUnit to Stands unit progress next → Converted to Stands (units ++ unit ∷ []) before now next
-    converted_more unit next adds =
-        let one = adds.writes in
-        let more = one.adds units w.held w.counts w.stands in
-        record {
-          held = held_push to units unit w.held one.held;
-          written = w.written;
-          gains = w.gains;
-          is_text = ap (λ l. w.written ++ l) one.appended ∙ sym (append_assoc w.written progress.unwritten one.added) ∙ ap (λ l. l ++ one.added) w.is_text ∙ sym more.0;
-          counts = counts_push units unit progress.tally next.tally w.counts adds.units adds.spans;
+-- A pen that starts stands for no unit.
+pub stands_none : (what : Written) (progress : Progress) → StartsAs what progress.pen → progress.tally ≡ counts 0 0 → StandsFor what [] progress
+stands_none what progress starts none = record {
+  held = record { can_hold = holds_no_unit (written_target what); sized = All-nil (written_target what).IsSized };
+  pen = starts.writes;
+  counts = none;
+  stands = starts.stands;
+}
+
+module _ (what : Written) (units : List NotedGroup) (said : List ℕ) (before now : Outlet) (progress : Progress) (w : Converted what units said before now progress) where
+  abbrev aim : Target
+  aim = written_target what
+
+  adds_so : (unit : NotedGroup) (next : Progress) → AddsUnit unit progress next → WritesUnit aim pen_stands unit progress.tally progress.pen next.pen progress.unwritten next.unwritten
+  adds_so unit next adds =
+      subst (λ (x : Written). WritesUnit (written_target x) pen_stands unit progress.tally progress.pen next.pen progress.unwritten next.unwritten) w.done.pen adds.writes
+
+  -- with another unit
+  pub converted_more : (unit : NotedGroup) (next : Progress) → AddsUnit unit progress next → Converted what (units ++ unit ∷ []) said before now next
+  converted_more unit next adds =
+      let one = adds_so unit next adds in
+      let more = one.adds units w.done.held w.done.counts w.done.stands in
+      record {
+        done = record {
+          held = held_push aim units unit w.done.held one.held;
+          pen = adds.same ∙ w.done.pen;
+          counts = counts_push units unit progress.tally next.tally w.done.counts adds.units adds.spans;
           stands = more.1;
-        }
-
-    -- nothing more is written
-    pub front_now : WritesFrontOf to units before now
-    front_now = record { held = w.held.can_hold; gains = record { front = w.written; is_front = (progress.unwritten, sym w.is_text); gains = w.gains } }
-
-    -- the number of the next unit
-    pub next_number : progress.tally.units + 1 ≡ length units + 1
-    next_number = ap (λ (t : Tally). t.units + 1) w.counts
-
-    module _ (both : (a b c : Outlet) (first second : List ℕ) → Gains a b first → Gains b c second → Gains a c (first ++ second)) (later : Outlet) where
-      -- the text so far is written
-      gains_so_far : Gains now later progress.unwritten → Gains before later (to.partial_text units)
-      gains_so_far gains = subst (λ (l : List ℕ). Gains before later l) w.is_text (both before now later w.written progress.unwritten w.gains gains)
-
-      pub converted_written : (next : Progress W) → next.tally ≡ progress.tally → next.writer ≡ progress.writer → next.unwritten ≡ [] → Gains now later progress.unwritten → Converted to Stands units before later next
-      converted_written next same writer empty gains = record {
-        held = w.held;
-        written = to.partial_text units;
-        gains = gains_so_far gains;
-        is_text = ap (λ l. to.partial_text units ++ l) empty ∙ append-nil (to.partial_text units);
-        counts = same ∙ w.counts;
-        stands = subst (λ (x : W). Stands x units) (sym writer) w.stands;
+        };
+        written = w.written;
+        gains = w.gains;
+        is_text = ap (λ l. said ++ (w.written ++ l)) one.appended
+            ∙ ap (λ l. said ++ l) (sym (append_assoc w.written progress.unwritten one.added))
+            ∙ sym (append_assoc said (w.written ++ progress.unwritten) one.added)
+            ∙ ap (λ l. l ++ one.added) w.is_text
+            ∙ sym more.0;
       }
 
-      module _ (fails : (a b c : Outlet) (first second : List ℕ) → Gains a b first → FailsWithin b c second → FailsWithin a c (first ++ second)) where
-        -- the sink failed
-        pub failed_so_far : FailsWithin now later progress.unwritten → FailsFrontOf to units before later
-        failed_so_far failed = record {
-          held = w.held.can_hold;
-          fails = subst (λ (l : List ℕ). FailsWithin before later l) w.is_text (fails before now later w.written progress.unwritten w.gains failed);
-        }
+  -- nothing more is written
+  pub front_now : WritesFrontOf aim units said before now
+  front_now = record {
+    held = w.done.held.can_hold;
+    gains = record { added = w.written ++ progress.unwritten; parts = sym w.is_text; gains = record { front = w.written; is_front = (progress.unwritten, refl); gains = w.gains } };
+  }
 
-        -- what is said of the stop at a unit that has a fault
-        abbrev HasFault : NotedGroup → WalkStop → Type 0
-        HasFault unit (walk_stops.Refused refusal) = ⊥
-        HasFault unit (walk_stops.Faulted found) = to.FaultOf unit found.fault × (found.unit ≡ length units + 1)
-        HasFault unit walk_stops.Write = ⊥
-        HasFault unit walk_stops.OutOfMemory = ⊥
+  -- the number of the next unit
+  pub next_number : progress.tally.units + 1 ≡ length units + 1
+  next_number = ap (λ (t : Tally). t.units + 1) w.done.counts
 
-        stops_fault : (unit : NotedGroup) (stop why : WalkStop) → HasFault unit why → WritesOut stop why progress.unwritten now later → StopsUnit to units unit stop before later
-        stops_fault unit (walk_stops.Refused refusal) why has out = subst (HasFault unit) (sym out.0) has
-        stops_fault unit (walk_stops.Faulted found) why has out =
-            let here : HasFault unit (walk_stops.Faulted found) = subst (HasFault unit) (sym out.0) has in
-            record { held = w.held.can_hold; fault = here.0; number = here.1; gains = gains_so_far out.1 }
-        stops_fault unit walk_stops.Write why has out = inl (failed_so_far out)
-        stops_fault unit walk_stops.OutOfMemory why has out = absurd out
+  module _ (both : (a b c : Outlet) (first second : List ℕ) → Gains a b first → Gains b c second → Gains a c (first ++ second)) (later : Outlet) where
+    -- the text so far is written
+    pub gains_so_far : Gains now later progress.unwritten → GainsFrom said before later (aim.partial_text units)
+    gains_so_far gains = record { added = w.written ++ progress.unwritten; parts = sym w.is_text; gains = both before now later w.written progress.unwritten w.gains gains }
 
-        -- the writer found the fault, and added nothing
-        pub stops_adding : (unit : NotedGroup) (fault : Fault) (after : Progress W) (stop : WalkStop) → AddsNothing to unit fault progress after
-            → WritesOut stop (walk_stops.Faulted (record { unit = after.tally.units + 1; fault = fault })) after.unwritten now later → StopsUnit to units unit stop before later
-        stops_adding unit fault after stop nothing out =
-            stops_fault unit stop (walk_stops.Faulted (record { unit = after.tally.units + 1; fault = fault }))
-            (nothing.has, ap (λ (t : Tally). t.units + 1) nothing.tally ∙ next_number)
-            (subst (λ (l : List ℕ). WritesOut stop (walk_stops.Faulted (record { unit = after.tally.units + 1; fault = fault })) l now later) nothing.text out)
+    pub converted_written : (next : Progress) → next.tally ≡ progress.tally → next.pen ≡ progress.pen → next.unwritten ≡ [] → Gains now later progress.unwritten → Converted what units said before later next
+    converted_written next same pen empty gains = record {
+      done = record {
+        held = w.done.held;
+        pen = ap written_by pen ∙ w.done.pen;
+        counts = same ∙ w.done.counts;
+        stands = subst (λ (x : Pen). pen_stands x units) (sym pen) w.done.stands;
+      };
+      written = w.written ++ progress.unwritten;
+      gains = both before now later w.written progress.unwritten w.gains gains;
+      is_text = ap (λ l. said ++ ((w.written ++ progress.unwritten) ++ l)) empty ∙ ap (λ l. said ++ l) (append-nil (w.written ++ progress.unwritten)) ∙ w.is_text;
+    }
+
+    module _ (fails : (a b c : Outlet) (first second : List ℕ) → Gains a b first → FailsWithin b c second → FailsWithin a c (first ++ second)) where
+      -- the sink failed
+      pub failed_so_far : FailsWithin now later progress.unwritten → FailsFrontOf aim units said before later
+      failed_so_far failed = record {
+        held = w.done.held.can_hold;
+        fails = record { added = w.written ++ progress.unwritten; parts = sym w.is_text; fails = fails before now later w.written progress.unwritten w.gains failed };
+      }
+
+      -- what is said of the stop at a unit that has a fault
+      abbrev HasFault : NotedGroup → WalkStop → Type 0
+      HasFault unit (walk_stops.Refused refusal) = ⊥
+      HasFault unit (walk_stops.Faulted found) = aim.FaultOf unit found.fault × (found.unit ≡ length units + 1)
+      HasFault unit walk_stops.Write = ⊥
+      HasFault unit walk_stops.OutOfMemory = ⊥
+
+      stops_fault : (unit : NotedGroup) (stop why : WalkStop) → HasFault unit why → WritesOut stop why progress.unwritten now later → StopsUnit aim units unit stop said before later
+      stops_fault unit (walk_stops.Refused refusal) why has out = subst (HasFault unit) (sym out.0) has
+      stops_fault unit (walk_stops.Faulted found) why has out =
+          let here : HasFault unit (walk_stops.Faulted found) = subst (HasFault unit) (sym out.0) has in
+          record { held = w.done.held.can_hold; fault = here.0; number = here.1; gains = gains_so_far out.1 }
+      stops_fault unit walk_stops.Write why has out = inl (failed_so_far out)
+      stops_fault unit walk_stops.OutOfMemory why has out = absurd out
+
+      -- the pen found the fault, and added nothing
+      pub stops_adding : (unit : NotedGroup) (fault : Fault) (after : Progress) (stop : WalkStop) → AddsNothing unit fault progress after
+          → WritesOut stop (walk_stops.Faulted (record { unit = after.tally.units + 1; fault = fault })) after.unwritten now later → StopsUnit aim units unit stop said before later
+      stops_adding unit fault after stop nothing out =
+          stops_fault unit stop (walk_stops.Faulted (record { unit = after.tally.units + 1; fault = fault }))
+          (subst (λ (x : Written). (written_target x).FaultOf unit fault) w.done.pen nothing.has, ap (λ (t : Tally). t.units + 1) nothing.tally ∙ next_number)
+          (subst (λ (l : List ℕ). WritesOut stop (walk_stops.Faulted (record { unit = after.tally.units + 1; fault = fault })) l now later) nothing.text out)
+
+-- ---- a target as the walk sees it, and as its input is told
+
+-- What it holds, finds faulty and writes of the first units is the same.
+pub record SeenAs (to view : Target) : Type 0 where
+  pub held : (units : List NotedGroup) → CanHoldUnits to units → CanHoldUnits view units
+  pub fault : (unit : NotedGroup) (fault : Fault) → to.FaultOf unit fault → view.FaultOf unit fault
+  pub partial : (units : List NotedGroup) → to.partial_text units ≡ view.partial_text units
+
+pub as_it_is : (to : Target) → SeenAs to to
+as_it_is to = record { held = λ units held. held; fault = λ unit fault has. has; partial = λ units. refl }
+
+pub as_open : (to : Target) → SeenAs to (open_target to)
+as_open to = record {
+  held = λ units held. record { sound = held.sound; proper = held.proper; no_fault = held.no_fault };
+  fault = λ unit fault has. has;
+  partial = λ units. refl;
+}
 
 -- ---- what a walk comes to, whatever the form of its input is
 
-module _ (from : InputForm) (to : Target) (limits : Limits) (whole : List ℕ) (noted : List NotedGroup) (before : Outlet) where
-  so_far : CanHoldUnits to noted → from.Begins limits whole noted → IsTextSoFar from to limits whole (to.partial_text noted)
-  so_far held begins = first (record { noted = noted; begins = begins; held = held; is_text = refl })
+module _ (from : InputForm) (to view : Target) (seen : SeenAs to view) (limits : Limits) (whole : List ℕ) (noted : List NotedGroup) (said : List ℕ) (before : Outlet) where
+  so_far : CanHoldUnits to noted → from.Begins limits whole noted → IsTextSoFar from view limits whole (to.partial_text noted)
+  so_far held begins = first (record { noted = noted; begins = begins; held = seen.held noted held; is_text = seen.partial noted })
 
   -- a front of the text so far was written
-  writes_front : (now : Outlet) → from.Begins limits whole noted → WritesFrontOf to noted before now → WritesFrontOn from to limits whole before now
+  pub writes_front : (now : Outlet) → from.Begins limits whole noted → WritesFrontOf to noted said before now → WritesFrontFrom from view limits whole said before now
   writes_front now begins w = record { text = to.partial_text noted; so_far = so_far w.held begins; gains = w.gains }
 
   -- or the sink failed within it
-  fails_front : (now : Outlet) → from.Begins limits whole noted → FailsFrontOf to noted before now → FailsFrontOn from to limits whole before now
+  pub fails_front : (now : Outlet) → from.Begins limits whole noted → FailsFrontOf to noted said before now → FailsFrontFrom from view limits whole said before now
   fails_front now begins w = record { text = to.partial_text noted; so_far = so_far w.held begins; fails = w.fails }
 
-  all_so_far : from.IsWhole limits whole noted → CanHoldUnits to noted → IsTextSoFar from to limits whole (to.whole_text noted)
-  all_so_far is_whole held = all (units_tally noted) (record { noted = noted; whole = is_whole; held = held; is_text = refl; counts = refl })
-
-  -- the input is all of the units
-  module _ {W : Type 0} (Stands : W → List NotedGroup → Type 0) where
-    pub ends_whole : (now later : Outlet) (progress : Progress W) (result : Result Tally WalkStop) → from.IsWhole limits whole noted → Converted to Stands noted before now progress
-        → IfOk result (λ tally. (units : List NotedGroup) (before : Outlet) → Converted to Stands units before now progress → EndsText to units tally before later)
-        → IfErr result (λ stop. (units : List NotedGroup) (before : Outlet) → Converted to Stands units before now progress → StopsText to units stop before later)
-        → EndsWalk from to limits whole result before later
-    ends_whole now later progress (Ok tally) is_whole w ok stopped =
-        let ends = ok noted before w in
-        record {
-          text = to.whole_text noted;
-          is_good = record { noted = noted; whole = is_whole; held = w.held.can_hold; is_text = refl; counts = ends.counts };
-          sized = w.held.sized;
-          gains = ends.gains;
-        }
-    ends_whole now later progress (Err (walk_stops.Refused refusal)) is_whole w ok stopped = absurd (stopped noted before w)
-    ends_whole now later progress (Err (walk_stops.Faulted found)) is_whole w ok stopped = absurd (stopped noted before w)
-    ends_whole now later progress (Err walk_stops.Write) is_whole w ok stopped =
-        record { text = to.whole_text noted; so_far = all_so_far is_whole w.held.can_hold; fails = stopped noted before w }
-    ends_whole now later progress (Err walk_stops.OutOfMemory) is_whole w ok stopped =
-        record { text = to.whole_text noted; so_far = all_so_far is_whole w.held.can_hold; gains = stopped noted before w }
-
--- the next unit stops it
-module _ (from : InputForm) (to : Target) (limits : Limits) (whole : List ℕ) (noted : List NotedGroup) (next : NotedGroup) (before now : Outlet) (begins : from.Begins limits whole noted) (more : from.Begins limits whole (noted ++ next ∷ [])) where
-  pub stops_at_unit : (stop : WalkStop) → StopsUnit to noted next stop before now → StopsWalk from to limits whole stop before now
-  stops_at_unit (walk_stops.Refused refusal) stopped = absurd stopped
-  stops_at_unit (walk_stops.Faulted found) stopped = record {
+  -- the next unit stops it
+  pub stops_at_unit : (next : NotedGroup) (now : Outlet) → from.Begins limits whole noted → from.Begins limits whole (noted ++ next ∷ []) → (stop : WalkStop) → StopsUnit to noted next stop said before now → StopsWalk from view limits whole stop said before now
+  stops_at_unit next now begins more (walk_stops.Refused refusal) stopped = absurd stopped
+  stops_at_unit next now begins more (walk_stops.Faulted found) stopped = record {
     text = to.partial_text noted;
     is_faulted = record {
       noted = noted;
       next = next;
       begins = more;
-      held = stopped.held;
-      fault = stopped.fault;
+      held = seen.held noted stopped.held;
+      fault = seen.fault next found.fault stopped.fault;
       number = stopped.number;
-      is_text = refl;
+      is_text = seen.partial noted;
     };
-    so_far = so_far from to limits whole noted before stopped.held begins;
+    so_far = so_far stopped.held begins;
     gains = stopped.gains;
   }
-  stops_at_unit walk_stops.Write (inl w) = fails_front from to limits whole noted before now begins w
-  stops_at_unit walk_stops.Write (inr w) = fails_front from to limits whole (noted ++ next ∷ []) before now more w
-  stops_at_unit walk_stops.OutOfMemory (inl w) = writes_front from to limits whole noted before now begins w
-  stops_at_unit walk_stops.OutOfMemory (inr w) = writes_front from to limits whole (noted ++ next ∷ []) before now more w
+  stops_at_unit next now begins more walk_stops.Write (inl w) = fails_front now begins w
+  stops_at_unit next now begins more walk_stops.Write (inr w) = record {
+    text = to.partial_text (noted ++ next ∷ []);
+    so_far = first (record { noted = noted ++ next ∷ []; begins = more; held = seen.held (noted ++ next ∷ []) w.held; is_text = seen.partial (noted ++ next ∷ []) });
+    fails = w.fails;
+  }
+  stops_at_unit next now begins more walk_stops.OutOfMemory (inl w) = writes_front now begins w
+  stops_at_unit next now begins more walk_stops.OutOfMemory (inr w) = record {
+    text = to.partial_text (noted ++ next ∷ []);
+    so_far = first (record { noted = noted ++ next ∷ []; begins = more; held = seen.held (noted ++ next ∷ []) w.held; is_text = seen.partial (noted ++ next ∷ []) });
+    gains = w.gains;
+  }
 
--- ---- the walk over frames
+-- the input is refused behind the units so far, and their text is written
+module _ (from : InputForm) (what : Written) (view : Target) (seen : SeenAs (written_target what) view) (limits : Limits) (whole : List ℕ) (noted : List NotedGroup) (said : List ℕ) (before now later : Outlet) (progress : Progress)
+    (w : Converted what noted said before now progress) (both : (a b c : Outlet) (first second : List ℕ) → Gains a b first → Gains b c second → Gains a c (first ++ second))
+    (fails : (a b c : Outlet) (first second : List ℕ) → Gains a b first → FailsWithin b c second → FailsWithin a c (first ++ second)) where
+  -- what is said of the stop where the input is refused
+  abbrev Refuses : WalkStop → Type 0
+  Refuses (walk_stops.Refused refusal) = from.Refuses limits whole noted refusal
+  Refuses (walk_stops.Faulted found) = ⊥
+  Refuses walk_stops.Write = ⊥
+  Refuses walk_stops.OutOfMemory = ⊥
 
-exceeds_as : (limit : ℕ) (whole : List ℕ) (a b : Bool) → Exceeds a limit whole → a ≡ b → Exceeds b limit whole
-exceeds_as limit whole a b exceeds same = subst (λ (x : Bool). Exceeds x limit whole) same exceeds
+  refused_out : from.Begins limits whole noted → (stop why : WalkStop) → Refuses why → WritesOut stop why progress.unwritten now later → StopsWalk from view limits whole stop said before later
+  refused_out begins (walk_stops.Refused refusal) why is out = record {
+    text = (written_target what).partial_text noted;
+    is_refused = record { noted = noted; refuses = subst Refuses (sym out.0) is; held = seen.held noted w.done.held.can_hold; is_text = seen.partial noted };
+    so_far = so_far from (written_target what) view seen limits whole noted said before w.done.held.can_hold begins;
+    gains = gains_so_far what noted said before now progress w both later out.1;
+  }
+  refused_out begins (walk_stops.Faulted found) why is out = absurd (subst Refuses (sym out.0) is)
+  refused_out begins walk_stops.Write why is out =
+      fails_front from (written_target what) view seen limits whole noted said before later begins (failed_so_far what noted said before now progress w both later fails out)
+  refused_out begins walk_stops.OutOfMemory why is out = absurd out
 
-rest_cause : (from : FramedForm) (limits : Limits) (whole rest : List ℕ) (cause : Cause) (too_long : Bool) → Exceeds too_long limits.binary whole → StopsFrames from limits.unit too_long rest cause → RestCause from limits (length whole) rest cause
-rest_cause from limits whole rest cause too_long exceeds why =
-    stops_weaker from.frames from.Refused limits.unit (too_long ≡ true) (limits.binary < length whole) (too_long ≡ false) (length whole ≤ limits.binary) (exceeds_as limits.binary whole too_long true exceeds) (exceeds_as limits.binary whole too_long false exceeds) rest cause why
+  -- by this cause, in the next unit
+  pub refuses_next : (stop : WalkStop) (cause : Cause) → from.Begins limits whole noted → from.Refuses limits whole noted (record { unit = length noted + 1; cause = cause })
+      → WritesOut stop (walk_stops.Refused (record { unit = progress.tally.units + 1; cause = cause })) progress.unwritten now later → StopsWalk from view limits whole stop said before later
+  refuses_next stop cause begins refuses out =
+      refused_out begins stop (walk_stops.Refused (record { unit = progress.tally.units + 1; cause = cause }))
+      (subst (λ n. from.Refuses limits whole noted (record { unit = n; cause = cause })) (sym (next_number what noted said before now progress w)) refuses) out
 
-module _ (from : FramedForm) (to : Target) {W : Type 0} (Stands : W → List NotedGroup → Type 0) (limits : Limits) (whole : List ℕ) (before : Outlet) where
-  abbrev Walked : List ℕ → Outlet → Progress W → Type 0
-  Walked rest now progress = WalkedUnits from to Stands limits whole rest before now progress
+-- the input is all of the units
+module _ (from : InputForm) (what : Written) (limits : Limits) (whole : List ℕ) (noted : List NotedGroup) (said : List ℕ) (before : Outlet) where
+  all_so_far : from.IsWhole limits whole noted → CanHoldUnits (written_target what) noted → IsTextSoFar from (written_target what) limits whole ((written_target what).whole_text noted)
+  all_so_far is_whole held = all (units_tally noted) (record { noted = noted; whole = is_whole; held = held; is_text = refl; counts = refl })
 
-  begins_so : (noted : List NotedGroup) (rest : List ℕ) → UnitsThen from limits whole noted rest → UnitsBegin from limits whole noted
-  begins_so noted rest held = record { rest = rest; units_then = held }
-
-  module _ (frames : HeldByFrames from) where
-    pub walked_none : (looked : List ℕ) (too_long : Bool) (progress : Progress W) → IsLookedAt limits.binary whole looked too_long → Converted to Stands [] before before progress → Walked looked before progress
-    walked_none looked too_long progress seen none = record {
-      noted = [];
-      units_then = record { units = []; held = frames.none limits whole looked seen.front; are_groups = tt };
-      converted = none;
-    }
-
-    -- behind a frame with a unit
-    units_more : (noted : List NotedGroup) (rest behind : List ℕ) (unit : NotedGroup) → IsNextUnit from limits rest behind unit → UnitsThen from limits whole noted rest → UnitsThen from limits whole (noted ++ unit ∷ []) behind
-    units_more noted rest behind unit here so_far = record {
-      units = so_far.units ++ here.unit ∷ [];
-      held = frames.next limits whole rest behind so_far.units (here.unit ∷ []) here.cut so_far.held;
-      are_groups = all_zip_push from.IsUnit so_far.units noted here.unit unit so_far.are_groups here.is_unit;
-    }
-
-    -- behind a frame without one
-    pub walked_free : (rest behind : List ℕ) (now : Outlet) (progress : Progress W) → CutsFrame from limits.unit rest [] behind → Walked rest now progress → Walked behind now progress
-    walked_free rest behind now progress cut w = record {
-      noted = w.noted;
-      units_then = record {
-        units = w.units_then.units;
-        held = subst (λ (l : List (List ℕ)). from.HoldsUnits limits whole l behind) (append-nil w.units_then.units) (frames.next limits whole rest behind w.units_then.units [] cut w.units_then.held);
-        are_groups = w.units_then.are_groups;
-      };
-      converted = w.converted;
-    }
-
-    -- behind one whose unit was converted
-    pub walked_unit : (rest behind : List ℕ) (now later : Outlet) (progress next : Progress W) (unit : NotedGroup) → IsNextUnit from limits rest behind unit
-        → ((units : List NotedGroup) (before : Outlet) → Converted to Stands units before now progress → Converted to Stands (units ++ unit ∷ []) before later next) → Walked rest now progress → Walked behind later next
-    walked_unit rest behind now later progress next unit here converts w = record {
-      noted = w.noted ++ unit ∷ [];
-      units_then = units_more w.noted rest behind unit here w.units_then;
-      converted = converts w.noted before w.converted;
-    }
-
-    -- at one whose unit stops the walk
-    pub walk_stops_writing : (rest behind : List ℕ) (now later : Outlet) (progress : Progress W) (unit : NotedGroup) (stop : WalkStop) → IsNextUnit from limits rest behind unit
-        → ((units : List NotedGroup) (before : Outlet) → Converted to Stands units before now progress → StopsUnit to units unit stop before later) → Walked rest now progress → StopsWalk (framed_input from) to limits whole stop before later
-    walk_stops_writing rest behind now later progress unit stop here stopped w =
-        stops_at_unit (framed_input from) to limits whole w.noted unit before later (begins_so w.noted rest w.units_then) (begins_so (w.noted ++ unit ∷ []) behind (units_more w.noted rest behind unit here w.units_then))
-        stop (stopped w.noted before w.converted)
-
-  -- memory was wanted before the next unit
-  pub walk_stays : (rest : List ℕ) (now : Outlet) (progress : Progress W) → Walked rest now progress → StopsWalk (framed_input from) to limits whole walk_stops.OutOfMemory before now
-  walk_stays rest now progress w = writes_front (framed_input from) to limits whole w.noted before now (begins_so w.noted rest w.units_then) (front_now to Stands w.noted before now progress w.converted)
-
-  -- the end
-  pub walk_ends : (now later : Outlet) (progress : Progress W) (result : Result Tally WalkStop) (looked : List ℕ) (too_long : Bool) → too_long ≡ false → IsLookedAt limits.binary whole looked too_long → Walked [] now progress
-      → IfOk result (λ tally. (units : List NotedGroup) (before : Outlet) → Converted to Stands units before now progress → EndsText to units tally before later)
-      → IfErr result (λ stop. (units : List NotedGroup) (before : Outlet) → Converted to Stands units before now progress → StopsText to units stop before later)
-      → EndsWalk (framed_input from) to limits whole result before later
-  walk_ends now later progress result looked too_long short seen w =
-      ends_whole (framed_input from) to limits whole w.noted before Stands now later progress result (record { units_then = w.units_then; within = exceeds_as limits.binary whole too_long false seen.exceeds short }) w.converted
-
-  module _ (both : (a b c : Outlet) (first second : List ℕ) → Gains a b first → Gains b c second → Gains a c (first ++ second)) (fails : (a b c : Outlet) (first second : List ℕ) → Gains a b first → FailsWithin b c second → FailsWithin a c (first ++ second)) where
-    module _ (rest : List ℕ) (now later : Outlet) (progress : Progress W) (w : Walked rest now progress) where
-      -- what is said of the stop where the input is refused
-      abbrev IsRefusal : WalkStop → Type 0
-      IsRefusal (walk_stops.Refused refusal) = UnitsRefused from limits whole w.noted refusal
-      IsRefusal (walk_stops.Faulted found) = ⊥
-      IsRefusal walk_stops.Write = ⊥
-      IsRefusal walk_stops.OutOfMemory = ⊥
-
-      refused_out : (stop why : WalkStop) → IsRefusal why → WritesOut stop why progress.unwritten now later → StopsWalk (framed_input from) to limits whole stop before later
-      refused_out (walk_stops.Refused refusal) why is out = record {
-        text = to.partial_text w.noted;
-        is_refused = record { noted = w.noted; refuses = subst IsRefusal (sym out.0) is; held = w.converted.held.can_hold; is_text = refl };
-        so_far = so_far (framed_input from) to limits whole w.noted before w.converted.held.can_hold (begins_so w.noted rest w.units_then);
-        gains = gains_so_far to Stands w.noted before now progress w.converted both later out.1;
+  pub ends_whole : (now later : Outlet) (progress : Progress) (result : Result Tally WalkStop) → from.IsWhole limits whole noted → Converted what noted said before now progress
+      → IfOk result (λ tally. (what : Written) (units : List NotedGroup) (said : List ℕ) (before : Outlet) → Converted what units said before now progress → EndsText (written_target what) units tally said before later)
+      → IfErr result (λ stop. (what : Written) (units : List NotedGroup) (said : List ℕ) (before : Outlet) → Converted what units said before now progress → StopsText (written_target what) units stop said before later)
+      → EndsWalk from (written_target what) limits whole result said before later
+  ends_whole now later progress (Ok tally) is_whole w ok stopped =
+      let ends = ok what noted said before w in
+      record {
+        text = (written_target what).whole_text noted;
+        is_good = record { noted = noted; whole = is_whole; held = w.done.held.can_hold; is_text = refl; counts = ends.counts };
+        sized = w.done.held.sized;
+        gains = ends.gains;
       }
-      refused_out (walk_stops.Faulted found) why is out = absurd (subst IsRefusal (sym out.0) is)
-      refused_out walk_stops.Write why is out =
-          fails_front (framed_input from) to limits whole w.noted before later (begins_so w.noted rest w.units_then) (failed_so_far to Stands w.noted before now progress w.converted both later fails out)
-      refused_out walk_stops.OutOfMemory why is out = absurd out
+  ends_whole now later progress (Err (walk_stops.Refused refusal)) is_whole w ok stopped = absurd (stopped what noted said before w)
+  ends_whole now later progress (Err (walk_stops.Faulted found)) is_whole w ok stopped = absurd (stopped what noted said before w)
+  ends_whole now later progress (Err walk_stops.Write) is_whole w ok stopped =
+      record { text = (written_target what).whole_text noted; so_far = all_so_far is_whole w.done.held.can_hold; fails = stopped what noted said before w }
+  ends_whole now later progress (Err walk_stops.OutOfMemory) is_whole w ok stopped =
+      record { text = (written_target what).whole_text noted; so_far = all_so_far is_whole w.done.held.can_hold; gains = stopped what noted said before w }
 
-      abbrev stop_for : Cause → WalkStop
-      stop_for cause = walk_stops.Refused (record { unit = progress.tally.units + 1; cause = cause })
+-- the whole text of the units so far, where what closes it was appended
+module _ (what : Written) (units : List NotedGroup) (said : List ℕ) (before now : Outlet) (progress : Progress) (w : Converted what units said before now progress) (laws : TargetLaws (pen_target progress.pen)) (closed : List ℕ)
+    (closes : ClosesText (pen_target progress.pen) pen_stands progress.pen progress.tally progress.unwritten closed) where
+  closed_so : closed ≡ progress.unwritten ++ (written_target what).closing_text units
+  closed_so = subst (λ (x : Written). closed ≡ progress.unwritten ++ (written_target x).closing_text units) w.done.pen (closes units w.done.counts w.done.stands)
 
-      -- the unit in the frame offends
-      pub walk_stops_unit : HeldByFrames from → (stop : WalkStop) (cause : Cause) (behind unit : List ℕ) → CutsFrame from limits.unit rest (unit ∷ []) behind → Least (from.Offends unit) (cause_number cause)
-          → WritesOut stop (stop_for cause) progress.unwritten now later → StopsWalk (framed_input from) to limits whole stop before later
-      walk_stops_unit frames stop cause behind unit cut least out =
-          refused_out stop (stop_for cause)
-          (record {
-            why = inl (record {
-              before = w.units_then.units;
-              unit = unit;
-              rest = behind;
-              held = frames.next limits whole rest behind w.units_then.units (unit ∷ []) cut w.units_then.held;
-              are_groups = w.units_then.are_groups;
-              least = least;
-            });
-            number = next_number to Stands w.noted before now progress w.converted;
-          })
-          out
+  whole_of : (written_target what).whole_text units ≡ (written_target what).partial_text units ++ (written_target what).closing_text units
+  whole_of = subst (λ (x : Written). (written_target x).whole_text units ≡ (written_target x).partial_text units ++ (written_target x).closing_text units) w.done.pen (laws.closed units)
 
-      -- no frame begins here
-      pub walk_stops_rest : (stop : WalkStop) (cause : Cause) (looked : List ℕ) (too_long : Bool) → StopsFrames from limits.unit too_long rest cause → IsLookedAt limits.binary whole looked too_long
-          → WritesOut stop (stop_for cause) progress.unwritten now later → StopsWalk (framed_input from) to limits whole stop before later
-      walk_stops_rest stop cause looked too_long why seen out =
-          refused_out stop (stop_for cause)
-          (record {
-            why = inr (record { rest = rest; units_then = w.units_then; why = rest_cause from limits whole rest cause too_long seen.exceeds why });
-            number = next_number to Stands w.noted before now progress w.converted;
-          })
-          out
+  whole_parts : (written_target what).whole_text units ≡ said ++ (w.written ++ closed)
+  whole_parts =
+      let closing : List ℕ = (written_target what).closing_text units in
+      whole_of
+      ∙ ap (λ l. l ++ closing) (sym w.is_text)
+      ∙ append_assoc said (w.written ++ progress.unwritten) closing
+      ∙ ap (λ l. said ++ l) (append_assoc w.written progress.unwritten closing)
+      ∙ ap (λ l. said ++ (w.written ++ l)) (sym closed_so)
+
+  pub ends_text : (both : (a b c : Outlet) (first second : List ℕ) → Gains a b first → Gains b c second → Gains a c (first ++ second)) (later : Outlet) (tally : Tally) → tally ≡ progress.tally → Gains now later closed
+      → EndsText (written_target what) units tally said before later
+  ends_text both later tally same gains = record {
+    counts = same ∙ w.done.counts;
+    gains = record { added = w.written ++ closed; parts = whole_parts; gains = both before now later w.written closed w.gains gains };
+  }
+
+  pub fails_text : (fails : (a b c : Outlet) (first second : List ℕ) → Gains a b first → FailsWithin b c second → FailsWithin a c (first ++ second)) (later : Outlet) → FailsWithin now later closed
+      → FailsFrom said before later ((written_target what).whole_text units)
+  fails_text fails later failed = record { added = w.written ++ closed; parts = whole_parts; fails = fails before now later w.written closed w.gains failed }
+
+-- a front of it, where memory was wanted
+pub front_of_whole : (what : Written) (units : List NotedGroup) (said : List ℕ) (before now : Outlet) (progress : Progress) → Converted what units said before now progress → TargetLaws (pen_target progress.pen)
+    → GainsFrontFrom said before now ((written_target what).whole_text units)
+front_of_whole what units said before now progress w laws =
+    let closing : List ℕ = (written_target what).closing_text units in
+    let whole : (written_target what).whole_text units ≡ (written_target what).partial_text units ++ closing =
+    subst (λ (x : Written). (written_target x).whole_text units ≡ (written_target x).partial_text units ++ (written_target x).closing_text units) w.done.pen (laws.closed units) in
+    record {
+      added = (w.written ++ progress.unwritten) ++ closing;
+      parts = whole ∙ ap (λ l. l ++ closing) (sym w.is_text) ∙ append_assoc said (w.written ++ progress.unwritten) closing;
+      gains = record { front = w.written; is_front = (progress.unwritten ++ closing, append_assoc w.written progress.unwritten closing); gains = w.gains };
+    }

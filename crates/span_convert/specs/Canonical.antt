@@ -8,8 +8,10 @@ use Rattle.proto_wire.specs.Wire.{records}
 use Rattle.trace_model.specs.OtlpParts.{NotedGroup}
 use Rattle.trace_model.specs.declared.trace.Group.{Group}
 use Rattle.map_zipkin.specs.NotedGroups.{plain_noted}
+use Rattle.span_moves.specs.Keeps.{EachSpan}
 use Rattle.span_convert.specs.BatchFiles.{binary, compact, batches, ReadsBatches}
 use Rattle.span_convert.specs.GroupFiles.{ReadsGroups}
+use Rattle.span_convert.specs.Moves.{IsKeptBy, IsNormalTrace}
 use Rattle.span_convert.specs.Requests.{ReadsRequest}
 use Rattle.span_convert.specs.SpanFiles.{ReadsSpans}
 use Rattle.span_convert.specs.Targets.{form_target}
@@ -63,6 +65,11 @@ abbrev pub ConvertsToItself : Form → Limits → List ℕ → List Group → Ty
 ConvertsToItself to limits text groups =
     IsVerdict to to limits text (good text (tally_of (length (normal_form to groups)) (span_count groups)))
 
+-- the verdict on a text of a trace that is converted to another form: it is good, and its text is the canonical text of the trace
+abbrev pub ConvertsTo : Form → Form → Limits → List ℕ → List Group → Type 0
+ConvertsTo from to limits text groups =
+    IsVerdict from to limits text (good (canonical_text to groups) (tally_of (length groups) (span_count groups)))
+
 -- What was written for an input is a text of the normal form of the input's trace, on which there is no remark; it is the text of no
 -- trace of another normal form; and where it fits as an input of its form it converts to itself.
 pub record ReadsBack (from to : Form) (limits : Limits) (bytes out : List ℕ) : Type 0 where
@@ -72,3 +79,8 @@ pub record ReadsBack (from to : Form) (limits : Limits) (bytes out : List ℕ) :
   pub only : (other : List Group) → IsHeldBy to other → IsSized to other
       → (out ≡ canonical_text to other) ↔ (normal_form to (groups_in is_good.noted) ≡ normal_form to other)
   pub again : Fits to limits out → ConvertsToItself to limits out (groups_in is_good.noted)
+  -- where it fits it converts back to the input's form, with the text of that normal form, which the input's form leaves as it is
+  pub home : Fits to limits out → ConvertsTo to from limits out (normal_form to (groups_in is_good.noted))
+  pub stays : IsNormalTrace from (normal_form to (groups_in is_good.noted))
+  -- and the normal form has all spans of the trace, each with what the form keeps of it
+  pub keeps : EachSpan (IsKeptBy to) (groups_in is_good.noted) (normal_form to (groups_in is_good.noted))

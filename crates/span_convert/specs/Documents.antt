@@ -39,6 +39,18 @@ pub record DocumentRefused (from : DocumentForm) (limits : Limits) (bytes : List
   pub none : noted ≡ []
   pub why : IsTooLongDocument limits bytes refusal ⊎ OffendsInDocument from limits bytes refusal
 
+-- ---- what is known of its first bytes, behind which others may come
+
+-- No group is known before the end.
+pub record DocumentGoesOn (limits : Limits) (bytes : List ℕ) (noted : List NotedGroup) : Type 0 where
+  pub none : noted ≡ []
+  pub within : length bytes ≤ limits.json
+
+-- More bytes than the limit are refused, whatever follows.
+pub record DocumentHalted (limits : Limits) (bytes : List ℕ) (noted : List NotedGroup) (refusal : Refusal) : Type 0 where
+  pub none : noted ≡ []
+  pub why : IsTooLongDocument limits bytes refusal
+
 -- ---- texts
 
 -- The canonical text of groups is what opens it, these pieces with commas between them, and what closes it.
@@ -48,13 +60,13 @@ pub record DocumentText : Type 0 where
   pub closes : List ℕ
 
 -- the text without what closes it
-abbrev pub open_document : DocumentText → List Group → List ℕ
-open_document spelled groups = spelled.opens ++ join_with_byte 44 (spelled.pieces groups)
+abbrev pub document_so_far : DocumentText → List Group → List ℕ
+document_so_far spelled groups = spelled.opens ++ join_with_byte 44 (spelled.pieces groups)
 
 -- Nothing opens the text of no group.
 abbrev pub partial_document : DocumentText → List Group → List ℕ
 partial_document spelled [] = []
-partial_document spelled (group ∷ groups) = open_document spelled (group ∷ groups)
+partial_document spelled (group ∷ groups) = document_so_far spelled (group ∷ groups)
 
 abbrev pub closing_document : DocumentText → List Group → List ℕ
 closing_document spelled [] = spelled.opens ++ spelled.closes

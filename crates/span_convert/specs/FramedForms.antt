@@ -3,7 +3,7 @@
 use Rattle.std.specs.Prelude.{◌≡◌, ℕ, ◌+◌, ◌<◌, ◌≤◌, ◌⊎◌, List, [], ◌∷◌, ◌++◌, length}
 use Rattle.std.specs.List.{AllZip}
 use Rattle.span_io.specs.Causes.{cause_number}
-use Rattle.span_io.specs.Frames.{Framing}
+use Rattle.span_io.specs.Frames.{Framing, NeedsMore}
 use Rattle.span_io.specs.Offences.{Least}
 use Rattle.span_io.specs.declared.cause.Cause.{Cause}
 use Rattle.span_io.specs.declared.limits.Limits.{Limits}
@@ -26,9 +26,15 @@ pub record FramedForm : Type 1 where
   -- what offends in a unit: at this place a cause of this number
   pub Offends : List ℕ → ℕ → ℕ → Type 0
 
--- why the rest behind the units isn't read, if the input has so many bytes
+-- ---- why a rest behind the units isn't read
+
+-- why, if the input has so many bytes
 abbrev pub RestCause : FramedForm → Limits → ℕ → List ℕ → Cause → Type 0
 RestCause from limits size rest cause = StopsRest from.frames from.Refused limits.unit (limits.binary < size) (size ≤ limits.binary) rest cause
+
+-- Why, whatever follows: a front of it is refused, or there are more bytes than the limit. That it ends too early is no such cause.
+abbrev pub LastingCause : FramedForm → Limits → ℕ → List ℕ → Cause → Type 0
+LastingCause from limits size rest cause = StopsRest from.frames from.Refused limits.unit (limits.binary < size) ⊥ rest cause
 
 -- ---- what an input begins with
 
@@ -58,13 +64,32 @@ pub record UnitOffends (from : FramedForm) (limits : Limits) (bytes : List ℕ) 
   pub are_groups : AllZip from.IsUnit before noted
   pub least : Least (from.Offends unit) (cause_number cause)
 
--- Behind them comes a rest at which no frame begins.
-pub record RestStops (from : FramedForm) (limits : Limits) (bytes : List ℕ) (noted : List NotedGroup) (cause : Cause) : Type 0 where
+-- Behind them comes a rest that isn't read, for such a cause.
+pub record RestStopsBy (from : FramedForm) (Why : Limits → ℕ → List ℕ → Cause → Type 0) (limits : Limits) (bytes : List ℕ) (noted : List NotedGroup) (cause : Cause) : Type 0 where
   pub rest : List ℕ
   pub units_then : UnitsThen from limits bytes noted rest
-  pub why : RestCause from limits (length bytes) rest cause
+  pub why : Why limits (length bytes) rest cause
 
 -- The refusal has the number behind theirs.
-pub record UnitsRefused (from : FramedForm) (limits : Limits) (bytes : List ℕ) (noted : List NotedGroup) (refusal : Refusal) : Type 0 where
-  pub why : UnitOffends from limits bytes noted refusal.cause ⊎ RestStops from limits bytes noted refusal.cause
+pub record UnitsRefusedBy (from : FramedForm) (Why : Limits → ℕ → List ℕ → Cause → Type 0) (limits : Limits) (bytes : List ℕ) (noted : List NotedGroup) (refusal : Refusal) : Type 0 where
+  pub why : UnitOffends from limits bytes noted refusal.cause ⊎ RestStopsBy from Why limits bytes noted refusal.cause
   pub number : refusal.unit ≡ length noted + 1
+
+abbrev pub RestStops : FramedForm → Limits → List ℕ → List NotedGroup → Cause → Type 0
+RestStops from = RestStopsBy from (RestCause from)
+
+abbrev pub UnitsRefused : FramedForm → Limits → List ℕ → List NotedGroup → Refusal → Type 0
+UnitsRefused from = UnitsRefusedBy from (RestCause from)
+
+-- ---- what is known of its first bytes, behind which others may come
+
+-- They are units that are texts of these groups, other frames, and a rest of which a frame may yet come.
+pub record UnitsGoOn (from : FramedForm) (limits : Limits) (bytes : List ℕ) (noted : List NotedGroup) : Type 0 where
+  pub rest : List ℕ
+  pub units_then : UnitsThen from limits bytes noted rest
+  pub needs : NeedsMore from.frames limits.unit rest
+  pub within : length bytes ≤ limits.binary
+
+-- They are refused behind the units of these groups, and no more bytes take that away.
+abbrev pub UnitsHalted : FramedForm → Limits → List ℕ → List NotedGroup → Refusal → Type 0
+UnitsHalted from = UnitsRefusedBy from (LastingCause from)

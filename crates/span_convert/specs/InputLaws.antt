@@ -1,6 +1,7 @@
 -- What the crates below say of the frames and units of an input, and of the texts that are written.
 use Rattle.std.specs.Prelude.{◌<◌, ◌^◌, [], length}
 use Rattle.span_io.specs.Framings.{OneFraming, OneStep}
+use Rattle.span_io.specs.Pieces.{PieceLaws}
 use Rattle.proto_wire.specs.Laws.{OneWireReading, ShortestRecord}
 use Rattle.proto_wire.specs.Wire.{records, RefusedBy}
 use Rattle.thrift_core.specs.Laws.{OneReading, OpenFronts, PartsReadBack}
@@ -25,12 +26,14 @@ pub record RequestLaws : Type 0 where
   pub reading : OneWireReading
   pub framing : OneFraming records RefusedBy
   pub step : OneStep records RefusedBy
+  pub pieces : PieceLaws records RefusedBy
   pub group : OneGroup
 
 -- the same of batches in a protocol, and what is read and written of them, whole and part by part
 pub record BatchLaws (protocol : ProtocolWords) : Type 0 where
   pub framing : OneFraming (batches protocol) (RefusedBatch protocol)
   pub step : OneStep (batches protocol) (RefusedBatch protocol)
+  pub pieces : PieceLaws (batches protocol) (RefusedBatch protocol)
   pub reading : OneReading protocol.spells
   pub parts : PartsReadBack protocol.reads protocol.keeps protocol.writes
   pub structs : WrittenStructs protocol.spells protocol.keeps protocol.writes

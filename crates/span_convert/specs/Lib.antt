@@ -6,6 +6,10 @@ pub mod Documents
 pub mod FramedForms
 pub mod GroupFiles
 pub mod InputLaws
+pub mod Intakes
+pub mod Moves
+pub mod Outlooks
+pub mod Pens
 pub mod Reports
 pub mod Requests
 pub mod Rests

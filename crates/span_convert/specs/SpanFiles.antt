@@ -11,7 +11,8 @@ use Rattle.zipkin_json.specs.declared.span.ZSpan.{ZSpan}
 use Rattle.map_zipkin.specs.Normal.{zipkin_normal}
 use Rattle.map_zipkin.specs.NotedGroups.{noted_groups_of}
 use Rattle.map_zipkin.specs.Writing.{spans_of_group}
-use Rattle.span_convert.specs.Documents.{DocumentForm, DocumentText}
+use Rattle.span_convert.specs.Documents.{DocumentForm, DocumentText, pieces_added}
+use Rattle.span_convert.specs.declared.span_file.SpansLeft.{SpansLeft}
 
 -- ---- which bytes are a text of a trace, however long they are
 
@@ -36,3 +37,7 @@ span_file_text groups = spans_text (spans_of_groups groups)
 -- the same of the normal form, by its parts
 abbrev pub span_file : DocumentText
 span_file = record { opens = codes "["; pieces = λ groups. map zspan_text (spans_of_groups (zipkin_normal groups)); closes = codes "]" }
+
+-- the text of the spans of a unit that are left to be written
+abbrev pub left_text : SpansLeft → List ℕ
+left_text left = pieces_added left.behind (map zspan_text left.spans)

@@ -31,6 +31,17 @@ form_target to = record {
   closing_text = λ units. closing_text to (groups_in units);
 }
 
+-- The same target of units behind which others may come: nothing closes their text.
+abbrev pub open_target : Target → Target
+open_target to = record {
+  FaultOf = to.FaultOf;
+  CanHold = to.CanHold;
+  IsSized = to.IsSized;
+  whole_text = to.partial_text;
+  partial_text = to.partial_text;
+  closing_text = λ units. [];
+}
+
 -- ---- units that a target can hold
 
 -- their groups are a sound trace, in which nothing is out of range, and no unit has a fault

@@ -1,5 +1,5 @@
 -- What an input is read as, what the target can't hold of a group, and the texts of a trace, each by its form.
-use Rattle.std.specs.Prelude.{ℕ, List, [], length, map, Some, None}
+use Rattle.std.specs.Prelude.{◌≡◌, ℕ, List, [], length, map, Some, None}
 use Rattle.span_io.specs.Offences.{Offence}
 use Rattle.span_io.specs.declared.form.Form.{Form}
 use Rattle.span_io.specs.declared.form.Form.TheVariants as forms
@@ -22,8 +22,8 @@ use Rattle.map_jaeger.specs.Writing.{batch_of}
 use Rattle.map_zipkin.specs.Faults.{IsZipkinFaultOf}
 use Rattle.map_zipkin.specs.Normal.{zipkin_normal}
 use Rattle.span_convert.specs.BatchFiles.{ProtocolWords, binary, compact, batches, RefusedBatch, IsOwnUnit, HoldsBatches, IsBatchUnit, batches_text}
-use Rattle.span_convert.specs.Documents.{DocumentForm, IsDocument, DocumentBegins, DocumentRefused, partial_document, closing_document}
-use Rattle.span_convert.specs.FramedForms.{FramedForm, UnitsBegin, AreAllUnits, UnitsRefused}
+use Rattle.span_convert.specs.Documents.{DocumentForm, IsDocument, DocumentBegins, DocumentRefused, DocumentGoesOn, DocumentHalted, partial_document, closing_document}
+use Rattle.span_convert.specs.FramedForms.{FramedForm, UnitsBegin, AreAllUnits, UnitsRefused, UnitsGoOn, UnitsHalted}
 use Rattle.span_convert.specs.GroupFiles.{group_document, group_file}
 use Rattle.span_convert.specs.Requests.{HoldsUnit, HoldsRequestUnits, IsRequestUnit, request_text}
 use Rattle.span_convert.specs.SpanFiles.{span_document, span_file, span_file_text}
@@ -78,6 +78,21 @@ input_form forms.OtlpJson = document_input group_document
 input_form forms.JaegerBinary = framed_input (batch_form binary)
 input_form forms.JaegerCompact = framed_input (batch_form compact)
 input_form forms.ZipkinJson = document_input span_document
+
+-- What a form says of the first bytes of an input, behind which others may come: all of them are units so far, or they are refused
+-- whatever follows.
+abbrev pub open_frames : FramedForm → InputForm
+open_frames form = record { Begins = UnitsBegin form; IsWhole = UnitsGoOn form; Refuses = UnitsHalted form }
+
+abbrev pub open_document : InputForm
+open_document = record { Begins = λ limits bytes noted. noted ≡ []; IsWhole = DocumentGoesOn; Refuses = DocumentHalted }
+
+abbrev pub open_form : Form → InputForm
+open_form forms.OtlpProto = open_frames request_form
+open_form forms.OtlpJson = open_document
+open_form forms.JaegerBinary = open_frames (batch_form binary)
+open_form forms.JaegerCompact = open_frames (batch_form compact)
+open_form forms.ZipkinJson = open_document
 
 -- the most bytes that an input may have
 abbrev pub input_limit : Form → Limits → ℕ

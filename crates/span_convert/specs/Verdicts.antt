@@ -125,12 +125,6 @@ pub record WritesFrontOn (from : InputForm) (to : Target) (limits : Limits) (byt
   pub so_far : IsTextSoFar from to limits bytes text
   pub gains : GainsFront before now text
 
--- the sink failed within such a text
-pub record FailsFrontOn (from : InputForm) (to : Target) (limits : Limits) (bytes : List ℕ) (before now : Outlet) : Type 0 where
-  pub text : List ℕ
-  pub so_far : IsTextSoFar from to limits bytes text
-  pub fails : FailsWithin before now text
-
 abbrev pub WritesFront : Form → Form → Limits → List ℕ → Outlet → Outlet → Type 0
 WritesFront from to limits bytes before now = WritesFrontOn (input_form from) (form_target to) limits bytes before now
 

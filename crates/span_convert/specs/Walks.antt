@@ -1,24 +1,32 @@
 -- The walk over the units of an input, of which no more bytes are looked at than its limit. It is one walk for all forms and targets.
-use Rattle.std.specs.Prelude.{◌≡◌, ℕ, ◌+◌, min, ◌<◌, ◌≤◌, ◌⊎◌, take, Bool, true, false, List, [], ◌∷◌, ◌++◌, length, All, Option, Some, None, Result, Ok, Err}
+use Rattle.std.specs.Prelude.{◌≡◌, ℕ, ◌+◌, ◌-◌, min, ◌<◌, ◌≤◌, ◌⊎◌, take, Bool, true, false, List, [], ◌∷◌, ◌++◌, length, All, Option, Some, None, Result, Ok, Err}
 use Rattle.std.specs.Borrow.{Bor}
-use Rattle.span_io.specs.Outside.{Outlet, Gains, GainsFront, FailsWithin, last_count}
-use Rattle.span_io.specs.declared.cause.Cause.{Cause}
+use Rattle.span_io.specs.Frames.{NeedsMore}
+use Rattle.span_io.specs.Limits.{AreLimits}
+use Rattle.span_io.specs.Outside.{Outlet, Gains, FailsWithin, last_count}
+use Rattle.span_io.specs.Scans.{Scanning, PushIs, FrameIs, StandsBehind, EndsWithin}
+use Rattle.span_io.specs.Steps.{IfUnit}
 use Rattle.span_io.specs.declared.halt.Halt.{Halt}
 use Rattle.span_io.specs.declared.halt.Halt.TheVariants as halts
 use Rattle.span_io.specs.declared.limits.Limits.{Limits}
 use Rattle.span_io.specs.declared.refusal.Refusal.{Refusal}
+use Rattle.span_io.specs.declared.step.Step.{Step}
 use Rattle.trace_model.specs.OtlpParts.{NotedGroup}
 use Rattle.trace_model.specs.declared.fault.Fault.{Fault}
 use Rattle.span_convert.specs.FramedForms.{FramedForm, UnitsThen}
-use Rattle.span_convert.specs.Rests.{Cuts, StopsRest}
+use Rattle.span_convert.specs.Outlooks.{GainsFrom, GainsFrontFrom, FailsFrom, WritesFrontFrom}
+use Rattle.span_convert.specs.Pens.{pen_stands, pen_target, written_by}
+use Rattle.span_convert.specs.Reports.{written_target}
+use Rattle.span_convert.specs.Rests.{Cuts}
 use Rattle.span_convert.specs.Targets.{Target, CanHoldUnits, AreHeldBy}
 use Rattle.span_convert.specs.Units.{InputForm, span_count}
-use Rattle.span_convert.specs.Verdicts.{units_tally, IsGood, IsRefusal, IsFaulted, IsTextSoFar, WritesFrontOn, FailsFrontOn}
+use Rattle.span_convert.specs.Verdicts.{units_tally, IsGood, IsRefusal, IsFaulted, IsTextSoFar}
 use Rattle.span_convert.specs.declared.progress.Progress.{Progress}
 use Rattle.span_convert.specs.declared.progress.WalkStop.{WalkStop}
 use Rattle.span_convert.specs.declared.progress.WalkStop.TheVariants as walk_stops
 use Rattle.span_convert.specs.declared.tally.Tally.{Tally}
 use Rattle.span_convert.specs.declared.target_fault.TargetFault.{TargetFault}
+use Rattle.span_convert.specs.declared.written.Written.{Written}
 
 -- ---- what is looked at
 
@@ -27,10 +35,10 @@ abbrev pub Exceeds : Bool → ℕ → List ℕ → Type 0
 Exceeds true limit whole = limit < length whole
 Exceeds false limit whole = length whole ≤ limit
 
--- of the input these bytes are looked at, and it has others, or hasn't
-pub record IsLookedAt (limit : ℕ) (whole looked : List ℕ) (too_long : Bool) : Type 0 where
-  pub front : take limit whole ≡ looked
-  pub exceeds : Exceeds too_long limit whole
+-- Behind these bytes of the input come more, of which those are looked at, and there are others, or aren't.
+pub record IsLookedAt (limit : ℕ) (bytes more looked : List ℕ) (too_long : Bool) : Type 0 where
+  pub front : take (limit - length bytes) more ≡ looked
+  pub exceeds : Exceeds too_long limit (bytes ++ more)
 
 -- ---- one frame
 
@@ -43,30 +51,28 @@ lent_bytes (Some held) = held.now ∷ []
 abbrev pub CutsFrame : FramedForm → ℕ → List ℕ → List (List ℕ) → List ℕ → Type 0
 CutsFrame from limit rest units behind = Cuts from.frames from.FrameHolds limit rest units behind
 
--- An input begins with no unit, and behind a frame its units are held as well. A unit is no longer than its frame.
+-- An input begins with no unit, and no frame is there yet. Behind a frame its units are held as well. More bytes leave the units as they
+-- are, and stand behind the rest, as far as they are looked at. A unit is no longer than its frame, and one that was found is there.
 pub record HeldByFrames (from : FramedForm) : Type 0 where
-  pub none : (limits : Limits) (whole looked : List ℕ) → take limits.binary whole ≡ looked
-      → from.HoldsUnits limits whole [] looked
+  pub none : (limits : Limits) → from.HoldsUnits limits [] [] []
+  pub empty : (limits : Limits) → AreLimits limits → NeedsMore from.frames limits.unit []
   pub next : (limits : Limits) (whole rest behind : List ℕ) (units more : List (List ℕ))
       → CutsFrame from limits.unit rest more behind → from.HoldsUnits limits whole units rest
       → from.HoldsUnits limits whole (units ++ more) behind
+  pub longer : (limits : Limits) (bytes more rest : List ℕ) (units : List (List ℕ)) → from.HoldsUnits limits bytes units rest
+      → from.HoldsUnits limits (bytes ++ more) units (rest ++ take (limits.binary - length bytes) more)
   pub within : (limit : ℕ) (rest behind unit : List ℕ) → CutsFrame from limit rest (unit ∷ []) behind → length unit ≤ limit
+  pub found : (frame : List ℕ) → ∥ from.frames.Whole frame ∥₁ → from.frames.Whole frame
 
--- why no frame begins at a rest behind which the input has other bytes, or hasn't
-abbrev pub StopsFrames : FramedForm → ℕ → Bool → List ℕ → Cause → Type 0
-StopsFrames from limit too_long rest cause = StopsRest from.frames from.Refused limit (too_long ≡ true) (too_long ≡ false) rest cause
-
--- the next frame holds the unit, which is a text of the group with these remarks
-pub record IsNextUnit (from : FramedForm) (limits : Limits) (rest behind : List ℕ) (next : NotedGroup) : Type 0 where
-  pub unit : List ℕ
-  pub cut : CutsFrame from limits.unit rest (unit ∷ []) behind
-  pub is_unit : from.IsUnit unit next
+-- what a scanner of the form's frames answers of a piece, and where it stands then
+pub record Scans (from : FramedForm) (old new : Scanning) (piece : List ℕ) (answer : Step) : Type 0 where
+  pub exact : PushIs from.frames from.Refused old piece answer
+  pub frame : FrameIs from.frames old piece answer
+  pub stands : StandsBehind old new piece answer
+  pub within : IfUnit answer (EndsWithin old piece)
+  pub limit : new.limit ≡ old.limit
 
 -- ---- what a writer of units adds
-
--- A writer stands for units behind which it writes the next one. One that keeps nothing of them stands for any.
-abbrev pub StandsForAny : {W A : Type 0} → W → List A → Type 0
-StandsForAny writer units = Unit {0}
 
 -- The target can hold the unit. What was appended is what it adds to the text of units of which so many were counted, and for
 -- which the writer stood; now it stands for these and the unit.
@@ -91,113 +97,174 @@ IfWhy (Err halts.OutOfMemory) P = Unit {0}
 
 -- ---- what was converted so far
 
--- What the sink gained, and then what isn't written yet, is the text of the units so far.
-pub record Converted (to : Target) {W : Type 0} (Stands : W → List NotedGroup → Type 0) (units : List NotedGroup)
-    (before now : Outlet) (progress : Progress W) : Type 0 where
-  pub held : AreHeldBy to units
+-- The units were converted so far and are counted, and the pen stands for them.
+pub record StandsFor (what : Written) (units : List NotedGroup) (progress : Progress) : Type 0 where
+  pub held : AreHeldBy (written_target what) units
+  pub pen : written_by progress.pen ≡ what
+  pub counts : progress.tally ≡ units_tally units
+  pub stands : pen_stands progress.pen units
+
+-- What earlier calls wrote, then what the sink gained, and then what isn't written yet, is the text of the units so far.
+pub record Converted (what : Written) (units : List NotedGroup) (said : List ℕ) (before now : Outlet) (progress : Progress) : Type 0 where
+  pub done : StandsFor what units progress
   pub written : List ℕ
   pub gains : Gains before now written
-  pub is_text : written ++ progress.unwritten ≡ to.partial_text units
-  pub counts : progress.tally ≡ units_tally units
-  pub stands : Stands progress.writer units
+  pub is_text : said ++ (written ++ progress.unwritten) ≡ (written_target what).partial_text units
+
+-- the progress as it is once this text, which is left to be written, stands behind what isn't written yet
+abbrev pub with_text : Progress → List ℕ → Progress
+with_text progress left = record { unwritten = progress.unwritten ++ left; tally = progress.tally; pen = progress.pen }
 
 -- a walk over units came to this rest
-pub record WalkedUnits (from : FramedForm) (to : Target) {W : Type 0} (Stands : W → List NotedGroup → Type 0) (limits : Limits)
-    (whole rest : List ℕ) (before now : Outlet) (progress : Progress W) : Type 0 where
+pub record WalkedUnits (from : FramedForm) (what : Written) (limits : Limits) (whole rest said : List ℕ) (before now : Outlet)
+    (progress : Progress) : Type 0 where
   pub noted : List NotedGroup
   pub units_then : UnitsThen from limits whole noted rest
-  pub converted : Converted to Stands noted before now progress
+  pub converted : Converted what noted said before now progress
+
+-- The same where the rest is the bytes that are held, which the scanner saw, and then what is left of a piece.
+pub record WalksOn (from : FramedForm) (what : Written) (limits : Limits) (whole said : List ℕ) (before now : Outlet) (s : Scanning)
+    (held left : List ℕ) (progress : Progress) : Type 0 where
+  pub seen : s.seen held
+  pub limit : s.limit ≡ limits.unit
+  pub walked : WalkedUnits from what limits whole (held ++ left) said before now progress
+
+-- a walk that took all of a piece, and needs more bytes
+pub record WaitsForMore (from : FramedForm) (what : Written) (limits : Limits) (whole said : List ℕ) (before now : Outlet) (s : Scanning)
+    (held : List ℕ) (progress : Progress) : Type 0 where
+  pub seen : s.seen held
+  pub limit : s.limit ≡ limits.unit
+  pub needs : NeedsMore from.frames limits.unit held
+  pub walked : WalkedUnits from what limits whole held said before now progress
+
+-- Of an input in frames these bytes were taken: their units, of which this is the text, were converted and written, and behind them come the
+-- bytes that are held, of a frame that isn't whole yet.
+pub record FramesTaken (from : FramedForm) (what : Written) (limits : Limits) (bytes said : List ℕ) (s : Scanning) (held : List ℕ)
+    (progress : Progress) : Type 0 where
+  pub noted : List NotedGroup
+  pub units_then : UnitsThen from limits bytes noted held
+  pub needs : NeedsMore from.frames limits.unit held
+  pub within : length bytes ≤ limits.binary
+  pub done : StandsFor what noted progress
+  pub flushed : progress.unwritten ≡ []
+  pub is_said : said ≡ (written_target what).partial_text noted
+  pub seen : s.seen held
+  pub limit : s.limit ≡ limits.unit
+
+-- The bytes of a document are held until it ends, and nothing was written.
+pub record DocumentTaken (what : Written) (limits : Limits) (bytes said held : List ℕ) (progress : Progress) : Type 0 where
+  pub held_is : held ≡ bytes
+  pub within : length bytes ≤ limits.json
+  pub done : StandsFor what [] progress
+  pub flushed : progress.unwritten ≡ []
+  pub is_said : said ≡ (written_target what).partial_text []
+  pub none : said ≡ []
+
+-- The sink gained what goes on from there to a text of which this holds.
+pub record Reaches (Is : List ℕ → Type 0) (said : List ℕ) (before now : Outlet) : Type 0 where
+  pub text : List ℕ
+  pub is : Is text
+  pub gains : GainsFrom said before now text
 
 -- a unit was added, and its spans were counted
-pub record AddsUnit (to : Target) {W : Type 0} (Stands : W → List NotedGroup → Type 0) (unit : NotedGroup)
-    (before now : Progress W) : Type 0 where
-  pub writes : WritesUnit to Stands unit before.tally before.writer now.writer before.unwritten now.unwritten
+pub record AddsUnit (unit : NotedGroup) (before now : Progress) : Type 0 where
+  pub writes : WritesUnit (pen_target before.pen) pen_stands unit before.tally before.pen now.pen before.unwritten now.unwritten
+  pub same : written_by now.pen ≡ written_by before.pen
   pub units : now.tally.units ≡ before.tally.units + 1
   pub spans : now.tally.spans ≡ min (before.tally.spans + span_count (unit.means ∷ [])) last_count
 
 -- the unit has the fault, and neither text nor counts changed
-pub record AddsNothing (to : Target) {W : Type 0} (unit : NotedGroup) (fault : Fault) (before now : Progress W) : Type 0 where
-  pub has : to.FaultOf unit fault
+pub record AddsNothing (unit : NotedGroup) (fault : Fault) (before now : Progress) : Type 0 where
+  pub has : (pen_target before.pen).FaultOf unit fault
   pub text : now.unwritten ≡ before.unwritten
   pub tally : now.tally ≡ before.tally
 
 -- ---- how the conversion of a unit stops
 
--- a front of the text so far of the units was written
-pub record WritesFrontOf (to : Target) (units : List NotedGroup) (before now : Outlet) : Type 0 where
+-- a front of the text so far of the units was written, behind what earlier calls wrote
+pub record WritesFrontOf (to : Target) (units : List NotedGroup) (said : List ℕ) (before now : Outlet) : Type 0 where
   pub held : CanHoldUnits to units
-  pub gains : GainsFront before now (to.partial_text units)
+  pub gains : GainsFrontFrom said before now (to.partial_text units)
 
 -- the sink failed within it
-pub record FailsFrontOf (to : Target) (units : List NotedGroup) (before now : Outlet) : Type 0 where
+pub record FailsFrontOf (to : Target) (units : List NotedGroup) (said : List ℕ) (before now : Outlet) : Type 0 where
   pub held : CanHoldUnits to units
-  pub fails : FailsWithin before now (to.partial_text units)
+  pub fails : FailsFrom said before now (to.partial_text units)
 
 -- the unit has a fault, and the text of the units before it was written
-pub record StopsAtFault (to : Target) (units : List NotedGroup) (unit : NotedGroup) (found : TargetFault)
+pub record StopsAtFault (to : Target) (units : List NotedGroup) (unit : NotedGroup) (found : TargetFault) (said : List ℕ)
     (before now : Outlet) : Type 0 where
   pub held : CanHoldUnits to units
   pub fault : to.FaultOf unit found.fault
   pub number : found.unit ≡ length units + 1
-  pub gains : Gains before now (to.partial_text units)
+  pub gains : GainsFrom said before now (to.partial_text units)
 
 -- the unit's own text may be written by then
-abbrev pub StopsWriting : Target → List NotedGroup → NotedGroup → Outlet → Outlet → Type 0
-StopsWriting to units unit before now = WritesFrontOf to units before now ⊎ WritesFrontOf to (units ++ unit ∷ []) before now
+abbrev pub StopsWriting : Target → List NotedGroup → NotedGroup → List ℕ → Outlet → Outlet → Type 0
+StopsWriting to units unit said before now = WritesFrontOf to units said before now ⊎ WritesFrontOf to (units ++ unit ∷ []) said before now
 
-abbrev pub FailsWriting : Target → List NotedGroup → NotedGroup → Outlet → Outlet → Type 0
-FailsWriting to units unit before now = FailsFrontOf to units before now ⊎ FailsFrontOf to (units ++ unit ∷ []) before now
+abbrev pub FailsWriting : Target → List NotedGroup → NotedGroup → List ℕ → Outlet → Outlet → Type 0
+FailsWriting to units unit said before now = FailsFrontOf to units said before now ⊎ FailsFrontOf to (units ++ unit ∷ []) said before now
 
-abbrev pub StopsUnit : Target → List NotedGroup → NotedGroup → WalkStop → Outlet → Outlet → Type 0
-StopsUnit to units unit (walk_stops.Refused refusal) before now = ⊥
-StopsUnit to units unit (walk_stops.Faulted found) before now = StopsAtFault to units unit found before now
-StopsUnit to units unit walk_stops.Write before now = FailsWriting to units unit before now
-StopsUnit to units unit walk_stops.OutOfMemory before now = StopsWriting to units unit before now
+abbrev pub StopsUnit : Target → List NotedGroup → NotedGroup → WalkStop → List ℕ → Outlet → Outlet → Type 0
+StopsUnit to units unit (walk_stops.Refused refusal) said before now = ⊥
+StopsUnit to units unit (walk_stops.Faulted found) said before now = StopsAtFault to units unit found said before now
+StopsUnit to units unit walk_stops.Write said before now = FailsWriting to units unit said before now
+StopsUnit to units unit walk_stops.OutOfMemory said before now = StopsWriting to units unit said before now
 
 -- ---- how the text of all units ends
 
-pub record EndsText (to : Target) (units : List NotedGroup) (tally : Tally) (before now : Outlet) : Type 0 where
+pub record EndsText (to : Target) (units : List NotedGroup) (tally : Tally) (said : List ℕ) (before now : Outlet) : Type 0 where
   pub counts : tally ≡ units_tally units
-  pub gains : Gains before now (to.whole_text units)
+  pub gains : GainsFrom said before now (to.whole_text units)
 
-abbrev pub StopsText : Target → List NotedGroup → WalkStop → Outlet → Outlet → Type 0
-StopsText to units (walk_stops.Refused refusal) before now = ⊥
-StopsText to units (walk_stops.Faulted found) before now = ⊥
-StopsText to units walk_stops.Write before now = FailsWithin before now (to.whole_text units)
-StopsText to units walk_stops.OutOfMemory before now = GainsFront before now (to.whole_text units)
+abbrev pub StopsText : Target → List NotedGroup → WalkStop → List ℕ → Outlet → Outlet → Type 0
+StopsText to units (walk_stops.Refused refusal) said before now = ⊥
+StopsText to units (walk_stops.Faulted found) said before now = ⊥
+StopsText to units walk_stops.Write said before now = FailsFrom said before now (to.whole_text units)
+StopsText to units walk_stops.OutOfMemory said before now = GainsFrontFrom said before now (to.whole_text units)
 
 -- ---- how a walk ends
 
 -- the text of the units before was written, and then it is refused
-pub record WritesRefused (from : InputForm) (to : Target) (limits : Limits) (whole : List ℕ) (refusal : Refusal) (before now : Outlet) : Type 0 where
+pub record WritesRefused (from : InputForm) (to : Target) (limits : Limits) (whole : List ℕ) (refusal : Refusal) (said : List ℕ)
+    (before now : Outlet) : Type 0 where
   pub text : List ℕ
   pub is_refused : IsRefusal from to limits whole text refusal
   pub so_far : IsTextSoFar from to limits whole text
-  pub gains : Gains before now text
+  pub gains : GainsFrom said before now text
 
 -- the same before a fault of the target
-pub record WritesFaulted (from : InputForm) (to : Target) (limits : Limits) (whole : List ℕ) (found : TargetFault) (before now : Outlet) : Type 0 where
+pub record WritesFaulted (from : InputForm) (to : Target) (limits : Limits) (whole : List ℕ) (found : TargetFault) (said : List ℕ)
+    (before now : Outlet) : Type 0 where
   pub text : List ℕ
   pub is_faulted : IsFaulted from to limits whole text found
   pub so_far : IsTextSoFar from to limits whole text
-  pub gains : Gains before now text
+  pub gains : GainsFrom said before now text
 
 -- the whole text was written
-pub record WritesWhole (from : InputForm) (to : Target) (limits : Limits) (whole : List ℕ) (tally : Tally) (before now : Outlet) : Type 0 where
+pub record WritesWhole (from : InputForm) (to : Target) (limits : Limits) (whole : List ℕ) (tally : Tally) (said : List ℕ)
+    (before now : Outlet) : Type 0 where
   pub text : List ℕ
   pub is_good : IsGood from to limits whole text tally
   pub sized : All to.IsSized is_good.noted
-  pub gains : Gains before now text
+  pub gains : GainsFrom said before now text
 
-abbrev pub StopsWalk : InputForm → Target → Limits → List ℕ → WalkStop → Outlet → Outlet → Type 0
-StopsWalk from to limits whole (walk_stops.Refused refusal) before now = WritesRefused from to limits whole refusal before now
-StopsWalk from to limits whole (walk_stops.Faulted found) before now = WritesFaulted from to limits whole found before now
-StopsWalk from to limits whole walk_stops.Write before now = FailsFrontOn from to limits whole before now
-StopsWalk from to limits whole walk_stops.OutOfMemory before now = WritesFrontOn from to limits whole before now
+-- the sink failed within such a text
+pub record FailsFrontFrom (from : InputForm) (to : Target) (limits : Limits) (whole said : List ℕ) (before now : Outlet) : Type 0 where
+  pub text : List ℕ
+  pub so_far : IsTextSoFar from to limits whole text
+  pub fails : FailsFrom said before now text
 
-abbrev pub EndsWalk : InputForm → Target → Limits → List ℕ → Result Tally WalkStop → Outlet → Outlet → Type 0
-EndsWalk from to limits whole (Ok tally) before now = WritesWhole from to limits whole tally before now
-EndsWalk from to limits whole (Err stop) before now = StopsWalk from to limits whole stop before now
+abbrev pub StopsWalk : InputForm → Target → Limits → List ℕ → WalkStop → List ℕ → Outlet → Outlet → Type 0
+StopsWalk from to limits whole (walk_stops.Refused refusal) said before now = WritesRefused from to limits whole refusal said before now
+StopsWalk from to limits whole (walk_stops.Faulted found) said before now = WritesFaulted from to limits whole found said before now
+StopsWalk from to limits whole walk_stops.Write said before now = FailsFrontFrom from to limits whole said before now
+StopsWalk from to limits whole walk_stops.OutOfMemory said before now = WritesFrontFrom from to limits whole said before now
+
+abbrev pub EndsWalk : InputForm → Target → Limits → List ℕ → Result Tally WalkStop → List ℕ → Outlet → Outlet → Type 0
+EndsWalk from to limits whole (Ok tally) said before now = WritesWhole from to limits whole tally said before now
+EndsWalk from to limits whole (Err stop) said before now = StopsWalk from to limits whole stop said before now
 
 -- what is written where a cause or a fault stops the walk
 abbrev pub WritesOut : WalkStop → WalkStop → List ℕ → Outlet → Outlet → Type 0

@@ -8,7 +8,8 @@ ghost use Rattle.map_jaeger.specs.Normal.{normal_group};
 ghost use Rattle.map_jaeger.specs.Writing.{batch_of};
 ghost use Rattle.span_io.specs.declared.form.Form.TheVariants as forms;
 ghost use Rattle.span_convert.specs.Targets.{form_target};
-ghost use Rattle.span_convert.specs.Walks.{IfWhy, StandsForAny};
+ghost use Rattle.span_convert.specs.Pens.{StandsForAny};
+ghost use Rattle.span_convert.specs.Walks.{IfWhy};
 ghost use Rattle.trace_model.specs.Soundness.{IsSoundGroup};
 
 use crate::batch_file::{BinaryBatches, CompactBatches};

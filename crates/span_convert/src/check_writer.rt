@@ -1,7 +1,7 @@
 //! Writes a line for each remark on what was read.
-ghost use Rattle.std.specs.Prelude.{◌≡◌, ◌++◌, min, OnOk};
-ghost use Rattle.span_io.specs.Outside.{last_count};
-ghost use Rattle.span_convert.specs.Reports.{remark_count, report_target, unit_checked};
+ghost use Rattle.std.specs.Prelude.{◌≡◌, ◌++◌, OnOk};
+ghost use Rattle.span_convert.specs.Pens.{CountsRemarks};
+ghost use Rattle.span_convert.specs.Reports.{report_target, unit_checked};
 ghost use Rattle.span_convert.specs.declared.report.Report.TheVariants as reports;
 
 use crate::laws::report_targets;
@@ -37,7 +37,7 @@ pub(crate) struct CheckWriter {
 impl UnitWriter for CheckWriter {
     ghost target = { report_target reports.Check };
 
-    ghost stands = { λ writer units. writer.remarks ≡ min (remark_count units) last_count };
+    ghost stands = { CountsRemarks };
 
     fn target_laws() {
         report_targets();

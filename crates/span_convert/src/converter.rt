@@ -1,23 +1,26 @@
 //! Conversion and reports of an input that comes in pieces.
-ghost use Rattle.std.specs.Prelude.{◌≡◌, ◌≢◌, ◌+◌, ◌++◌, [], ℕ, List, length, ◌≤◌, ◌<◌, true, Err, None, OnOk, OnErr, IsErr};
+ghost use Rattle.std.specs.Prelude.{◌≡◌, ◌≢◌, ◌+◌, ◌-◌, ◌++◌, [], ℕ, List, length, take, ◌≤◌, ◌<◌, ◌^◌, true, Err, None, IfOk, OnOk};
 ghost use Rattle.span_io.specs.Limits.{AreLimits};
 ghost use Rattle.span_io.specs.Outside.{OutputFails, OutputHolds};
+ghost use Rattle.span_convert.specs.Intakes.{form_in, scanning_in};
+ghost use Rattle.span_convert.specs.Outlooks.{CarriesFrom, IfDocument, ReachesFrom};
 ghost use Rattle.span_convert.specs.Units as told;
-ghost use Rattle.span_convert.specs.Verdicts.{Verdict, Carries, Stops};
-ghost use Rattle.span_convert.specs.Walks.{IsLookedAt};
+ghost use Rattle.span_convert.specs.Verdicts.{Verdict, good, tally_of};
+ghost use Rattle.span_convert.specs.Walks.{Exceeds};
 ghost use Rattle.span_convert.specs.declared.converter.State.TheVariants as states;
 ghost use Rattle.span_convert.specs.declared.stop.Stop.TheVariants as stops;
 
-use crate::laws::one_verdict_by;
-use crate::output::{Output, write_units};
-use crate::progress::WalkStop;
-use crate::report::Report;
+use crate::bad::Bad;
+use crate::intake::{Intake, end_input, take_piece};
+use crate::laws::{one_outlook, one_verdict};
+use crate::progress::{Progress, WalkStop};
 use crate::stop::Stop;
 use crate::tally::Tally;
 use crate::target_fault::TargetFault;
 use crate::units::input_limit;
 use crate::why::Why;
-use span_io::{Blob, Form, Limits, OutOfMemory, Refusal, Sink};
+use crate::written::Written;
+use span_io::{Blob, Form, Limits, Refusal, Sink};
 use std::alloc::Global;
 
 /// How far a converter has come.
@@ -33,7 +36,7 @@ enum State {
 }
 
 impl State {
-    ghost use Rattle.span_convert.specs.Converters.{stop_in};
+    ghost use Rattle.span_convert.specs.Converters.{bad_in, state_at, stop_in};
 
     // The stop that was answered, if one was.
     fn stop(&self) -> Option<Stop>
@@ -47,142 +50,105 @@ impl State {
             State::OutOfMemory => Some(Stop::OutOfMemory),
         }
     }
+
+    // Behind a walk that goes no further.
+    fn behind(why: WalkStop) -> State
+        ensures { result ≡ state_at why }
+    {
+        match why {
+            WalkStop::Refused(refusal) => State::Refused(refusal),
+            WalkStop::Faulted(found) => State::Faulted(found),
+            WalkStop::Write => State::Write,
+            WalkStop::OutOfMemory => State::OutOfMemory,
+        }
+    }
+
+    // The refusal or fault that is kept; without one, memory was wanted.
+    fn into_bad(self) -> Bad
+        ensures { result ≡ bad_in self }
+    {
+        match self {
+            State::Refused(refusal) => Bad::Refused(refusal),
+            State::Faulted(found) => Bad::Faulted(found),
+            State::Open | State::Ended | State::Write | State::OutOfMemory => Bad::OutOfMemory,
+        }
+    }
 }
 
-/// Writes what a target has of an input that is fed in pieces. The input is kept until it ends, or is
-/// longer than its limit; then its text is written.
-#[derive(Debug, Drop)]
-pub struct Walker<O> {
+impl WalkStop {
+    ghost use Rattle.span_convert.specs.Converters.{stop_at};
+
+    // The stop that is answered.
+    fn stop(&self) -> Stop
+        ensures { result ≡ stop_at self.now }
+    {
+        match self {
+            WalkStop::Refused(_) => Stop::Refused,
+            WalkStop::Faulted(_) => Stop::Faulted,
+            WalkStop::Write => Stop::Write,
+            WalkStop::OutOfMemory => Stop::OutOfMemory,
+        }
+    }
+}
+
+// The bytes of a piece that are looked at where there is room for so many, and whether it has others.
+fn looked_at(piece: &[u8], room: u64) -> (&[u8], bool)
+    ensures looked { take room piece.now ≡ result.0.now }
+    ensures long { Exceeds result.1 room piece.now }
+    ensures within { length result.0.now ≤ room }
+{
+    if piece.len() as u64 > room {
+        return (&piece[..room as usize], true);
+    }
+    (piece, false)
+}
+
+/// Writes what a target has of an input that is fed in pieces, cut anywhere. Each unit is written as it
+/// ends; a document is kept until it ends, or is longer than its limit.
+#[derive(Drop)]
+pub struct Walker {
     alloc: Global,
-    from: Form,
-    what: O,
     limits: Limits,
+    fed: u64,
     held: Blob,
+    intake: Intake,
+    progress: Progress,
     state: State,
     ghost valid: { AreLimits limits },
-    ghost within: { length held ≤ told.input_limit from limits },
+    ghost within: { fed ≤ told.input_limit (form_in intake) limits },
+    ghost scanned: { (scanning_in intake).limit ≤ limits.unit },
+    ghost counted: { state ≡ states.Open → progress.tally.units ≤ fed },
+    ghost short: { state ≡ states.Open → length held ≤ fed },
+    ghost seen: { ∥ (state ≡ states.Open → (scanning_in intake).seen held) ∥₁ },
 }
 
 /// Converts an input to another form.
-pub type Converter = Walker<Form>;
+pub type Converter = Walker;
 
 /// Reports what stands in an input.
-pub type Reporter = Walker<Report>;
+pub type Reporter = Walker;
 
-impl<O: Output> Walker<O> {
-    ghost use Rattle.span_convert.specs.Converters.{HasForms, IsVerdictBy, IsJudgedBy, WritesFrontBy, Fed, KeepsWhy, SameStop, KeepsStop, OnlyWants, Stopped, IsWhy, limit_of, stop_in, is_ended};
+impl Walker {
+    ghost use Rattle.span_convert.specs.Converters.{HasForms, IsVerdictBy, IsJudgedBy, IsOutlookBy, IsForeseenBy, WritesFrontBy, WritesWholeBy, Fed, KeepsWhy, SameStop, KeepsStop, IsWhy, bad_in, form_of, what_of, stop_in, is_ended};
 
     /// A converter or reporter that was fed nothing.
-    pub fn new(alloc: Global, from: Form, what: O, limits: &Limits) -> Walker<O>
+    pub fn new(alloc: Global, from: Form, what: Written, limits: &Limits) -> Walker
         requires limits { AreLimits limits.now }
         ensures fed { Fed result [] }
         ensures forms { HasForms result from what }
         ensures limits { result.limits ≡ limits.now }
+        ensures outlook { IsOutlookBy result [] (good [] (tally_of 0 0)) }
     {
+        let progress = Progress::new(alloc, what.pen());
+        progress.target_laws();
         Walker {
             alloc,
-            from,
-            what,
             limits: *limits,
+            fed: 0,
             held: Blob::new(alloc),
+            intake: Intake::new(from, limits),
+            progress,
             state: State::Open,
-        }
-    }
-
-    // Adds bytes to those that are held.
-    fn hold(&mut self, piece: &[u8]) -> Result<(), Stop>
-        requires within { length self.old.held + length piece.now ≤ limit_of self.old }
-        ensures forms { HasForms self.new self.old.from self.old.what }
-        ensures limits { self.new.limits ≡ self.old.limits }
-        ensures ok { OnOk result ((self.new.held ≡ self.old.held ++ piece.now) × (self.new.state ≡ self.old.state)) }
-        ensures err { OnErr result ((result ≡ Err stops.OutOfMemory) × (self.new.state ≡ states.OutOfMemory)) }
-    {
-        match self.held.append(piece) {
-            Ok(()) => Ok(()),
-            Err(OutOfMemory) => {
-                self.state = State::OutOfMemory;
-                Err(Stop::OutOfMemory)
-            }
-        }
-    }
-
-    // Writes what the input comes to, of which the bytes that are held are looked at.
-    fn carry_out<K: Sink>(&mut self, too_long: bool, out: &mut K) -> Result<Tally, Stop>
-        ensures stays { KeepsStop result self.new.state }
-        ensures ended { OnOk result (self.new.state ≡ states.Ended) }
-        ensures forms { HasForms self.new self.old.from self.old.what }
-        ensures limits { self.new.limits ≡ self.old.limits }
-        ensures judged { (whole : List ℕ) → AreLimits self.old.limits
-            → IsLookedAt (limit_of self.old) whole self.old.held too_long
-            → IsJudgedBy O.target self.old whole result }
-        ensures verdict { (whole : List ℕ) → AreLimits self.old.limits
-            → IsLookedAt (limit_of self.old) whole self.old.held too_long
-            → (verdict : Verdict) → IsVerdictBy O.target self.old whole verdict
-            → Carries verdict result (K.outlet out.old) (K.outlet out.new) × KeepsWhy verdict self.new.state }
-        ensures front { (whole : List ℕ) → IsLookedAt (limit_of self.old) whole self.old.held too_long
-            → WritesFrontBy O.target self.old whole (K.outlet out.old) (K.outlet out.new) }
-        ensures fails { result ≡ Err stops.Write → OutputFails (K.outlet out.old) (K.outlet out.new) }
-        ensures holds { result ≢ Err stops.Write → OutputHolds (K.outlet out.old) (K.outlet out.new) }
-        ensures longer { too_long ≡ true → IsErr result }
-    {
-        one_verdict_by(self.what);
-        match write_units(
-            self.alloc,
-            self.from,
-            self.what,
-            self.held.as_slice(),
-            too_long,
-            &self.limits,
-            out,
-        ) {
-            Ok(tally) => {
-                self.state = State::Ended;
-                Ok(tally)
-            }
-            Err(WalkStop::Refused(refusal)) => {
-                self.state = State::Refused(refusal);
-                Err(Stop::Refused)
-            }
-            Err(WalkStop::Faulted(found)) => {
-                self.state = State::Faulted(found);
-                Err(Stop::Faulted)
-            }
-            Err(WalkStop::Write) => {
-                self.state = State::Write;
-                Err(Stop::Write)
-            }
-            Err(WalkStop::OutOfMemory) => {
-                self.state = State::OutOfMemory;
-                Err(Stop::OutOfMemory)
-            }
-        }
-    }
-
-    // Takes the last bytes that are looked at of an input that has others, and writes what it comes
-    // to.
-    fn refuse_longer<K: Sink>(&mut self, piece: &[u8], out: &mut K) -> Result<(), Stop>
-        requires within { length self.old.held + length piece.now ≤ limit_of self.old }
-        ensures stays { KeepsStop result self.new.state }
-        ensures forms { HasForms self.new self.old.from self.old.what }
-        ensures limits { self.new.limits ≡ self.old.limits }
-        ensures ended { IsErr result }
-        ensures judged { (whole : List ℕ) → AreLimits self.old.limits
-            → IsLookedAt (limit_of self.old) whole (self.old.held ++ piece.now) true
-            → Stopped result (λ stop. IsJudgedBy {T = Unit} O.target self.old whole (Err stop)) }
-        ensures verdict { (whole : List ℕ) → AreLimits self.old.limits
-            → IsLookedAt (limit_of self.old) whole (self.old.held ++ piece.now) true
-            → (verdict : Verdict) → IsVerdictBy O.target self.old whole verdict
-            → Stopped result (λ stop. Stops verdict stop (K.outlet out.old) (K.outlet out.new))
-            × KeepsWhy verdict self.new.state }
-        ensures front { (whole : List ℕ) → IsLookedAt (limit_of self.old) whole (self.old.held ++ piece.now) true
-            → WritesFrontBy O.target self.old whole (K.outlet out.old) (K.outlet out.new) }
-        ensures fails { result ≡ Err stops.Write → OutputFails (K.outlet out.old) (K.outlet out.new) }
-        ensures holds { result ≢ Err stops.Write → OutputHolds (K.outlet out.old) (K.outlet out.new) }
-    {
-        self.hold(piece)?;
-        match self.carry_out(true, out) {
-            Ok(_) => unreachable!(),
-            Err(stop) => Err(stop),
         }
     }
 
@@ -193,25 +159,25 @@ impl<O: Output> Walker<O> {
         // Behind a stop each call answers the same, and calls no sink.
         ensures stopped { SameStop (stop_in self.old.state) result ((self.new ≡ self.old) × (out.new ≡ out.old)) }
         ensures stays { KeepsStop result self.new.state }
-        ensures forms { HasForms self.new self.old.from self.old.what }
+        ensures forms { HasForms self.new (form_of self.old) (what_of self.old) }
         ensures limits { self.new.limits ≡ self.old.limits }
 
-        // Within the limit the bytes are kept, and nothing is written.
-        ensures kept { (bytes : List ℕ) → Fed self.old bytes → length (bytes ++ piece.now) ≤ limit_of self.old
-            → OnlyWants result × (out.new ≡ out.old) }
+        // Of the bytes so far there is an outlook, and it is carried out behind what was written.
         ensures fed { (bytes : List ℕ) → Fed self.old bytes → OnOk result (Fed self.new (bytes ++ piece.now)) }
+        ensures exists { (bytes : List ℕ) → Fed self.old bytes → IsForeseenBy self.old (bytes ++ piece.now) result }
+        ensures outlook { (bytes : List ℕ) → Fed self.old bytes → (said : List ℕ) (tally : Tally)
+            → IsOutlookBy self.old bytes (good said tally)
+            → (outlook : Verdict) → IsOutlookBy self.old (bytes ++ piece.now) outlook
+            → ReachesFrom said outlook result (K.outlet out.old) (K.outlet out.new) × KeepsWhy outlook self.new.state }
 
-        // Beyond it the verdict on all bytes so far is carried out, which is a refusal or a fault.
-        ensures beyond { (bytes : List ℕ) → Fed self.old bytes → limit_of self.old < length (bytes ++ piece.now)
-            → Stopped result (λ stop. IsJudgedBy {T = Unit} O.target self.old (bytes ++ piece.now) (Err stop)) }
-        ensures verdict { (bytes : List ℕ) → Fed self.old bytes → limit_of self.old < length (bytes ++ piece.now)
-            → (verdict : Verdict) → IsVerdictBy O.target self.old (bytes ++ piece.now) verdict
-            → Stopped result (λ stop. Stops verdict stop (K.outlet out.old) (K.outlet out.new))
-            × KeepsWhy verdict self.new.state }
+        // While a document is taken no sink is called.
+        ensures unwritten { IfDocument (form_of self.old) (out.new ≡ out.old) }
 
-        // Whatever is answered, a front of the text of the first units was written.
-        ensures front { (bytes : List ℕ) → Fed self.old bytes
-            → WritesFrontBy O.target self.old (bytes ++ piece.now) (K.outlet out.old) (K.outlet out.new) }
+        // Whatever is answered, a front of what goes on from there was written, up to the text of the first
+        // units.
+        ensures front { (bytes : List ℕ) → Fed self.old bytes → (said : List ℕ) (tally : Tally)
+            → IsOutlookBy self.old bytes (good said tally)
+            → WritesFrontBy self.old (bytes ++ piece.now) said (K.outlet out.old) (K.outlet out.new) }
 
         // The sink failed where its count rose, and only there. Behind a failed write comes no other, and none
         // is of nothing.
@@ -219,40 +185,82 @@ impl<O: Output> Walker<O> {
             → OutputFails (K.outlet out.old) (K.outlet out.new) }
         ensures holds { result ≢ Err stops.Write → OutputHolds (K.outlet out.old) (K.outlet out.new) }
     {
+        one_outlook();
+        self.progress.target_laws();
         if let Some(stop) = self.state.stop() {
             return Err(stop);
         }
-        let limit = input_limit(self.from, &self.limits);
-        let room = limit.saturating_sub(self.held.len() as u64);
-        if piece.len() as u64 <= room {
-            return self.hold(piece);
+        let room = input_limit(self.intake.form(), &self.limits) - self.fed;
+        let (looked, too_long) = looked_at(piece, room);
+        match take_piece(
+            &mut self.intake,
+            &mut self.held,
+            &mut self.progress,
+            self.alloc,
+            looked,
+            too_long,
+            out,
+        ) {
+            Ok(()) => {
+                self.fed += looked.len() as u64;
+                Ok(())
+            }
+            Err(why) => {
+                let stop = why.stop();
+                self.state = State::behind(why);
+                Err(stop)
+            }
         }
-        self.refuse_longer(&piece[..room as usize], out)
     }
 
-    /// Ends the input: its text is written, and the answer says how much was converted.
+    /// Ends the input: the rest of its text is written, and the answer says how much was converted.
     pub fn finish<K: Sink>(&mut self, out: &mut K) -> Result<Tally, Stop>
         requires going { is_ended self.old.state ≢ true }
         ensures stopped { SameStop (stop_in self.old.state) result ((self.new ≡ self.old) × (out.new ≡ out.old)) }
         ensures stays { KeepsStop result self.new.state }
-        ensures forms { HasForms self.new self.old.from self.old.what }
+        ensures forms { HasForms self.new (form_of self.old) (what_of self.old) }
         ensures ended { OnOk result (self.new.state ≡ states.Ended) }
 
-        // The verdict on all bytes is carried out.
-        ensures judged { (bytes : List ℕ) → Fed self.old bytes → IsJudgedBy O.target self.old bytes result }
-        ensures verdict { (bytes : List ℕ) → Fed self.old bytes
-            → (verdict : Verdict) → IsVerdictBy O.target self.old bytes verdict
-            → Carries verdict result (K.outlet out.old) (K.outlet out.new) × KeepsWhy verdict self.new.state }
-        ensures front { (bytes : List ℕ) → Fed self.old bytes
-            → WritesFrontBy O.target self.old bytes (K.outlet out.old) (K.outlet out.new) }
+        // The verdict on all bytes is carried out behind what was written.
+        ensures judged { (bytes : List ℕ) → Fed self.old bytes → IsJudgedBy self.old bytes result }
+        ensures verdict { (bytes : List ℕ) → Fed self.old bytes → (said : List ℕ) (tally : Tally)
+            → IsOutlookBy self.old bytes (good said tally)
+            → (verdict : Verdict) → IsVerdictBy self.old bytes verdict
+            → CarriesFrom said verdict result (K.outlet out.old) (K.outlet out.new) × KeepsWhy verdict self.new.state }
+        ensures front { (bytes : List ℕ) → Fed self.old bytes → (said : List ℕ) (tally : Tally)
+            → IsOutlookBy self.old bytes (good said tally)
+            → WritesFrontBy self.old bytes said (K.outlet out.old) (K.outlet out.new) }
+
+        // What is whole is the text of units of which no part is longer than the target can tell.
+        ensures whole { (bytes : List ℕ) → Fed self.old bytes → (said : List ℕ) (tally : Tally)
+            → IsOutlookBy self.old bytes (good said tally)
+            → IfOk result (λ counts. WritesWholeBy self.old bytes counts said (K.outlet out.old) (K.outlet out.new)) }
         ensures fails { stop_in self.old.state ≡ None → result ≡ Err stops.Write
             → OutputFails (K.outlet out.old) (K.outlet out.new) }
         ensures holds { result ≢ Err stops.Write → OutputHolds (K.outlet out.old) (K.outlet out.new) }
     {
+        one_outlook();
+        one_verdict();
         if let Some(earlier) = self.state.stop() {
             return Err(earlier);
         }
-        self.carry_out(false, out)
+        match end_input(
+            &self.intake,
+            &self.held,
+            &mut self.progress,
+            self.alloc,
+            out,
+        ) {
+            Ok(tally) => {
+                self.state = State::Ended;
+                Ok(tally)
+            }
+            Err(why) => {
+                let stop = why.stop();
+                self.state = State::behind(why);
+                Err(stop)
+            }
+        }
     }
 
     /// Whether the whole text was written.
@@ -271,5 +279,12 @@ impl<O: Output> Walker<O> {
             State::Faulted(found) => Why::Fault(found),
             _ => Why::Nothing,
         }
+    }
+
+    // The refusal or fault, if one was answered; without one, memory was wanted.
+    pub(crate) fn into_bad(self) -> Bad
+        ensures { result ≡ bad_in self.state }
+    {
+        self.state.into_bad()
     }
 }

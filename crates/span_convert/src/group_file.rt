@@ -2,7 +2,7 @@
 ghost use Rattle.span_io.specs.declared.form.Form.TheVariants as forms;
 ghost use Rattle.span_convert.specs.GroupFiles.{group_document};
 ghost use Rattle.span_convert.specs.Targets.{form_target};
-ghost use Rattle.span_convert.specs.Walks.{StandsForAny};
+ghost use Rattle.span_convert.specs.Pens.{StandsForAny};
 
 use crate::laws::form_targets;
 use crate::tally::Tally;

@@ -1,5 +1,5 @@
-//! Laws of verdicts, as contracts of functions that do nothing.
-ghost use Rattle.std.specs.Prelude.{◌≡◌, ◌↔◌, ◌<◌, ◌^◌, ◌++◌, ℕ, List, length, All, codes};
+//! Laws of verdicts and outlooks, as contracts of functions that do nothing.
+ghost use Rattle.std.specs.Prelude.{◌≡◌, ◌↔◌, ◌<◌, ◌^◌, ◌++◌, ℕ, List, [], length, All, codes};
 ghost use Rattle.span_io.specs.Limits.{AreLimits};
 ghost use Rattle.span_io.specs.Outside.{Outlet, IsFront};
 ghost use Rattle.span_io.specs.declared.cause.Cause.TheVariants as causes;
@@ -13,15 +13,16 @@ ghost use Rattle.span_convert.specs.CutBatches.{EndsInBatch, IfJaeger};
 ghost use Rattle.span_convert.specs.InputLaws.{BatchLaws, GroupFileLaws, InputLaws, SpanFileLaws, TextLaws, TreeLaws};
 ghost use Rattle.span_convert.specs.SameBatches.{SameBatches};
 ghost use Rattle.span_convert.specs.SameDocuments.{AgreeingDocuments, SameDocuments};
+ghost use Rattle.span_convert.specs.Outlooks.{IsOutlookAs, IsLasting, IfFrames, EndsSo};
 ghost use Rattle.span_convert.specs.Reports.{IsVerdictAs, WritesFrontAs, report_target, written_target};
-ghost use Rattle.span_convert.specs.Targets.{TargetLaws, form_target};
-ghost use Rattle.span_convert.specs.Units.{groups_in, input_form, IsSizedGroup, normal_form, canonical_text, partial_text, closing_text, span_count};
-ghost use Rattle.span_convert.specs.Verdicts.{Verdict, refused, IsFaultless, IsVerdict, IsVerdictOn, IsGood, IsTextSoFar, verdict_text};
+ghost use Rattle.span_convert.specs.Targets.{TargetLaws, form_target, open_target};
+ghost use Rattle.span_convert.specs.Units.{groups_in, input_form, open_form, IsSizedGroup, normal_form, canonical_text, partial_text, closing_text, span_count};
+ghost use Rattle.span_convert.specs.Verdicts.{Verdict, good, refused, IsFaultless, IsVerdict, IsVerdictOn, IsGood, IsTextSoFar, verdict_text};
 ghost use Rattle.span_convert.specs.declared.report.Report.{Report};
 ghost use Rattle.span_convert.specs.declared.report.Report.TheVariants as reports;
 ghost use Rattle.span_convert.specs.declared.written.Written.{Written};
 
-use crate::output::Output;
+use crate::move_laws::{kept, there_and_back};
 use crate::tally::Tally;
 use thrift_binary::Binary;
 use thrift_compact::Compact;
@@ -33,6 +34,7 @@ fn batch_laws<P: Protocol>()
 {
     thrift_core::laws::one_framing::<P>();
     thrift_core::laws::one_step::<P>();
+    thrift_core::laws::pieces::<P>();
     thrift_core::laws::one_reading::<P>();
     thrift_core::laws::reads_back::<P>();
     thrift_core::laws::written_structs::<P>();
@@ -93,6 +95,7 @@ fn input_laws()
     proto_wire::laws::one_framing();
     proto_wire::laws::one_reading();
     proto_wire::laws::one_step();
+    proto_wire::laws::pieces();
     otlp_proto::laws::one_group();
     batch_laws::<Binary>();
     batch_laws::<Compact>();
@@ -114,20 +117,6 @@ pub(crate) fn report_targets()
     ensures { (what : Report) → TargetLaws (report_target what) }
 {
     form_targets();
-}
-
-/// Bytes have one verdict at most, whatever is written of them. What is written begins with each text
-/// so far of their first units.
-pub(crate) fn one_verdict_by<O: Output>(what: O)
-    ensures once { (from : Form) (limits : Limits) (bytes : List ℕ) (v w : Verdict) → AreLimits limits
-        → IsVerdictOn (input_form from) (O.target what) limits bytes v
-        → IsVerdictOn (input_form from) (O.target what) limits bytes w → v ≡ w }
-    ensures so_far { (from : Form) (limits : Limits) (bytes text : List ℕ) (v : Verdict) → AreLimits limits
-        → IsTextSoFar (input_form from) (O.target what) limits bytes text
-        → IsVerdictOn (input_form from) (O.target what) limits bytes v → IsFront text (verdict_text v) }
-{
-    input_laws();
-    what.target_laws();
 }
 
 /// Bytes have one verdict at most. What is written for the bytes begins with each text so far of their
@@ -197,6 +186,76 @@ pub fn some_verdict()
     map_jaeger::laws::read_is_sound();
     map_jaeger::laws::read_is_proper();
     form_targets();
+}
+
+/// Bytes have one outlook at most. Its text begins with each text so far of their first units.
+pub fn one_outlook()
+    ensures once { (from : Form) (what : Written) (limits : Limits) (bytes : List ℕ) (v w : Verdict) → AreLimits limits
+        → IsOutlookAs from what limits bytes v → IsOutlookAs from what limits bytes w → v ≡ w }
+    ensures so_far { (from : Form) (what : Written) (limits : Limits) (bytes text : List ℕ) (v : Verdict) → AreLimits limits
+        → IsTextSoFar (open_form from) (open_target (written_target what)) limits bytes text
+        → IsOutlookAs from what limits bytes v → IsFront text (verdict_text v) }
+{
+    input_laws();
+    form_targets();
+}
+
+/// Bytes have an outlook.
+pub fn some_outlook()
+    ensures { (from : Form) (what : Written) (limits : Limits) (bytes : List ℕ) → All (λ b. b < 256) bytes
+        → (outlook : Verdict) × IsOutlookAs from what limits bytes outlook }
+{
+    input_laws();
+    otlp_proto::laws::some_group();
+    otlp_proto::laws::read_proper();
+    map_jaeger::laws::read_is_sound();
+    map_jaeger::laws::read_is_proper();
+    form_targets();
+}
+
+/// Of no bytes nothing is said yet, and nothing stops them.
+pub fn outlook_at_first()
+    ensures { (from : Form) (what : Written) (limits : Limits) → AreLimits limits
+        → IsOutlookAs from what limits [] (good [] (record { units = 0; spans = 0 })) }
+{
+    input_laws();
+    form_targets();
+}
+
+/// A refusal or a fault that is the outlook on bytes is the outlook and the verdict on all that begins
+/// with them, and the verdict on them alone.
+pub fn outlook_lasts()
+    ensures stays { (from : Form) (what : Written) (limits : Limits) (bytes more : List ℕ) (outlook : Verdict)
+        → IsLasting outlook → IsOutlookAs from what limits bytes outlook → IsOutlookAs from what limits (bytes ++ more) outlook }
+    ensures comes_true { (from : Form) (what : Written) (limits : Limits) (bytes more : List ℕ) (outlook : Verdict)
+        → IsLasting outlook → IsOutlookAs from what limits bytes outlook → IsVerdictAs from what limits (bytes ++ more) outlook }
+    ensures at_end { (from : Form) (what : Written) (limits : Limits) (bytes : List ℕ) (outlook : Verdict) → IsLasting outlook
+        → IsOutlookAs from what limits bytes outlook → IsVerdictAs from what limits bytes outlook }
+{
+    input_laws();
+}
+
+/// What was said of bytes that nothing stops is a front of what is written for all that begins with
+/// them.
+pub fn outlook_begins()
+    ensures so_far { (from : Form) (what : Written) (limits : Limits) (bytes more said : List ℕ) (tally : Tally) (v : Verdict)
+        → AreLimits limits → IsOutlookAs from what limits bytes (good said tally)
+        → IsOutlookAs from what limits (bytes ++ more) v → IsFront said (verdict_text v) }
+    ensures at_end { (from : Form) (what : Written) (limits : Limits) (bytes more said : List ℕ) (tally : Tally) (v : Verdict)
+        → AreLimits limits → IsOutlookAs from what limits bytes (good said tally)
+        → IsVerdictAs from what limits (bytes ++ more) v → IsFront said (verdict_text v) }
+{
+    input_laws();
+    form_targets();
+}
+
+/// Frames that nothing stops are all of an input that ends with them, or it ends too early behind them.
+pub fn outlook_ends()
+    ensures { (from : Form) (what : Written) (limits : Limits) (bytes said : List ℕ) (tally : Tally)
+        → IsOutlookAs from what limits bytes (good said tally)
+        → IfFrames from (EndsSo (input_form from) (written_target what) limits bytes said tally) }
+{
+    // The clause is the law.
 }
 
 /// The canonical text of a trace is its text so far, and then the bytes that close it.
@@ -273,8 +332,8 @@ pub fn converts_to_itself()
 }
 
 /// What was written for an input is read as the normal form of the input's trace, without remarks,
-/// and is the text of no trace of another normal form; and where it fits as an input of its form it
-/// converts to itself.
+/// and is the text of no trace of another normal form; where it fits as an input of its form it
+/// converts to itself, and back to the input's form; that normal form keeps the spans of the trace.
 pub fn output_read_back()
     ensures read { (from to : Form) (limits : Limits) (bytes text : List ℕ) (tally : Tally) → length text < 2 ^ 63
         → (h : IsGood (input_form from) (form_target to) limits bytes text tally) → All (IsSizedGroup to) (groups_in h.noted)
@@ -286,9 +345,13 @@ pub fn output_read_back()
         → length text < 2 ^ 63 → (h : IsGood (input_form from) (form_target to) limits bytes text tally)
         → All (IsSizedGroup to) (groups_in h.noted) → ReadsBack from to limits bytes text }
 {
+    input_laws();
+    normal_forms();
     equal_texts();
     text_read_back();
     converts_to_itself();
+    there_and_back();
+    kept();
 }
 
 /// The report of the losses of a move to a form is the one line of none exactly where the groups that

@@ -8,7 +8,7 @@ ghost use Rattle.map_zipkin.specs.Faults.{HasNoZipkinFault};
 ghost use Rattle.map_zipkin.specs.Losses as zipkin;
 ghost use Rattle.span_convert.specs.Reports as told;
 ghost use Rattle.span_convert.specs.Units.{CanHold, FaultOf};
-ghost use Rattle.span_convert.specs.Walks.{StandsForAny};
+ghost use Rattle.span_convert.specs.Pens.{HasLastRun, StandsForAny};
 
 use crate::batch_file::{BinaryBatches, CompactBatches};
 use crate::group_file::GroupFile;
@@ -139,7 +139,7 @@ fn run_behind(alloc: Global, before: Option<Run>, group: &Group) -> Result<Optio
 impl Losing for LastRun {
     ghost form = { forms.ZipkinJson };
 
-    ghost behind = { λ last groups. last.run ≡ told.last_run_in groups };
+    ghost behind = { HasLastRun };
 
     fn start() -> Self {
         LastRun { run: None }

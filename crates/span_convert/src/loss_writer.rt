@@ -1,8 +1,7 @@
 //! Writes a line for each loss of a move to a form.
-ghost use Rattle.std.specs.Prelude.{◌≡◌, ◌++◌, min, OnOk};
-ghost use Rattle.span_io.specs.Outside.{last_count};
-ghost use Rattle.span_convert.specs.Reports.{loss_count, report_target, unit_lost};
-ghost use Rattle.span_convert.specs.Units.{groups_in};
+ghost use Rattle.std.specs.Prelude.{◌≡◌, ◌++◌, OnOk};
+ghost use Rattle.span_convert.specs.Pens.{CountsLosses};
+ghost use Rattle.span_convert.specs.Reports.{report_target, unit_lost};
 ghost use Rattle.span_convert.specs.declared.report.Report.TheVariants as reports;
 
 use crate::laws::report_targets;
@@ -40,8 +39,7 @@ pub(crate) struct LossWriter<L> {
 impl<L: Losing> UnitWriter for LossWriter<L> {
     ghost target = { report_target (reports.Losses L.form) };
 
-    ghost stands = { λ writer units. (writer.count ≡ min (loss_count L.form units) last_count)
-        × L.behind writer.losing (groups_in units) };
+    ghost stands = { CountsLosses L.form L.behind };
 
     fn target_laws() {
         report_targets();

@@ -1,19 +1,28 @@
 //! What a walk over the units of an input has written so far.
-ghost use Rattle.std.specs.Prelude.{◌≡◌, ◌≢◌, ◌+◌, ◌<◌, min, [], ◌∷◌, List, length, IfOk, IfErr, OnOk, OnErr, Err};
+ghost use Rattle.std.specs.Prelude.{◌≡◌, ◌≢◌, ℕ, ◌+◌, ◌<◌, ◌++◌, min, [], ◌∷◌, List, length, if◌then◌else◌, IfOk, IfErr, OnOk, OnErr, Err};
 ghost use Rattle.span_io.specs.Outside.{Outlet, Gains, OutputFails, OutputHolds, FailsWithin, last_count};
 ghost use Rattle.trace_model.specs.OtlpParts.{NotedGroup};
 ghost use Rattle.trace_model.specs.Soundness.{IsSoundGroup};
+ghost use Rattle.zipkin_json.specs.Canonical.{zspan_text};
 ghost use Rattle.map_zipkin.specs.NotedGroups.{noted_group};
+ghost use Rattle.span_convert.specs.Pens.{StartsAs, pen_target, written_by};
+ghost use Rattle.span_convert.specs.Reports.{written_target};
+ghost use Rattle.span_convert.specs.SpanFiles.{left_text};
+ghost use Rattle.span_convert.specs.Targets.{TargetLaws};
 ghost use Rattle.span_convert.specs.Units.{span_count};
-ghost use Rattle.span_convert.specs.Walks.{AddsNothing, AddsUnit, Converted, EndsText, IfWhy, StopsText, WritesOut};
+ghost use Rattle.span_convert.specs.Walks.{AddsNothing, AddsUnit, Converted, EndsText, IfWhy, StandsFor, StopsText, WritesOut, with_text};
+ghost use Rattle.span_convert.specs.declared.written.Written.{Written};
 
+use crate::pen::Pen;
+use crate::span_file::{SpansLeft, append_span};
 use crate::tally::Tally;
 use crate::target_fault::TargetFault;
-use crate::units::UnitWriter;
+use crate::units::append_if;
 use span_io::laws::gains_then;
-use span_io::{Blob, Cause, Failed, Halt, Items, Refusal, Sink, write_all};
+use span_io::{Blob, Cause, Failed, Halt, Items, OutOfMemory, Refusal, Sink, write_all};
 use std::alloc::Global;
 use trace_model::{Fault, Group, Remark};
+use zipkin_json::ZSpan;
 
 /// Why a walk goes no further.
 #[derive(Debug, Drop)]
@@ -28,10 +37,10 @@ pub(crate) enum WalkStop {
 
 /// The text that isn't written yet, how much was converted, and what writes the next unit.
 #[derive(Debug, Drop)]
-pub(crate) struct Progress<W> {
+pub(crate) struct Progress {
     unwritten: Blob,
     tally: Tally,
-    writer: W,
+    pen: Pen,
 }
 
 // How many spans a group has, at the most where the count stands still.
@@ -45,7 +54,7 @@ fn spans_in(group: &Group) -> u64
     count
 }
 
-impl<W> Progress<W> {
+impl Progress {
     /// The number of bytes that aren't written yet.
     pub(crate) fn unwritten(&self) -> usize
         ensures { result ≡ length self.now.unwritten }
@@ -56,7 +65,7 @@ impl<W> Progress<W> {
     /// Writes the text that isn't written yet.
     pub(crate) fn flush<K: Sink>(&mut self, out: &mut K) -> Result<(), Failed>
         ensures tally { self.new.tally ≡ self.old.tally }
-        ensures writer { self.new.writer ≡ self.old.writer }
+        ensures pen { self.new.pen ≡ self.old.pen }
         ensures ok { OnOk result ((self.new.unwritten ≡ []) × Gains (K.outlet out.old) (K.outlet out.new) self.old.unwritten) }
         ensures failed { OnErr result (OutputFails (K.outlet out.old) (K.outlet out.new)) }
         ensures within { OnErr result (FailsWithin (K.outlet out.old) (K.outlet out.new) self.old.unwritten) }
@@ -80,6 +89,7 @@ impl<W> Progress<W> {
         requires { self.old.tally.units < last_count }
         ensures written { WritesOut result (WalkStop.Refused (record { unit = self.old.tally.units + 1; cause = cause }))
             self.old.unwritten (K.outlet out.old) (K.outlet out.new) }
+        ensures pen { self.new.pen ≡ self.old.pen }
         ensures fails { result ≡ WalkStop.Write → OutputFails (K.outlet out.old) (K.outlet out.new) }
         ensures holds { result ≢ WalkStop.Write → OutputHolds (K.outlet out.old) (K.outlet out.new) }
     {
@@ -95,6 +105,7 @@ impl<W> Progress<W> {
         requires { self.old.tally.units < last_count }
         ensures written { WritesOut result (WalkStop.Faulted (record { unit = self.old.tally.units + 1; fault = fault }))
             self.old.unwritten (K.outlet out.old) (K.outlet out.new) }
+        ensures pen { self.new.pen ≡ self.old.pen }
         ensures fails { result ≡ WalkStop.Write → OutputFails (K.outlet out.old) (K.outlet out.new) }
         ensures holds { result ≢ WalkStop.Write → OutputHolds (K.outlet out.old) (K.outlet out.new) }
     {
@@ -104,54 +115,80 @@ impl<W> Progress<W> {
             Err(Failed) => WalkStop::Write,
         }
     }
-}
 
-impl<W: UnitWriter> Progress<W> {
     /// Nothing was converted yet.
-    pub(crate) fn none(alloc: Global) -> Progress<W>
-        ensures { (now : Outlet) → Converted W.target W.stands [] now now result }
+    pub(crate) fn new(alloc: Global, pen: Pen) -> Progress
+        ensures fresh { (what : Written) → StartsAs what pen → StandsFor what [] result × (result.unwritten ≡ []) }
+        ensures none { result.tally.units ≡ 0 }
+        ensures pen { result.pen ≡ pen }
     {
-        W::target_laws();
         Progress {
             unwritten: Blob::new(alloc),
             tally: Tally { units: 0, spans: 0 },
-            writer: W::none(),
+            pen,
         }
     }
 
-    /// Adds what is written of a unit, and counts it and its spans.
+    /// What the target of its units keeps.
+    pub(crate) fn target_laws(&self)
+        ensures { TargetLaws (pen_target self.now.pen) }
+    {
+        self.pen.target_laws();
+    }
+
+    /// Adds what is written of a unit, but for the spans that it answers, which are left to be written,
+    /// and counts it and its spans.
     pub(crate) fn add_unit(
         &mut self,
         alloc: Global,
         unit: (Group, Items<Remark>),
-    ) -> Result<(), Halt<Fault>>
+    ) -> Result<SpansLeft, Halt<Fault>>
         requires room { self.old.tally.units < last_count }
         requires sound { IsSoundGroup unit.0 }
-        ensures ok { OnOk result (AddsUnit W.target W.stands (noted_group unit) self.old self.new) }
-        ensures why { IfWhy result (λ fault. AddsNothing W.target (noted_group unit) fault self.old self.new) }
+        ensures same { written_by self.new.pen ≡ written_by self.old.pen }
+        ensures ok { IfOk result (λ left. AddsUnit (noted_group unit) self.old (with_text self.new (left_text left))) }
+        ensures why { IfWhy result (λ fault. AddsNothing (noted_group unit) fault self.old self.new) }
     {
         let spans = spans_in(&unit.0);
-        self.writer
+        let left = self
+            .pen
             .write(alloc, &mut self.unwritten, self.tally, unit)?;
         self.tally.units += 1;
         self.tally.spans = self.tally.spans.saturating_add(spans);
-        Ok(())
+        Ok(left)
+    }
+
+    /// Adds the text of a span, behind a comma where a span stands before it.
+    pub(crate) fn add_span(
+        &mut self,
+        text: &mut Blob,
+        behind: bool,
+        span: &ZSpan,
+    ) -> Result<(), OutOfMemory>
+        ensures pen { self.new.pen ≡ self.old.pen }
+        ensures tally { self.new.tally ≡ self.old.tally }
+        ensures ok { OnOk result (self.new.unwritten
+            ≡ self.old.unwritten ++ ((if behind then 44 ∷ [] else []) ++ zspan_text span.now)) }
+    {
+        append_if(&mut self.unwritten, behind, b",")?;
+        append_span(&mut self.unwritten, text, span)
     }
 
     /// Writes the rest of the text of all units, and answers how much was converted.
     pub(crate) fn finish<K: Sink>(&mut self, out: &mut K) -> Result<Tally, WalkStop>
-        ensures ok { IfOk result (λ tally. (units : List NotedGroup) (before : Outlet)
-            → Converted W.target W.stands units before (K.outlet out.old) self.old
-            → EndsText W.target units tally before (K.outlet out.new)) }
-        ensures stop { IfErr result (λ stop. (units : List NotedGroup) (before : Outlet)
-            → Converted W.target W.stands units before (K.outlet out.old) self.old
-            → StopsText W.target units stop before (K.outlet out.new)) }
+        ensures pen { self.new.pen ≡ self.old.pen }
+        ensures ok { IfOk result (λ tally. (what : Written) (units : List NotedGroup) (said : List ℕ) (before : Outlet)
+            → Converted what units said before (K.outlet out.old) self.old
+            → EndsText (written_target what) units tally said before (K.outlet out.new)) }
+        ensures stop { IfErr result (λ stop. (what : Written) (units : List NotedGroup) (said : List ℕ) (before : Outlet)
+            → Converted what units said before (K.outlet out.old) self.old
+            → StopsText (written_target what) units stop said before (K.outlet out.new)) }
         ensures fails { result ≡ Err WalkStop.Write → OutputFails (K.outlet out.old) (K.outlet out.new) }
         ensures holds { result ≢ Err WalkStop.Write → OutputHolds (K.outlet out.old) (K.outlet out.new) }
     {
         gains_then();
-        W::target_laws();
-        if self.writer.close(&mut self.unwritten, self.tally).is_err() {
+        self.pen.target_laws();
+        if self.pen.close(&mut self.unwritten, self.tally).is_err() {
             return Err(WalkStop::OutOfMemory);
         }
         match self.flush(out) {

@@ -2,7 +2,7 @@
 ghost use Rattle.std.specs.Prelude.{◌≡◌, ◌++◌, OnOk};
 ghost use Rattle.std.specs.List.{flat_map};
 ghost use Rattle.span_convert.specs.Reports.{group_shown, report_target, spans_shown};
-ghost use Rattle.span_convert.specs.Walks.{StandsForAny};
+ghost use Rattle.span_convert.specs.Pens.{StandsForAny};
 ghost use Rattle.span_convert.specs.declared.report.Report.TheVariants as reports;
 
 use crate::laws::report_targets;

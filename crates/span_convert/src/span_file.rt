@@ -1,15 +1,16 @@
 //! A file of Zipkin: spans in a JSON array.
-ghost use Rattle.std.specs.Prelude.{◌≡◌, ◌++◌, map, OnOk};
+ghost use Rattle.std.specs.Prelude.{◌≡◌, ◌++◌, [], IfOk, OnOk};
 ghost use Rattle.span_io.specs.declared.form.Form.TheVariants as forms;
+ghost use Rattle.trace_model.specs.Soundness.{IsSoundGroup};
 ghost use Rattle.zipkin_json.specs.Canonical.{zspan_text};
-ghost use Rattle.span_convert.specs.Documents.{pieces_added};
-ghost use Rattle.span_convert.specs.SpanFiles.{span_document};
+ghost use Rattle.map_zipkin.specs.NotedGroups.{noted_group};
+ghost use Rattle.span_convert.specs.Pens.{StandsForAny};
+ghost use Rattle.span_convert.specs.SpanFiles.{left_text, span_document};
 ghost use Rattle.span_convert.specs.Targets.{form_target};
-ghost use Rattle.span_convert.specs.Walks.{StandsForAny};
+ghost use Rattle.span_convert.specs.Walks.{ClosesText, IfWhy, WritesUnit};
 
-use crate::laws::form_targets;
 use crate::tally::Tally;
-use crate::units::{DocumentReader, UnitWriter, append_if};
+use crate::units::{DocumentReader, append_if};
 use map_zipkin::laws::zipkin_normal_forms;
 use map_zipkin::{groups_of_spans, spans_of_group};
 use span_io::{Blob, Halt, Items, OutOfMemory, Refusal};
@@ -30,9 +31,29 @@ impl DocumentReader for SpanFile {
     }
 }
 
-// Appends the text of a span. A writer of JSON makes room ready by the size of what stands before it,
-// so the text is made in a list of its own, whose room the next span has again.
-fn append_span(out: &mut Blob, text: &mut Blob, span: &ZSpan) -> Result<(), OutOfMemory>
+/// The spans of a unit that are left to be written.
+#[derive(Debug, Drop)]
+pub(crate) struct SpansLeft {
+    /// Whether a span stands before them.
+    pub(crate) behind: bool,
+    pub(crate) spans: Items<ZSpan>,
+}
+
+impl SpansLeft {
+    /// No span is left.
+    pub(crate) fn none(alloc: Global) -> SpansLeft
+        ensures { left_text result ≡ [] }
+    {
+        SpansLeft {
+            behind: false,
+            spans: Items::new(alloc),
+        }
+    }
+}
+
+/// Appends the text of a span. A writer of JSON makes room ready by the size of what stands before it,
+/// so the text is made in a list of its own, whose room the next span has again.
+pub(crate) fn append_span(out: &mut Blob, text: &mut Blob, span: &ZSpan) -> Result<(), OutOfMemory>
     ensures { OnOk result (out.new ≡ out.old ++ zspan_text span.now) }
 {
     text.clear();
@@ -40,54 +61,36 @@ fn append_span(out: &mut Blob, text: &mut Blob, span: &ZSpan) -> Result<(), OutO
     out.append(text.as_slice())
 }
 
-// Appends the texts of spans, each with a comma before it where a span stands before.
-fn append_spans(
-    alloc: Global,
-    out: &mut Blob,
-    behind: bool,
-    spans: &[ZSpan],
-) -> Result<(), OutOfMemory>
-    ensures { OnOk result (out.new ≡ out.old ++ pieces_added behind (map zspan_text spans.now)) }
-{
-    let mut behind = behind;
-    let mut text = Blob::new(alloc);
-    'spans: for span in spans {
-        append_if(out, behind, b",")?;
-        append_span(out, &mut text, span)?;
-        behind = true;
-    }
-    Ok(())
-}
-
-impl UnitWriter for SpanFile {
-    ghost target = { form_target forms.ZipkinJson };
-
-    ghost stands = { StandsForAny };
-
-    fn target_laws() {
-        form_targets();
-    }
-
-    fn none() -> Self {
-        SpanFile
-    }
-
-    fn write(
-        &mut self,
+impl SpanFile {
+    /// Appends what opens the text of so many units and a unit, and answers the unit's spans; or answers
+    /// the fault in it, and leaves `out` as it was.
+    pub(crate) fn open(
+        &self,
         alloc: Global,
         out: &mut Blob,
         before: Tally,
         unit: (Group, Items<Remark>),
-    ) -> Result<(), Halt<Fault>> {
+    ) -> Result<SpansLeft, Halt<Fault>>
+        requires sound { IsSoundGroup unit.0 }
+        ensures ok { IfOk result (λ left. WritesUnit (form_target forms.ZipkinJson) StandsForAny (noted_group unit) before
+            self.now self.now out.old (out.new ++ left_text left)) }
+        ensures why { IfWhy result (λ fault. (form_target forms.ZipkinJson).FaultOf (noted_group unit) fault
+            × (out.new ≡ out.old)) }
+    {
         zipkin_normal_forms();
         proper_group(&unit.0);
         let spans = spans_of_group(alloc, unit.0)?;
         append_if(out, before.units == 0, b"[")?;
-        append_spans(alloc, out, before.spans > 0, spans.as_slice())?;
-        Ok(())
+        Ok(SpansLeft {
+            behind: before.spans > 0,
+            spans,
+        })
     }
 
-    fn close(&self, out: &mut Blob, all: Tally) -> Result<(), OutOfMemory> {
+    /// Appends what closes the text of so many units.
+    pub(crate) fn close(&self, out: &mut Blob, all: Tally) -> Result<(), OutOfMemory>
+        ensures { OnOk result (ClosesText (form_target forms.ZipkinJson) StandsForAny self.now all out.old out.new) }
+    {
         append_if(out, all.units == 0, b"[")?;
         out.append(b"]")
     }

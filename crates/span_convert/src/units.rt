@@ -1,5 +1,5 @@
 //! What the walk over an input asks of its form, and of its target.
-ghost use Rattle.std.specs.Prelude.{◌≡◌, ◌<◌, ◌^◌, ◌++◌, false, if◌then◌else◌, [], List, length, map, All, IfOk, IfErr, IfSome, OnOk, MatchOption};
+ghost use Rattle.std.specs.Prelude.{◌≡◌, ◌<◌, ◌^◌, ◌++◌, if◌then◌else◌, [], List, length, map, All, IfOk, IfSome, OnOk};
 ghost use Rattle.span_io.specs.Causes.{cause_number};
 ghost use Rattle.span_io.specs.Offences.{Least};
 ghost use Rattle.span_io.specs.Paths.{RefusesInput};
@@ -11,10 +11,10 @@ ghost use Rattle.span_convert.specs.Documents.{DocumentForm};
 ghost use Rattle.span_convert.specs.FramedForms.{FramedForm};
 ghost use Rattle.span_convert.specs.Targets.{Target, TargetLaws};
 ghost use Rattle.span_convert.specs.Units as told;
-ghost use Rattle.span_convert.specs.Walks.{lent_bytes, ClosesText, CutsFrame, HeldByFrames, StopsFrames, WritesUnit, IfWhy};
+ghost use Rattle.span_convert.specs.Walks.{lent_bytes, ClosesText, HeldByFrames, Scans, WritesUnit, IfWhy};
 
 use crate::tally::Tally;
-use span_io::{Blob, Cause, Form, Halt, Items, Limits, OutOfMemory, Refusal};
+use span_io::{Blob, Cause, Form, Halt, Items, Limits, OutOfMemory, Refusal, Scan, Step};
 use std::alloc::Global;
 use trace_model::{Fault, Group, Remark};
 
@@ -28,33 +28,26 @@ pub(crate) fn input_limit(from: Form, limits: &Limits) -> u64
     }
 }
 
-/// A frame at the front of some bytes: the unit in it, if it holds one, and the bytes behind it.
-#[derive(Clone, Copy, Debug)]
-pub(crate) struct Cut<'a> {
-    pub(crate) unit: Option<&'a [u8]>,
-    pub(crate) behind: &'a [u8],
-}
-
 /// Reads the units of an input of one form, whose units stand in frames.
 pub(crate) trait UnitReader {
     ghost form: { FramedForm };
 
-    /// The units of an input are those that its frames hold, and none is longer than its frame.
+    /// Finds where its frames end.
+    type Scanner: Scan;
+
+    /// The units of an input are those that its frames hold, however its bytes come.
     fn held_by_frames()
         ensures { HeldByFrames form };
 
-    /// The frame at the front of a rest, behind which the input may have other bytes, or why there is
-    /// none. None at the end.
-    fn next_frame<'a>(
-        rest: &'a [u8],
-        limit: usize,
-        too_long: bool,
-    ) -> Result<Option<Cut<'a>>, Cause>
-        ensures cut { IfOk result (λ next. MatchOption next ((rest.now ≡ []) × (too_long ≡ false))
-            (λ cut. CutsFrame form limit rest.now (lent_bytes cut.unit) cut.behind.now)) }
-        ensures nearer { IfOk result (λ next. IfSome next (λ cut. length cut.behind.now < length rest.now)) }
-        ensures framed { IfOk result (λ next. IfSome next (λ cut. IfSome cut.unit (λ unit. form.Tells unit.now))) }
-        ensures why { IfErr result (λ cause. StopsFrames form limit too_long rest.now cause) };
+    /// Takes a piece up to the end of a frame.
+    fn push(scanner: &mut Self::Scanner, piece: &[u8]) -> Step
+        ensures { Scans form (Self.Scanner.scanning scanner.old) (Self.Scanner.scanning scanner.new) piece.now result };
+
+    /// The unit in a frame, if it holds one.
+    fn unit_in<'a>(frame: &'a [u8]) -> Option<&'a [u8]>
+        requires whole { form.frames.Whole frame.now }
+        ensures holds { form.FrameHolds frame.now (lent_bytes result) }
+        ensures framed { IfSome result (λ unit. form.Tells unit.now) };
 
     /// The group that a unit is a text of, with the remarks on it, or the least offence in the unit.
     fn read(alloc: Global, unit: &[u8]) -> Result<(Group, Items<Remark>), Halt<Cause>>

@@ -1,13 +1,18 @@
 //! All that an input may be written as.
-ghost use Rattle.span_convert.specs.Reports.{written_target};
+ghost use Rattle.span_convert.specs.Pens.{StartsAs};
 
-use crate::output::Output;
-use crate::progress::WalkStop;
+use crate::batch_file::{BinaryBatches, CompactBatches};
+use crate::check_writer::CheckWriter;
+use crate::group_file::GroupFile;
+use crate::loss_writer::LossWriter;
+use crate::pen::Pen;
 use crate::report::Report;
-use crate::tally::Tally;
-use crate::units::{DocumentReader, UnitReader};
-use span_io::{Form, Limits, Sink};
-use std::alloc::Global;
+use crate::request::Request;
+use crate::show_writer::ShowWriter;
+use crate::span_file::SpanFile;
+use crate::unit_pen::UnitPen;
+use crate::units::UnitWriter;
+use span_io::Form;
 
 /// What an input is written as.
 #[derive(Clone, Copy, Debug, PartialEq, Eq)]
@@ -16,40 +21,42 @@ pub enum Written {
     Report(Report),
 }
 
-impl Output for Written {
-    ghost target = { written_target };
-
-    fn target_laws(self) {
-        match self {
-            Written::Form(to) => to.target_laws(),
-            Written::Report(what) => what.target_laws(),
-        }
+// What writes the text of a form.
+fn form_pen(to: Form) -> Pen
+    ensures { StartsAs (Written.Form to) result }
+{
+    match to {
+        Form::OtlpProto => Pen::Units(UnitPen::Request(Request::none())),
+        Form::OtlpJson => Pen::Units(UnitPen::GroupFile(GroupFile::none())),
+        Form::JaegerBinary => Pen::Units(UnitPen::BinaryBatches(BinaryBatches::none())),
+        Form::JaegerCompact => Pen::Units(UnitPen::CompactBatches(CompactBatches::none())),
+        Form::ZipkinJson => Pen::Spans(SpanFile),
     }
+}
 
-    fn write_frames<R: UnitReader, K: Sink>(
-        self,
-        alloc: Global,
-        bytes: &[u8],
-        too_long: bool,
-        limits: &Limits,
-        out: &mut K,
-    ) -> Result<Tally, WalkStop> {
-        match self {
-            Written::Form(to) => to.write_frames::<R, K>(alloc, bytes, too_long, limits, out),
-            Written::Report(what) => what.write_frames::<R, K>(alloc, bytes, too_long, limits, out),
-        }
+// What writes the losses of a move to a form.
+fn loss_pen(to: Form) -> Pen
+    ensures { StartsAs (Written.Report (Report.Losses to)) result }
+{
+    match to {
+        Form::OtlpProto => Pen::Units(UnitPen::RequestLosses(LossWriter::none())),
+        Form::OtlpJson => Pen::Units(UnitPen::GroupFileLosses(LossWriter::none())),
+        Form::JaegerBinary => Pen::Units(UnitPen::BinaryLosses(LossWriter::none())),
+        Form::JaegerCompact => Pen::Units(UnitPen::CompactLosses(LossWriter::none())),
+        Form::ZipkinJson => Pen::Units(UnitPen::SpanFileLosses(LossWriter::none())),
     }
+}
 
-    fn write_document<R: DocumentReader, K: Sink>(
-        self,
-        alloc: Global,
-        bytes: &[u8],
-        too_long: bool,
-        out: &mut K,
-    ) -> Result<Tally, WalkStop> {
+impl Written {
+    /// What writes the units of an input so.
+    pub(crate) fn pen(self) -> Pen
+        ensures { StartsAs self result }
+    {
         match self {
-            Written::Form(to) => to.write_document::<R, K>(alloc, bytes, too_long, out),
-            Written::Report(what) => what.write_document::<R, K>(alloc, bytes, too_long, out),
+            Written::Form(to) => form_pen(to),
+            Written::Report(Report::Losses(to)) => loss_pen(to),
+            Written::Report(Report::Show) => Pen::Units(UnitPen::Show(ShowWriter::none())),
+            Written::Report(Report::Check) => Pen::Units(UnitPen::Check(CheckWriter::none())),
         }
     }
 }

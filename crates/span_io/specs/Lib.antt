@@ -22,9 +22,11 @@ pub mod Outside
 pub mod PathDecisions
 pub mod PathLaws
 pub mod Paths
+pub mod Pieces
 pub mod RowLaws
 pub mod RowsSoFar
 pub mod ShortestVarints
+pub mod Scans
 pub mod Sizes
 pub mod Steps
 pub mod TableDecisions

@@ -1,5 +1,5 @@
 -- What is known of the next frame, and what each answer says of the bytes.
-use Rattle.std.specs.Prelude.{ℕ, List}
+use Rattle.std.specs.Prelude.{◌≡◌, ◌+◌, ◌⊎◌, ℕ, List, []}
 use Rattle.span_io.specs.declared.cause.Cause.{Cause}
 use Rattle.span_io.specs.declared.cause.Cause.TheVariants as causes
 use Rattle.span_io.specs.declared.step.Step.{Step}
@@ -23,3 +23,13 @@ abbrev pub StepIs : Framing → (Cause → List ℕ → Type 0) → ℕ → List
 StepIs F EndsIn limit bytes steps.Need = NeedsMore F limit bytes
 StepIs F EndsIn limit bytes (steps.Unit n) = DecidedBy F limit (IsItemOf F n) bytes
 StepIs F EndsIn limit bytes (steps.Refused cause) = NoFrame F EndsIn limit bytes cause
+
+-- A step that counts from behind n first bytes, told from their beginning.
+abbrev pub behind : ℕ → Step → Step
+behind n steps.Need = steps.Need
+behind n (steps.Unit m) = steps.Unit (n + m)
+behind n (steps.Refused cause) = steps.Refused cause
+
+-- no bytes are there, or they need more
+abbrev pub Waits : Framing → ℕ → List ℕ → Type 0
+Waits F limit bytes = (bytes ≡ []) ⊎ NeedsMore F limit bytes

@@ -59,7 +59,7 @@ all_units P [] h = All-nil (λ (unit : NotedGroup). P unit.means)
 all_units P (unit ∷ units) h =
     All-cons (λ (unit : NotedGroup). P unit.means) unit units (All-head P unit.means (groups_in units) h) (all_units P units (All-tail P unit.means (groups_in units) h))
 
-are_limits : AreLimits shipped_limits
+pub are_limits : AreLimits shipped_limits
 are_limits = record {
   unit = (omega arith, omega arith);
   json = (omega arith, omega arith);

@@ -1,17 +1,17 @@
 //! How many bytes the gauge has in each form.
-ghost use Rattle.std.specs.Prelude.{◌≡◌, ◌≤◌, ◌<◌, ◌++◌, length, IfOk, OnOk};
-ghost use Rattle.span_io.specs.Limits.{shipped_limits};
+ghost use Rattle.std.specs.Prelude.{◌≡◌, ◌≤◌, ◌<◌, ◌+◌, length, IfOk, OnOk};
 ghost use Rattle.span_io.specs.Outside.{last_count};
-ghost use Rattle.span_io.specs.declared.form.Form.TheVariants as forms;
-ghost use Rattle.span_convert.specs.Converters.{Fed, HasForms, limit_of};
-ghost use Rattle.span_convert.specs.Requests.{request_text};
+ghost use Rattle.span_convert.specs.Converters.{form_of, what_of, HasForms};
 ghost use Rattle.span_convert.specs.Units.{canonical_text};
 ghost use Rattle.span_convert.specs.declared.stop.Stop.TheVariants as stops;
-ghost use Rattle.span_vectors.specs.Gauge.{gauge};
+ghost use Rattle.span_vectors.specs.Feeds.{FeedsGroups};
+ghost use Rattle.span_vectors.specs.Gauge.{gauge, group_count};
 
 use crate::group::{groups_of, write_gauge_group};
 use crate::laws::gauge_is_converted;
-use span_convert::{Converter, Form, Limits, Stop};
+use span_convert::laws::{one_verdict, outlook_lasts};
+use span_convert::{Form, Limits, Stop, Walker, Written};
+use span_io::laws::gains_then;
 use span_io::{Blob, CountSink, OutOfMemory};
 use std::alloc::Global;
 
@@ -25,20 +25,27 @@ fn only_memory(stop: Stop) -> OutOfMemory
     }
 }
 
-// Feeds a piece to a converter that has room for it.
-fn feed_piece(
-    converter: &mut Converter,
-    piece: &[u8],
+// Feeds the next group, behind so many.
+fn feed_group(
+    alloc: Global,
+    spans: u32,
+    before: u32,
+    walker: &mut Walker,
     sink: &mut CountSink,
 ) -> Result<(), OutOfMemory>
-    requires fed { Fed converter.old converter.old.held }
-    requires room { length (converter.old.held ++ piece.now) ≤ limit_of converter.old }
-    ensures fed { OnOk result (Fed converter.new (converter.old.held ++ piece.now)) }
-    ensures forms { HasForms converter.new converter.old.from converter.old.what }
-    ensures limits { converter.new.limits ≡ converter.old.limits }
-    ensures unwritten { OnOk result (sink.new ≡ sink.old) }
+    requires most { spans ≤ 1000000 }
+    requires group { before < group_count spans }
+    requires feeds { FeedsGroups walker.old spans before sink.old }
+    ensures feeds { OnOk result (FeedsGroups walker.new spans (before + 1) sink.new) }
+    ensures forms { HasForms walker.new (form_of walker.old) (what_of walker.old) }
 {
-    match converter.feed(piece, sink) {
+    gains_then();
+    one_verdict();
+    outlook_lasts();
+    gauge_is_converted();
+    let mut text = Blob::new(alloc);
+    write_gauge_group(alloc, &mut text, spans, before + 1)?;
+    match walker.feed(text.as_slice(), sink) {
         Ok(()) => Ok(()),
         Err(stop) => Err(only_memory(stop)),
     }
@@ -50,21 +57,19 @@ fn feed_groups(
     spans: u32,
     to: Form,
     sink: &mut CountSink,
-) -> Result<Converter, OutOfMemory>
-    requires { spans ≤ 1000000 }
-    ensures fed { IfOk result (λ converter. Fed converter (request_text (gauge spans))) }
-    ensures forms { IfOk result (λ converter. HasForms converter forms.OtlpProto to) }
-    ensures limits { IfOk result (λ converter. converter.limits ≡ shipped_limits) }
-    ensures unwritten { OnOk result (sink.new ≡ sink.old) }
+) -> Result<Walker, OutOfMemory>
+    requires most { spans ≤ 1000000 }
+    requires fresh { sink.old ≡ 0 }
+    ensures feeds { IfOk result (λ walker. FeedsGroups walker spans (group_count spans) sink.new) }
+    ensures what { IfOk result (λ walker. what_of walker ≡ Written.Form to) }
 {
-    let mut converter = Converter::new(alloc, Form::OtlpProto, to, &Limits::shipped());
-    let mut text = Blob::new(alloc);
+    gains_then();
+    let what = Written::Form(to);
+    let mut walker = Walker::new(alloc, Form::OtlpProto, what, &Limits::shipped());
     'groups: for before in 0..groups_of(spans) {
-        text.clear();
-        write_gauge_group(alloc, &mut text, spans, before + 1)?;
-        feed_piece(&mut converter, text.as_slice(), sink)?;
+        feed_group(alloc, spans, before, &mut walker, sink)?;
     }
-    Ok(converter)
+    Ok(walker)
 }
 
 // The count of a sink, unless it stands still.
@@ -79,17 +84,18 @@ fn count_of(sink: &CountSink) -> Result<u64, OutOfMemory>
 }
 
 /// How many bytes the gauge of so many spans has as a text of the form. All groups are fed through a
-/// converter, which holds the whole request until its end. A count of 2^64 - 1, where counts stand
-/// still, is answered as want of memory.
+/// converter, which writes each as it comes. A count of 2^64 - 1, where counts stand still, is answered
+/// as want of memory.
 pub fn gauge_size(alloc: Global, spans: u32, to: Form) -> Result<u64, OutOfMemory>
     requires some { 1 ≤ spans }
     requires most { spans ≤ 1000000 }
     ensures { IfOk result (λ size. size ≡ length (canonical_text to (gauge spans))) }
 {
+    gains_then();
     gauge_is_converted();
     let mut sink = CountSink::new();
-    let mut converter = feed_groups(alloc, spans, to, &mut sink)?;
-    match converter.finish(&mut sink) {
+    let mut walker = feed_groups(alloc, spans, to, &mut sink)?;
+    match walker.finish(&mut sink) {
         Ok(_) => count_of(&sink),
         Err(stop) => Err(only_memory(stop)),
     }

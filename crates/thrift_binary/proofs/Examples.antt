@@ -1,10 +1,14 @@
 -- The definitions on examples.
-use Rattle.std.proofs.Common.{◌≡◌, ◌∷◌, ◌++◌, pos, negsuc, [], true, false, Some, None, Ok, Err, refl}
+use Rattle.std.proofs.Common.{◌≡◌, ◌∷◌, ◌++◌, pos, negsuc, [], true, false, Some, None, Ok, Err, refl, arith}
 use Rattle.span_io.specs.declared.cause.Cause.TheVariants as causes
 use Rattle.thrift_core.specs.declared.type_code.TypeCode.TheVariants as kinds
+use Rattle.thrift_core.specs.declared.field.Field.{Field}
+use Rattle.thrift_core.specs.declared.stack.Level.TheVariants as levels
+use Rattle.thrift_core.specs.Places.{levels_on, Place, at_part, in_binary}
+use Rattle.thrift_core.specs.Walks.{opened_by_header, opened_by_size, Turns, outer_struct}
 use Rattle.thrift_core.specs.Parts.{header, truth, byte, int, long, size, list_head, map_head}
 use Rattle.thrift_binary.specs.TypeCodes.{kind_among, binary_kind_of_code}
-use Rattle.thrift_binary.specs.Spelling.{binary_writes}
+use Rattle.thrift_binary.specs.Spelling.{binary_spells, binary_writes}
 use Rattle.thrift_binary.specs.Reading.{binary_reads, binary_size_at, binary_header_at, binary_list_at, binary_map_at}
 
 -- ---- fields
@@ -109,3 +113,50 @@ long_written = refl
 
 truth_written : binary_writes (truth None) true ≡ 1 ∷ []
 truth_written = refl
+
+-- ---- where a scan stands
+
+abbrev field_1 : Field
+field_1 = record { id = pos 1; kind = kinds.Binary; held = None }
+
+-- in the head of a field: the carry has its first two bytes
+cut_head : Place binary_spells outer_struct (11 ∷ 0 ∷ []) (levels.Fields (pos 0)) [] (11 ∷ 0 ∷ []) 0
+unfolding Turns levels_on
+cut_head = at_part refl (record { count = 0; turns = (refl, refl) }) (omega arith)
+
+-- behind a field's head, and the first two bytes of a binary's length
+cut_length : Place binary_spells outer_struct (11 ∷ 0 ∷ 1 ∷ 0 ∷ 0 ∷ []) (levels.Field (pos 1) kinds.Binary None) [] (0 ∷ 0 ∷ []) 0
+unfolding Turns levels_on binary_kind_of_code kind_among
+cut_length = at_part refl (record {
+  count = 1;
+  turns = (
+    opened_by_header 31 (Some field_1),
+    0 ∷ 0 ∷ [],
+    (Some field_1, record { text = 11 ∷ 0 ∷ 1 ∷ []; spelled = (refl, (λ h. absurd h), (refl, refl), refl); parts = refl }, refl),
+    (refl, refl),
+  );
+}) (omega arith)
+
+-- in a binary of five bytes, of which two came
+cut_binary : Place binary_spells outer_struct (11 ∷ 0 ∷ 1 ∷ 0 ∷ 0 ∷ 0 ∷ 5 ∷ 97 ∷ 98 ∷ []) (levels.Fields (pos 1)) [] [] 3
+unfolding Turns levels_on binary_kind_of_code kind_among
+cut_binary = in_binary refl (record {
+  held = 5;
+  rest = 97 ∷ 98 ∷ [];
+  passes = record {
+    count = 2;
+    turns = (
+      opened_by_header 31 (Some field_1),
+      0 ∷ 0 ∷ 0 ∷ 5 ∷ 97 ∷ 98 ∷ [],
+      (Some field_1, record { text = 11 ∷ 0 ∷ 1 ∷ []; spelled = (refl, (λ h. absurd h), (refl, refl), refl); parts = refl }, refl),
+      (
+        opened_by_size 5,
+        97 ∷ 98 ∷ [],
+        (5, record { text = 0 ∷ 0 ∷ 0 ∷ 5 ∷ []; spelled = (omega arith, refl); parts = refl }, refl),
+        (refl, refl),
+      ),
+    );
+  };
+  missing = refl;
+  some = omega arith;
+})

@@ -246,7 +246,7 @@ spelled size word h = size_written word h
 spelled (list_head left) word h = (rw h.1 (sym (binary_code_known h.0)), size_written word.size h.2, λ some. (h.0, h.1, h.3 some))
 spelled (map_head left) word h = absurd h
 
-size_length : (n : ℕ) (text : List ℕ) → IsBinarySize n text → length text ≡ 4
+pub size_length : (n : ℕ) (text : List ℕ) → IsBinarySize n text → length text ≡ 4
 size_length n (a ∷ b ∷ c ∷ d ∷ []) h = refl
 size_length n other h = absurd h
 

@@ -4,4 +4,5 @@ pub mod Reading
 pub mod JudgedBytes
 pub mod JudgedHeads
 pub mod Laws
+pub mod Unfinished
 pub mod ProperWords

@@ -1,20 +1,22 @@
 ghost use Rattle.thrift_binary.specs.Spelling as spelling;
 ghost use Rattle.thrift_binary.specs.Reading as reading;
 ghost use Rattle.thrift_binary.specs.Laws as binary_laws;
+ghost use Rattle.thrift_binary.specs.Unfinished as unfinished;
 ghost use Rattle.thrift_binary.specs.ProperWords as proper_words;
+ghost use Rattle.thrift_core.specs.Values.{finds_own};
 
 use crate::reading::{
     byte_of, eight_of, header_of, int_of, list_of, long_of, map_of, short_of, size_of, truth_of,
 };
 use crate::type_codes::code;
 use span_io::{Blob, Cause, Cursor, OutOfMemory};
-use thrift_core::{Field, ListHead, MapHead, Protocol, TypeCode};
+use thrift_core::{Field, ListHead, MapHead, Parts, Protocol, StructScanner, TypeCode};
 
 /// The Thrift binary protocol. The head of a field holds no truth value.
 #[derive(Clone, Copy, Debug)]
 pub struct Binary;
 
-impl Protocol for Binary {
+impl Parts for Binary {
     ghost spells = { spelling.binary_spells };
 
     ghost reads = { reading.binary_reads };
@@ -151,7 +153,15 @@ impl Protocol for Binary {
 
     ghost part_laws = { binary_laws.binary_part_laws };
 
+    ghost few_bytes = { unfinished.binary_few_bytes };
+
     ghost spells_proper = { proper_words.binary_spells_proper };
 
     ghost writes_shortest = { binary_laws.binary_writes_shortest };
+}
+
+impl Protocol for Binary {
+    type Scanner = StructScanner<Binary>;
+
+    ghost finds_structs = { finds_own };
 }

@@ -8,5 +8,6 @@ pub mod JudgedLists
 pub mod JudgedMaps
 pub mod JudgedFields
 pub mod ReadsExactly
+pub mod Unfinished
 pub mod Laws
 pub mod ProperWords

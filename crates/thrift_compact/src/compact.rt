@@ -2,7 +2,9 @@ ghost use Rattle.thrift_compact.specs.Spelling as spelling;
 ghost use Rattle.thrift_compact.specs.Reading as reading;
 ghost use Rattle.thrift_compact.specs.Laws as compact_laws;
 ghost use Rattle.thrift_compact.specs.ReadsExactly as exactly;
+ghost use Rattle.thrift_compact.specs.Unfinished as unfinished;
 ghost use Rattle.thrift_compact.specs.ProperWords as proper_words;
+ghost use Rattle.thrift_core.specs.Values.{finds_own};
 
 use crate::reading::{
     byte_of, eight_of, header_of, int_of, list_of, long_of, map_of, short_of, size_of, truth_of,
@@ -10,13 +12,13 @@ use crate::reading::{
 use crate::type_codes::field_code;
 use crate::writing::{append_bytes, append_header, append_list};
 use span_io::{Blob, Cause, Cursor, OutOfMemory, zigzag};
-use thrift_core::{Field, ListHead, MapHead, Protocol, TypeCode};
+use thrift_core::{Field, ListHead, MapHead, Parts, Protocol, StructScanner, TypeCode};
 
 /// The Thrift compact protocol. The head of a field holds its truth value.
 #[derive(Clone, Copy, Debug)]
 pub struct Compact;
 
-impl Protocol for Compact {
+impl Parts for Compact {
     ghost spells = { spelling.compact_spells };
 
     ghost reads = { reading.compact_reads };
@@ -165,7 +167,15 @@ impl Protocol for Compact {
 
     ghost part_laws = { compact_laws.compact_part_laws };
 
+    ghost few_bytes = { unfinished.compact_few_bytes };
+
     ghost spells_proper = { proper_words.compact_spells_proper };
 
     ghost writes_shortest = { compact_laws.compact_writes_shortest };
+}
+
+impl Protocol for Compact {
+    type Scanner = StructScanner<Compact>;
+
+    ghost finds_structs = { finds_own };
 }

@@ -1,13 +1,12 @@
 -- What a walk over a struct at the front of a stream comes to, as the first step.
-use Rattle.std.proofs.Common.{◌≡◌, ◌≢◌, ◌+◌, ◌-◌, ◌≤◌, ◌<◌, ◌∷◌, ◌↔◌, inl, inr, ℕ, pos, List, [], length, min, take, refl, ap, ◌∙◌, subst, arith}
-use Rattle.std.proofs.lemmas.List.{length-append, take_min}
+use Rattle.std.proofs.Common.{◌≡◌, ◌≢◌, ◌+◌, ◌-◌, ◌≤◌, ◌<◌, ◌∷◌, inl, inr, ℕ, pos, List, [], length, ap, arith}
+use Rattle.std.proofs.lemmas.List.{length-append}
 use Rattle.span_io.specs.declared.cause.Cause.{Cause}
 use Rattle.span_io.specs.declared.cause.Cause.TheVariants as causes
 use Rattle.span_io.specs.declared.step.Step.{Step}
 use Rattle.span_io.specs.declared.step.Step.TheVariants as steps
-use Rattle.span_io.specs.Frames.{BeginsFrame}
-use Rattle.span_io.specs.Steps.{StepIs, IfUnit}
-use Rattle.span_io.specs.FramingLaws.{FramingLaws, exact, item_first, first_item, item_size, refused_first, refused_step, needs_more, too_long_first, of_front}
+use Rattle.span_io.specs.Steps.{StepIs}
+use Rattle.span_io.specs.FramingLaws.{FramingLaws, item_first, refused_first, refused_step, needs_more, too_long_first}
 use Rattle.thrift_core.specs.Parts.{Part, Spelling}
 use Rattle.thrift_core.specs.Reading.{ReadingOf}
 use Rattle.thrift_core.specs.Protocols.{ReadsExactly, PartLaws}
@@ -16,10 +15,6 @@ use Rattle.thrift_core.specs.Walks.{Passes, outer_struct}
 use Rattle.thrift_core.specs.Stops.{StopsFor, Lacks}
 use Rattle.thrift_core.specs.Values.{struct_frames, RefusedStruct}
 use Rattle.thrift_core.proofs.TextsFrom.{end_is, truncated_is, stop_is, stop_not_past, never_long, lacks_is, lacks_exactly, struct_laws}
-
--- at most `limit` bytes are looked at
-pub looked_at : (size limit : ℕ) (bytes : List ℕ) → size ≡ min (length bytes) limit → take size bytes ≡ take limit bytes
-looked_at size limit bytes e = ap (λ n. take n bytes) (omega (arith, e)) ∙ take_min limit bytes
 
 module _ (Spells : Spelling) (reads : ReadingOf) (ThenVarint : Part → List ℕ → Type 0) (Refuses : Part → Cause → List ℕ → Type 0) (R : ReadsExactly Spells reads ThenVarint Refuses) (L : PartLaws Spells ThenVarint Refuses) where
   outer_laws : FramingLaws (struct_frames Spells ThenVarint) (RefusedStruct Spells Refuses)
@@ -66,24 +61,3 @@ module _ (Spells : Spelling) (reads : ReadingOf) (ThenVarint : Part → List ℕ
     refused_at cause other h =
         refused_step (struct_frames Spells ThenVarint) (RefusedStruct Spells Refuses) outer_laws limit cause piece (never_long Spells reads ThenVarint Refuses R L outer_struct piece cause h)
         (refused_first (struct_frames Spells ThenVarint) (RefusedStruct Spells Refuses) outer_laws limit (RefusedStruct Spells Refuses cause) piece within (stop_is Spells reads ThenVarint Refuses R L outer_struct piece cause (inl tt) other h))
-
-  -- ---- what follows of an answer that is true
-
-  module _ (limit : ℕ) (bytes piece : List ℕ) (looked : piece ≡ take limit bytes) (answer : Step) (front_is : FirstIs limit piece answer) where
-    is : FirstIs limit bytes answer
-    is = of_front (struct_frames Spells ThenVarint) (RefusedStruct Spells Refuses) outer_laws limit bytes answer (subst (λ l. FirstIs limit l answer) looked front_is)
-
-    pub exactly : (step : Step) → (answer ≡ step) ↔ FirstIs limit bytes step
-    exactly step = exact (struct_frames Spells ThenVarint) (RefusedStruct Spells Refuses) outer_laws limit bytes answer is step
-
-    pub frame_exactly : (n : ℕ) → (answer ≡ steps.Unit n) ↔ BeginsFrame (struct_frames Spells ThenVarint) limit n bytes
-    frame_exactly n = (
-      λ e. first_item (struct_frames Spells ThenVarint) (RefusedStruct Spells Refuses) outer_laws limit n bytes ((exactly (steps.Unit n)).0 e),
-      λ h. (exactly (steps.Unit n)).1 (item_first (struct_frames Spells ThenVarint) (RefusedStruct Spells Refuses) outer_laws limit n bytes h),
-    )
-
-  pub size_within : (limit : ℕ) (bytes : List ℕ) (answer : Step) → ((n : ℕ) → answer ≡ steps.Unit n → BeginsFrame (struct_frames Spells ThenVarint) limit n bytes)
-      → IfUnit answer (λ n. (1 ≤ n) × (n ≤ limit) × (n ≤ length bytes))
-  size_within limit bytes steps.Need h = tt
-  size_within limit bytes (steps.Unit n) h = item_size (struct_frames Spells ThenVarint) (RefusedStruct Spells Refuses) outer_laws limit n bytes (h n refl)
-  size_within limit bytes (steps.Refused cause) h = tt

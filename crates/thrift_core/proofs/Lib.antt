@@ -9,3 +9,9 @@ pub mod WalkSteps
 pub mod OpenStructs
 pub mod Answering
 pub mod FirstStruct
+pub mod Stacks
+pub mod Places
+pub mod StackSteps
+pub mod Resuming
+pub mod StructPushes
+mod Examples

@@ -16,3 +16,7 @@ pub mod Levels
 pub mod Judged
 pub mod JudgedSteps
 pub mod Standing
+pub mod Unfinished
+pub mod Places
+pub mod StackWalks
+pub mod Positions

@@ -24,6 +24,14 @@ pub record ReadsExactly (Spells : Spelling) (reads : ReadingOf) (ThenVarint : Pa
   -- there is no other cause
   pub refused_for : (part : Part) (bytes : List ℕ) (cause : Cause) → reads part bytes ≡ Err cause → (cause ≡ causes.Truncated) ⊎ RefusesPart cause
 
+-- A part that isn't whole yet has at most so many bytes.
+abbrev pub UnfinishedWithin : ℕ → ReadingOf → Type 0
+UnfinishedWithin most reads = (part : Part) (bytes : List ℕ) → reads part bytes ≡ Err causes.Truncated → length bytes ≤ most
+
+-- how many in every protocol
+abbrev pub most_unfinished : ℕ
+most_unfinished = 10
+
 -- every part but a truth value that is held already
 abbrev pub HasBytes : Part → Type 0
 HasBytes (truth (Some b)) = ⊥

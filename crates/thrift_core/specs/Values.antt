@@ -2,7 +2,7 @@
 use Rattle.std.specs.Prelude.{◌≡◌, ◌≢◌, ◌↔◌, ℕ, Bool, Option, List, Result, Err}
 use Rattle.span_io.specs.declared.cause.Cause.{Cause}
 use Rattle.span_io.specs.declared.cause.Cause.TheVariants as causes
-use Rattle.span_io.specs.Frames.{Framing, IsOpen, IsRefusedAt}
+use Rattle.span_io.specs.Frames.{Framing, BeginsFrame, IsOpen, IsRefusedAt}
 use Rattle.span_io.specs.declared.step.Step.{Step}
 use Rattle.span_io.specs.Steps.{StepIs}
 use Rattle.thrift_core.specs.declared.type_code.TypeCode.{TypeCode}
@@ -43,3 +43,12 @@ RefusedStruct Spells Refuses = RefusedFrom Spells Refuses outer_struct
 -- what the answer says of the struct at the front of the bytes
 abbrev pub FirstStructIs : Spelling → (Part → List ℕ → Type 0) → (Part → Cause → List ℕ → Type 0) → ℕ → List ℕ → Step → Type 0
 FirstStructIs Spells ThenVarint Refuses limit bytes step = StepIs (struct_frames Spells ThenVarint) (RefusedStruct Spells Refuses) limit bytes step
+
+-- The steps of a scanner are those over structs, and its frames are structs.
+pub record FindsStructs (F : Framing) (EndsIn : Cause → List ℕ → Type 0) (Spells : Spelling) (ThenVarint : Part → List ℕ → Type 0) (Refuses : Part → Cause → List ℕ → Type 0) : Type 0 where
+  pub steps : (limit : ℕ) (bytes : List ℕ) (step : Step) → StepIs F EndsIn limit bytes step ↔ FirstStructIs Spells ThenVarint Refuses limit bytes step
+  pub frames : (limit n : ℕ) (bytes : List ℕ) → BeginsFrame F limit n bytes ↔ BeginsFrame (struct_frames Spells ThenVarint) limit n bytes
+
+-- So it is where its framing and its refusals are those of structs.
+pub finds_own : {Spells : Spelling} {ThenVarint : Part → List ℕ → Type 0} {Refuses : Part → Cause → List ℕ → Type 0} → FindsStructs (struct_frames Spells ThenVarint) (RefusedStruct Spells Refuses) Spells ThenVarint Refuses
+finds_own = record { steps = λ limit bytes step. (λ h. h, λ h. h); frames = λ limit n bytes. (λ h. h, λ h. h) }

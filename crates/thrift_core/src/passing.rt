@@ -1,12 +1,13 @@
-ghost use Rattle.std.specs.Prelude.{◌≡◌, ◌+◌, ℕ, pos, Bool, Option, IfOk, IfErr};
+ghost use Rattle.std.specs.Prelude.{◌≡◌, ◌+◌, ℕ, pos, Bool, Option, IfOk, IfErr, OnErr};
 ghost use Rattle.thrift_core.specs.Parts.{list_head, map_head};
 ghost use Rattle.thrift_core.specs.Reading.{Stays};
 ghost use Rattle.thrift_core.specs.Walks.{Open, in_struct, in_value, in_elements, in_pairs, first_of, first_of_binary, first_of_list, first_of_map};
+ghost use Rattle.thrift_core.specs.StackWalks.{IsLeaf};
 ghost use Rattle.thrift_core.specs.Stops.{Passed, PassedAs, cause_of};
 ghost use Rattle.thrift_core.specs.declared.passing.Halted.TheVariants as halts;
 ghost use Rattle.thrift_core.specs.declared.type_code.TypeCode.TheVariants as kinds;
 
-use crate::protocol::Protocol;
+use crate::parts::Parts;
 use crate::type_code::TypeCode;
 use span_io::{Cause, Cursor, Short};
 
@@ -38,7 +39,7 @@ impl From<Cause> for Halted {
 }
 
 // Passes over the length of a binary, and over its bytes.
-fn pass_bytes<P: Protocol>(c: &mut Cursor<'_>) -> Result<(), Halted>
+fn pass_bytes<P: Parts>(c: &mut Cursor<'_>) -> Result<(), Halted>
     ensures passed { PassedAs P.spells P.reads first_of_binary result c.old.rest c.new.rest }
     ensures place { Stays c.old c.new }
 {
@@ -49,16 +50,17 @@ fn pass_bytes<P: Protocol>(c: &mut Cursor<'_>) -> Result<(), Halted>
     }
 }
 
-// Passes over a value for which so many levels are left.
-#[cycle(passing)]
-pub(crate) fn pass_value<P: Protocol>(
+// Passes over a value that is one part. A refusal leaves the place.
+#[inline(always)]
+pub(crate) fn pass_leaf<P: Parts>(
     c: &mut Cursor<'_>,
     kind: TypeCode,
     held: Option<bool>,
-    left: u8,
 ) -> Result<(), Halted>
-    ensures passed { Passed P.spells P.reads (in_value left kind held) result c.old.rest c.new.rest }
+    requires leaf { IsLeaf kind }
+    ensures passed { (left : ℕ) → Passed P.spells P.reads (in_value left kind held) result c.old.rest c.new.rest }
     ensures place { Stays c.old c.new }
+    ensures err { OnErr result (c.new ≡ c.old) }
 {
     match kind {
         TypeCode::Truth => {
@@ -85,15 +87,32 @@ pub(crate) fn pass_value<P: Protocol>(
             P::eight(c)?;
             Ok(())
         }
+        _ => unreachable!(),
+    }
+}
+
+// Passes over a value for which so many levels are left.
+#[cycle(passing)]
+pub(crate) fn pass_value<P: Parts>(
+    c: &mut Cursor<'_>,
+    kind: TypeCode,
+    held: Option<bool>,
+    left: u8,
+) -> Result<(), Halted>
+    ensures passed { Passed P.spells P.reads (in_value left kind held) result c.old.rest c.new.rest }
+    ensures place { Stays c.old c.new }
+{
+    match kind {
         TypeCode::Binary => pass_bytes::<P>(c),
         TypeCode::Struct => pass_struct::<P>(c, level_below(left)?),
         TypeCode::Map => pass_map::<P>(c, level_below(left)?),
         TypeCode::Set | TypeCode::List => pass_list::<P>(c, level_below(left)?),
+        _ => pass_leaf::<P>(c, kind, held),
     }
 }
 
 // The levels that are left in a container.
-fn level_below(left: u8) -> Result<u8, Cause>
+pub(crate) fn level_below(left: u8) -> Result<u8, Cause>
     ensures value { IfOk result (λ below. left ≡ below + 1) }
     ensures deep { IfErr result (λ cause. (cause ≡ Cause.TooDeep) × (left ≡ 0)) }
 {
@@ -102,7 +121,7 @@ fn level_below(left: u8) -> Result<u8, Cause>
 
 // Passes over the fields of a struct, and its stop byte.
 #[cycle(passing)]
-pub(crate) fn pass_struct<P: Protocol>(c: &mut Cursor<'_>, left: u8) -> Result<(), Halted>
+pub(crate) fn pass_struct<P: Parts>(c: &mut Cursor<'_>, left: u8) -> Result<(), Halted>
     ensures passed { Passed P.spells P.reads (in_struct left (pos 0)) result c.old.rest c.new.rest }
     ensures place { Stays c.old c.new }
 {
@@ -120,7 +139,7 @@ pub(crate) fn pass_struct<P: Protocol>(c: &mut Cursor<'_>, left: u8) -> Result<(
 
 // Passes over a list or set in which so many levels are left.
 #[cycle(passing)]
-fn pass_list<P: Protocol>(c: &mut Cursor<'_>, left: u8) -> Result<(), Halted>
+fn pass_list<P: Parts>(c: &mut Cursor<'_>, left: u8) -> Result<(), Halted>
     ensures passed { PassedAs P.spells P.reads (first_of_list left) result c.old.rest c.new.rest }
     ensures place { Stays c.old c.new }
 {
@@ -133,7 +152,7 @@ fn pass_list<P: Protocol>(c: &mut Cursor<'_>, left: u8) -> Result<(), Halted>
 
 // Passes over so many elements.
 #[cycle(passing)]
-fn pass_elements<P: Protocol>(
+fn pass_elements<P: Parts>(
     c: &mut Cursor<'_>,
     kind: TypeCode,
     many: u32,
@@ -150,7 +169,7 @@ fn pass_elements<P: Protocol>(
 
 // Passes over a map in which so many levels are left.
 #[cycle(passing)]
-fn pass_map<P: Protocol>(c: &mut Cursor<'_>, left: u8) -> Result<(), Halted>
+fn pass_map<P: Parts>(c: &mut Cursor<'_>, left: u8) -> Result<(), Halted>
     ensures passed { PassedAs P.spells P.reads (first_of_map left) result c.old.rest c.new.rest }
     ensures place { Stays c.old c.new }
 {
@@ -163,7 +182,7 @@ fn pass_map<P: Protocol>(c: &mut Cursor<'_>, left: u8) -> Result<(), Halted>
 
 // Passes over so many pairs.
 #[cycle(passing)]
-fn pass_pairs<P: Protocol>(
+fn pass_pairs<P: Parts>(
     c: &mut Cursor<'_>,
     key: TypeCode,
     value: TypeCode,

@@ -5,13 +5,13 @@ ghost use Rattle.thrift_core.specs.Trees.{BinaryThen, all_levels};
 ghost use Rattle.thrift_core.specs.Values.{BeginsValue, RefusesValue};
 ghost use Rattle.thrift_core.specs.declared.type_code.TypeCode.TheVariants as kinds;
 
+use crate::parts::Parts;
 use crate::passing::pass_value;
-use crate::protocol::Protocol;
 use crate::type_code::TypeCode;
 use span_io::{Cause, Cursor, Short};
 
 /// Reads the number of a binary's bytes, and lends the bytes, which follow it.
-pub fn bytes<'a, P: Protocol>(c: &mut Cursor<'a>) -> Result<&'a [u8], Cause>
+pub fn bytes<'a, P: Parts>(c: &mut Cursor<'a>) -> Result<&'a [u8], Cause>
     // What is lent begins the bytes, and what begins the bytes is lent, whatever follows.
     ensures found { IfOk result (λ lent. BinaryThen P.spells lent.now c.old.rest c.new.rest) }
     ensures only { (held rest : List ℕ) → BinaryThen P.spells held c.old.rest rest → IsLent result held × (c.new.rest ≡ rest) }
@@ -36,7 +36,7 @@ pub fn bytes<'a, P: Protocol>(c: &mut Cursor<'a>) -> Result<&'a [u8], Cause>
 
 /// Passes over one value for which so many levels of containers are left, of 32. A truth value that the head of its field holds
 /// already has no bytes. It takes no memory.
-pub fn skip<P: Protocol>(
+pub fn skip<P: Parts>(
     c: &mut Cursor<'_>,
     kind: TypeCode,
     held: Option<bool>,

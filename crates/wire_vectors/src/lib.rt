@@ -9,6 +9,8 @@ mod members;
 #[cfg(test)]
 mod outside;
 #[cfg(test)]
+mod pieces;
+#[cfg(test)]
 mod thrift;
 #[cfg(test)]
 mod wire;

@@ -1,13 +1,12 @@
 //! Thrift in both protocols.
+use crate::pieces::FrameRow;
 use span_io::{Blob, Cause, Cursor, OutOfMemory, Step};
 use std::alloc::Global;
 use std::process::Abort;
 use std::test::Fail;
 use thrift_binary::Binary;
 use thrift_compact::Compact;
-use thrift_core::{
-    Field, ListHead, MapHead, OUTER_LEVELS, Protocol, TypeCode, bytes, first_frame, skip,
-};
+use thrift_core::{Field, ListHead, MapHead, OUTER_LEVELS, Parts, TypeCode, bytes, skip};
 
 // The fields of a span of jaeger.thrift from its tags on, of which there is one that holds a double, and the end of the span.
 const BINARY_TAGS: &[u8] = b"\x0f\0\x0a\x0c\0\0\0\x01\x0b\0\x01\0\0\0\x01d\x08\0\x02\0\0\0\x01\
@@ -16,13 +15,13 @@ const BINARY_TAGS: &[u8] = b"\x0f\0\x0a\x0c\0\0\0\x01\x0b\0\x01\0\0\0\x01d\x08\0
 const COMPACT_TAGS: &[u8] = b"\x19\x1c\x18\x01d\x15\x02\x27\0\0\0\0\0\0\xf0\x3f\0";
 
 // A Batch of jaeger.thrift with one span and no tags.
-const BATCH: &[u8] = b"\x0c\0\x01\x0b\0\x01\0\0\0\x01s\0\x0f\0\x02\x0c\0\0\0\x01\
+pub(crate) const BATCH: &[u8] = b"\x0c\0\x01\x0b\0\x01\0\0\0\x01p\0\x0f\0\x02\x0c\0\0\0\x01\
 \x0a\0\x01\0\0\0\0\0\0\0\x01\x0a\0\x02\0\0\0\0\0\0\0\0\x0a\0\x03\0\0\0\0\0\0\0\x02\
-\x0a\0\x04\0\0\0\0\0\0\0\0\x0b\0\x05\0\0\0\x01a\x08\0\x07\0\0\0\0\
+\x0a\0\x04\0\0\0\0\0\0\0\0\x0b\0\x05\0\0\0\x01b\x08\0\x07\0\0\0\0\
 \x0a\0\x08\0\0\0\0\0\0\0\0\x0a\0\x09\0\0\0\0\0\0\0\0\0\0";
 
 // Ten bytes that are no varint.
-const OVERLONG: &[u8] = b"\x05\xff\xff\xff\xff\xff\xff\xff\xff\xff\x02";
+pub(crate) const OVERLONG: &[u8] = b"\x05\xff\xff\xff\xff\xff\xff\xff\xff\xff\x02";
 
 /// A text, the field before and the levels left, the field that is read, and the place behind its head.
 type FieldRow = (&'static [u8], i16, u8, Result<Option<Field>, Cause>, usize);
@@ -192,7 +191,7 @@ const COMPACT_FIELDS: [FieldRow; 18] = [
     (OVERLONG, 0, 31, Err(Cause::BadVarint), 0),
 ];
 
-fn reads_fields<P: Protocol>(rt: &impl Abort, rows: &[FieldRow]) {
+fn reads_fields<P: Parts>(rt: &impl Abort, rows: &[FieldRow]) {
     for (text, last, left, wanted, place) in rows {
         let mut c = Cursor::new(text);
         assert_eq!(rt; P::field(&mut c, *last, *left), *wanted, "at {text:?}");
@@ -294,7 +293,7 @@ const COMPACT_LISTS: [ListRow; 14] = [
     (b"\xf8", 31, Err(Cause::Truncated)),
 ];
 
-fn reads_lists<P: Protocol>(rt: &impl Abort, rows: &[ListRow]) {
+fn reads_lists<P: Parts>(rt: &impl Abort, rows: &[ListRow]) {
     for (text, left, wanted) in rows {
         let read = P::list(&mut Cursor::new(text), *left);
         assert_eq!(rt; read, *wanted, "at {text:?}");
@@ -368,7 +367,7 @@ const COMPACT_MAPS: [MapRow; 8] = [
     (b"\xff", 1, Err(Cause::Truncated), 0),
 ];
 
-fn reads_maps<P: Protocol>(rt: &impl Abort, rows: &[MapRow]) {
+fn reads_maps<P: Parts>(rt: &impl Abort, rows: &[MapRow]) {
     for (text, left, wanted, place) in rows {
         let mut c = Cursor::new(text);
         assert_eq!(rt; P::map(&mut c, *left), *wanted, "at {text:?}");
@@ -402,7 +401,7 @@ enum Word {
     Length,
 }
 
-fn read_word<P: Protocol>(c: &mut Cursor<'_>, kind: &Word) -> Result<i64, Cause> {
+fn read_word<P: Parts>(c: &mut Cursor<'_>, kind: &Word) -> Result<i64, Cause> {
     let word = match kind {
         Word::Truth => i64::from(P::truth(c, None)?),
         Word::Held(held) => i64::from(P::truth(c, Some(*held))?),
@@ -503,7 +502,7 @@ const COMPACT_WORDS: [WordRow; 17] = [
     (Word::Eight, b"\0\0\0\0\0\0\xf0", Err(Cause::Truncated), 0),
 ];
 
-fn reads_words<P: Protocol>(rt: &impl Abort, rows: &[WordRow]) {
+fn reads_words<P: Parts>(rt: &impl Abort, rows: &[WordRow]) {
     for (kind, text, wanted, place) in rows {
         let mut c = Cursor::new(text);
         assert_eq!(rt; read_word::<P>(&mut c, kind), *wanted, "at {text:?}");
@@ -552,7 +551,7 @@ const COMPACT_VALUES: [SkipRow; 2] = [
     ),
 ];
 
-fn skips<P: Protocol>(rt: &impl Abort, rows: &[SkipRow]) {
+fn skips<P: Parts>(rt: &impl Abort, rows: &[SkipRow]) {
     for (text, begins, kind, left, wanted, place) in rows {
         let mut c = Cursor::new(text);
         assert!(rt; c.take(*begins).is_ok());
@@ -582,12 +581,9 @@ fn reads_values_of_the_compact_protocol(rt: HostRuntime) {
     assert_eq!(rt; read, Ok(b"ab".as_slice()));
 }
 
-/// A text, the limit of a unit, and the first step over the text.
-type FrameRow = (&'static [u8], usize, Step);
-
 const TOO_LONG: Step = Step::Refused(Cause::UnitTooLong);
 
-const BINARY_FRAMES: [FrameRow; 12] = [
+pub(crate) const BINARY_FRAMES: [FrameRow; 12] = [
     (b"", 9, Step::Need),
     (b"\0\x05", 9, Step::Unit(1)),
     (
@@ -606,7 +602,7 @@ const BINARY_FRAMES: [FrameRow; 12] = [
     (BATCH, BATCH.len(), Step::Unit(BATCH.len())),
 ];
 
-const COMPACT_FRAMES: [FrameRow; 10] = [
+pub(crate) const COMPACT_FRAMES: [FrameRow; 10] = [
     (b"", 9, Step::Need),
     (b"\0\x05", 9, Step::Unit(1)),
     (b"\x11\x12\0", 9, Step::Unit(3)),
@@ -623,44 +619,22 @@ const COMPACT_FRAMES: [FrameRow; 10] = [
     (b"\x18\x03abc\0", 5, TOO_LONG),
 ];
 
-fn finds_frames<P: Protocol>(rt: &impl Abort, rows: &[FrameRow]) {
-    for (text, limit, step) in rows {
-        assert_eq!(rt; first_frame::<P>(text, *limit), *step, "at {text:?}");
+// So many heads of a field that holds a struct, each in the one before, and what stands in the last. Structs nest to level 32.
+pub(crate) fn nested(
+    alloc: Global,
+    head: &[u8],
+    many: u32,
+    inner: &[u8],
+) -> Result<Blob, OutOfMemory> {
+    let mut text = Blob::new(alloc);
+    for _ in 0..many {
+        text.append(head)?;
     }
+    text.append(inner)?;
+    Ok(text)
 }
 
-// Structs nest to level 32: so many heads of a field that holds a struct, each in the one before, and the code of one more.
-fn nested(alloc: Global, head: &[u8], code: &[u8]) -> Result<(Blob, Blob), OutOfMemory> {
-    let mut open = Blob::new(alloc);
-    for _ in 0..31_u32 {
-        open.append(head)?;
-    }
-    let mut deeper = open.copy()?;
-    deeper.append(code)?;
-    Ok((open, deeper))
-}
-
-const TOO_DEEP: Step = Step::Refused(Cause::TooDeep);
-
-#[test]
-fn finds_frames_of_the_binary_protocol(rt: HostRuntime) -> Result<(), Fail> {
-    finds_frames::<Binary>(&rt, &BINARY_FRAMES);
-    let (open, deeper) = nested(rt.alloc(), b"\x0c\0\x01", b"\x0c")?;
-    assert_eq!(rt; first_frame::<Binary>(open.as_slice(), 999), Step::Need);
-    assert_eq!(rt; first_frame::<Binary>(deeper.as_slice(), 999), TOO_DEEP);
-    Ok(())
-}
-
-#[test]
-fn finds_frames_of_the_compact_protocol(rt: HostRuntime) -> Result<(), Fail> {
-    finds_frames::<Compact>(&rt, &COMPACT_FRAMES);
-    let (open, deeper) = nested(rt.alloc(), b"\x1c", b"\x1c")?;
-    assert_eq!(rt; first_frame::<Compact>(open.as_slice(), 999), Step::Need);
-    assert_eq!(rt; first_frame::<Compact>(deeper.as_slice(), 999), TOO_DEEP);
-    Ok(())
-}
-
-fn write_tags<P: Protocol>(out: &mut Blob) -> Result<(), OutOfMemory> {
+fn write_tags<P: Parts>(out: &mut Blob) -> Result<(), OutOfMemory> {
     P::put_field(out, 9, 10, TypeCode::List, None)?;
     P::put_list(out, TypeCode::Struct, 1)?;
     P::put_field(out, 0, 1, TypeCode::Binary, None)?;
@@ -673,7 +647,7 @@ fn write_tags<P: Protocol>(out: &mut Blob) -> Result<(), OutOfMemory> {
 }
 
 // Fields of each length of a head, and numbers of each sign.
-fn write_fields<P: Protocol>(out: &mut Blob) -> Result<(), OutOfMemory> {
+fn write_fields<P: Parts>(out: &mut Blob) -> Result<(), OutOfMemory> {
     P::put_field(out, 4, 5, TypeCode::Truth, Some(true))?;
     P::put_truth(out, true)?;
     P::put_field(out, 5, 20, TypeCode::Truth, Some(false))?;

@@ -1,13 +1,14 @@
 //! Records of protobuf. Those of the bytes 150 and "testing" are the examples of the proto3 encoding guide.
+use crate::pieces::FrameRow;
 use proto_wire::{
-    Frame, Payload, WireRecord, close_record, first_frame, first_record, next_record, open_record,
-    opening_size, record_size, write_record,
+    Payload, WireRecord, close_record, next_record, open_record, opening_size, record_size,
+    write_record,
 };
 use span_io::{Blob, Cause, Cursor, Step};
 use std::test::Fail;
 
 // Records in their shortest spelling.
-const SHORTEST: [(&[u8], u32, Payload<'static>); 9] = [
+pub(crate) const SHORTEST: [(&[u8], u32, Payload<'static>); 9] = [
     (b"\x08\x05", 1, Payload::Varint(5)),
     (b"\x08\x96\x01", 1, Payload::Varint(150)),
     (b"\x12\x07testing", 2, Payload::Bytes(b"testing")),
@@ -49,7 +50,7 @@ fn reads_and_writes_records(rt: HostRuntime) -> Result<(), Fail> {
 }
 
 // A varint may be longer than it need be, and what follows a record is left. What is refused is not passed.
-const READ: [(&[u8], Result<Payload<'static>, Cause>, usize); 21] = [
+pub(crate) const READ: [(&[u8], Result<Payload<'static>, Cause>, usize); 21] = [
     (b"\x88\x80\0\x85\0", Ok(Payload::Varint(5)), 5),
     (
         b"\x88\0\x85\x80\x80\x80\x80\x80\x80\x80\x80\0",
@@ -121,8 +122,7 @@ fn opens_records(rt: HostRuntime) -> Result<(), Fail> {
 
 const TOO_LONG: Step = Step::Refused(Cause::UnitTooLong);
 
-// Bytes, the limit of a unit, and the first step over them.
-const FRAMES: [(&[u8], usize, Step); 20] = [
+pub(crate) const FRAMES: [FrameRow; 20] = [
     (b"", 64, Step::Need),
     (b"\x0a", 64, Step::Need),
     (b"\x0a\x02a", 64, Step::Need),
@@ -156,16 +156,3 @@ const FRAMES: [(&[u8], usize, Step); 20] = [
     ),
     (b"\x09\0\0\0\0\0\0\0", 9, Step::Need),
 ];
-
-#[test]
-fn finds_frames(rt: HostRuntime) {
-    for (bytes, limit, step) in FRAMES {
-        assert_eq!(rt; first_frame(bytes, limit), step, "at {bytes:?}");
-    }
-    let record = WireRecord {
-        number: 1,
-        payload: Payload::Bytes(b"a"),
-    };
-    let frame = Frame { size: 3, record };
-    assert_eq!(rt; first_record(b"\x0a\x01a\xff", 64), Ok(Some(frame)));
-}

@@ -11,10 +11,10 @@ use crate::tag::Tag;
 use crate::writing::fields::write_text;
 use crate::writing::structures::{Structure, write_filled_list, write_list, write_structure};
 use span_io::{Blob, OutOfMemory};
-use thrift_core::{Protocol, TypeCode};
+use thrift_core::{Parts, TypeCode};
 
 // Appends the fields of the process.
-fn write_process_fields<P: Protocol>(out: &mut Blob, batch: &Batch) -> Result<(), OutOfMemory>
+fn write_process_fields<P: Parts>(out: &mut Blob, batch: &Batch) -> Result<(), OutOfMemory>
     requires { IsWritable batch.now }
     ensures { WritesRows P.keeps P.writes result out.old out.new (pos 0) (process_rows batch.now.service batch.now.tags) }
 {
@@ -23,7 +23,7 @@ fn write_process_fields<P: Protocol>(out: &mut Blob, batch: &Batch) -> Result<()
 }
 
 // Appends the field of the process.
-fn write_process<P: Protocol>(out: &mut Blob, batch: &Batch) -> Result<(), OutOfMemory>
+fn write_process<P: Parts>(out: &mut Blob, batch: &Batch) -> Result<(), OutOfMemory>
     requires { IsWritable batch.now }
     ensures { WritesField P.keeps P.writes result out.old out.new (pos 0) (pos 1)
         (process_tree batch.now.service batch.now.tags) }
@@ -33,7 +33,7 @@ fn write_process<P: Protocol>(out: &mut Blob, batch: &Batch) -> Result<(), OutOf
     P::put_stop(out)
 }
 
-impl<P: Protocol> Structure<P> for Batch {
+impl<P: Parts> Structure<P> for Batch {
     ghost use Rattle.jaeger_model.specs.Canonical.{batch_rows};
     ghost use Rattle.jaeger_model.specs.Writable.{IsWritable};
 
@@ -48,7 +48,7 @@ impl<P: Protocol> Structure<P> for Batch {
 }
 
 /// Appends the canonical text of a batch (jaeger.thrift `Batch`).
-pub fn write_batch<P: Protocol>(out: &mut Blob, batch: &Batch) -> Result<(), OutOfMemory>
+pub fn write_batch<P: Parts>(out: &mut Blob, batch: &Batch) -> Result<(), OutOfMemory>
     requires { IsWritable batch.now }
     ensures ok { OnOk result (out.new ≡ out.old ++ batch_text P.keeps P.writes batch.now) }
     // After want of memory a front of it was appended.

@@ -8,10 +8,10 @@ ghost use Rattle.span_io.specs.Sizes.{IsShort};
 
 use span_ids::{Nanos, SpanId};
 use span_io::{Blob, OutOfMemory, Text};
-use thrift_core::{Protocol, TypeCode};
+use thrift_core::{Parts, TypeCode};
 
 /// Appends a field of a text, or of bytes.
-pub(crate) fn write_binary<P: Protocol>(
+pub(crate) fn write_binary<P: Parts>(
     out: &mut Blob,
     last: i16,
     id: i16,
@@ -26,7 +26,7 @@ pub(crate) fn write_binary<P: Protocol>(
 }
 
 /// Appends a field of an i32.
-pub(crate) fn write_int<P: Protocol>(
+pub(crate) fn write_int<P: Parts>(
     out: &mut Blob,
     last: i16,
     id: i16,
@@ -40,7 +40,7 @@ pub(crate) fn write_int<P: Protocol>(
 }
 
 /// Appends a field of an i64.
-pub(crate) fn write_long<P: Protocol>(
+pub(crate) fn write_long<P: Parts>(
     out: &mut Blob,
     last: i16,
     id: i16,
@@ -54,7 +54,7 @@ pub(crate) fn write_long<P: Protocol>(
 }
 
 /// Appends a field of a double.
-pub(crate) fn write_double<P: Protocol>(
+pub(crate) fn write_double<P: Parts>(
     out: &mut Blob,
     last: i16,
     id: i16,
@@ -68,7 +68,7 @@ pub(crate) fn write_double<P: Protocol>(
 }
 
 /// Appends a field of a truth value.
-pub(crate) fn write_truth<P: Protocol>(
+pub(crate) fn write_truth<P: Parts>(
     out: &mut Blob,
     last: i16,
     id: i16,
@@ -82,7 +82,7 @@ pub(crate) fn write_truth<P: Protocol>(
 }
 
 /// Appends a field of a text.
-pub(crate) fn write_text<P: Protocol>(
+pub(crate) fn write_text<P: Parts>(
     out: &mut Blob,
     last: i16,
     id: i16,
@@ -96,7 +96,7 @@ pub(crate) fn write_text<P: Protocol>(
 }
 
 /// Appends a field of 64 bits, as the signed number that they are.
-pub(crate) fn write_bits<P: Protocol>(
+pub(crate) fn write_bits<P: Parts>(
     out: &mut Blob,
     last: i16,
     id: i16,
@@ -109,7 +109,7 @@ pub(crate) fn write_bits<P: Protocol>(
 }
 
 /// Appends a field of the identifier of a span.
-pub(crate) fn write_span_id<P: Protocol>(
+pub(crate) fn write_span_id<P: Parts>(
     out: &mut Blob,
     last: i16,
     id: i16,
@@ -122,7 +122,7 @@ pub(crate) fn write_span_id<P: Protocol>(
 }
 
 /// Appends a field of microseconds.
-pub(crate) fn write_micros<P: Protocol>(
+pub(crate) fn write_micros<P: Parts>(
     out: &mut Blob,
     last: i16,
     id: i16,
@@ -136,7 +136,7 @@ pub(crate) fn write_micros<P: Protocol>(
 }
 
 /// Appends a field of a time.
-pub(crate) fn write_time<P: Protocol>(
+pub(crate) fn write_time<P: Parts>(
     out: &mut Blob,
     last: i16,
     id: i16,

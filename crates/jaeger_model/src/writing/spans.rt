@@ -15,10 +15,10 @@ use crate::writing::fields::{
 use crate::writing::structures::{Structure, write_filled_list, write_list};
 use span_ids::{Nanos, SpanId, TraceId};
 use span_io::{Blob, OutOfMemory};
-use thrift_core::Protocol;
+use thrift_core::Parts;
 
 // Appends a field of the low half of a trace's identifier.
-fn write_low<P: Protocol>(
+fn write_low<P: Parts>(
     out: &mut Blob,
     last: i16,
     id: i16,
@@ -32,7 +32,7 @@ fn write_low<P: Protocol>(
 }
 
 // Appends a field of the high half of a trace's identifier.
-fn write_high<P: Protocol>(
+fn write_high<P: Parts>(
     out: &mut Blob,
     last: i16,
     id: i16,
@@ -53,13 +53,13 @@ fn type_number(child_of: bool) -> i32
 }
 
 // Appends the field of a reference's type.
-fn write_type<P: Protocol>(out: &mut Blob, child_of: bool) -> Result<(), OutOfMemory>
+fn write_type<P: Parts>(out: &mut Blob, child_of: bool) -> Result<(), OutOfMemory>
     ensures { WritesField P.keeps P.writes result out.old out.new (pos 0) (pos 1) (enum_tree (reference_number child_of)) }
 {
     write_int::<P>(out, 0, 1, type_number(child_of))
 }
 
-impl<P: Protocol> Structure<P> for SpanRef {
+impl<P: Parts> Structure<P> for SpanRef {
     ghost use Rattle.std.specs.Prelude.{⊤};
     ghost use Rattle.jaeger_model.specs.Canonical.{reference_rows};
 
@@ -76,7 +76,7 @@ impl<P: Protocol> Structure<P> for SpanRef {
 }
 
 // Appends the field of the parent.
-fn write_parent<P: Protocol>(out: &mut Blob, parent: Option<SpanId>) -> Result<(), OutOfMemory>
+fn write_parent<P: Parts>(out: &mut Blob, parent: Option<SpanId>) -> Result<(), OutOfMemory>
     ensures { WritesField P.keeps P.writes result out.old out.new (pos 3) (pos 4) (parent_tree parent) }
 {
     match parent {
@@ -86,7 +86,7 @@ fn write_parent<P: Protocol>(out: &mut Blob, parent: Option<SpanId>) -> Result<(
 }
 
 // Appends the fields 1 to 5 of a span.
-fn write_identity<P: Protocol>(out: &mut Blob, span: &JSpan) -> Result<(), OutOfMemory>
+fn write_identity<P: Parts>(out: &mut Blob, span: &JSpan) -> Result<(), OutOfMemory>
     requires { IsWritableSpan span.now }
     ensures { WritesRows P.keeps P.writes result out.old out.new (pos 0) (identity_rows span.now) }
 {
@@ -98,7 +98,7 @@ fn write_identity<P: Protocol>(out: &mut Blob, span: &JSpan) -> Result<(), OutOf
 }
 
 // Appends the field of the flags.
-fn write_flags<P: Protocol>(out: &mut Blob, last: i16, span: &JSpan) -> Result<(), OutOfMemory>
+fn write_flags<P: Parts>(out: &mut Blob, last: i16, span: &JSpan) -> Result<(), OutOfMemory>
     requires rises { last <ℤ pos 7 }
     ensures { WritesField P.keeps P.writes result out.old out.new last (pos 7) (leaf (i32 span.now.flags)) }
 {
@@ -106,7 +106,7 @@ fn write_flags<P: Protocol>(out: &mut Blob, last: i16, span: &JSpan) -> Result<(
 }
 
 // Appends the fields 6 and 7.
-fn write_references_and_flags<P: Protocol>(out: &mut Blob, span: &JSpan) -> Result<(), OutOfMemory>
+fn write_references_and_flags<P: Parts>(out: &mut Blob, span: &JSpan) -> Result<(), OutOfMemory>
     requires { IsWritableSpan span.now }
     ensures { WritesRows P.keeps P.writes result out.old out.new (pos 5) (reference_and_flag_rows span.now) }
 {
@@ -118,14 +118,14 @@ fn write_references_and_flags<P: Protocol>(out: &mut Blob, span: &JSpan) -> Resu
 }
 
 // Appends the field of the duration.
-fn write_duration<P: Protocol>(out: &mut Blob, start: Nanos, end: Nanos) -> Result<(), OutOfMemory>
+fn write_duration<P: Parts>(out: &mut Blob, start: Nanos, end: Nanos) -> Result<(), OutOfMemory>
     ensures { WritesField P.keeps P.writes result out.old out.new (pos 8) (pos 9) (micros_tree (micros end - micros start)) }
 {
     write_micros::<P>(out, 8, 9, end.micros().saturating_sub(start.micros()))
 }
 
 // Appends the fields 8 and 9.
-fn write_times<P: Protocol>(out: &mut Blob, span: &JSpan) -> Result<(), OutOfMemory>
+fn write_times<P: Parts>(out: &mut Blob, span: &JSpan) -> Result<(), OutOfMemory>
     ensures { WritesRows P.keeps P.writes result out.old out.new (pos 7) (time_rows span.now) }
 {
     write_time::<P>(out, 7, 8, span.start)?;
@@ -133,7 +133,7 @@ fn write_times<P: Protocol>(out: &mut Blob, span: &JSpan) -> Result<(), OutOfMem
 }
 
 // Appends the fields 10 and 11.
-fn write_tags_and_logs<P: Protocol>(out: &mut Blob, span: &JSpan) -> Result<(), OutOfMemory>
+fn write_tags_and_logs<P: Parts>(out: &mut Blob, span: &JSpan) -> Result<(), OutOfMemory>
     requires { IsWritableSpan span.now }
     ensures { WritesRows P.keeps P.writes result out.old out.new (pos 9) (tag_and_log_rows span.now) }
 {
@@ -144,7 +144,7 @@ fn write_tags_and_logs<P: Protocol>(out: &mut Blob, span: &JSpan) -> Result<(), 
     write_filled_list::<P, Log>(out, 10, 11, &span.logs)
 }
 
-impl<P: Protocol> Structure<P> for JSpan {
+impl<P: Parts> Structure<P> for JSpan {
     ghost use Rattle.jaeger_model.specs.Canonical.{jspan_rows};
     ghost use Rattle.jaeger_model.specs.Writable.{IsWritableSpan};
 

@@ -6,10 +6,10 @@ ghost use Rattle.jaeger_model.specs.Growing.{GrowsBy, WritesField, WritesRows, W
 ghost use Rattle.jaeger_model.specs.Writable.{AreWritable};
 
 use span_io::{Blob, Items, OutOfMemory};
-use thrift_core::{Protocol, TypeCode};
+use thrift_core::{Parts, TypeCode};
 
 /// What is written as a struct.
-pub(crate) trait Structure<P: Protocol> {
+pub(crate) trait Structure<P: Parts> {
     // Its fields.
     ghost rows: { Self → List FieldRow };
     // It may be written.
@@ -22,7 +22,7 @@ pub(crate) trait Structure<P: Protocol> {
 }
 
 /// Appends a struct.
-pub(crate) fn write_structure<P: Protocol, S: Structure<P>>(
+pub(crate) fn write_structure<P: Parts, S: Structure<P>>(
     out: &mut Blob,
     item: &S,
 ) -> Result<(), OutOfMemory>
@@ -34,10 +34,7 @@ pub(crate) fn write_structure<P: Protocol, S: Structure<P>>(
 }
 
 // Appends structs, one after the other.
-fn write_elements<P: Protocol, S: Structure<P>>(
-    out: &mut Blob,
-    items: &[S],
-) -> Result<(), OutOfMemory>
+fn write_elements<P: Parts, S: Structure<P>>(out: &mut Blob, items: &[S]) -> Result<(), OutOfMemory>
     requires { All S.writable items.now }
     ensures { (left : ℕ) → GrowsBy result out.old out.new
         (elements_written P.keeps P.writes (struct_trees S.rows items.now) left) }
@@ -49,7 +46,7 @@ fn write_elements<P: Protocol, S: Structure<P>>(
 }
 
 /// Appends a field of a list of structs.
-pub(crate) fn write_list<P: Protocol, S: Structure<P>>(
+pub(crate) fn write_list<P: Parts, S: Structure<P>>(
     out: &mut Blob,
     last: i16,
     id: i16,
@@ -65,7 +62,7 @@ pub(crate) fn write_list<P: Protocol, S: Structure<P>>(
 }
 
 /// Appends a field of a list of structs, unless it is empty.
-pub(crate) fn write_filled_list<P: Protocol, S: Structure<P>>(
+pub(crate) fn write_filled_list<P: Parts, S: Structure<P>>(
     out: &mut Blob,
     last: i16,
     id: i16,

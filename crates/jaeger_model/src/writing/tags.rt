@@ -12,7 +12,7 @@ use crate::writing::fields::{
 };
 use crate::writing::structures::{Structure, write_list};
 use span_io::{Blob, OutOfMemory};
-use thrift_core::Protocol;
+use thrift_core::Parts;
 
 // The number of the value's type.
 fn type_number(value: &TagValue) -> i32
@@ -28,14 +28,14 @@ fn type_number(value: &TagValue) -> i32
 }
 
 // Appends the field of the value's type.
-fn write_type<P: Protocol>(out: &mut Blob, value: &TagValue) -> Result<(), OutOfMemory>
+fn write_type<P: Parts>(out: &mut Blob, value: &TagValue) -> Result<(), OutOfMemory>
     ensures { WritesField P.keeps P.writes result out.old out.new (pos 1) (pos 2) (enum_tree (type_of value.now)) }
 {
     write_int::<P>(out, 1, 2, type_number(value))
 }
 
 // Appends the value's own field, behind the type.
-fn write_value<P: Protocol>(out: &mut Blob, value: &TagValue) -> Result<(), OutOfMemory>
+fn write_value<P: Parts>(out: &mut Blob, value: &TagValue) -> Result<(), OutOfMemory>
     requires { IsShortValue value.now }
     ensures { WritesField P.keeps P.writes result out.old out.new (pos 2) (value_row value.now).0 (value_row value.now).1 }
 {
@@ -48,7 +48,7 @@ fn write_value<P: Protocol>(out: &mut Blob, value: &TagValue) -> Result<(), OutO
     }
 }
 
-impl<P: Protocol> Structure<P> for Tag {
+impl<P: Parts> Structure<P> for Tag {
     ghost use Rattle.jaeger_model.specs.Canonical.{tag_rows};
     ghost use Rattle.jaeger_model.specs.Writable.{IsWritableTag};
 
@@ -63,7 +63,7 @@ impl<P: Protocol> Structure<P> for Tag {
     }
 }
 
-impl<P: Protocol> Structure<P> for Log {
+impl<P: Parts> Structure<P> for Log {
     ghost use Rattle.jaeger_model.specs.Canonical.{log_rows};
     ghost use Rattle.jaeger_model.specs.Writable.{IsWritableLog};
 

@@ -1,5 +1,5 @@
 //! Requests of OTLP as batches of Jaeger.
-use super::texts::PLAIN_BATCH;
+use super::texts::{ENDS_BEFORE_START_REQUEST, ERROR_REQUEST, EVENT_REQUEST, PLAIN_BATCH};
 use super::{BATCHES, REQUESTS, Row, Stop};
 
 /// What becomes of requests as batches.
@@ -106,13 +106,12 @@ pub const WRITTEN: [Row; 5] = [
 ];
 
 /// What a batch can't hold.
-pub const FAULTS: [Stop; 25] = [
+pub const FAULTS: [Stop; 24] = [
     Stop {
         name: "ends before it starts",
         from: REQUESTS,
         to: BATCHES,
-        input: "0a35123312310a1000000000000000000000000000000001120800000000000000022a016139d10700000000\
-        000041d007000000000000",
+        input: ENDS_BEFORE_START_REQUEST,
         status: 4,
         output: "",
         note: "unit 1: fault 20 EndBeforeStart\n",
@@ -121,8 +120,7 @@ pub const FAULTS: [Stop; 25] = [
         name: "reserved error",
         from: REQUESTS,
         to: BATCHES,
-        input: "0a30122e122c0a1000000000000000000000000000000001120800000000000000022a01614a0b0a05657272\
-        6f7212021001",
+        input: ERROR_REQUEST,
         status: 4,
         output: "",
         note: "unit 1: fault 21 Reserved \"error\"\n",
@@ -241,8 +239,7 @@ pub const FAULTS: [Stop; 25] = [
         name: "reserved event",
         from: REQUESTS,
         to: BATCHES,
-        input: "0a3f123d123b0a1000000000000000000000000000000001120800000000000000022a01615a1a09e8030000\
-        000000001201651a0c0a056576656e7412030a0178",
+        input: EVENT_REQUEST,
         status: 4,
         output: "",
         note: "unit 1: fault 21 Reserved \"event\"\n",
@@ -349,15 +346,5 @@ pub const FAULTS: [Stop; 25] = [
         status: 4,
         output: "",
         note: "unit 1: fault 20 EndBeforeStart\n",
-    },
-    Stop {
-        name: "behind a good group",
-        from: REQUESTS,
-        to: BATCHES,
-        input: "0a231221121f0a1000000000000000000000000000000001120800000000000000022a01610a2c122a12280a\
-        1000000000000000000000000000000001120800000000000000022a0161390100000000000000",
-        status: 4,
-        output: PLAIN_BATCH,
-        note: "unit 2: fault 20 EndBeforeStart\n",
     },
 ];

@@ -1,9 +1,9 @@
 //! What stops batches of Jaeger.
-use super::texts::SPAN_BATCH;
 use super::{BATCHES, REQUESTS, Stop};
+use span_vectors::texts::SPAN_COMPACT;
 
 /// What stops the reading of batches.
-pub const STOPPED: [Stop; 16] = [
+pub const STOPPED: [Stop; 15] = [
     Stop {
         name: "a negative length",
         from: BATCHES,
@@ -32,17 +32,6 @@ pub const STOPPED: [Stop; 16] = [
         status: 3,
         output: "",
         note: "unit 1: cause 1 Truncated\n",
-    },
-    Stop {
-        name: "behind a batch",
-        from: BATCHES,
-        to: BATCHES,
-        input: "0c00010b00010000000173000f00020c000000010a000100000000000000010a000200000000000000000a00\
-        0300000000000000020a000400000000000000000b00050000000161080007000000000a0008000000000000\
-        00000a00090000000000000000000000",
-        status: 3,
-        output: SPAN_BATCH,
-        note: "unit 2: cause 8 Missing\n",
     },
     Stop {
         name: "levels",
@@ -167,7 +156,7 @@ pub const STOPPED: [Stop; 16] = [
         name: "a batch in the other protocol",
         from: BATCHES,
         to: BATCHES,
-        input: "1c18017300191c16021600160416001801612500160016000000",
+        input: SPAN_COMPACT,
         status: 3,
         output: "",
         note: "unit 1: cause 3 BadWire\n",

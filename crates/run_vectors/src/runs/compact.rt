@@ -1,13 +1,13 @@
 //! Batches of Jaeger in the compact protocol of Thrift.
-use super::texts::{
-    CLIENT_COMPACT, DOUBLE_BATCH, DOUBLE_COMPACT, MICROS_REQUEST, PARENT_COMPACT, ROOT_COMPACT,
-    SDK_BATCH, SDK_COMPACT, SDK_REQUEST, SPAN_BATCH, TRUTH_COMPACT, TWO_BATCHES_WITH_DOUBLE,
-    TWO_COMPACT_WITH_DOUBLE,
-};
+use super::texts::{EQUAL_TAGS, TRUTH_COMPACT};
 use super::{BATCHES, COMPACT, REQUESTS, Row};
+use span_vectors::texts::{
+    CLIENT_COMPACT, DOUBLE_BATCH, DOUBLE_COMPACT, FLAGS_COMPACT, MICROS_REQUEST, PARENT_COMPACT,
+    ROOT_COMPACT, SDK_BATCH, SDK_COMPACT, SDK_REQUEST, SPAN_BATCH, SPAN_COMPACT,
+};
 
 /// Batches in the compact protocol of Thrift.
-pub const WRITTEN: [Row; 27] = [
+pub const WRITTEN: [Row; 25] = [
     Row {
         name: "a request as an SDK writes it",
         from: REQUESTS,
@@ -37,20 +37,6 @@ pub const WRITTEN: [Row; 27] = [
         output: MICROS_REQUEST,
     },
     Row {
-        name: "two batches of one process, the second with a double",
-        from: BATCHES,
-        to: COMPACT,
-        input: TWO_BATCHES_WITH_DOUBLE,
-        output: TWO_COMPACT_WITH_DOUBLE,
-    },
-    Row {
-        name: "the same back",
-        from: COMPACT,
-        to: BATCHES,
-        input: TWO_COMPACT_WITH_DOUBLE,
-        output: TWO_BATCHES_WITH_DOUBLE,
-    },
-    Row {
         name: "a root with two references to its own trace",
         from: COMPACT,
         to: COMPACT,
@@ -78,15 +64,15 @@ pub const WRITTEN: [Row; 27] = [
         name: "flags but the first bit",
         from: COMPACT,
         to: COMPACT,
-        input: "1c18017300191c16021600160416001801612506160016000000",
-        output: "1c18017300191c16021600160416001801612506160016000000",
+        input: FLAGS_COMPACT,
+        output: FLAGS_COMPACT,
     },
     Row {
         name: "a short list in the long spelling",
         from: COMPACT,
         to: COMPACT,
         input: "1c1801730019fc0116021600160416001801612506160016000000",
-        output: "1c18017300191c16021600160416001801612506160016000000",
+        output: FLAGS_COMPACT,
     },
     Row {
         name: "a truth value in a tag",
@@ -129,8 +115,7 @@ pub const WRITTEN: [Row; 27] = [
         name: "a repeated tag, and `error` as a text",
         from: COMPACT,
         to: COMPACT,
-        input: "1c18017300191c1602160016041600180161250016001600193c18016b15001801310018016b150018013200\
-        18056572726f721500180474727565000000",
+        input: EQUAL_TAGS,
         output: "1c18017300191c1602160016041600180161250016001600193c18056572726f721504310018016b15001801\
         320018106f74656c2e7374617475735f636f6465150018054552524f52000000",
     },
@@ -140,7 +125,7 @@ pub const WRITTEN: [Row; 27] = [
         to: COMPACT,
         input: "1c18017300191c1682808080808080808000160016041600180161250016808080808080808080001600000b\
         c6010001c80100",
-        output: "1c18017300191c16021600160416001801612500160016000000",
+        output: SPAN_COMPACT,
     },
     Row {
         name: "no batch",
@@ -161,21 +146,21 @@ pub const WRITTEN: [Row; 27] = [
         from: BATCHES,
         to: COMPACT,
         input: SPAN_BATCH,
-        output: "1c18017300191c16021600160416001801612500160016000000",
+        output: SPAN_COMPACT,
     },
     Row {
         name: "a span back to the binary protocol",
         from: COMPACT,
         to: BATCHES,
-        input: "1c18017300191c16021600160416001801612500160016000000",
+        input: SPAN_COMPACT,
         output: SPAN_BATCH,
     },
     Row {
         name: "a span in the compact protocol",
         from: COMPACT,
         to: COMPACT,
-        input: "1c18017300191c16021600160416001801612500160016000000",
-        output: "1c18017300191c16021600160416001801612500160016000000",
+        input: SPAN_COMPACT,
+        output: SPAN_COMPACT,
     },
     Row {
         name: "a double in a tag in the binary protocol",

@@ -1,15 +1,14 @@
 //! What stops batches in the compact protocol.
-use super::texts::SPAN_BATCH;
+use super::texts::ERROR_REQUEST;
 use super::{BATCHES, COMPACT, REQUESTS, Stop};
 
 /// What stops batches in the compact protocol.
-pub const STOPPED: [Stop; 24] = [
+pub const STOPPED: [Stop; 23] = [
     Stop {
         name: "reserved error",
         from: REQUESTS,
         to: COMPACT,
-        input: "0a30122e122c0a1000000000000000000000000000000001120800000000000000022a01614a0b0a05657272\
-        6f7212021001",
+        input: ERROR_REQUEST,
         status: 4,
         output: "",
         note: "unit 1: fault 21 Reserved \"error\"\n",
@@ -203,16 +202,6 @@ pub const STOPPED: [Stop; 24] = [
         status: 3,
         output: "",
         note: "unit 1: cause 7 FieldTwice\n",
-    },
-    Stop {
-        name: "a good batch before one that is cut",
-        from: COMPACT,
-        to: BATCHES,
-        input: "1c18017300191c160216001604160018016125001600160000001c18017300191c1602160016041600180161\
-        25001600160000",
-        status: 3,
-        output: SPAN_BATCH,
-        note: "unit 2: cause 1 Truncated\n",
     },
     Stop {
         name: "a byte is missing",

@@ -1,6 +1,6 @@
 //! Words, and devices that fail: what a run answers.
-use super::texts::ONE_SPAN;
 use super::{REQUESTS, SPANS};
+use span_vectors::texts::ONE_SPAN;
 
 /// The calls that fail, of the input, the output and the notes.
 #[derive(Clone, Copy)]
@@ -75,7 +75,7 @@ pub const CASES: [Case; 23] = [
             notes: &[],
         },
         status: 5,
-        output: "",
+        output: ONE_SPAN,
         note: "input failed\n",
     },
     Case {
@@ -729,7 +729,7 @@ pub const LOSS_CASES: [Case; 8] = [
             notes: &[],
         },
         status: 5,
-        output: "",
+        output: "756e69742031207370616e20313a206b696e640a",
         note: "input failed\n",
     },
     Case {

@@ -1,13 +1,15 @@
 //! Groups in OTLP/JSON: what they are converted to.
 use super::texts::{
-    EVENT_GROUP, EVENT_SPANS, LINK_OF_TRACE, LINKED, NO_DURATION, ONE_GROUP, ONE_SPAN,
-    PARENT_COMPACT, SDK_BATCH, SDK_COMPACT, SDK_GROUPS, SDK_REQUEST, SDK_SPANS, SPAN_TWICE,
-    TWO_GROUPS,
+    EVENT_GROUP, EVENT_SPANS, LINK_OF_TRACE, MICRO_SPANS, NO_DURATION, TRUTH_SPANS, TWO_GROUPS,
 };
 use super::{BATCHES, COMPACT, GROUPS, REQUESTS, Row, SPANS};
+use span_vectors::texts::{
+    LINKED, ONE_GROUP, ONE_SPAN, ONE_ZIPKIN_SPAN, PARENT_COMPACT, SDK_BATCH, SDK_COMPACT,
+    SDK_GROUPS, SDK_REQUEST, SDK_SPANS,
+};
 
 /// What OTLP/JSON is converted to.
-pub const WRITTEN: [Row; 19] = [
+pub const WRITTEN: [Row; 18] = [
     Row {
         name: "the same back",
         from: GROUPS,
@@ -69,7 +71,7 @@ pub const WRITTEN: [Row; 19] = [
         from: GROUPS,
         to: SPANS,
         input: r#"{"resourceSpans":[{"scopeSpans":[{"spans":[{"traceId":"00000000000000000000000000000001","spanId":"0000000000000002","name":"a","startTimeUnixNano":"1999","endTimeUnixNano":"2000"}]}]}]}"#,
-        output: r#"[{"duration":1,"id":"0000000000000002","name":"a","timestamp":1,"traceId":"00000000000000000000000000000001"}]"#,
+        output: MICRO_SPANS,
     },
     Row {
         name: "no duration, to Zipkin",
@@ -83,7 +85,7 @@ pub const WRITTEN: [Row; 19] = [
         from: GROUPS,
         to: SPANS,
         input: r#"{"resourceSpans":[{"scopeSpans":[{"spans":[{"traceId":"00000000000000000000000000000001","spanId":"0000000000000002","name":"a","attributes":[{"key":"ok","value":{"boolValue":true}}]}]}]}]}"#,
-        output: r#"[{"id":"0000000000000002","name":"a","tags":{"ok":"true"},"traceId":"00000000000000000000000000000001"}]"#,
+        output: TRUTH_SPANS,
     },
     Row {
         name: "an event with an attribute",
@@ -97,7 +99,7 @@ pub const WRITTEN: [Row; 19] = [
         from: GROUPS,
         to: SPANS,
         input: LINK_OF_TRACE,
-        output: r#"[{"id":"0000000000000002","name":"a","traceId":"00000000000000000000000000000001"}]"#,
+        output: ONE_ZIPKIN_SPAN,
     },
     Row {
         name: "no group, written again",
@@ -119,13 +121,6 @@ pub const WRITTEN: [Row; 19] = [
         to: GROUPS,
         input: ONE_GROUP,
         output: ONE_GROUP,
-    },
-    Row {
-        name: "a span twice, of JSON",
-        from: GROUPS,
-        to: REQUESTS,
-        input: TWO_GROUPS,
-        output: SPAN_TWICE,
     },
     Row {
         name: "a span twice, written again",

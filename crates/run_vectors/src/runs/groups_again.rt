@@ -1,6 +1,7 @@
 //! How much may be spelled in OTLP/JSON, and what is written of it: members and values.
-use super::texts::{ENDS_BEFORE_START, EVERY_FIELD, EVERY_MEMBER, ONE_GROUP, SDK_GROUPS};
+use super::texts::{ENDS_BEFORE_START, EVERY_FIELD, EVERY_MEMBER, TWICE_AND_NOWHERE};
 use super::{BATCHES, GROUPS, REQUESTS, Row};
+use span_vectors::texts::{ONE_GROUP, SDK_GROUPS};
 
 /// How much may be spelled: members.
 pub const MEMBERS: [Row; 13] = [
@@ -36,7 +37,7 @@ pub const MEMBERS: [Row; 13] = [
         name: "a key that stands twice, and a link to nowhere",
         from: GROUPS,
         to: GROUPS,
-        input: r#"{"resourceSpans":[{"scopeSpans":[{"spans":[{"traceId":"00000000000000000000000000000001","spanId":"0000000000000002","name":"a","attributes":[{"key":"k","value":{"intValue":"1"}},{"key":"k","value":{"intValue":2}}],"links":[{"traceId":"","spanId":""}]}]}]}]}"#,
+        input: TWICE_AND_NOWHERE,
         output: r#"{"resourceSpans":[{"scopeSpans":[{"spans":[{"attributes":[{"key":"k","value":{"intValue":"2"}}],"name":"a","spanId":"0000000000000002","traceId":"00000000000000000000000000000001"}]}]}]}"#,
     },
     Row {

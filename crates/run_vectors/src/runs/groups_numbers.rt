@@ -1,6 +1,7 @@
 //! Numbers in OTLP/JSON: the ends of each range, and spellings.
-use super::texts::{BITS_63, GREATEST_COUNTS, ONE_GROUP};
+use super::texts::{BITS_63, GREATEST_COUNTS};
 use super::{GROUPS, REQUESTS, Row};
+use span_vectors::texts::ONE_GROUP;
 
 /// Ends of each range, and spellings of numbers.
 pub const WRITTEN: [Row; 19] = [

@@ -1,12 +1,10 @@
 //! What stops a conversion to OTLP/JSON, or of it: faults and causes.
-use super::texts::{
-    DOUBLE_COMPACT, ENDS_BEFORE_START, EVENT_GROUP, LINK_OF_TRACE, PLAIN_BATCH,
-    TWO_BATCHES_WITH_DOUBLE,
-};
+use super::texts::{DOUBLE_REQUEST, ENDS_BEFORE_START, EVENT_GROUP, LINK_OF_TRACE, PLAIN_BATCH};
 use super::{BATCHES, COMPACT, GROUPS, REQUESTS, SPANS, Stop};
+use span_vectors::texts::DOUBLE_COMPACT;
 
 /// What a target can't hold.
-pub const FAULTS: [Stop; 21] = [
+pub const FAULTS: [Stop; 18] = [
     Stop {
         name: "ends before it starts, to batches",
         from: GROUPS,
@@ -101,8 +99,7 @@ pub const FAULTS: [Stop; 21] = [
         name: "in a span",
         from: REQUESTS,
         to: GROUPS,
-        input: "0a331231122f0a1000000000000000000000000000000001120800000000000000022a01614a0e0a01641209\
-        21000000000000f83f",
+        input: DOUBLE_REQUEST,
         status: 4,
         output: "",
         note: "unit 1: fault 25 DoubleInText\n",
@@ -174,36 +171,6 @@ pub const FAULTS: [Stop; 21] = [
         status: 4,
         output: PLAIN_BATCH,
         note: "unit 2: fault 20 EndBeforeStart\n",
-    },
-    Stop {
-        name: "a double of the second group",
-        from: REQUESTS,
-        to: GROUPS,
-        input: "0a231221121f0a1000000000000000000000000000000001120800000000000000022a01610a331231122f0a\
-        1000000000000000000000000000000001120800000000000000022a01614a0e0a0164120921000000000000\
-        f83f",
-        status: 4,
-        output: r#"{"resourceSpans":[{"scopeSpans":[{"spans":[{"name":"a","spanId":"0000000000000002","traceId":"00000000000000000000000000000001"}]}]}"#,
-        note: "unit 2: fault 25 DoubleInText\n",
-    },
-    Stop {
-        name: "a double of the second batch",
-        from: BATCHES,
-        to: GROUPS,
-        input: TWO_BATCHES_WITH_DOUBLE,
-        status: 4,
-        output: r#"{"resourceSpans":[{"resource":{"attributes":[{"key":"service.name","value":{"stringValue":"s"}}]},"scopeSpans":[{"spans":[{"kind":1,"name":"a","spanId":"0000000000000002","traceId":"00000000000000000000000000000001"}]}]}"#,
-        note: "unit 2: fault 25 DoubleInText\n",
-    },
-    Stop {
-        name: "a double behind a span",
-        from: REQUESTS,
-        to: GROUPS,
-        input: "0a231221121f0a1000000000000000000000000000000001120800000000000000022a01610a120a100a0e0a\
-        016b120921000000000000f03f",
-        status: 4,
-        output: r#"{"resourceSpans":[{"scopeSpans":[{"spans":[{"name":"a","spanId":"0000000000000002","traceId":"00000000000000000000000000000001"}]}]}"#,
-        note: "unit 2: fault 25 DoubleInText\n",
     },
 ];
 

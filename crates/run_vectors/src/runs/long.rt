@@ -1,8 +1,8 @@
 //! Inputs that are long: more than a piece, the longest document and one that is longer, and long texts.
 use super::devices::{Fails, NO_FAILS};
-use super::texts::ONE_SPAN;
 use super::{REQUESTS, SPANS, bytes_in, expect_answer, run_cut};
 use span_io::Blob;
+use span_vectors::texts::ONE_SPAN;
 use std::alloc::Global;
 use std::test::Fail;
 
@@ -48,7 +48,7 @@ fn fails_at_the_second_write(rt: HostRuntime) -> Result<(), Fail> {
     };
     let answer = run_cut(rt.alloc(), &CONVERT, input, 65_536, fails)?;
     assert_eq!(rt; answer.status, 6);
-    assert_eq!(rt; answer.output.len(), 1_772 * 37);
+    assert_eq!(rt; answer.output.len(), 1_771 * 37);
     assert!(rt; answer.output.as_slice().starts_with(group.as_slice()));
     assert_eq!(rt; answer.note.as_slice(), b"output failed\n".as_slice());
     Ok(())

@@ -1,6 +1,50 @@
 //! Losses of inputs, by target: the lines of `losses`.
-use super::texts::{CLIENT_SPANS, DOUBLE_COMPACT, EVERY_FIELD, EVERY_MEMBER, SDK_REQUEST};
+use super::texts::{EVERY_FIELD, EVERY_MEMBER};
 use super::{BATCHES, COMPACT, GROUPS, REQUESTS, SPANS, Stop};
+use span_vectors::texts::{CLIENT_SPANS, DOUBLE_COMPACT, FLAGS_COMPACT, SDK_REQUEST};
+
+// Spans whose starts are below microseconds, and others.
+const START_BELOW: &str =
+    r#"{"resourceSpans":[{"scopeSpans":[{"spans":[{"traceId":"00000000000000000000000000000001","spanId":"0000000000000002","name":"a","kind":1,"startTimeUnixNano":"1000","endTimeUnixNano":"2000"},{"traceId":"00000000000000000000000000000001","spanId":"0000000000000002","name":"a","kind":1,"startTimeUnixNano":"1999","endTimeUnixNano":"2000"}]}]}]}"#;
+
+// The same of their ends.
+const END_BELOW: &str =
+    r#"{"resourceSpans":[{"scopeSpans":[{"spans":[{"traceId":"00000000000000000000000000000001","spanId":"0000000000000002","name":"a","kind":1,"startTimeUnixNano":"1000","endTimeUnixNano":"1001"},{"traceId":"00000000000000000000000000000001","spanId":"0000000000000002","name":"a","kind":1,"startTimeUnixNano":"1000","endTimeUnixNano":"1000"}]}]}]}"#;
+
+// The same of an event.
+const EVENT_BELOW: &str =
+    r#"{"resourceSpans":[{"scopeSpans":[{"spans":[{"traceId":"00000000000000000000000000000001","spanId":"0000000000000002","name":"a","kind":1,"events":[{"timeUnixNano":"1000"},{"timeUnixNano":"999"}]}]}]}]}"#;
+
+// A span without a kind, and one of each kind.
+const KINDS: &str =
+    r#"{"resourceSpans":[{"scopeSpans":[{"spans":[{"traceId":"00000000000000000000000000000001","spanId":"0000000000000002","name":"a","kind":1},{"traceId":"00000000000000000000000000000001","spanId":"0000000000000002","name":"a","kind":2},{"traceId":"00000000000000000000000000000001","spanId":"0000000000000002","name":"a","kind":3},{"traceId":"00000000000000000000000000000001","spanId":"0000000000000002","name":"a","kind":4},{"traceId":"00000000000000000000000000000001","spanId":"0000000000000002","name":"a","kind":5},{"traceId":"00000000000000000000000000000001","spanId":"0000000000000002","name":"a"}]}]}]}"#;
+
+// A scope without spans before one with a span.
+const EMPTY_SCOPE: &str =
+    r#"{"resourceSpans":[{"scopeSpans":[{"scope":{"name":"lib"}},{"spans":[{"traceId":"00000000000000000000000000000001","spanId":"0000000000000002","name":"a","kind":1}]}]}]}"#;
+
+// Scopes that join the one before, and others.
+const SCOPES: &str =
+    r#"{"resourceSpans":[{"scopeSpans":[{"scope":{"name":"lib","version":"1"},"spans":[{"traceId":"00000000000000000000000000000001","spanId":"0000000000000002","name":"a","kind":1}]},{"scope":{"name":"lib","version":"1"},"spans":[{"traceId":"00000000000000000000000000000001","spanId":"0000000000000002","name":"a","kind":1}]},{"scope":{"name":"lib","version":"2"},"spans":[{"traceId":"00000000000000000000000000000001","spanId":"0000000000000002","name":"a","kind":1}]},{"scope":{"name":"lib","version":"1"}},{"scope":{"name":"lib","version":"2"},"spans":[{"traceId":"00000000000000000000000000000001","spanId":"0000000000000002","name":"a","kind":1}]}]}]}"#;
+
+// What Jaeger and Zipkin lose of them.
+const SCOPE_LINES: &str = "unit 1 scope 2: scope-joined\n\
+    unit 1 scope 4: scope-empty\n\
+    unit 1 scope 5: scope-joined\n\
+    losses 3\n";
+
+// The lines on schema URLs of a resource and of a scope.
+const SCHEMA_LINES: &str = "unit 1 resource: schema-url\n\
+    unit 1 scope 2: schema-url\n\
+    losses 2\n";
+
+// A scope that joins across two units.
+const ACROSS_UNITS: &str =
+    r#"{"resourceSpans":[{"resource":{"attributes":[{"key":"service.name","value":{"stringValue":"s"}}]},"scopeSpans":[{"scope":{"name":"lib"},"spans":[{"traceId":"00000000000000000000000000000001","spanId":"0000000000000002","name":"a","kind":1}]}]},{"resource":{"attributes":[{"key":"service.name","value":{"stringValue":"s"}}]},"scopeSpans":[{"scope":{"name":"lib"},"spans":[{"traceId":"00000000000000000000000000000001","spanId":"0000000000000002","name":"a","kind":1}]}]}]}"#;
+
+// A unit without spans between two of one resource.
+const EMPTY_BETWEEN: &str =
+    r#"{"resourceSpans":[{"resource":{"attributes":[{"key":"service.name","value":{"stringValue":"s"}}]},"scopeSpans":[{"scope":{"name":"lib"},"spans":[{"traceId":"00000000000000000000000000000001","spanId":"0000000000000002","name":"a","kind":1}]}]},{},{"resource":{"attributes":[{"key":"service.name","value":{"stringValue":"s"}}]},"scopeSpans":[{"scope":{"name":"lib"},"spans":[{"traceId":"00000000000000000000000000000001","spanId":"0000000000000002","name":"a","kind":1}]}]}]}"#;
 
 /// What Jaeger loses of a document.
 pub const TO_JAEGER: [Stop; 17] = [
@@ -55,9 +99,7 @@ pub const TO_JAEGER: [Stop; 17] = [
         to: BATCHES,
         input: r#"{"resourceSpans":[{"scopeSpans":[{"scope":{"name":"lib","version":"1"},"spans":[{"traceId":"00000000000000000000000000000001","spanId":"0000000000000002","name":"a","kind":1}]},{"scope":{"name":"lib","version":"2"},"spans":[{"traceId":"00000000000000000000000000000001","spanId":"0000000000000002","name":"a","kind":1}],"schemaUrl":"s"}],"schemaUrl":"r"},{"scopeSpans":[{"spans":[{"traceId":"00000000000000000000000000000001","spanId":"0000000000000002","name":"a","kind":1}]}],"schemaUrl":""}]}"#,
         status: 0,
-        output: "unit 1 resource: schema-url\n\
-        unit 1 scope 2: schema-url\n\
-        losses 2\n",
+        output: SCHEMA_LINES,
         note: "",
     },
     Stop {
@@ -87,7 +129,7 @@ pub const TO_JAEGER: [Stop; 17] = [
         name: "a start below microseconds",
         from: GROUPS,
         to: COMPACT,
-        input: r#"{"resourceSpans":[{"scopeSpans":[{"spans":[{"traceId":"00000000000000000000000000000001","spanId":"0000000000000002","name":"a","kind":1,"startTimeUnixNano":"1000","endTimeUnixNano":"2000"},{"traceId":"00000000000000000000000000000001","spanId":"0000000000000002","name":"a","kind":1,"startTimeUnixNano":"1999","endTimeUnixNano":"2000"}]}]}]}"#,
+        input: START_BELOW,
         status: 0,
         output: "unit 1 span 2: start\n\
         losses 1\n",
@@ -97,7 +139,7 @@ pub const TO_JAEGER: [Stop; 17] = [
         name: "an end below microseconds",
         from: GROUPS,
         to: BATCHES,
-        input: r#"{"resourceSpans":[{"scopeSpans":[{"spans":[{"traceId":"00000000000000000000000000000001","spanId":"0000000000000002","name":"a","kind":1,"startTimeUnixNano":"1000","endTimeUnixNano":"1001"},{"traceId":"00000000000000000000000000000001","spanId":"0000000000000002","name":"a","kind":1,"startTimeUnixNano":"1000","endTimeUnixNano":"1000"}]}]}]}"#,
+        input: END_BELOW,
         status: 0,
         output: "unit 1 span 1: end\n\
         losses 1\n",
@@ -107,7 +149,7 @@ pub const TO_JAEGER: [Stop; 17] = [
         name: "a time of an event below microseconds",
         from: GROUPS,
         to: COMPACT,
-        input: r#"{"resourceSpans":[{"scopeSpans":[{"spans":[{"traceId":"00000000000000000000000000000001","spanId":"0000000000000002","name":"a","kind":1,"events":[{"timeUnixNano":"1000"},{"timeUnixNano":"999"}]}]}]}]}"#,
+        input: EVENT_BELOW,
         status: 0,
         output: "unit 1 span 1 event 2: time\n\
         losses 1\n",
@@ -117,7 +159,7 @@ pub const TO_JAEGER: [Stop; 17] = [
         name: "no kind, and each other one",
         from: GROUPS,
         to: BATCHES,
-        input: r#"{"resourceSpans":[{"scopeSpans":[{"spans":[{"traceId":"00000000000000000000000000000001","spanId":"0000000000000002","name":"a","kind":1},{"traceId":"00000000000000000000000000000001","spanId":"0000000000000002","name":"a","kind":2},{"traceId":"00000000000000000000000000000001","spanId":"0000000000000002","name":"a","kind":3},{"traceId":"00000000000000000000000000000001","spanId":"0000000000000002","name":"a","kind":4},{"traceId":"00000000000000000000000000000001","spanId":"0000000000000002","name":"a","kind":5},{"traceId":"00000000000000000000000000000001","spanId":"0000000000000002","name":"a"}]}]}]}"#,
+        input: KINDS,
         status: 0,
         output: "unit 1 span 6: kind\n\
         losses 1\n",
@@ -158,7 +200,7 @@ pub const TO_JAEGER: [Stop; 17] = [
         name: "a scope without spans",
         from: GROUPS,
         to: BATCHES,
-        input: r#"{"resourceSpans":[{"scopeSpans":[{"scope":{"name":"lib"}},{"spans":[{"traceId":"00000000000000000000000000000001","spanId":"0000000000000002","name":"a","kind":1}]}]}]}"#,
+        input: EMPTY_SCOPE,
         status: 0,
         output: "unit 1 scope 1: scope-empty\n\
         losses 1\n",
@@ -168,12 +210,9 @@ pub const TO_JAEGER: [Stop; 17] = [
         name: "scopes that join the one before, and others",
         from: GROUPS,
         to: COMPACT,
-        input: r#"{"resourceSpans":[{"scopeSpans":[{"scope":{"name":"lib","version":"1"},"spans":[{"traceId":"00000000000000000000000000000001","spanId":"0000000000000002","name":"a","kind":1}]},{"scope":{"name":"lib","version":"1"},"spans":[{"traceId":"00000000000000000000000000000001","spanId":"0000000000000002","name":"a","kind":1}]},{"scope":{"name":"lib","version":"2"},"spans":[{"traceId":"00000000000000000000000000000001","spanId":"0000000000000002","name":"a","kind":1}]},{"scope":{"name":"lib","version":"1"}},{"scope":{"name":"lib","version":"2"},"spans":[{"traceId":"00000000000000000000000000000001","spanId":"0000000000000002","name":"a","kind":1}]}]}]}"#,
+        input: SCOPES,
         status: 0,
-        output: "unit 1 scope 2: scope-joined\n\
-        unit 1 scope 4: scope-empty\n\
-        unit 1 scope 5: scope-joined\n\
-        losses 3\n",
+        output: SCOPE_LINES,
         note: "",
     },
     Stop {
@@ -255,9 +294,7 @@ pub const TO_ZIPKIN: [Stop; 18] = [
         to: SPANS,
         input: r#"{"resourceSpans":[{"scopeSpans":[{"scope":{"name":"lib","version":"1"},"spans":[{"traceId":"00000000000000000000000000000001","spanId":"0000000000000002","name":"a","kind":1}]},{"scope":{"name":"lib","version":"2"},"spans":[{"traceId":"00000000000000000000000000000001","spanId":"0000000000000002","name":"a","kind":1}],"schemaUrl":"s"}],"schemaUrl":"r"},{"resource":{"attributes":[{"key":"service.name","value":{"stringValue":"other"}}]},"scopeSpans":[{"spans":[{"traceId":"00000000000000000000000000000001","spanId":"0000000000000002","name":"a","kind":1}]}],"schemaUrl":""}]}"#,
         status: 0,
-        output: "unit 1 resource: schema-url\n\
-        unit 1 scope 2: schema-url\n\
-        losses 2\n",
+        output: SCHEMA_LINES,
         note: "",
     },
     Stop {
@@ -286,7 +323,7 @@ pub const TO_ZIPKIN: [Stop; 18] = [
         name: "a start below microseconds",
         from: GROUPS,
         to: SPANS,
-        input: r#"{"resourceSpans":[{"scopeSpans":[{"spans":[{"traceId":"00000000000000000000000000000001","spanId":"0000000000000002","name":"a","kind":1,"startTimeUnixNano":"1000","endTimeUnixNano":"2000"},{"traceId":"00000000000000000000000000000001","spanId":"0000000000000002","name":"a","kind":1,"startTimeUnixNano":"1999","endTimeUnixNano":"2000"}]}]}]}"#,
+        input: START_BELOW,
         status: 0,
         output: "unit 1 span 2: start\n\
         losses 1\n",
@@ -296,7 +333,7 @@ pub const TO_ZIPKIN: [Stop; 18] = [
         name: "an end below microseconds",
         from: GROUPS,
         to: SPANS,
-        input: r#"{"resourceSpans":[{"scopeSpans":[{"spans":[{"traceId":"00000000000000000000000000000001","spanId":"0000000000000002","name":"a","kind":1,"startTimeUnixNano":"1000","endTimeUnixNano":"1001"},{"traceId":"00000000000000000000000000000001","spanId":"0000000000000002","name":"a","kind":1,"startTimeUnixNano":"1000","endTimeUnixNano":"1000"}]}]}]}"#,
+        input: END_BELOW,
         status: 0,
         output: "unit 1 span 1: end\n\
         losses 1\n",
@@ -306,7 +343,7 @@ pub const TO_ZIPKIN: [Stop; 18] = [
         name: "a time of an event below microseconds",
         from: GROUPS,
         to: SPANS,
-        input: r#"{"resourceSpans":[{"scopeSpans":[{"spans":[{"traceId":"00000000000000000000000000000001","spanId":"0000000000000002","name":"a","kind":1,"events":[{"timeUnixNano":"1000"},{"timeUnixNano":"999"}]}]}]}]}"#,
+        input: EVENT_BELOW,
         status: 0,
         output: "unit 1 span 1 event 2: time\n\
         losses 1\n",
@@ -316,7 +353,7 @@ pub const TO_ZIPKIN: [Stop; 18] = [
         name: "no kind, and each other one",
         from: GROUPS,
         to: SPANS,
-        input: r#"{"resourceSpans":[{"scopeSpans":[{"spans":[{"traceId":"00000000000000000000000000000001","spanId":"0000000000000002","name":"a","kind":1},{"traceId":"00000000000000000000000000000001","spanId":"0000000000000002","name":"a","kind":2},{"traceId":"00000000000000000000000000000001","spanId":"0000000000000002","name":"a","kind":3},{"traceId":"00000000000000000000000000000001","spanId":"0000000000000002","name":"a","kind":4},{"traceId":"00000000000000000000000000000001","spanId":"0000000000000002","name":"a","kind":5},{"traceId":"00000000000000000000000000000001","spanId":"0000000000000002","name":"a"}]}]}]}"#,
+        input: KINDS,
         status: 0,
         output: "unit 1 span 6: kind\n\
         losses 1\n",
@@ -358,7 +395,7 @@ pub const TO_ZIPKIN: [Stop; 18] = [
         name: "a scope without spans",
         from: GROUPS,
         to: SPANS,
-        input: r#"{"resourceSpans":[{"scopeSpans":[{"scope":{"name":"lib"}},{"spans":[{"traceId":"00000000000000000000000000000001","spanId":"0000000000000002","name":"a","kind":1}]}]}]}"#,
+        input: EMPTY_SCOPE,
         status: 0,
         output: "unit 1 scope 1: scope-empty\n\
         losses 1\n",
@@ -368,12 +405,9 @@ pub const TO_ZIPKIN: [Stop; 18] = [
         name: "scopes that join the one before, and others",
         from: GROUPS,
         to: SPANS,
-        input: r#"{"resourceSpans":[{"scopeSpans":[{"scope":{"name":"lib","version":"1"},"spans":[{"traceId":"00000000000000000000000000000001","spanId":"0000000000000002","name":"a","kind":1}]},{"scope":{"name":"lib","version":"1"},"spans":[{"traceId":"00000000000000000000000000000001","spanId":"0000000000000002","name":"a","kind":1}]},{"scope":{"name":"lib","version":"2"},"spans":[{"traceId":"00000000000000000000000000000001","spanId":"0000000000000002","name":"a","kind":1}]},{"scope":{"name":"lib","version":"1"}},{"scope":{"name":"lib","version":"2"},"spans":[{"traceId":"00000000000000000000000000000001","spanId":"0000000000000002","name":"a","kind":1}]}]}]}"#,
+        input: SCOPES,
         status: 0,
-        output: "unit 1 scope 2: scope-joined\n\
-        unit 1 scope 4: scope-empty\n\
-        unit 1 scope 5: scope-joined\n\
-        losses 3\n",
+        output: SCOPE_LINES,
         note: "",
     },
     Stop {
@@ -439,7 +473,7 @@ pub const JOINED: [Stop; 12] = [
         name: "a scope that joins across two units",
         from: GROUPS,
         to: SPANS,
-        input: r#"{"resourceSpans":[{"resource":{"attributes":[{"key":"service.name","value":{"stringValue":"s"}}]},"scopeSpans":[{"scope":{"name":"lib"},"spans":[{"traceId":"00000000000000000000000000000001","spanId":"0000000000000002","name":"a","kind":1}]}]},{"resource":{"attributes":[{"key":"service.name","value":{"stringValue":"s"}}]},"scopeSpans":[{"scope":{"name":"lib"},"spans":[{"traceId":"00000000000000000000000000000001","spanId":"0000000000000002","name":"a","kind":1}]}]}]}"#,
+        input: ACROSS_UNITS,
         status: 0,
         output: "unit 2: unit-joined\n\
         unit 2 scope 1: scope-joined\n\
@@ -450,7 +484,7 @@ pub const JOINED: [Stop; 12] = [
         name: "the same of Jaeger, whose units stay",
         from: GROUPS,
         to: COMPACT,
-        input: r#"{"resourceSpans":[{"resource":{"attributes":[{"key":"service.name","value":{"stringValue":"s"}}]},"scopeSpans":[{"scope":{"name":"lib"},"spans":[{"traceId":"00000000000000000000000000000001","spanId":"0000000000000002","name":"a","kind":1}]}]},{"resource":{"attributes":[{"key":"service.name","value":{"stringValue":"s"}}]},"scopeSpans":[{"scope":{"name":"lib"},"spans":[{"traceId":"00000000000000000000000000000001","spanId":"0000000000000002","name":"a","kind":1}]}]}]}"#,
+        input: ACROSS_UNITS,
         status: 0,
         output: "losses 0\n",
         note: "",
@@ -459,7 +493,7 @@ pub const JOINED: [Stop; 12] = [
         name: "a unit without spans between two of one resource",
         from: GROUPS,
         to: SPANS,
-        input: r#"{"resourceSpans":[{"resource":{"attributes":[{"key":"service.name","value":{"stringValue":"s"}}]},"scopeSpans":[{"scope":{"name":"lib"},"spans":[{"traceId":"00000000000000000000000000000001","spanId":"0000000000000002","name":"a","kind":1}]}]},{},{"resource":{"attributes":[{"key":"service.name","value":{"stringValue":"s"}}]},"scopeSpans":[{"scope":{"name":"lib"},"spans":[{"traceId":"00000000000000000000000000000001","spanId":"0000000000000002","name":"a","kind":1}]}]}]}"#,
+        input: EMPTY_BETWEEN,
         status: 0,
         output: "unit 2: unit-empty\n\
         unit 3: unit-joined\n\
@@ -471,7 +505,7 @@ pub const JOINED: [Stop; 12] = [
         name: "the same of Jaeger",
         from: GROUPS,
         to: BATCHES,
-        input: r#"{"resourceSpans":[{"resource":{"attributes":[{"key":"service.name","value":{"stringValue":"s"}}]},"scopeSpans":[{"scope":{"name":"lib"},"spans":[{"traceId":"00000000000000000000000000000001","spanId":"0000000000000002","name":"a","kind":1}]}]},{},{"resource":{"attributes":[{"key":"service.name","value":{"stringValue":"s"}}]},"scopeSpans":[{"scope":{"name":"lib"},"spans":[{"traceId":"00000000000000000000000000000001","spanId":"0000000000000002","name":"a","kind":1}]}]}]}"#,
+        input: EMPTY_BETWEEN,
         status: 0,
         output: "losses 0\n",
         note: "",
@@ -567,7 +601,7 @@ pub const JOINED: [Stop; 12] = [
 ];
 
 /// Losses of other inputs, and runs that stop.
-pub const TOLD: [Stop; 18] = [
+pub const TOLD: [Stop; 15] = [
     Stop {
         name: "a span of an SDK to Zipkin",
         from: REQUESTS,
@@ -597,7 +631,7 @@ pub const TOLD: [Stop; 18] = [
         name: "flags of a batch",
         from: COMPACT,
         to: SPANS,
-        input: "1c18017300191c16021600160416001801612506160016000000",
+        input: FLAGS_COMPACT,
         status: 0,
         output: "unit 1 span 1: flags\n\
         losses 1\n",
@@ -607,7 +641,7 @@ pub const TOLD: [Stop; 18] = [
         name: "a batch to the other protocol",
         from: COMPACT,
         to: BATCHES,
-        input: "1c18017300191c16021600160416001801612506160016000000",
+        input: FLAGS_COMPACT,
         status: 0,
         output: "losses 0\n",
         note: "",
@@ -674,36 +708,6 @@ pub const TOLD: [Stop; 18] = [
         status: 0,
         output: "losses 0\n",
         note: "",
-    },
-    Stop {
-        name: "a second unit that is cut",
-        from: REQUESTS,
-        to: COMPACT,
-        input: "0a231221121f0a1000000000000000000000000000000001120800000000000000022a01610a231221121f0a\
-        1000000000000000000000000000000001120800000000000000022a01",
-        status: 3,
-        output: "unit 1 span 1: kind\n",
-        note: "unit 2: cause 1 Truncated\n",
-    },
-    Stop {
-        name: "a second unit that ends before it starts",
-        from: REQUESTS,
-        to: SPANS,
-        input: "0a231221121f0a1000000000000000000000000000000001120800000000000000022a01610a2c122a12280a\
-        1000000000000000000000000000000001120800000000000000022a0161390100000000000000",
-        status: 4,
-        output: "unit 1 span 1: kind\n",
-        note: "unit 2: fault 20 EndBeforeStart\n",
-    },
-    Stop {
-        name: "a second batch with a double",
-        from: COMPACT,
-        to: SPANS,
-        input: "1c18017300191c160216001604160018016125061600160000001c18017300191c1602160016041600180161\
-        250616001600191c180164150227000000000000f03f000000",
-        status: 4,
-        output: "unit 1 span 1: flags\n",
-        note: "unit 2: fault 25 DoubleInText\n",
     },
     Stop {
         name: "a fault of the second unit of a document",

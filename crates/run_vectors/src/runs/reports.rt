@@ -1,9 +1,14 @@
 //! Reports of inputs: the lines of `show` and `check`.
-use super::texts::{CLIENT_SPANS, DOUBLE_COMPACT, ONE_SPAN};
+use super::texts::{EQUAL_TAGS, TWICE_AND_NOWHERE};
 use super::{BATCHES, COMPACT, GROUPS, REQUESTS, ReportRow, SPANS};
+use span_vectors::texts::{CLIENT_SPANS, DOUBLE_COMPACT, ONE_SPAN};
+
+// The line of a span whose kind is `INTERNAL`.
+const INTERNAL_LINE: &str =
+    "00000000000000000000000000000001 0000000000000002 - INTERNAL 0 0 UNSET \"a\"\n";
 
 /// What `show` says of inputs.
-pub const SHOWN: [ReportRow; 10] = [
+pub const SHOWN: [ReportRow; 9] = [
     ReportRow {
         name: "a span of a client",
         mode: "show",
@@ -67,7 +72,7 @@ pub const SHOWN: [ReportRow; 10] = [
         from: BATCHES,
         input: CAPITALS,
         status: 0,
-        output: "00000000000000000000000000000001 0000000000000002 - INTERNAL 0 0 UNSET \"a\"\n",
+        output: INTERNAL_LINE,
         note: "",
     },
     ReportRow {
@@ -76,18 +81,8 @@ pub const SHOWN: [ReportRow; 10] = [
         from: COMPACT,
         input: DOUBLE_COMPACT,
         status: 0,
-        output: "00000000000000000000000000000001 0000000000000002 - INTERNAL 0 0 UNSET \"a\"\n",
+        output: INTERNAL_LINE,
         note: "",
-    },
-    ReportRow {
-        name: "a second unit that is cut",
-        mode: "show",
-        from: REQUESTS,
-        input: "0a231221121f0a1000000000000000000000000000000001120800000000000000022a0161\
-        0a231221121f0a1000000000000000000000000000000001120800000000000000022a01",
-        status: 3,
-        output: "00000000000000000000000000000001 0000000000000002 - UNSPECIFIED 0 0 UNSET \"a\"\n",
-        note: "unit 2: cause 1 Truncated\n",
     },
     ReportRow {
         name: "no document",
@@ -107,12 +102,8 @@ const CAPITALS: &str =
     00000a000900000000000000000f000a0c000000010b0001000000097370616e2e6b696e6408000200000000\
     0b000300000006534552564552000000";
 
-// A batch of one span with a key twice, and `error` as a text.
-const EQUAL_TAGS: &str = "1c18017300191c1602160016041600180161250016001600193c18016b150018013100\
-    18016b15001801320018056572726f721500180474727565000000";
-
 /// What `check` says of inputs.
-pub const CHECKED: [ReportRow; 14] = [
+pub const CHECKED: [ReportRow; 13] = [
     ReportRow {
         name: "a span of a client",
         mode: "check",
@@ -162,7 +153,7 @@ pub const CHECKED: [ReportRow; 14] = [
         name: "an equal key and a dropped link",
         mode: "check",
         from: GROUPS,
-        input: r#"{"resourceSpans":[{"scopeSpans":[{"spans":[{"traceId":"00000000000000000000000000000001","spanId":"0000000000000002","name":"a","attributes":[{"key":"k","value":{"intValue":"1"}},{"key":"k","value":{"intValue":2}}],"links":[{"traceId":"","spanId":""}]}]}]}]}"#,
+        input: TWICE_AND_NOWHERE,
         status: 0,
         output: "unit 1 span 1: equal key \"k\"\nunit 1 span 1: link dropped\nunits 1, spans 1, remarks 2\n",
         note: "",
@@ -220,16 +211,6 @@ pub const CHECKED: [ReportRow; 14] = [
         status: 0,
         output: "unit 1 span 1: tag dropped \"otel.status_code\"\nunits 1, spans 1, remarks 1\n",
         note: "",
-    },
-    ReportRow {
-        name: "a second unit that is cut",
-        mode: "check",
-        from: COMPACT,
-        input: "1c18017300191c1602160016041600180161250016001600193c18016b150018013100\
-        18016b15001801320018056572726f7215001804747275650000001c18",
-        status: 3,
-        output: "unit 1 span 1: equal key \"k\"\n",
-        note: "unit 2: cause 1 Truncated\n",
     },
     ReportRow {
         name: "no document",

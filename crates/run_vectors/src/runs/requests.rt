@@ -1,6 +1,7 @@
 //! Requests of OTLP: what is written of them again, and what stops them.
-use super::texts::{ONE_SPAN, SDK_REQUEST, STOCK};
+use super::texts::STOCK;
 use super::{REQUESTS, Row, Stop};
+use span_vectors::texts::{CUT_SPAN, ONE_SPAN, SDK_REQUEST, UNKNOWN_FIELDS};
 
 /// Requests, and how they are written again.
 pub const WRITTEN: [Row; 13] = [
@@ -37,8 +38,7 @@ pub const WRITTEN: [Row; 13] = [
         name: "fields that OTLP doesn't have, and an empty resource",
         from: REQUESTS,
         to: REQUESTS,
-        input: "0a3c12381236a006052a0161120800000000000000020a1000000000000000000000000000000001a9060000\
-        000000000000b20601ffbd06000000000a00",
+        input: UNKNOWN_FIELDS,
         output: ONE_SPAN,
     },
     Row {
@@ -103,7 +103,7 @@ pub const WRITTEN: [Row; 13] = [
 ];
 
 /// What stops a request: the groups before it are written.
-pub const STOPPED: [Stop; 14] = [
+pub const STOPPED: [Stop; 13] = [
     Stop {
         name: "a key alone",
         from: REQUESTS,
@@ -126,7 +126,7 @@ pub const STOPPED: [Stop; 14] = [
         name: "a byte is missing",
         from: REQUESTS,
         to: REQUESTS,
-        input: "0a231221121f0a1000000000000000000000000000000001120800000000000000022a01",
+        input: CUT_SPAN,
         status: 3,
         output: "",
         note: "unit 1: cause 1 Truncated\n",
@@ -215,16 +215,6 @@ pub const STOPPED: [Stop; 14] = [
         status: 3,
         output: "",
         note: "unit 1: cause 13 BadEnum\n",
-    },
-    Stop {
-        name: "a byte is missing behind a group",
-        from: REQUESTS,
-        to: REQUESTS,
-        input: "0a231221121f0a1000000000000000000000000000000001120800000000000000022a01610a231221121f0a\
-        1000000000000000000000000000000001120800000000000000022a01",
-        status: 3,
-        output: ONE_SPAN,
-        note: "unit 2: cause 1 Truncated\n",
     },
     Stop {
         name: "a group that is cut behind an empty one",

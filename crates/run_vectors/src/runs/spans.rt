@@ -1,15 +1,26 @@
 //! Spans of Zipkin: what they are converted to.
-use super::texts::{BATCH_OF_TWO, CLIENT_SPANS, FLAGS_SPANS, NO_DURATION, SDK_SPANS, TWO_SPANS};
+use super::texts::{FLAGS_SPANS, NO_DURATION};
 use super::{BATCHES, COMPACT, GROUPS, REQUESTS, Row, SPANS};
+use span_vectors::texts::{
+    CLIENT_SPANS, CLIENT_SPANS_WRITTEN, MARKED_SPANS, SDK_SPANS, SHARED_SPANS,
+};
+
+// A span with the code OK beside `error`.
+const OK_AND_ERROR: &str =
+    r#"[{"traceId":"1","id":"2","tags":{"otel.status_code":"OK","error":"x"}}]"#;
+
+// A span with `peer.service` beside another remote name.
+const REMOTE_NAMES: &str =
+    r#"[{"traceId":"1","id":"2","remoteEndpoint":{"serviceName":"r"},"tags":{"peer.service":"p"}}]"#;
 
 /// What spans of Zipkin are converted to.
-pub const WRITTEN: [Row; 15] = [
+pub const WRITTEN: [Row; 14] = [
     Row {
         name: "a span of a client",
         from: SPANS,
         to: SPANS,
         input: CLIENT_SPANS,
-        output: r#"[{"duration":207000,"id":"463ac35c9f6413ad","kind":"CLIENT","localEndpoint":{"ipv4":"127.0.0.1","serviceName":"frontend"},"name":"get","remoteEndpoint":{"ipv4":"192.168.99.101","port":9000,"serviceName":"backend"},"tags":{"error":"refused","http.path":"/api","otel.status_code":"ERROR"},"timestamp":1472470996199000,"traceId":"0000000000000000463ac35c9f6413ad"}]"#,
+        output: CLIENT_SPANS_WRITTEN,
     },
     Row {
         name: "no span",
@@ -72,13 +83,6 @@ pub const WRITTEN: [Row; 15] = [
         output: "1c18017300191c16021600160416001801612504160016000000",
     },
     Row {
-        name: "two batches of one process, back",
-        from: SPANS,
-        to: BATCHES,
-        input: TWO_SPANS,
-        output: BATCH_OF_TWO,
-    },
-    Row {
         name: "a span of a client, to a request",
         from: SPANS,
         to: REQUESTS,
@@ -104,7 +108,7 @@ pub const WRITTEN: [Row; 15] = [
         from: SPANS,
         to: SPANS,
         input: r#"[{"traceId":"463ac35c9f6413ad","id":"a2fb4a1d1a96d312","kind":"CLIENT"},{"traceId":"463ac35c9f6413ad","id":"a2fb4a1d1a96d312","kind":"SERVER","shared":true}]"#,
-        output: r#"[{"id":"a2fb4a1d1a96d312","kind":"CLIENT","traceId":"0000000000000000463ac35c9f6413ad"},{"id":"a2fb4a1d1a96d312","kind":"SERVER","shared":true,"traceId":"0000000000000000463ac35c9f6413ad"}]"#,
+        output: SHARED_SPANS,
     },
     Row {
         name: "nested 127 deep",
@@ -124,7 +128,7 @@ pub const WRITTEN: [Row; 15] = [
         name: "tags and endpoints of each kind",
         from: SPANS,
         to: GROUPS,
-        input: r#"[{"annotations":[{"timestamp":2,"value":"\"retry\":{\"n\":1}"}],"debug":true,"duration":2,"id":"2","kind":"CLIENT","localEndpoint":{"ipv4":"10.0.0.1","port":80,"serviceName":"shop"},"remoteEndpoint":{"port":5432,"serviceName":"bank"},"tags":{"a":"1","error":"late","otel.resource.host":"n1","otel.scope.name":"lib","otel.scope.version":"2","otel.status_code":"ERROR","w3c.tracestate":"k=v","zipkin.shared":"true"},"timestamp":1,"traceId":"1"}]"#,
+        input: MARKED_SPANS,
         output: r#"{"resourceSpans":[{"resource":{"attributes":[{"key":"host","value":{"stringValue":"n1"}},{"key":"service.name","value":{"stringValue":"shop"}}]},"scopeSpans":[{"scope":{"name":"lib","version":"2"},"spans":[{"attributes":[{"key":"a","value":{"stringValue":"1"}},{"key":"peer.service","value":{"stringValue":"bank"}},{"key":"zipkin.debug","value":{"stringValue":"true"}},{"key":"zipkin.local.ipv4","value":{"stringValue":"10.0.0.1"}},{"key":"zipkin.local.port","value":{"stringValue":"80"}},{"key":"zipkin.remote.port","value":{"stringValue":"5432"}}],"endTimeUnixNano":"3000","events":[{"attributes":[{"key":"n","value":{"intValue":"1"}}],"name":"retry","timeUnixNano":"2000"}],"kind":3,"spanId":"0000000000000002","startTimeUnixNano":"1000","status":{"code":2,"message":"late"},"traceId":"00000000000000000000000000000001","traceState":"k=v"}]}]}]}"#,
     },
     Row {
@@ -163,21 +167,21 @@ pub const TAGS: [Row; 10] = [
         name: "a code OK beside `error`",
         from: SPANS,
         to: REQUESTS,
-        input: r#"[{"traceId":"1","id":"2","tags":{"otel.status_code":"OK","error":"x"}}]"#,
+        input: OK_AND_ERROR,
         output: "0a26122412220a10000000000000000000000000000000011208000000000000000230017a021801",
     },
     Row {
         name: "a code OK beside `error`, written again",
         from: SPANS,
         to: SPANS,
-        input: r#"[{"traceId":"1","id":"2","tags":{"otel.status_code":"OK","error":"x"}}]"#,
+        input: OK_AND_ERROR,
         output: r#"[{"id":"0000000000000002","tags":{"otel.status_code":"OK"},"traceId":"00000000000000000000000000000001"}]"#,
     },
     Row {
         name: "`peer.service` beside another remote name",
         from: SPANS,
         to: REQUESTS,
-        input: r#"[{"traceId":"1","id":"2","remoteEndpoint":{"serviceName":"r"},"tags":{"peer.service":"p"}}]"#,
+        input: REMOTE_NAMES,
         output: "0a37123512330a10000000000000000000000000000000011208000000000000000230014a130a0c70656572\
         2e7365727669636512030a0172",
     },
@@ -185,7 +189,7 @@ pub const TAGS: [Row; 10] = [
         name: "`peer.service` beside another remote name, written again",
         from: SPANS,
         to: SPANS,
-        input: r#"[{"traceId":"1","id":"2","remoteEndpoint":{"serviceName":"r"},"tags":{"peer.service":"p"}}]"#,
+        input: REMOTE_NAMES,
         output: r#"[{"id":"0000000000000002","remoteEndpoint":{"serviceName":"r"},"traceId":"00000000000000000000000000000001"}]"#,
     },
     Row {

@@ -1,9 +1,9 @@
 //! What stops a conversion to Zipkin's spans, or of them: faults and causes.
-use super::texts::{BATCH_OF_TWO, TWO_BATCHES_WITH_DOUBLE};
+use super::texts::{BATCH_OF_TWO, ENDS_BEFORE_START_REQUEST};
 use super::{BATCHES, REQUESTS, SPANS, Stop};
 
 /// What Zipkin, or a target of it, can't hold.
-pub const FAULTS: [Stop; 15] = [
+pub const FAULTS: [Stop; 14] = [
     Stop {
         name: "a fault of the second group",
         from: SPANS,
@@ -17,8 +17,7 @@ pub const FAULTS: [Stop; 15] = [
         name: "ends before it starts",
         from: REQUESTS,
         to: SPANS,
-        input: "0a35123312310a1000000000000000000000000000000001120800000000000000022a016139d10700000000\
-        000041d007000000000000",
+        input: ENDS_BEFORE_START_REQUEST,
         status: 4,
         output: "",
         note: "unit 1: fault 20 EndBeforeStart\n",
@@ -71,15 +70,6 @@ pub const FAULTS: [Stop; 15] = [
         status: 4,
         output: "",
         note: "unit 1: fault 25 DoubleInText\n",
-    },
-    Stop {
-        name: "a double behind a good batch",
-        from: BATCHES,
-        to: SPANS,
-        input: TWO_BATCHES_WITH_DOUBLE,
-        status: 4,
-        output: r#"[{"id":"0000000000000002","localEndpoint":{"serviceName":"s"},"name":"a","traceId":"00000000000000000000000000000001"}"#,
-        note: "unit 2: fault 25 DoubleInText\n",
     },
     Stop {
         name: "behind two groups without spans",

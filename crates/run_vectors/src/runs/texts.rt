@@ -1,50 +1,5 @@
 //! Texts that stand in several rows, in each form. What is no JSON is in hexadecimal.
 
-/// A span of an SDK as a batch in the binary protocol.
-pub const SDK_BATCH: &str =
-    "0c00010b00010000000473686f700f00020c000000010b000100000009686f73742e6e616d65080002000000\
-    000b0003000000026e3100000f00020c000000010a00018448eb211c80319c0a00020af7651916cd43dd0a00\
-    03b7ad6b71692033310a000400000000000000000b000500000009474554202f63617274080007000000010a\
-    000800060a24182022400a000900000000000186a00f000a0c000000050b000100000013687474702e726571\
-    756573742e6d6574686f64080002000000000b000300000003474554000b000100000019687474702e726573\
-    706f6e73652e7374617475735f636f6465080002000000030a000600000000000000c8000b00010000000f6f\
-    74656c2e73636f70652e6e616d65080002000000000b0003000000036c6962000b0001000000126f74656c2e\
-    73636f70652e76657273696f6e080002000000000b000300000003312e30000b0001000000097370616e2e6b\
-    696e64080002000000000b000300000006636c69656e74000000";
-
-/// The same batch in the compact protocol.
-pub const SDK_COMPACT: &str =
-    "1c180473686f70191c1809686f73742e6e616d65150018026e310000191c16c7b9feb7dcb78ab7f70116ba8f\
-    eaeca2c6b2f715169db3feedd2a3cad2900116001809474554202f63617274250216808981828389850616c0\
-    9a0c195c1813687474702e726571756573742e6d6574686f6415001803474554001819687474702e72657370\
-    6f6e73652e7374617475735f636f6465150646900300180f6f74656c2e73636f70652e6e616d65150018036c\
-    69620018126f74656c2e73636f70652e76657273696f6e15001803312e300018097370616e2e6b696e641500\
-    1806636c69656e74000000";
-
-/// The same span as a group in JSON.
-pub const SDK_GROUPS: &str =
-    r#"{"resourceSpans":[{"resource":{"attributes":[{"key":"host.name","value":{"stringValue":"n1"}},{"key":"service.name","value":{"stringValue":"shop"}}]},"scopeSpans":[{"scope":{"name":"lib","version":"1.0"},"spans":[{"attributes":[{"key":"http.request.method","value":{"stringValue":"GET"}},{"key":"http.response.status_code","value":{"intValue":"200"}}],"endTimeUnixNano":"1700000000223456789","flags":257,"kind":3,"name":"GET /cart","spanId":"b7ad6b7169203331","startTimeUnixNano":"1700000000123456789","traceId":"0af7651916cd43dd8448eb211c80319c"}]}]}]}"#;
-
-/// The same span as one of Zipkin.
-pub const SDK_SPANS: &str =
-    r#"[{"duration":100000,"id":"b7ad6b7169203331","kind":"CLIENT","localEndpoint":{"serviceName":"shop"},"name":"GET /cart","tags":{"http.request.method":"GET","http.response.status_code":"200","otel.resource.host.name":"n1","otel.scope.name":"lib","otel.scope.version":"1.0"},"timestamp":1700000000123456,"traceId":"0af7651916cd43dd8448eb211c80319c"}]"#;
-
-/// The request of that span, as an SDK writes it.
-pub const SDK_REQUEST: &str =
-    "0ac0010a2b0a110a09686f73742e6e616d6512040a026e310a160a0c736572766963652e6e616d6512060a04\
-    73686f701290010a0a0a036c69621203312e301281010a100af7651916cd43dd8448eb211c80319c1208b7ad\
-    6b71692033312a09474554202f6361727430033915cd853dfe9c97174115ae7b43fe9c97174a1c0a13687474\
-    702e726571756573742e6d6574686f6412050a034745544a200a19687474702e726573706f6e73652e737461\
-    7475735f636f6465120318c801850101010000";
-
-/// That request in whole microseconds.
-pub const MICROS_REQUEST: &str =
-    "0ac0010a2b0a110a09686f73742e6e616d6512040a026e310a160a0c736572766963652e6e616d6512060a04\
-    73686f701290010a0a0a036c69621203312e301281010a100af7651916cd43dd8448eb211c80319c1208b7ad\
-    6b71692033312a09474554202f6361727430033900ca853dfe9c97174100ab7b43fe9c97174a1c0a13687474\
-    702e726571756573742e6d6574686f6412050a034745544a200a19687474702e726573706f6e73652e737461\
-    7475735f636f6465120318c801850101000000";
-
 /// The same as a group in JSON.
 pub const MICROS_GROUPS: &str =
     r#"{"resourceSpans":[{"resource":{"attributes":[{"key":"host.name","value":{"stringValue":"n1"}},{"key":"service.name","value":{"stringValue":"shop"}}]},"scopeSpans":[{"scope":{"name":"lib","version":"1.0"},"spans":[{"attributes":[{"key":"http.request.method","value":{"stringValue":"GET"}},{"key":"http.response.status_code","value":{"intValue":"200"}}],"endTimeUnixNano":"1700000000223456000","flags":1,"kind":3,"name":"GET /cart","spanId":"b7ad6b7169203331","startTimeUnixNano":"1700000000123456000","traceId":"0af7651916cd43dd8448eb211c80319c"}]}]}]}"#;
@@ -64,56 +19,13 @@ pub const EVERY_FIELD: &str =
     00000000000000021a03633d6422070a016b12021001280435ffffffff70057a081204626f6f6d1802850101\
     0100001a01731a01720a00";
 
-/// Two batches of one process, the second with a double in a tag.
-pub const TWO_BATCHES_WITH_DOUBLE: &str =
-    "0c00010b00010000000173000f00020c000000010a000100000000000000010a000200000000000000000a00\
-    0300000000000000020a000400000000000000000b00050000000161080007000000000a0008000000000000\
-    00000a0009000000000000000000000c00010b00010000000173000f00020c000000010a0001000000000000\
-    00010a000200000000000000000a000300000000000000020a000400000000000000000b0005000000016108\
-    0007000000000a000800000000000000000a000900000000000000000f000a0c000000010b00010000000164\
-    080002000000010400043ff0000000000000000000";
-
-/// The same in the compact protocol.
-pub const TWO_COMPACT_WITH_DOUBLE: &str =
-    "1c18017300191c160216001604160018016125001600160000001c18017300191c1602160016041600180161\
-    250016001600191c180164150227000000000000f03f000000";
-
-/// Two batches of one process.
-pub const TWO_BATCHES: &str =
-    "0c00010b00010000000173000f00020c000000010a000100000000000000010a000200000000000000000a00\
-    0300000000000000020a000400000000000000000b00050000000161080007000000000a0008000000000000\
-    00000a0009000000000000000000000c00010b00010000000173000f00020c000000010a0001000000000000\
-    00010a000200000000000000000a000300000000000000020a000400000000000000000b0005000000016108\
-    0007000000000a000800000000000000000a000900000000000000000000";
-
-/// The same as spans of Zipkin.
-pub const TWO_SPANS: &str =
-    r#"[{"id":"0000000000000002","localEndpoint":{"serviceName":"s"},"name":"a","traceId":"00000000000000000000000000000001"},{"id":"0000000000000002","localEndpoint":{"serviceName":"s"},"name":"a","traceId":"00000000000000000000000000000001"}]"#;
-
-/// One batch of both spans.
+/// One batch of two spans.
 pub const BATCH_OF_TWO: &str =
     "0c00010b00010000000173000f00020c000000020a000100000000000000010a000200000000000000000a00\
     0300000000000000020a000400000000000000000b00050000000161080007000000000a0008000000000000\
     00000a00090000000000000000000a000100000000000000010a000200000000000000000a00030000000000\
     0000020a000400000000000000000b00050000000161080007000000000a000800000000000000000a000900\
     000000000000000000";
-
-/// A batch of one span of a service.
-pub const SPAN_BATCH: &str =
-    "0c00010b00010000000173000f00020c000000010a000100000000000000010a000200000000000000000a00\
-    0300000000000000020a000400000000000000000b00050000000161080007000000000a0008000000000000\
-    00000a000900000000000000000000";
-
-/// The same with a double in a tag.
-pub const DOUBLE_BATCH: &str =
-    "0c00010b00010000000173000f00020c000000010a000100000000000000010a000200000000000000000a00\
-    0300000000000000020a000400000000000000000b00050000000161080007000000000a0008000000000000\
-    00000a000900000000000000000f000a0c000000010b00010000000164080002000000010400043ff0000000\
-    000000000000";
-
-/// That in the compact protocol.
-pub const DOUBLE_COMPACT: &str =
-    "1c18017300191c1602160016041600180161250016001600191c180164150227000000000000f03f000000";
 
 /// A batch of one span of no service.
 pub const PLAIN_BATCH: &str =
@@ -127,25 +39,6 @@ pub const TAGGED_BATCH: &str =
     000a000300000000000000020a000400000000000000000b000500000003706179080007000000010a000800\
     000000000000010a000900000000000000020f000a0c000000010b00010000000161080002000000000b0003\
     0000000131000000";
-
-/// A batch as a client of Jaeger writes it, in the compact protocol.
-pub const CLIENT_COMPACT: &str =
-    "1c1803617069192c1808686f73746e616d6515001802683100180269701500180831302e302e302e31000019\
-    1c160a1600160e160a180367657425021680897a16f403191c18097370616e2e6b696e641500180673657276\
-    657200191c16c88a7a191c18056576656e7415001804646f6e6500000000";
-
-/// A root with two references to its own trace, in the compact protocol.
-pub const ROOT_COMPACT: &str =
-    "1c18017300191c1602160016041600180161192c150016021600160600150016021600160800150016001600\
-    0000";
-
-/// Its canonical batch, in which the first reference is the parent.
-pub const PARENT_COMPACT: &str =
-    "1c18017300191c1602160016041606180161191c1500160216001608001500160016000000";
-
-/// The same as a group in JSON.
-pub const LINKED: &str =
-    r#"{"resourceSpans":[{"resource":{"attributes":[{"key":"service.name","value":{"stringValue":"s"}}]},"scopeSpans":[{"spans":[{"kind":1,"links":[{"attributes":[{"key":"opentracing.ref_type","value":{"stringValue":"child_of"}}],"spanId":"0000000000000004","traceId":"00000000000000000000000000000001"}],"name":"a","parentSpanId":"0000000000000003","spanId":"0000000000000002","traceId":"00000000000000000000000000000001"}]}]}]}"#;
 
 /// A truth value in a tag, in the compact protocol.
 pub const TRUTH_COMPACT: &str =
@@ -161,26 +54,9 @@ pub const STOCK: &str =
     0c1208b7ad6b7169203331220800f067aa0ba902b72a0d53454c454354206f726465727339e0db5de3faeb6f\
     1541e1db5de3faeb6f15121c0a100af7651916cd43dd8448eb211c80319c120800000000000000010a00";
 
-/// A request of one span: identifiers 1 and 2, name `a`.
-pub const ONE_SPAN: &str =
-    "0a231221121f0a1000000000000000000000000000000001120800000000000000022a0161";
-
-/// The same in JSON.
-pub const ONE_GROUP: &str =
-    r#"{"resourceSpans":[{"scopeSpans":[{"spans":[{"name":"a","spanId":"0000000000000002","traceId":"00000000000000000000000000000001"}]}]}]}"#;
-
 /// The same twice.
 pub const TWO_GROUPS: &str =
     r#"{"resourceSpans":[{"scopeSpans":[{"spans":[{"name":"a","spanId":"0000000000000002","traceId":"00000000000000000000000000000001"}]}]},{"scopeSpans":[{"spans":[{"name":"a","spanId":"0000000000000002","traceId":"00000000000000000000000000000001"}]}]}]}"#;
-
-/// The same twice, as a request.
-pub const SPAN_TWICE: &str =
-    "0a231221121f0a1000000000000000000000000000000001120800000000000000022a01610a231221121f0a\
-    1000000000000000000000000000000001120800000000000000022a0161";
-
-/// A span of Zipkin as a client writes it.
-pub const CLIENT_SPANS: &str =
-    r#"[{"traceId":"463ac35c9f6413ad","parentId":null,"id":"463ac35c9f6413ad","kind":"CLIENT","name":"get","timestamp":1472470996199000,"duration":207000,"localEndpoint":{"serviceName":"frontend","ipv4":"127.0.0.1"},"remoteEndpoint":{"serviceName":"backend","ipv4":"192.168.99.101","port":9000},"tags":{"error":"refused","http.path":"/api"}}]"#;
 
 /// A span with a link of its own trace, in JSON.
 pub const LINK_OF_TRACE: &str =
@@ -190,9 +66,19 @@ pub const LINK_OF_TRACE: &str =
 pub const ENDS_BEFORE_START: &str =
     r#"{"resourceSpans":[{"scopeSpans":[{"spans":[{"traceId":"00000000000000000000000000000001","spanId":"0000000000000002","name":"a","startTimeUnixNano":"2001","endTimeUnixNano":"2000"}]}]}]}"#;
 
+/// The same as a request.
+pub const ENDS_BEFORE_START_REQUEST: &str =
+    "0a35123312310a1000000000000000000000000000000001120800000000000000022a016139d10700000000\
+    000041d007000000000000";
+
 /// A span with an event that has an attribute, in JSON.
 pub const EVENT_GROUP: &str =
     r#"{"resourceSpans":[{"scopeSpans":[{"spans":[{"traceId":"00000000000000000000000000000001","spanId":"0000000000000002","name":"a","events":[{"timeUnixNano":"1000","name":"e","attributes":[{"key":"event","value":{"stringValue":"x"}}]}]}]}]}]}"#;
+
+/// The same as a request.
+pub const EVENT_REQUEST: &str =
+    "0a3f123d123b0a1000000000000000000000000000000001120800000000000000022a01615a1a09e8030000\
+    000000001201651a0c0a056576656e7412030a0178";
 
 /// The same as a span of Zipkin.
 pub const EVENT_SPANS: &str =
@@ -213,3 +99,35 @@ pub const NO_DURATION: &str =
 /// A span of Zipkin with the flags of Jaeger.
 pub const FLAGS_SPANS: &str =
     r#"[{"id":"0000000000000002","localEndpoint":{"serviceName":"s"},"name":"a","tags":{"jaeger.flags":"2"},"traceId":"00000000000000000000000000000001"}]"#;
+
+/// The request of the span of `SPAN_BATCH`.
+pub const SERVICE_SPAN: &str =
+    "0a3c0a150a130a0c736572766963652e6e616d6512030a0173122312210a1000000000000000000000000000\
+    000001120800000000000000022a01613001";
+
+/// A request of one span with the attribute `error`, a truth value.
+pub const ERROR_REQUEST: &str =
+    "0a30122e122c0a1000000000000000000000000000000001120800000000000000022a01614a0b0a05657272\
+    6f7212021001";
+
+/// A batch of one span with a key twice, and `error` as a text, in the compact protocol.
+pub const EQUAL_TAGS: &str =
+    "1c18017300191c1602160016041600180161250016001600193c18016b15001801310018016b150018013200\
+    18056572726f721500180474727565000000";
+
+/// A span of Zipkin that takes a microsecond.
+pub const MICRO_SPANS: &str =
+    r#"[{"duration":1,"id":"0000000000000002","name":"a","timestamp":1,"traceId":"00000000000000000000000000000001"}]"#;
+
+/// A span of Zipkin with a truth value.
+pub const TRUTH_SPANS: &str =
+    r#"[{"id":"0000000000000002","name":"a","tags":{"ok":"true"},"traceId":"00000000000000000000000000000001"}]"#;
+
+/// A span with a key that stands twice, and a link to nowhere, in JSON.
+pub const TWICE_AND_NOWHERE: &str =
+    r#"{"resourceSpans":[{"scopeSpans":[{"spans":[{"traceId":"00000000000000000000000000000001","spanId":"0000000000000002","name":"a","attributes":[{"key":"k","value":{"intValue":"1"}},{"key":"k","value":{"intValue":2}}],"links":[{"traceId":"","spanId":""}]}]}]}]}"#;
+
+/// A request of one span with a double.
+pub const DOUBLE_REQUEST: &str =
+    "0a331231122f0a1000000000000000000000000000000001120800000000000000022a01614a0e0a01641209\
+    21000000000000f83f";

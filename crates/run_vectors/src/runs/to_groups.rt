@@ -1,13 +1,14 @@
 //! What is converted to OTLP/JSON.
-use super::texts::{
-    CLIENT_COMPACT, EVERY_FIELD, EVERY_MEMBER, LINKED, MICROS_GROUPS, NO_DURATION, ONE_GROUP,
-    ONE_SPAN, ROOT_COMPACT, SDK_BATCH, SDK_COMPACT, SDK_GROUPS, SDK_REQUEST, SDK_SPANS, SPAN_TWICE,
-    TWO_BATCHES, TWO_GROUPS,
-};
+use super::texts::{EVERY_FIELD, EVERY_MEMBER, MICROS_GROUPS, NO_DURATION};
 use super::{BATCHES, COMPACT, GROUPS, REQUESTS, Row, SPANS};
+use span_vectors::texts::{
+    BARE_GROUP, BARE_REQUEST, CLIENT_COMPACT, FULL_GROUP, FULL_REQUEST, LINKED, ONE_GROUP,
+    ONE_SPAN, ROOT_COMPACT, SDK_BATCH, SDK_COMPACT, SDK_GROUPS, SDK_REQUEST, SDK_SPANS,
+    VALUES_GROUP,
+};
 
 /// What is converted to OTLP/JSON.
-pub const WRITTEN: [Row; 19] = [
+pub const WRITTEN: [Row; 17] = [
     Row {
         name: "a request as an SDK writes it",
         from: REQUESTS,
@@ -86,13 +87,6 @@ pub const WRITTEN: [Row; 19] = [
         output: r#"{"resourceSpans":[{"scopeSpans":[{"spans":[{"endTimeUnixNano":"5000","kind":1,"name":"a","spanId":"0000000000000002","startTimeUnixNano":"5000","traceId":"00000000000000000000000000000001"}]}]}]}"#,
     },
     Row {
-        name: "two batches",
-        from: BATCHES,
-        to: GROUPS,
-        input: TWO_BATCHES,
-        output: r#"{"resourceSpans":[{"resource":{"attributes":[{"key":"service.name","value":{"stringValue":"s"}}]},"scopeSpans":[{"spans":[{"kind":1,"name":"a","spanId":"0000000000000002","traceId":"00000000000000000000000000000001"}]}]},{"resource":{"attributes":[{"key":"service.name","value":{"stringValue":"s"}}]},"scopeSpans":[{"spans":[{"kind":1,"name":"a","spanId":"0000000000000002","traceId":"00000000000000000000000000000001"}]}]}]}"#,
-    },
-    Row {
         name: "each member",
         from: REQUESTS,
         to: GROUPS,
@@ -114,30 +108,18 @@ pub const WRITTEN: [Row; 19] = [
         output: ONE_GROUP,
     },
     Row {
-        name: "a span twice, to JSON",
-        from: REQUESTS,
-        to: GROUPS,
-        input: SPAN_TWICE,
-        output: TWO_GROUPS,
-    },
-    Row {
         name: "every field",
         from: REQUESTS,
         to: GROUPS,
-        input: "0afa010a1a0a160a0c736572766963652e6e616d6512060a0473686f70100112d6010a160a036c6962120331\
-        2e301a070a01611202100120ac0212b8010a1001010101010101010101010101010102120802020202020202\
-        031a03743d31220803030303030303042a03627579300239004859e3faeb6f15410012f41efbeb6f154a100a\
-        016b120b18fbffffffffffffffff0150045a170907000000000000001201651a070a016b1202180120055a00\
-        60066a310a1004040404040404040404040404040405120805050505050505061a03753d3222070a016c1202\
-        18022807350103000070087a0612026e6f18028501010100001a017312001a0172",
-        output: r#"{"resourceSpans":[{"resource":{"attributes":[{"key":"service.name","value":{"stringValue":"shop"}}],"droppedAttributesCount":1},"schemaUrl":"r","scopeSpans":[{"schemaUrl":"s","scope":{"attributes":[{"key":"a","value":{"boolValue":true}}],"droppedAttributesCount":300,"name":"lib","version":"1.0"},"spans":[{"attributes":[{"key":"k","value":{"intValue":"-5"}}],"droppedAttributesCount":4,"droppedEventsCount":6,"droppedLinksCount":8,"endTimeUnixNano":"1544712661000000000","events":[{"attributes":[{"key":"k","value":{"intValue":"1"}}],"droppedAttributesCount":5,"name":"e","timeUnixNano":"7"},{}],"flags":257,"kind":2,"links":[{"attributes":[{"key":"l","value":{"intValue":"2"}}],"droppedAttributesCount":7,"flags":769,"spanId":"0505050505050506","traceId":"04040404040404040404040404040405","traceState":"u=2"}],"name":"buy","parentSpanId":"0303030303030304","spanId":"0202020202020203","startTimeUnixNano":"1544712660000000000","status":{"code":2,"message":"no"},"traceId":"01010101010101010101010101010102","traceState":"t=1"}]},{}]}]}"#,
+        input: FULL_REQUEST,
+        output: FULL_GROUP,
     },
     Row {
         name: "defaults are left out",
         from: REQUESTS,
         to: GROUPS,
-        input: "0a20121e121c0a100101010101010101010101010101010212080202020202020203",
-        output: r#"{"resourceSpans":[{"scopeSpans":[{"spans":[{"spanId":"0202020202020203","traceId":"01010101010101010101010101010102"}]}]}]}"#,
+        input: BARE_REQUEST,
+        output: BARE_GROUP,
     },
     Row {
         name: "each value, a default too",
@@ -147,6 +129,6 @@ pub const WRITTEN: [Row; 19] = [
         000a120a036c6f77120b18808080808080808080010a0b0a05627974657312023a000a0a0a046c6973741202\
         2a000a090a036d6170120232000a260a066e6573746564121c2a1a0a000a062a040a0210010a0e320c0a030a\
         016b0a05120318ac02",
-        output: r#"{"resourceSpans":[{"resource":{"attributes":[{},{"key":"bytes","value":{"bytesValue":""}},{"key":"false","value":{"boolValue":false}},{"key":"list","value":{"arrayValue":{}}},{"key":"low","value":{"intValue":"-9223372036854775808"}},{"key":"map","value":{"kvlistValue":{}}},{"key":"nested","value":{"arrayValue":{"values":[{},{"arrayValue":{"values":[{"boolValue":true}]}},{"kvlistValue":{"values":[{"value":{"intValue":"300"}},{"key":"k"}]}}]}}},{"key":"text","value":{"stringValue":""}},{"key":"zero","value":{"intValue":"0"}}]}}]}"#,
+        output: VALUES_GROUP,
     },
 ];

@@ -1,18 +1,21 @@
 //! What is converted to spans of Zipkin.
 use super::texts::{
-    CLIENT_COMPACT, EVENT_SPANS, FLAGS_SPANS, NO_DURATION, SDK_BATCH, SDK_REQUEST, SDK_SPANS,
-    TWO_BATCHES, TWO_SPANS,
+    EQUAL_TAGS, EVENT_REQUEST, EVENT_SPANS, FLAGS_SPANS, MICRO_SPANS, NO_DURATION, TRUTH_SPANS,
 };
 use super::{BATCHES, COMPACT, REQUESTS, Row, SPANS};
+use span_vectors::texts::{
+    CLIENT_COMPACT, FLAGS_COMPACT, ONE_ZIPKIN_SPAN, SDK_BATCH, SDK_REQUEST, SDK_SPANS,
+    SPANS_OF_CLIENT,
+};
 
 /// What is converted to spans of Zipkin.
-pub const WRITTEN: [Row; 14] = [
+pub const WRITTEN: [Row; 13] = [
     Row {
         name: "a batch of a client",
         from: COMPACT,
         to: SPANS,
         input: CLIENT_COMPACT,
-        output: r#"[{"annotations":[{"timestamp":1000100,"value":"done"}],"duration":250,"id":"0000000000000007","kind":"SERVER","localEndpoint":{"serviceName":"api"},"name":"get","parentId":"0000000000000005","tags":{"otel.resource.hostname":"h1","otel.resource.ip":"10.0.0.1"},"timestamp":1000000,"traceId":"00000000000000000000000000000005"}]"#,
+        output: SPANS_OF_CLIENT,
     },
     Row {
         name: "no group",
@@ -43,19 +46,12 @@ pub const WRITTEN: [Row; 14] = [
         output: SDK_SPANS,
     },
     Row {
-        name: "two batches of one process",
-        from: BATCHES,
-        to: SPANS,
-        input: TWO_BATCHES,
-        output: TWO_SPANS,
-    },
-    Row {
         name: "times below the microsecond",
         from: REQUESTS,
         to: SPANS,
         input: "0a35123312310a1000000000000000000000000000000001120800000000000000022a016139cf0700000000\
         000041d007000000000000",
-        output: r#"[{"duration":1,"id":"0000000000000002","name":"a","timestamp":1,"traceId":"00000000000000000000000000000001"}]"#,
+        output: MICRO_SPANS,
     },
     Row {
         name: "no duration",
@@ -71,14 +67,13 @@ pub const WRITTEN: [Row; 14] = [
         to: SPANS,
         input: "0a2d122b12290a1000000000000000000000000000000001120800000000000000022a01614a080a026f6b12\
         021001",
-        output: r#"[{"id":"0000000000000002","name":"a","tags":{"ok":"true"},"traceId":"00000000000000000000000000000001"}]"#,
+        output: TRUTH_SPANS,
     },
     Row {
         name: "an event with an attribute",
         from: REQUESTS,
         to: SPANS,
-        input: "0a3f123d123b0a1000000000000000000000000000000001120800000000000000022a01615a1a09e8030000\
-        000000001201651a0c0a056576656e7412030a0178",
+        input: EVENT_REQUEST,
         output: EVENT_SPANS,
     },
     Row {
@@ -88,21 +83,20 @@ pub const WRITTEN: [Row; 14] = [
         input: "0a65126312610a1000000000000000000000000000000001120800000000000000022a01616a400a10000000\
         000000000000000000000000011208000000000000000122220a146f70656e74726163696e672e7265665f74\
         797065120a0a086368696c645f6f66",
-        output: r#"[{"id":"0000000000000002","name":"a","traceId":"00000000000000000000000000000001"}]"#,
+        output: ONE_ZIPKIN_SPAN,
     },
     Row {
         name: "flags of a batch",
         from: COMPACT,
         to: SPANS,
-        input: "1c18017300191c16021600160416001801612506160016000000",
+        input: FLAGS_COMPACT,
         output: FLAGS_SPANS,
     },
     Row {
         name: "a repeated tag, and `error` as a text",
         from: COMPACT,
         to: SPANS,
-        input: "1c18017300191c1602160016041600180161250016001600193c18016b15001801310018016b150018013200\
-        18056572726f721500180474727565000000",
+        input: EQUAL_TAGS,
         output: r#"[{"id":"0000000000000002","localEndpoint":{"serviceName":"s"},"name":"a","tags":{"error":"","k":"2","otel.status_code":"ERROR"},"traceId":"00000000000000000000000000000001"}]"#,
     },
     Row {

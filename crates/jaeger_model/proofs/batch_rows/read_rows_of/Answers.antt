@@ -19,7 +19,7 @@ pub read_rows-requires-clause-none : goal.read_rows-requires-clause-none
 read_rows-requires-clause-none g c = c.none.ensures outer_levels
 
 pub read_rows-requires-clause-lawful : goal.read_rows-requires-clause-lawful
-read_rows-requires-clause-lawful g c = batch_laws g.P.Protocol.spells (λ (m : ℕ). struct_laws g.P.Protocol.spells _ _ _ g.met.P.Protocol.reads_exactly g.met.P.Protocol.part_laws m) outer_levels
+read_rows-requires-clause-lawful g c = batch_laws g.P.Parts.spells (λ (m : ℕ). struct_laws g.P.Parts.spells _ _ _ g.met.P.Parts.reads_exactly g.met.P.Parts.part_laws m) outer_levels
 
 pub returns-clause-value : goal.returns-clause-value
 returns-clause-value g c =
@@ -48,7 +48,7 @@ returns-in_err-batch_of-clause-judged g c =
     let whole = ap (λ (w : Walk). w.rest) c.new-c.ensures ∙ sym (append-nil c.args.unit.now) in
     let all = c.in_ok-rows.ensures.all c.args.unit.now [] c.requires.stands.0 whole c.requires.stands.1 in
     let answer = c.from_residual-in_err-batch_of.result in
-    judged_end (structs g.P.Protocol.spells outer_levels) (batch_rules g.P.Protocol.spells outer_levels) (AreFields g.P.Protocol.spells outer_levels c.requires.stands.0) (λ (l : List FieldItem). GatheredBatch g.P.Protocol.spells outer_levels c.in_ok-rows.rows (givens (batch_table g.P.Protocol.spells outer_levels) l))
+    judged_end (structs g.P.Parts.spells outer_levels) (batch_rules g.P.Parts.spells outer_levels) (AreFields g.P.Parts.spells outer_levels c.requires.stands.0) (λ (l : List FieldItem). GatheredBatch g.P.Parts.spells outer_levels c.in_ok-rows.rows (givens (batch_table g.P.Parts.spells outer_levels) l))
     (whole_struct c.args.unit.now) all.1 Batch answer
     (refused_end Batch (λ n. batch_ends all.1.items n) c.in_err-batch_of.field-0.0 (c.in_err-batch_of.ensures.ended outer_levels all.1.items all.1.gathered) answer c.from_residual-in_err-batch_of.ensures.1)
 
@@ -56,4 +56,4 @@ pub returns-in_err-rows-clause-judged : goal.returns-in_err-rows-clause-judged
 returns-in_err-rows-clause-judged g c =
     let whole = ap (λ (w : Walk). w.rest) c.new-c.ensures ∙ sym (append-nil c.args.unit.now) in
     let p = err_from_is_err_and c.from_residual.result c.from_residual.ensures.1 in
-    rw (p.1, p.2) (halt_judged BatchRows Batch (Offence (structs g.P.Protocol.spells outer_levels) (batch_rules g.P.Protocol.spells outer_levels) (whole_struct c.args.unit.now)) c.in_err-rows.field-0.0 (c.in_err-rows.ensures.halted c.args.unit.now [] c.requires.stands.0 whole c.requires.stands.1))
+    rw (p.1, p.2) (halt_judged BatchRows Batch (Offence (structs g.P.Parts.spells outer_levels) (batch_rules g.P.Parts.spells outer_levels) (whole_struct c.args.unit.now)) c.in_err-rows.field-0.0 (c.in_err-rows.ensures.halted c.args.unit.now [] c.requires.stands.0 whole c.requires.stands.1))

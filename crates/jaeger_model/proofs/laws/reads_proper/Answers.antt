@@ -2,4 +2,4 @@ use Rattle.jaeger_model.proofs.ReadProper.{read_proper}
 use Rattle.jaeger_model.proofs.laws.reads_proper.Goals as goal
 
 pub returns : goal.returns
-returns g c = read_proper g.P.Protocol.spells g.met.P.Protocol.spells_proper
+returns g c = read_proper g.P.Parts.spells g.met.P.Parts.spells_proper

@@ -2,4 +2,4 @@ use Rattle.jaeger_model.proofs.BatchProofs.{some_batch}
 use Rattle.jaeger_model.proofs.laws.some_batch.Goals as goal
 
 pub returns : goal.returns
-returns g c = some_batch g.P.Protocol.spells _ _ _ g.met.P.Protocol.reads_exactly g.met.P.Protocol.part_laws
+returns g c = some_batch g.P.Parts.spells _ _ _ g.met.P.Parts.reads_exactly g.met.P.Parts.part_laws

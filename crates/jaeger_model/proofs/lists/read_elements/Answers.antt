@@ -7,16 +7,16 @@ use Rattle.jaeger_model.proofs.lists.read_elements.Goals as goal
 
 pub elements-init : goal.elements-init
 elements-init g c =
-    subst (λ l. Listing g.P.Protocol.spells c.args.left c.args.size (g.E.Element.rules c.args.left) g.E.Element.means l c.args.c.now.rest c.args.c.now.rest 0) (sym c.in_ok-elements.ensures)
-    (listing_start g.P.Protocol.spells _ _ _ g.met.P.Protocol.reads_exactly g.met.P.Protocol.part_laws c.args.left (g.E.Element.rules c.args.left) g.E.Element.means c.args.size c.args.c.now.rest)
+    subst (λ l. Listing g.P.Parts.spells c.args.left c.args.size (g.E.Element.rules c.args.left) g.E.Element.means l c.args.c.now.rest c.args.c.now.rest 0) (sym c.in_ok-elements.ensures)
+    (listing_start g.P.Parts.spells _ _ _ g.met.P.Parts.reads_exactly g.met.P.Parts.part_laws c.args.left (g.E.Element.rules c.args.left) g.E.Element.means c.args.size c.args.c.now.rest)
 
 pub returns-in_err-read-clause-judged : goal.returns-in_err-read-clause-judged
 returns-in_err-read-clause-judged g c = λ text tail trees e are total within.
     let here = c.elements.invariant.standing text tail trees e are in
-    let this = this_one g.P.Protocol.spells _ _ _ g.met.P.Protocol.reads_exactly g.met.P.Protocol.part_laws c.args.left (g.E.Element.rules c.args.left) g.E.Element.means c.args.size c.elements.elements text tail trees c.elements.c.rest c.elements.counter c.elements-test.true here in
+    let this = this_one g.P.Parts.spells _ _ _ g.met.P.Parts.reads_exactly g.met.P.Parts.part_laws c.args.left (g.E.Element.rules c.args.left) g.E.Element.means c.args.size c.elements.elements text tail trees c.elements.c.rest c.elements.counter c.elements-test.true here in
     let p = err_from_is_err_and c.from_residual-in_err-read.result c.from_residual-in_err-read.ensures.1 in
-    rw (p.1, p.2) (element_halts g.P.Protocol.spells _ _ _ g.met.P.Protocol.reads_exactly g.met.P.Protocol.part_laws c.args.left (g.E.Element.rules c.args.left) g.E.Element.means c.args.size c.elements.elements text tail trees c.elements.c.rest c.elements.counter c.elements-test.true here c.requires.lawful g.row.E.Denot (Items g.row.E.Denot) c.in_err-read.field-0.0
-    (c.in_err-read.ensures.judged this.text (this.after ++ tail) this.fields (its_bytes g.P.Protocol.spells _ _ _ g.met.P.Protocol.reads_exactly g.met.P.Protocol.part_laws c.args.left (g.E.Element.rules c.args.left) g.E.Element.means c.args.size c.elements.elements text tail trees c.elements.c.rest c.elements.counter c.elements-test.true here) this.stands) total within)
+    rw (p.1, p.2) (element_halts g.P.Parts.spells _ _ _ g.met.P.Parts.reads_exactly g.met.P.Parts.part_laws c.args.left (g.E.Element.rules c.args.left) g.E.Element.means c.args.size c.elements.elements text tail trees c.elements.c.rest c.elements.counter c.elements-test.true here c.requires.lawful g.row.E.Denot (Items g.row.E.Denot) c.in_err-read.field-0.0
+    (c.in_err-read.ensures.judged this.text (this.after ++ tail) this.fields (its_bytes g.P.Parts.spells _ _ _ g.met.P.Parts.reads_exactly g.met.P.Parts.part_laws c.args.left (g.E.Element.rules c.args.left) g.E.Element.means c.args.size c.elements.elements text tail trees c.elements.c.rest c.elements.counter c.elements-test.true here) this.stands) total within)
 
 pub returns-in_err-read-clause-shorter : goal.returns-in_err-read-clause-shorter
 returns-in_err-read-clause-shorter g c = omega (arith, c.elements.invariant.shorter, c.in_err-read.ensures.shorter)
@@ -30,18 +30,18 @@ elements-preserved g c = record {
   shorter = omega (arith, c.elements.invariant.shorter, c.in_ok-read.ensures.shorter);
   standing = λ text tail trees e are.
       let here = c.elements.invariant.standing text tail trees e are in
-      let this = this_one g.P.Protocol.spells _ _ _ g.met.P.Protocol.reads_exactly g.met.P.Protocol.part_laws c.args.left (g.E.Element.rules c.args.left) g.E.Element.means c.args.size c.elements.elements text tail trees c.elements.c.rest c.elements.counter c.elements-test.true here in
-      let bytes = its_bytes g.P.Protocol.spells _ _ _ g.met.P.Protocol.reads_exactly g.met.P.Protocol.part_laws c.args.left (g.E.Element.rules c.args.left) g.E.Element.means c.args.size c.elements.elements text tail trees c.elements.c.rest c.elements.counter c.elements-test.true here in
+      let this = this_one g.P.Parts.spells _ _ _ g.met.P.Parts.reads_exactly g.met.P.Parts.part_laws c.args.left (g.E.Element.rules c.args.left) g.E.Element.means c.args.size c.elements.elements text tail trees c.elements.c.rest c.elements.counter c.elements-test.true here in
+      let bytes = its_bytes g.P.Parts.spells _ _ _ g.met.P.Parts.reads_exactly g.met.P.Parts.part_laws c.args.left (g.E.Element.rules c.args.left) g.E.Element.means c.args.size c.elements.elements text tail trees c.elements.c.rest c.elements.counter c.elements-test.true here in
       let value = c.in_ok-read.ensures.value this.text (this.after ++ tail) this.fields bytes this.stands in
-      subst (λ l. ElementsLeft g.P.Protocol.spells c.args.left c.args.size (g.E.Element.rules c.args.left) g.E.Element.means l text tail trees c.read.new.c.rest (c.elements.counter + 1)) (sym c.in_ok-push.ensures.ok)
-      (left_next g.P.Protocol.spells _ _ _ g.met.P.Protocol.reads_exactly g.met.P.Protocol.part_laws c.args.left (g.E.Element.rules c.args.left) g.E.Element.means c.args.size c.elements.elements text tail trees c.elements.c.rest c.elements.counter c.elements-test.true here c.in_ok-read.field-0 c.read.new.c.rest (c.in_ok-read.ensures.judged this.text (this.after ++ tail) this.fields bytes this.stands) value.0 value.1);
+      subst (λ l. ElementsLeft g.P.Parts.spells c.args.left c.args.size (g.E.Element.rules c.args.left) g.E.Element.means l text tail trees c.read.new.c.rest (c.elements.counter + 1)) (sym c.in_ok-push.ensures.ok)
+      (left_next g.P.Parts.spells _ _ _ g.met.P.Parts.reads_exactly g.met.P.Parts.part_laws c.args.left (g.E.Element.rules c.args.left) g.E.Element.means c.args.size c.elements.elements text tail trees c.elements.c.rest c.elements.counter c.elements-test.true here c.in_ok-read.field-0 c.read.new.c.rest (c.in_ok-read.ensures.judged this.text (this.after ++ tail) this.fields bytes this.stands) value.0 value.1);
 }
 
 pub returns-clause-value : goal.returns-clause-value
-returns-clause-value g c = λ text tail trees e are. all_read g.P.Protocol.spells _ _ _ g.met.P.Protocol.reads_exactly g.met.P.Protocol.part_laws c.args.left (g.E.Element.rules c.args.left) g.E.Element.means c.args.size c.elements.elements text tail trees c.elements.c.rest c.elements.counter c.elements-test.false (c.elements.invariant.standing text tail trees e are)
+returns-clause-value g c = λ text tail trees e are. all_read g.P.Parts.spells _ _ _ g.met.P.Parts.reads_exactly g.met.P.Parts.part_laws c.args.left (g.E.Element.rules c.args.left) g.E.Element.means c.args.size c.elements.elements text tail trees c.elements.c.rest c.elements.counter c.elements-test.false (c.elements.invariant.standing text tail trees e are)
 
 pub returns-clause-judged : goal.returns-clause-judged
-returns-clause-judged g c = λ text tail trees e are total within. none_offends g.P.Protocol.spells _ _ _ g.met.P.Protocol.reads_exactly g.met.P.Protocol.part_laws c.args.left (g.E.Element.rules c.args.left) g.E.Element.means c.args.size c.elements.elements text tail trees c.elements.c.rest c.elements.counter c.elements-test.false (c.elements.invariant.standing text tail trees e are) total
+returns-clause-judged g c = λ text tail trees e are total within. none_offends g.P.Parts.spells _ _ _ g.met.P.Parts.reads_exactly g.met.P.Parts.part_laws c.args.left (g.E.Element.rules c.args.left) g.E.Element.means c.args.size c.elements.elements text tail trees c.elements.c.rest c.elements.counter c.elements-test.false (c.elements.invariant.standing text tail trees e are) total
 
 pub returns-clause-shorter : goal.returns-clause-shorter
 returns-clause-shorter g c = c.elements.invariant.shorter

@@ -10,8 +10,8 @@ use Rattle.jaeger_model.proofs.lists.structures_row.Goals as goal
 pub returns-in_err-read_list-clause-judged : goal.returns-in_err-read_list-clause-judged
 returns-in_err-read_list-clause-judged g c = λ text tail trees e h earlier gave.
     let p = err_from_is_err_and c.from_residual-in_err-read_list.result c.from_residual-in_err-read_list.ensures.1 in
-    rw (p.1, p.2) (row_judged (MeansEach g.E.Element.means) earlier (BadElement (trees, text)) (ListOffends g.P.Protocol.spells (c.args.left - 2) (g.E.Element.rules (c.args.left - 2)) (trees, text)) c.args.row.now c.in_ok-once.ensures.ok gave Unit (Err c.in_err-read_list.field-0.0)
-    (halts_too (HereOrInside (BadElement (trees, text)) (ListOffends g.P.Protocol.spells (c.args.left - 2) (g.E.Element.rules (c.args.left - 2)) (trees, text))) (Items g.row.E.Denot) Unit c.in_err-read_list.field-0.0 (c.in_err-read_list.ensures.judged text tail trees e h)))
+    rw (p.1, p.2) (row_judged (MeansEach g.E.Element.means) earlier (BadElement (trees, text)) (ListOffends g.P.Parts.spells (c.args.left - 2) (g.E.Element.rules (c.args.left - 2)) (trees, text)) c.args.row.now c.in_ok-once.ensures.ok gave Unit (Err c.in_err-read_list.field-0.0)
+    (halts_too (HereOrInside (BadElement (trees, text)) (ListOffends g.P.Parts.spells (c.args.left - 2) (g.E.Element.rules (c.args.left - 2)) (trees, text))) (Items g.row.E.Denot) Unit c.in_err-read_list.field-0.0 (c.in_err-read_list.ensures.judged text tail trees e h)))
 
 pub returns-clause-ok : goal.returns-clause-ok
 returns-clause-ok g c = λ text tail trees e h.
@@ -20,4 +20,4 @@ returns-clause-ok g c = λ text tail trees e h.
 
 pub returns-clause-judged : goal.returns-clause-judged
 returns-clause-judged g c = λ text tail trees e h earlier gave.
-    row_judged (MeansEach g.E.Element.means) earlier (BadElement (trees, text)) (ListOffends g.P.Protocol.spells (c.args.left - 2) (g.E.Element.rules (c.args.left - 2)) (trees, text)) c.args.row.now c.in_ok-once.ensures.ok gave (Items g.row.E.Denot) (Ok c.in_ok-read_list.field-0) (c.in_ok-read_list.ensures.judged text tail trees e h)
+    row_judged (MeansEach g.E.Element.means) earlier (BadElement (trees, text)) (ListOffends g.P.Parts.spells (c.args.left - 2) (g.E.Element.rules (c.args.left - 2)) (trees, text)) c.args.row.now c.in_ok-once.ensures.ok gave (Items g.row.E.Denot) (Ok c.in_ok-read_list.field-0) (c.in_ok-read_list.ensures.judged text tail trees e h)

@@ -13,17 +13,17 @@ pub fields-init : goal.fields-init
 fields-init g c = record {
   shorter = omega arith;
   standing = λ text tail fields e h.
-      standing_start _ _ _ _ g.met.P.Protocol.reads_exactly g.met.P.Protocol.part_laws c.args.left (rules_by (g.R.Rows.table c.args.left) g.R.Rows.ends)
+      standing_start _ _ _ _ g.met.P.Parts.reads_exactly g.met.P.Parts.part_laws c.args.left (rules_by (g.R.Rows.table c.args.left) g.R.Rows.ends)
       (λ (l : List FieldItem). g.R.Rows.gathered c.args.left c.args.first c.args.first l) text tail fields c.args.c.now.rest c.requires.none e h;
 }
 
 pub returns-in_err-gather-in-Ok-Some-clause-halted : goal.returns-in_err-gather-in-Ok-Some-clause-halted
 returns-in_err-gather-in-Ok-Some-clause-halted g c = λ text tail fields e h.
     let found = rw c.in-Ok-Some.field-0-is at c.in-Ok-Some.ensures in
-    let next = walking_head _ _ _ _ g.met.P.Protocol.reads_exactly g.met.P.Protocol.part_laws c.args.left (rules_by (g.R.Rows.table c.args.left) g.R.Rows.ends)
+    let next = walking_head _ _ _ _ g.met.P.Parts.reads_exactly g.met.P.Parts.part_laws c.args.left (rules_by (g.R.Rows.table c.args.left) g.R.Rows.ends)
     (λ (l : List FieldItem). g.R.Rows.gathered c.args.left c.args.first c.fields.rows l) c.args.c.now.rest c.fields.c.rest c.field.new.c.rest (to_z w16 c.fields.last-bits) (to_z w16 c.fields.last-bits) c.fields.invariant refl text tail fields e h (Ok (Some c.in-Ok-Some.found)) found.exact in
     let p = err_from_is_err_and c.from_residual.result c.from_residual.ensures.1 in
-    rw (p.1, p.2) (field_halts _ _ _ _ g.met.P.Protocol.reads_exactly g.met.P.Protocol.part_laws c.args.left (rules_by (g.R.Rows.table c.args.left) g.R.Rows.ends)
+    rw (p.1, p.2) (field_halts _ _ _ _ g.met.P.Parts.reads_exactly g.met.P.Parts.part_laws c.args.left (rules_by (g.R.Rows.table c.args.left) g.R.Rows.ends)
     c.requires.lawful (λ (l : List FieldItem). g.R.Rows.gathered c.args.left c.args.first c.fields.rows l) text tail fields c.in-Ok-Some.found c.field.new.c.rest next Unit g.row.R.Denot c.in_err-gather-in-Ok-Some.field-0.0
     (c.in_err-gather-in-Ok-Some.ensures.judged next.item (next.after.bytes ++ tail) next.stands c.args.first))
 
@@ -34,7 +34,7 @@ returns-in_err-gather-in-Ok-Some-clause-shorter g c =
       arith,
       c.gather.ensures.shorter,
       c.fields.invariant.shorter,
-      head_smaller _ _ _ _ g.met.P.Protocol.reads_exactly g.met.P.Protocol.part_laws c.args.left (rules_by (g.R.Rows.table c.args.left) g.R.Rows.ends) _ c.in-Ok-Some.found c.fields.c.rest c.field.new.c.rest found.exact,
+      head_smaller _ _ _ _ g.met.P.Parts.reads_exactly g.met.P.Parts.part_laws c.args.left (rules_by (g.R.Rows.table c.args.left) g.R.Rows.ends) _ c.in-Ok-Some.found c.fields.c.rest c.field.new.c.rest found.exact,
     )
 
 pub fields-smaller : goal.fields-smaller
@@ -43,20 +43,20 @@ fields-smaller g c =
     omega (
       arith,
       c.gather.ensures.shorter,
-      head_smaller _ _ _ _ g.met.P.Protocol.reads_exactly g.met.P.Protocol.part_laws c.args.left (rules_by (g.R.Rows.table c.args.left) g.R.Rows.ends) _ c.in-Ok-Some.found c.fields.c.rest c.field.new.c.rest found.exact,
+      head_smaller _ _ _ _ g.met.P.Parts.reads_exactly g.met.P.Parts.part_laws c.args.left (rules_by (g.R.Rows.table c.args.left) g.R.Rows.ends) _ c.in-Ok-Some.found c.fields.c.rest c.field.new.c.rest found.exact,
     )
 
 pub fields-preserved : goal.fields-preserved
 fields-preserved g c =
     let found = rw c.in-Ok-Some.field-0-is at c.in-Ok-Some.ensures in
-    let smaller = head_smaller _ _ _ _ g.met.P.Protocol.reads_exactly g.met.P.Protocol.part_laws c.args.left (rules_by (g.R.Rows.table c.args.left) g.R.Rows.ends) _ c.in-Ok-Some.found c.fields.c.rest c.field.new.c.rest found.exact in
+    let smaller = head_smaller _ _ _ _ g.met.P.Parts.reads_exactly g.met.P.Parts.part_laws c.args.left (rules_by (g.R.Rows.table c.args.left) g.R.Rows.ends) _ c.in-Ok-Some.found c.fields.c.rest c.field.new.c.rest found.exact in
     record {
       shorter = omega (arith, c.gather.ensures.shorter, c.fields.invariant.shorter, smaller);
       standing = λ text tail fields e h.
-          let next = walking_head _ _ _ _ g.met.P.Protocol.reads_exactly g.met.P.Protocol.part_laws c.args.left (rules_by (g.R.Rows.table c.args.left) g.R.Rows.ends)
+          let next = walking_head _ _ _ _ g.met.P.Parts.reads_exactly g.met.P.Parts.part_laws c.args.left (rules_by (g.R.Rows.table c.args.left) g.R.Rows.ends)
           (λ (l : List FieldItem). g.R.Rows.gathered c.args.left c.args.first c.fields.rows l) c.args.c.now.rest c.fields.c.rest c.field.new.c.rest (to_z w16 c.fields.last-bits) (to_z w16 c.fields.last-bits) c.fields.invariant refl text tail fields e h (Ok (Some c.in-Ok-Some.found)) found.exact in
           let gathered = c.in_ok-gather-in-Ok-Some.ensures.ok next.item (next.after.bytes ++ tail) next.stands in
-          standing_next _ _ _ _ g.met.P.Protocol.reads_exactly g.met.P.Protocol.part_laws c.args.left (rules_by (g.R.Rows.table c.args.left) g.R.Rows.ends)
+          standing_next _ _ _ _ g.met.P.Parts.reads_exactly g.met.P.Parts.part_laws c.args.left (rules_by (g.R.Rows.table c.args.left) g.R.Rows.ends)
           (λ (l : List FieldItem). g.R.Rows.gathered c.args.left c.args.first c.fields.rows l) (λ (l : List FieldItem). g.R.Rows.gathered c.args.left c.args.first c.gather.new.self l) text tail fields c.in-Ok-Some.found c.field.new.c.rest c.gather.new.c.rest _ next
           (to_z-of_z w16 c.in-Ok-Some.found.id (record { sfits = search rules })) gathered.0
           (c.in_ok-gather-in-Ok-Some.ensures.judged next.item (next.after.bytes ++ tail) next.stands c.args.first) (gathered.1 c.args.first);
@@ -65,9 +65,9 @@ fields-preserved g c =
 pub returns-in-Ok-None-clause-all : goal.returns-in-Ok-None-clause-all
 returns-in-Ok-None-clause-all g c = λ text tail fields e h.
     let found = rw c.in-Ok-None.field-0-is at c.in-Ok-None.ensures in
-    let ended = walking_head _ _ _ _ g.met.P.Protocol.reads_exactly g.met.P.Protocol.part_laws c.args.left (rules_by (g.R.Rows.table c.args.left) g.R.Rows.ends)
+    let ended = walking_head _ _ _ _ g.met.P.Parts.reads_exactly g.met.P.Parts.part_laws c.args.left (rules_by (g.R.Rows.table c.args.left) g.R.Rows.ends)
     (λ (l : List FieldItem). g.R.Rows.gathered c.args.left c.args.first c.fields.rows l) c.args.c.now.rest c.fields.c.rest c.field.new.c.rest (to_z w16 c.fields.last-bits) (to_z w16 c.fields.last-bits) c.fields.invariant refl text tail fields e h (Ok None) found.exact in
-    all_gathered _ _ _ _ g.met.P.Protocol.reads_exactly g.met.P.Protocol.part_laws c.args.left (rules_by (g.R.Rows.table c.args.left) g.R.Rows.ends) (λ (l : List FieldItem). g.R.Rows.gathered c.args.left c.args.first c.fields.rows l) text tail fields c.field.new.c.rest ended
+    all_gathered _ _ _ _ g.met.P.Parts.reads_exactly g.met.P.Parts.part_laws c.args.left (rules_by (g.R.Rows.table c.args.left) g.R.Rows.ends) (λ (l : List FieldItem). g.R.Rows.gathered c.args.left c.args.first c.fields.rows l) text tail fields c.field.new.c.rest ended
 
 pub returns-in-Ok-None-clause-shorter : goal.returns-in-Ok-None-clause-shorter
 returns-in-Ok-None-clause-shorter g c =
@@ -75,12 +75,12 @@ returns-in-Ok-None-clause-shorter g c =
     omega (
       arith,
       c.fields.invariant.shorter,
-      begins_shorter _ (header c.args.left (to_z w16 c.fields.last-bits)) None c.fields.c.rest c.field.new.c.rest (g.met.P.Protocol.reads_exactly.found (header c.args.left (to_z w16 c.fields.last-bits)) None c.fields.c.rest c.field.new.c.rest found.exact),
+      begins_shorter _ (header c.args.left (to_z w16 c.fields.last-bits)) None c.fields.c.rest c.field.new.c.rest (g.met.P.Parts.reads_exactly.found (header c.args.left (to_z w16 c.fields.last-bits)) None c.fields.c.rest c.field.new.c.rest found.exact),
     )
 
 pub returns-in-Err-clause-all : goal.returns-in-Err-clause-all
 returns-in-Err-clause-all g c = λ text tail fields e h.
-    absurd (walking_head _ _ _ _ g.met.P.Protocol.reads_exactly g.met.P.Protocol.part_laws c.args.left (rules_by (g.R.Rows.table c.args.left) g.R.Rows.ends)
+    absurd (walking_head _ _ _ _ g.met.P.Parts.reads_exactly g.met.P.Parts.part_laws c.args.left (rules_by (g.R.Rows.table c.args.left) g.R.Rows.ends)
     (λ (l : List FieldItem). g.R.Rows.gathered c.args.left c.args.first c.fields.rows l) c.args.c.now.rest c.fields.c.rest c.field.new.c.rest (to_z w16 c.fields.last-bits) (to_z w16 c.fields.last-bits) c.fields.invariant refl text tail fields e h (Err c.in-Err.field-0) c.in-Err.ensures.exact)
 
 pub returns-in-Err-clause-shorter : goal.returns-in-Err-clause-shorter

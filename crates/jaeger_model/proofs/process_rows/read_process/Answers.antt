@@ -24,12 +24,12 @@ pub read_rows-requires-clause-none : goal.read_rows-requires-clause-none
 read_rows-requires-clause-none g c = c.none.ensures c.args.left
 
 pub read_rows-requires-clause-lawful : goal.read_rows-requires-clause-lawful
-read_rows-requires-clause-lawful g c = process_laws g.P.Protocol.spells (λ (m : ℕ). struct_laws g.P.Protocol.spells _ _ _ g.met.P.Protocol.reads_exactly g.met.P.Protocol.part_laws m) c.args.left
+read_rows-requires-clause-lawful g c = process_laws g.P.Parts.spells (λ (m : ℕ). struct_laws g.P.Parts.spells _ _ _ g.met.P.Parts.reads_exactly g.met.P.Parts.part_laws m) c.args.left
 
 pub returns-in_err-process_of-clause-judged : goal.returns-in_err-process_of-clause-judged
 returns-in_err-process_of-clause-judged g c = λ text tail fields e h.
     let all = c.in_ok-rows.ensures.all text tail fields e h in
     let answer = c.from_residual-in_err-process_of.result in
-    judged_end (structs g.P.Protocol.spells c.args.left) (process_rules g.P.Protocol.spells c.args.left) (AreFields g.P.Protocol.spells c.args.left fields) (λ (l : List FieldItem). GatheredProcess g.P.Protocol.spells c.args.left c.in_ok-rows.rows (givens (process_table g.P.Protocol.spells c.args.left) l))
+    judged_end (structs g.P.Parts.spells c.args.left) (process_rules g.P.Parts.spells c.args.left) (AreFields g.P.Parts.spells c.args.left fields) (λ (l : List FieldItem). GatheredProcess g.P.Parts.spells c.args.left c.in_ok-rows.rows (givens (process_table g.P.Parts.spells c.args.left) l))
     (whole_struct text) all.1 Process answer
     (refused_end Process (λ n. process_ends all.1.items n) c.in_err-process_of.field-0.0 (c.in_err-process_of.ensures.ended c.args.left all.1.items all.1.gathered) answer c.from_residual-in_err-process_of.ensures.1)

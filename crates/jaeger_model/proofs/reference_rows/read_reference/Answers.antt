@@ -22,6 +22,6 @@ pub returns-in_err-reference_of-clause-judged : goal.returns-in_err-reference_of
 returns-in_err-reference_of-clause-judged g c = λ text tail fields e h.
     let all = c.in_ok-rows.ensures.all text tail fields e h in
     let answer = c.from_residual-in_err-reference_of.result in
-    judged_end (structs g.P.Protocol.spells c.args.left) reference_rules (AreFields g.P.Protocol.spells c.args.left fields) (λ (l : List FieldItem). GatheredReference c.in_ok-rows.rows (givens reference_table l))
+    judged_end (structs g.P.Parts.spells c.args.left) reference_rules (AreFields g.P.Parts.spells c.args.left fields) (λ (l : List FieldItem). GatheredReference c.in_ok-rows.rows (givens reference_table l))
     (whole_struct text) all.1 (Option SpanRef) answer
     (refused_end (Option SpanRef) (λ n. reference_ends all.1.items n) c.in_err-reference_of.field-0.0 (c.in_err-reference_of.ensures.ended all.1.items all.1.gathered) answer c.from_residual-in_err-reference_of.ensures.1)

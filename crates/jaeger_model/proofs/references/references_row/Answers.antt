@@ -12,13 +12,13 @@ use Rattle.jaeger_model.proofs.ReferenceLemmas.{reference_laws}
 use Rattle.jaeger_model.proofs.references.references_row.Goals as goal
 
 pub read_list-requires : goal.read_list-requires
-read_list-requires g c = record { levels = c.requires.levels; lawful = reference_laws g.P.Protocol.spells (c.args.left - 2) (struct_laws g.P.Protocol.spells _ _ _ g.met.P.Protocol.reads_exactly g.met.P.Protocol.part_laws (c.args.left - 2)) }
+read_list-requires g c = record { levels = c.requires.levels; lawful = reference_laws g.P.Parts.spells (c.args.left - 2) (struct_laws g.P.Parts.spells _ _ _ g.met.P.Parts.reads_exactly g.met.P.Parts.part_laws (c.args.left - 2)) }
 
 pub returns-in_err-all-clause-judged : goal.returns-in_err-all-clause-judged
 returns-in_err-all-clause-judged g c = λ text tail trees e h earlier gave.
     let p = err_from_is_err_and c.from_residual-in_err-all.result c.from_residual-in_err-all.ensures.1 in
-    rw (p.1, p.2) (row_judged KeepsReferences earlier (BadElement (trees, text)) (ListOffends g.P.Protocol.spells (c.args.left - 2) reference_rules (trees, text)) c.args.row.now c.in_ok-once.ensures.ok gave Unit (Err c.in_err-all.field-0.0)
-    (halts_too (HereOrInside (BadElement (trees, text)) (ListOffends g.P.Protocol.spells (c.args.left - 2) reference_rules (trees, text))) (Items (Option SpanRef)) Unit c.in_err-all.field-0.0 (c.in_err-all.ensures.judged text tail trees e h)))
+    rw (p.1, p.2) (row_judged KeepsReferences earlier (BadElement (trees, text)) (ListOffends g.P.Parts.spells (c.args.left - 2) reference_rules (trees, text)) c.args.row.now c.in_ok-once.ensures.ok gave Unit (Err c.in_err-all.field-0.0)
+    (halts_too (HereOrInside (BadElement (trees, text)) (ListOffends g.P.Parts.spells (c.args.left - 2) reference_rules (trees, text))) (Items (Option SpanRef)) Unit c.in_err-all.field-0.0 (c.in_err-all.ensures.judged text tail trees e h)))
 
 pub returns-clause-ok : goal.returns-clause-ok
 returns-clause-ok g c = λ text tail trees e h.
@@ -27,4 +27,4 @@ returns-clause-ok g c = λ text tail trees e h.
 
 pub returns-clause-judged : goal.returns-clause-judged
 returns-clause-judged g c = λ text tail trees e h earlier gave.
-    row_judged KeepsReferences earlier (BadElement (trees, text)) (ListOffends g.P.Protocol.spells (c.args.left - 2) reference_rules (trees, text)) c.args.row.now c.in_ok-once.ensures.ok gave (Items (Option SpanRef)) (Ok c.in_ok-all.all) (c.in_ok-all.ensures.judged text tail trees e h)
+    row_judged KeepsReferences earlier (BadElement (trees, text)) (ListOffends g.P.Parts.spells (c.args.left - 2) reference_rules (trees, text)) c.args.row.now c.in_ok-once.ensures.ok gave (Items (Option SpanRef)) (Ok c.in_ok-all.all) (c.in_ok-all.ensures.judged text tail trees e h)

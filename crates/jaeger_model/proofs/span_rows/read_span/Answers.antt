@@ -14,7 +14,7 @@ pub read_rows-requires-clause-none : goal.read_rows-requires-clause-none
 read_rows-requires-clause-none g c = c.none.ensures c.args.left
 
 pub read_rows-requires-clause-lawful : goal.read_rows-requires-clause-lawful
-read_rows-requires-clause-lawful g c = span_laws g.P.Protocol.spells (λ (m : ℕ). struct_laws g.P.Protocol.spells _ _ _ g.met.P.Protocol.reads_exactly g.met.P.Protocol.part_laws m) c.args.left
+read_rows-requires-clause-lawful g c = span_laws g.P.Parts.spells (λ (m : ℕ). struct_laws g.P.Parts.spells _ _ _ g.met.P.Parts.reads_exactly g.met.P.Parts.part_laws m) c.args.left
 
 pub returns-clause-value : goal.returns-clause-value
 returns-clause-value g c = λ text tail fields e h.
@@ -30,6 +30,6 @@ pub returns-in_err-span_of_rows-clause-judged : goal.returns-in_err-span_of_rows
 returns-in_err-span_of_rows-clause-judged g c = λ text tail fields e h.
     let all = c.in_ok-rows.ensures.all text tail fields e h in
     let answer = c.from_residual-in_err-span_of_rows.result in
-    judged_end (structs g.P.Protocol.spells c.args.left) (jspan_rules g.P.Protocol.spells c.args.left) (AreFields g.P.Protocol.spells c.args.left fields) (λ (l : List FieldItem). GatheredJSpan g.P.Protocol.spells c.args.left c.in_ok-rows.rows (givens (jspan_table g.P.Protocol.spells c.args.left) l))
+    judged_end (structs g.P.Parts.spells c.args.left) (jspan_rules g.P.Parts.spells c.args.left) (AreFields g.P.Parts.spells c.args.left fields) (λ (l : List FieldItem). GatheredJSpan g.P.Parts.spells c.args.left c.in_ok-rows.rows (givens (jspan_table g.P.Parts.spells c.args.left) l))
     (whole_struct text) all.1 JSpan answer
     (refused_end JSpan (λ n. jspan_ends all.1.items n) c.in_err-span_of_rows.field-0.0 (c.in_err-span_of_rows.ensures.ended c.args.left all.1.items all.1.gathered) answer c.from_residual-in_err-span_of_rows.ensures.1)

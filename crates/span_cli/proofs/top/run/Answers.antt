@@ -3,12 +3,12 @@ use Rattle.std.specs.Prelude.{IfSome}
 use Rattle.span_io.specs.Outside.{Takes}
 use Rattle.span_io.specs.declared.form.Form.{Form}
 use Rattle.span_cli.specs.declared.command.Command.{Command}
-use Rattle.span_cli.specs.declared.command.Command.TheVariants.{Gauge, Headers, Losses, Serve}
+use Rattle.span_cli.specs.declared.command.Command.TheVariants.{Convert, Gauge, Headers, Losses, Serve}
 use Rattle.span_cli.specs.Commands.{texts, OnJob, OnServing, Spells, SpellsServe}
 use Rattle.span_cli.specs.Lines.{IsRunStatus, Notes, stage_line, stage_of, status_of}
 use Rattle.span_cli.specs.Jobs.{Job, IfGauge, task_of}
 use Rattle.span_cli.specs.Jobs as jobs
-use Rattle.span_cli.specs.Runs.{EndsGauge, IsGaugeStatus}
+use Rattle.span_cli.specs.Runs.{EndsGauge, IsGaugeStatus, WritesAllOf}
 use Rattle.span_cli.specs.declared.job.Task.TheVariants.{Make}
 use Rattle.span_cli.specs.Outcomes.{OnOutcome, IsJudgedAt, AgreesWith, Writes, CarriesOut, gauge_outcome, line_of}
 use Rattle.span_cli.specs.Servings.{ServesConnections}
@@ -19,6 +19,7 @@ use Rattle.span_cli.proofs.LossesTold.{losses_told}
 use Rattle.span_cli.proofs.SameRuns.{carried_out_agreeing, carried_out_same}
 use Rattle.span_cli.proofs.ServeWords.{seven_words, word_at}
 use Rattle.span_cli.proofs.TaskLemmas as task
+use Rattle.span_cli.proofs.TextsBack.{text_back}
 use Rattle.span_cli.proofs.top.run.Given.{Over}
 use Rattle.span_cli.proofs.top.run.Goals.{Joined-ending, In-Serve}
 use Rattle.span_cli.proofs.top.run.Goals as goal
@@ -34,6 +35,9 @@ returns-in_default-clause-reads g c = λ command spelled. no_command c.read_word
 pub returns-in_default-clause-front : goal.returns-in_default-clause-front
 returns-in_default-clause-front g c = λ command spelled. no_command c.read_words.result command c.in_default.is ((c.read_words.ensures command).1 spelled)
 
+pub returns-in_default-clause-so_far : goal.returns-in_default-clause-so_far
+returns-in_default-clause-so_far g c = λ command spelled. no_command c.read_words.result command c.in_default.is ((c.read_words.ensures command).1 spelled)
+
 pub returns-in_default-clause-output_takes : goal.returns-in_default-clause-output_takes
 returns-in_default-clause-output_takes g c = λ command spelled. no_command c.read_words.result command c.in_default.is ((c.read_words.ensures command).1 spelled)
 
@@ -45,6 +49,9 @@ returns-in_default-clause-free_members g c = λ command spelled. no_command c.re
 
 pub returns-in_default-clause-read_back : goal.returns-in_default-clause-read_back
 returns-in_default-clause-read_back g c = λ form spelled. no_command c.read_words.result (Headers form) c.in_default.is ((c.read_words.ensures (Headers form)).1 spelled)
+
+pub returns-in_default-clause-there_and_back : goal.returns-in_default-clause-there_and_back
+returns-in_default-clause-there_and_back g c = λ from to spelled. no_command c.read_words.result (Convert from to) c.in_default.is ((c.read_words.ensures (Convert from to)).1 spelled)
 
 pub returns-in_default-clause-nothing_lost : goal.returns-in_default-clause-nothing_lost
 returns-in_default-clause-nothing_lost g c = λ from to spelled. no_command c.read_words.result (Losses from to) c.in_default.is ((c.read_words.ensures (Losses from to)).1 spelled)
@@ -100,6 +107,9 @@ returns-clause-all_read g c = on_job g c _ (λ zero. c.carry_out-ending.ensures.
 
 pub returns-clause-front : goal.returns-clause-front
 returns-clause-front g c = on_job g c _ c.carry_out-ending.ensures.run.front
+
+pub returns-clause-so_far : goal.returns-clause-so_far
+returns-clause-so_far g c = on_job g c _ (λ five. c.carry_out-ending.ensures.run.so_far (sym c.status.ensures ∙ five))
 
 judged : (g : Over) (c : Joined-ending g) → IfSome (g.S.Source.inlet c.args.input.now).left (IsJudgedAt c.in-Make.job (stage_of c.status.result))
 judged g c = subst (λ (status : ℕ). IfSome (g.S.Source.inlet c.args.input.now).left (IsJudgedAt c.in-Make.job (stage_of status))) (sym c.status.ensures)
@@ -168,6 +178,14 @@ returns-clause-read_back g c = λ form spelled.
     (g.K.Sink.outlet c.args.output.now) (g.K.Sink.outlet c.carry_out-ending.new.output)
     (returns-clause-judged g c (Headers form) spelled) (returns-clause-verdict g c (Headers form) spelled) (returns-clause-output g c (Headers form) spelled)
 
+pub returns-clause-there_and_back : goal.returns-clause-there_and_back
+returns-clause-there_and_back g c = λ from to spelled zero.
+    let left = (g.S.Source.inlet c.args.input.now).left in
+    let before = g.K.Sink.outlet c.args.output.now in
+    let now = g.K.Sink.outlet c.carry_out-ending.new.output in
+    text_back c.output_read_back.ensures.back from to before now left
+    (on_job g c (λ job. IfSome left (WritesAllOf job before now)) (c.carry_out-ending.ensures.run.whole (sym c.status.ensures ∙ zero)) (Convert from to) spelled)
+
 pub returns-clause-nothing_lost : goal.returns-clause-nothing_lost
 returns-clause-nothing_lost g c = λ from to spelled.
     losses_told c.no_losses.ensures from to (g.S.Source.inlet c.args.input.now).left c.status.result
@@ -219,6 +237,9 @@ bounds-words-address g c = omega (arith, few g c, seven_words c.args.words.now (
 
 pub serve-requires : goal.serve-requires
 serve-requires g c = (spelled g (goal.at.serve-requires g c).In-Serve).some
+
+pub returns-in-Serve-clause-there_and_back : goal.returns-in-Serve-clause-there_and_back
+returns-in-Serve-clause-there_and_back g c = λ from to convert. absurd (no_job g (goal.at.returns-in-Serve-clause-there_and_back g c).In-Serve (Convert from to) _ refl convert)
 
 pub returns-in-Serve-clause-nothing_lost : goal.returns-in-Serve-clause-nothing_lost
 returns-in-Serve-clause-nothing_lost g c = λ from to lost. absurd (no_job g (goal.at.returns-in-Serve-clause-nothing_lost g c).In-Serve (Losses from to) _ refl lost)

@@ -1,8 +1,9 @@
-use Rattle.std.proofs.Common.{Bool, subst}
-use Rattle.span_convert.specs.Walks.{Exceeds}
-use Rattle.span_convert.proofs.DocumentWalks.{stops_too_long}
+use Rattle.span_convert.proofs.DocumentWalks.{stays_unread, stops_unread}
 use Rattle.span_convert.proofs.document.units_in.Goals as goal
 
-pub returns-then-too_long-clause-stop : goal.returns-then-too_long-clause-stop
-returns-then-too_long-clause-stop g c = λ limits whole now seen.
-    stops_too_long g.R.DocumentReader.form g.W.UnitWriter.target limits whole now c.target_laws.ensures (subst (λ (b : Bool). Exceeds b limits.json whole) c.if-too_long.true seen.exceeds)
+pub returns-in-Err-Why-clause-stop : goal.returns-in-Err-Why-clause-stop
+returns-in-Err-Why-clause-stop g c = λ what limits said progress now taken.
+    stops_unread what limits _ said _ progress taken g.R.DocumentReader.form now c.in-Err-Why.refusal (rw c.in-Err-Why.field-0-is at c.in-Err-Why.ensures).why
+
+pub returns-in-Err-OutOfMemory-clause-stop : goal.returns-in-Err-OutOfMemory-clause-stop
+returns-in-Err-OutOfMemory-clause-stop g c = λ what limits said progress now taken. stays_unread what limits _ said _ progress taken g.R.DocumentReader.form now

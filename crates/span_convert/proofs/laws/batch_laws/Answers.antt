@@ -4,6 +4,7 @@ pub returns : goal.returns
 returns g c = record {
   framing = c.one_framing.ensures;
   step = c.one_step.ensures;
+  pieces = c.pieces.ensures;
   reading = c.one_reading.ensures;
   parts = c.reads_back.ensures;
   structs = c.written_structs.ensures;

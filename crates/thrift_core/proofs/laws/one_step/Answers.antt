@@ -4,5 +4,5 @@ use Rattle.thrift_core.proofs.TextsFrom.{outer_laws}
 use Rattle.thrift_core.proofs.laws.one_step.Goals as goal
 
 pub returns : goal.returns
-returns g c = step_laws (struct_frames g.P.Protocol.spells g.P.Protocol.then_varint) (RefusedStruct g.P.Protocol.spells g.P.Protocol.refuses)
-    (outer_laws g.P.Protocol.spells g.P.Protocol.reads g.P.Protocol.then_varint g.P.Protocol.refuses g.met.P.Protocol.reads_exactly g.met.P.Protocol.part_laws)
+returns g c = step_laws (struct_frames g.P.Parts.spells g.P.Parts.then_varint) (RefusedStruct g.P.Parts.spells g.P.Parts.refuses)
+    (outer_laws g.P.Parts.spells g.P.Parts.reads g.P.Parts.then_varint g.P.Parts.refuses g.met.P.Parts.reads_exactly g.met.P.Parts.part_laws)

@@ -2,5 +2,5 @@ use Rattle.thrift_core.proofs.OpenStructs.{reads_back}
 use Rattle.thrift_core.proofs.laws.reads_back.Goals as goal
 
 pub returns : goal.returns
-returns g c = reads_back g.P.Protocol.spells g.P.Protocol.reads g.P.Protocol.then_varint g.P.Protocol.refuses g.met.P.Protocol.reads_exactly g.met.P.Protocol.part_laws
-    g.P.Protocol.keeps g.P.Protocol.writes g.met.P.Protocol.writes_shortest
+returns g c = reads_back g.P.Parts.spells g.P.Parts.reads g.P.Parts.then_varint g.P.Parts.refuses g.met.P.Parts.reads_exactly g.met.P.Parts.part_laws
+    g.P.Parts.keeps g.P.Parts.writes g.met.P.Parts.writes_shortest

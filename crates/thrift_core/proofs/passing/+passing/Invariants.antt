@@ -24,13 +24,13 @@ abbrev pub decreases-pass_value : goal.decreases-pass_value
 decreases-pass_value g l = 4 * l.left
 
 abbrev pub invariant-pass_struct-fields : goal.invariant-pass_struct-fields
-invariant-pass_struct-fields g l = Within g.P.Protocol.spells (in_struct l.left (pos 0)) (in_struct l.left l.last) l.initial.c l.c
+invariant-pass_struct-fields g l = Within g.P.Parts.spells (in_struct l.left (pos 0)) (in_struct l.left l.last) l.initial.c l.c
 
 abbrev pub decreases-pass_struct-fields : goal.decreases-pass_struct-fields
 decreases-pass_struct-fields g l = length l.c.rest
 
 abbrev pub invariant-pass_elements-elements : goal.invariant-pass_elements-elements
-invariant-pass_elements-elements g l = Within g.P.Protocol.spells (in_elements l.left l.kind l.many) (in_elements l.left l.kind (l.many - l._element)) l.initial.c l.c
+invariant-pass_elements-elements g l = Within g.P.Parts.spells (in_elements l.left l.kind l.many) (in_elements l.left l.kind (l.many - l._element)) l.initial.c l.c
 
 abbrev pub invariant-pass_pairs-pairs : goal.invariant-pass_pairs-pairs
-invariant-pass_pairs-pairs g l = Within g.P.Protocol.spells (in_pairs l.left l.key l.value l.many) (in_pairs l.left l.key l.value (l.many - l._pair)) l.initial.c l.c
+invariant-pass_pairs-pairs g l = Within g.P.Parts.spells (in_pairs l.left l.key l.value l.many) (in_pairs l.left l.key l.value (l.many - l._pair)) l.initial.c l.c

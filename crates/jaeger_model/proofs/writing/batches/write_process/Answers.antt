@@ -9,11 +9,11 @@ unfolding value_written
 returns-in_err-write_process_fields g c = λ left.
     exits c.from_residual-in_err-write_process_fields.result c.in_err-write_process_fields.field-0.0 _ _ _ (search rules)
     (front_behind _ _ _ _ _ (c.in_ok-put_field.ensures.ok left)
-    (struct_front g.P.Protocol.keeps g.P.Protocol.writes (process_rows c.args.batch.now.service c.args.batch.now.tags) (pred left) (pos 0) _ _ (c.in_err-write_process_fields.ensures (pred left))))
+    (struct_front g.P.Parts.keeps g.P.Parts.writes (process_rows c.args.batch.now.service c.args.batch.now.tags) (pred left) (pos 0) _ _ (c.in_err-write_process_fields.ensures (pred left))))
 
 pub returns : goal.returns
 unfolding value_written
 returns g c = λ left.
     seq c.put_stop.result _ _ _ _ _ (c.in_ok-put_field.ensures.ok left)
-    (struct_seq g.P.Protocol.keeps g.P.Protocol.writes (process_rows c.args.batch.now.service c.args.batch.now.tags) (pred left) (pos 0) c.put_stop.result _ _ _ (c.in_ok-write_process_fields.ensures (pred left))
+    (struct_seq g.P.Parts.keeps g.P.Parts.writes (process_rows c.args.batch.now.service c.args.batch.now.tags) (pred left) (pos 0) c.put_stop.result _ _ _ (c.in_ok-write_process_fields.ensures (pred left))
     (clauses c.put_stop.result _ _ _ (c.put_stop.ensures.ok (pred left) _) c.put_stop.ensures.err))

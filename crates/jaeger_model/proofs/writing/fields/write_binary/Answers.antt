@@ -6,5 +6,5 @@ use Rattle.jaeger_model.proofs.writing.fields.write_binary.Goals as goal
 pub returns : goal.returns
 unfolding value_written
 returns g c = λ left.
-    field_seq g.P.Protocol.keeps g.P.Protocol.writes (binary c.args.value.now) left c.put_bytes.result c.args.last c.args.id c.ranges.last c.ranges.id _ _ _ (c.in_ok-put_field.ensures.ok left)
+    field_seq g.P.Parts.keeps g.P.Parts.writes (binary c.args.value.now) left c.put_bytes.result c.args.last c.args.id c.ranges.last c.ranges.id _ _ _ (c.in_ok-put_field.ensures.ok left)
     (clauses c.put_bytes.result _ _ _ c.put_bytes.ensures.ok c.put_bytes.ensures.err)

@@ -10,5 +10,5 @@ use Rattle.jaeger_model.proofs.writing.fields.write_int.Goals as goal
 pub returns : goal.returns
 unfolding value_written
 returns g c = λ left.
-    field_seq g.P.Protocol.keeps g.P.Protocol.writes (leaf (i32 c.args.value)) left c.put_int.result c.args.last c.args.id c.ranges.last c.ranges.id _ _ _ (c.in_ok-put_field.ensures.ok left)
-    (subst (λ n. GrowsBy c.put_int.result c.put_field.new.out c.put_int.new.out (g.P.Protocol.writes int n)) (to_z-of_z w32 c.args.value c.ranges.value) (clauses c.put_int.result _ _ _ c.put_int.ensures.ok c.put_int.ensures.err))
+    field_seq g.P.Parts.keeps g.P.Parts.writes (leaf (i32 c.args.value)) left c.put_int.result c.args.last c.args.id c.ranges.last c.ranges.id _ _ _ (c.in_ok-put_field.ensures.ok left)
+    (subst (λ n. GrowsBy c.put_int.result c.put_field.new.out c.put_int.new.out (g.P.Parts.writes int n)) (to_z-of_z w32 c.args.value c.ranges.value) (clauses c.put_int.result _ _ _ c.put_int.ensures.ok c.put_int.ensures.err))

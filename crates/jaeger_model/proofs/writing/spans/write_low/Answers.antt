@@ -6,5 +6,5 @@ use Rattle.jaeger_model.proofs.writing.spans.write_low.Goals as goal
 
 pub returns : goal.returns
 returns g c = λ left.
-    field_again g.P.Protocol.keeps g.P.Protocol.writes (low_tree c.args.trace) (id_tree c.halves-halves.result.1) left c.write_bits.result c.args.last c.args.id c.ranges.last c.ranges.id _ _
+    field_again g.P.Parts.keeps g.P.Parts.writes (low_tree c.args.trace) (id_tree c.halves-halves.result.1) left c.write_bits.result c.args.last c.args.id c.ranges.last c.ranges.id _ _
     (ap (λ n. id_tree n) (low_half c.args.trace c.halves-halves.result.0 c.halves-halves.result.1 c.halves-halves.ensures.value)) (c.write_bits.ensures left)

@@ -1,5 +1,0 @@
-use Rattle.span_io.specs.declared.form.Form.TheVariants as forms
-use Rattle.span_convert.proofs.span_file.SpanFileUnitWriter.target_laws.Goals as goal
-
-pub returns : goal.returns
-returns c = c.form_targets.ensures forms.ZipkinJson

@@ -1,9 +1,0 @@
-use Rattle.std.proofs.Common.{◌∙◌}
-use Rattle.map_zipkin.specs.NotedGroups.{noted_group}
-use Rattle.span_convert.proofs.SpanFileWalks.{writes_spans}
-use Rattle.span_convert.proofs.span_file.SpanFileUnitWriter.write.Goals as goal
-
-pub returns-clause-ok : goal.returns-clause-ok
-returns-clause-ok c =
-    writes_spans c.zipkin_normal_forms.ensures (noted_group c.args.unit) c.requires.sound c.proper_group.ensures c.in_ok-spans.ensures.judged c.args.before _ _
-    c.args.out.now c.append_if.new.out c.append_spans.new.out c.as_slice.result.now (c.as_slice.ensures ∙ c.in_ok-spans.ensures.value) c.in_ok-append_if.ensures c.in_ok-append_spans.ensures

@@ -1,0 +1,10 @@
+pub mod JaegerFaults
+pub mod KeptDoubles
+pub mod KeptSpans
+pub mod Lists
+pub mod NoFault
+pub mod PairLaws
+pub mod RunSpans
+pub mod SpanRows
+pub mod TextPairs
+pub mod ZipkinFaults

@@ -1,0 +1,5 @@
+use Rattle.thrift_binary.specs.Unfinished.{binary_unfinished}
+use Rattle.thrift_binary.proofs.laws.few_bytes.Goals as goal
+
+pub returns : goal.returns
+returns c = binary_unfinished
