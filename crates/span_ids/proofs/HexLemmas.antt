@@ -1,11 +1,12 @@
 -- Hexadecimal digits, most significant first: what they make, and that a number has one text of all digits in lower case.
-use Rattle.std.proofs.Common.{◌≡◌, ℕ, zero, suc, ◌+◌, ◌*◌, ◌/◌, ◌%◌, ◌^◌, ◌<◌, ◌≤◌, inl, inr, List, [], ◌∷◌, length, slice_index, refl, sym, ap, ◌∙◌, arith}
+use Rattle.std.proofs.Common.{◌≡◌, Bool, false, ◌==◌, ℕ, zero, suc, ◌+◌, ◌-◌, ◌*◌, ◌/◌, ◌%◌, ◌^◌, ◌<◌, ◌≤◌, inl, inr, List, [], ◌∷◌, length, slice_index, refl, sym, ap, ◌∙◌, arith}
 use Rattle.std.proofs.Math.Nat as nat
-use Rattle.std.specs.Prelude.{All, IsUtf8, IsOk, MatchResult, Result, Ok, Err}
+use Rattle.std.specs.Prelude.{◌++◌, ◌⊎◌, All, IsUtf8, IsOk, MatchResult, Result, Ok, Err}
 use Rattle.std.specs.Char.{IsAsciiHexdigit, digit_value}
 use Rattle.std.specs.Int.{w64, w128, sum_through, byte_at, byte_worth, bytes_high_first, to_be_bytes}
 use Rattle.std.specs.Int.Digits.{number_from_digits_after}
 use Rattle.std.specs.Str.Parse.{AllDigits, digits_value, digits_value_after, without_leading_plus, ParsesUnsigned}
+use Rattle.std.proofs.lemmas.Bool.Decides.{eqb_tells}
 use Rattle.std.proofs.lemmas.Int.Digits.{digits_value-lt}
 use Rattle.std.proofs.lemmas.List.Elements.{All-cons, All-head, All-nil, All-tail}
 use Rattle.std.proofs.lemmas.Str.{IsUtf8-from_ascii}
@@ -192,14 +193,47 @@ pub text_ok : {A E : Type 0} (P : A → Type 0) (Q : E → Type 0) (text : List 
 text_ok P Q text (Ok s) h m = refl
 text_ok P Q text (Err e) h m = absurd (m.0 (hex_is_utf8 text h))
 
-pub number_ok : {E : Type 0} (text : List ℕ) (r : Result ℕ E) → All IsAsciiHexdigit text → 1 ≤ length text → length text ≤ 32
-    → ParsesUnsigned 128 16 text r → IsOk r
+pub number_ok : {E : Type 0} (text : List ℕ) (r : Result ℕ E) → All IsAsciiHexdigit text → 1 ≤ length text → length text ≤ 16
+    → ParsesUnsigned 64 16 text r → IsOk r
 number_ok text (Ok n) h some fits p = refl
 number_ok text (Err e) h some fits p =
     let plain = no_plus text some h in
-    absurd (p (rw plain ((some, all_digits text h), number_below text 32 h fits)))
+    absurd (p (rw plain ((some, all_digits text h), number_below text 16 h fits)))
 
-pub number_half : (text : List ℕ) (n : ℕ) → All IsAsciiHexdigit text → 1 ≤ length text → n ≡ digits_value 16 (without_leading_plus text) → length text ≤ 16 → n < 2 ^ 64
-number_half text n h some is short =
-    let below = number_below text 16 h short in
-    rw (is, no_plus text some h) below
+pub some_there : (text : List ℕ) (empty : Bool) → empty ≡ (length text == 0) → empty ≡ false → 1 ≤ length text
+some_there text empty is so =
+    let k = sym is ∙ so in
+    elim (eqb_tells (length text) 0) [ inl h ↦ (let other = h.0 in cc) | inr h ↦ (let other = h.1 in omega arith) ]
+
+pub number_is : (text : List ℕ) (n : ℕ) → All IsAsciiHexdigit text → 1 ≤ length text → n ≡ digits_value 16 (without_leading_plus text)
+    → n ≡ digits_value 16 text
+number_is text n h some is = is ∙ ap (digits_value 16) (no_plus text some h)
+
+-- ---- a number by halves
+
+value_behind : (n : ℕ) (low : List ℕ) → digits_value_after 16 n low ≡ n * 16 ^ length low + digits_value_after 16 0 low
+value_behind n [] = omega arith
+value_behind n (c ∷ low) =
+    let first = value_behind (n * 16 + digit_value c) low in
+    let alone = value_behind (0 * 16 + digit_value c) low in
+    let power = nat.pow-suc 16 (length low) in
+    grind (arith, first, alone, power, nat.add-mul (n * 16) (digit_value c) (16 ^ length low), nat.mul_assoc n 16 (16 ^ length low), nat.mul_comm 16 (16 ^ length low))
+
+value_joined : (n : ℕ) (high low : List ℕ) → digits_value_after 16 n (high ++ low) ≡ digits_value_after 16 (digits_value_after 16 n high) low
+value_joined n [] low = refl
+value_joined n (c ∷ high) low = value_joined (n * 16 + digit_value c) high low
+
+-- where there are digits in front, 16 stand behind them
+pub cut_in_halves : (high low : List ℕ) (long front : ℕ) → length high ≡ front → length low + front ≡ long → front ≡ long - 16
+    → (high ≡ []) ⊎ (length low ≡ 16)
+cut_in_halves [] low long front e f g = inl refl
+cut_in_halves (c ∷ high) low long front e f g = inr (omega (arith, e, f, g))
+
+pub halves_make : (text high low : List ℕ) → text ≡ high ++ low → (high ≡ []) ⊎ (length low ≡ 16)
+    → digits_value 16 high * 2 ^ 64 + digits_value 16 low ≡ digits_value 16 text
+halves_make text high low is (inl none) = rw (is, none) (omega arith)
+halves_make text high low is (inr full) =
+    let joined = value_joined 0 high low in
+    let behind = value_behind (digits_value 16 high) low in
+    let power : 16 ^ length low ≡ 2 ^ 64 = rw full refl in
+    rw is (grind (arith, joined, behind, power))

@@ -55,14 +55,29 @@ fn is_lower_digit(c: u8) -> bool
     matches!(c, b'0'..=b'9' | b'a'..=b'f')
 }
 
+/// So many digits write a number of 64 bits.
+const HALF: usize = 16;
+
 // The number that up to 32 digits write.
 pub(crate) fn hex_number(text: &[u8]) -> u128
     requires digits { All IsAsciiHexdigit text.now }
-    requires some { 1 ≤ length text.now }
     requires fits { length text.now ≤ 32 }
     ensures value { result ≡ digits_value 16 text.now }
     ensures half { length text.now ≤ 16 → result < 2 ^ 64 }
 {
+    let (high, low) = text.split_at(text.len().saturating_sub(HALF));
+    u128::from(half_number(high)) * (1 << 64) + u128::from(half_number(low))
+}
+
+// The number that up to 16 digits write, 0 where there are none.
+fn half_number(text: &[u8]) -> u64
+    requires digits { All IsAsciiHexdigit text.now }
+    requires fits { length text.now ≤ 16 }
+    ensures value { result ≡ digits_value 16 text.now }
+{
+    if text.is_empty() {
+        return 0;
+    }
     let text = std::str::from_utf8(text).unwrap();
-    u128::from_str_radix(text, 16).unwrap()
+    u64::from_str_radix(text, 16).unwrap()
 }
