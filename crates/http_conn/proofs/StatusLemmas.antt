@@ -13,7 +13,7 @@ use Rattle.span_io.specs.declared.limits.Limits.{Limits}
 use Rattle.http_conn.specs.Bodies.{body_length, is_length, length_by, post}
 use Rattle.http_conn.specs.Fields.{Line, closes, is_named, lines_of, values, content_length, content_type, transfer_encoding}
 use Rattle.http_conn.specs.Heads.{EndsAt, has_lone_line_feed, has_too_many_lines}
-use Rattle.http_conn.specs.Laws.{HasStatus}
+use Rattle.http_conn.specs.StatedLaws.{HasStatus}
 use Rattle.http_conn.specs.NextRequests.{IfWhole, IsNext, IsWithin, TellsByGrammar, form_of, next_by, verdict_of, with_body}
 use Rattle.http_conn.specs.Replies.{is_status}
 use Rattle.http_conn.specs.Services.{form_at, form_by, form_taken, is_encoded, judged, or_unsupported, path_of, service_at}

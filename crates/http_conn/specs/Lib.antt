@@ -2,7 +2,7 @@ pub mod Bodies
 pub mod Fields
 pub mod FoundFields
 pub mod Heads
-pub mod Laws
+pub mod StatedLaws
 pub mod NextRequests
 pub mod Replies
 pub mod Services

@@ -1,5 +1,5 @@
 //! Laws over all bytes of a connection. The functions do nothing: their contracts are the laws.
-ghost use Rattle.http_conn.specs.Laws.{KnownStays, OneNextRequest, WholeRequests};
+ghost use Rattle.http_conn.specs.StatedLaws.{KnownStays, OneNextRequest, WholeRequests};
 
 /// Bytes have one answer, and one that isn't in want of more bytes stays, whatever bytes come.
 pub fn one_next_request()

@@ -8,10 +8,10 @@ use Rattle.span_io.specs.declared.cause.Cause.{Cause}
 use Rattle.span_io.specs.declared.halt.Halt.{Halt}
 use Rattle.span_io.specs.declared.halt.Halt.TheVariants as halts
 use Rattle.span_io.specs.Offences.{OnHalt, Judges}
-use Rattle.span_io.specs.OffenceLaws.{FormatLaws, RulesLaws}
+use Rattle.span_io.specs.laws.OffenceLaws.{FormatLaws, RulesLaws}
 use Rattle.span_io.specs.RowsSoFar.{Gave}
 use Rattle.span_io.specs.Tables.{IsFree}
-use Rattle.span_io.specs.TableLaws.{TableShape, table_rules}
+use Rattle.span_io.specs.laws.TableLaws.{TableShape, table_rules}
 use Rattle.thrift_core.specs.declared.field.Field.{Field}
 use Rattle.thrift_core.specs.declared.type_code.TypeCode.{TypeCode}
 use Rattle.thrift_core.specs.declared.type_code.TypeCode.TheVariants as kinds

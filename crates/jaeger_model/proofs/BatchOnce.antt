@@ -2,7 +2,7 @@
 use Rattle.std.proofs.Common.{◌≡◌, ◌∷◌, ℕ, ◌+◌, zero, suc, ℤ, pos, Bool, true, false, Option, Some, None, List, [], is_none, inl, inr, refl, sym, ap, subst, ◌∙◌, arith}
 use Rattle.std.specs.List.{flat_map, count_by}
 use Rattle.span_ids.specs.Times.{nanos}
-use Rattle.span_io.specs.RowLaws.{singular_once}
+use Rattle.span_io.specs.laws.RowLaws.{singular_once}
 use Rattle.span_io.specs.Tables.{Singular, MeansText}
 use Rattle.thrift_core.specs.FieldValues.{values_of, truth_in, i32_in, i64_in, double_in, binary_in, struct_in, list_in, IsStructOf, EachStruct}
 use Rattle.thrift_core.specs.Trees.{Tree, leaf, binary, structure, map_of, set_of, list_of, Fields, Trees, no_trees, tree_then}

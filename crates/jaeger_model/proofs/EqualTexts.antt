@@ -5,7 +5,7 @@ use Rattle.thrift_core.specs.Protocols.{WritingOf}
 use Rattle.thrift_core.specs.Written.{Keeping}
 use Rattle.jaeger_model.specs.Batches.{IsBatchText}
 use Rattle.jaeger_model.specs.Canonical.{batch_text}
-use Rattle.jaeger_model.specs.Laws.{OneBatch}
+use Rattle.jaeger_model.specs.StatedLaws.{OneBatch}
 use Rattle.jaeger_model.specs.WrittenAgain.{WrittenAgain, EqualBatchTexts}
 
 pub equal_texts : (Spells : Spelling) (keeps : Keeping) (writes : WritingOf) → OneBatch Spells → WrittenAgain Spells keeps writes → EqualBatchTexts keeps writes

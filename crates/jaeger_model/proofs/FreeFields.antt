@@ -7,7 +7,7 @@ use Rattle.span_io.specs.declared.cause.Cause.{Cause}
 use Rattle.span_io.specs.Tables.{Row, Singular, MeansText, IsFree}
 use Rattle.thrift_core.specs.FieldValues.{values_of, truth_in, i32_in, i64_in, double_in, binary_in, struct_in, list_in}
 use Rattle.thrift_core.specs.Messages.{FieldItem, fields_of}
-use Rattle.thrift_core.specs.OneReading.{one_fields}
+use Rattle.thrift_core.specs.laws.OneReading.{one_fields}
 use Rattle.thrift_core.specs.Parts.{Part, Spelling}
 use Rattle.thrift_core.specs.Protocols.{ReadsExactly, PartLaws}
 use Rattle.thrift_core.specs.Reading.{ReadingOf}
@@ -23,7 +23,7 @@ use Rattle.jaeger_model.specs.declared.span.SpanRef.{SpanRef}
 use Rattle.jaeger_model.specs.declared.tag.Tag.{Tag}
 use Rattle.jaeger_model.specs.Identifiers.{span_id_of}
 use Rattle.jaeger_model.specs.InnerRows.{with_text}
-use Rattle.jaeger_model.specs.Laws.{SameButFree, no_more, on_both, on_this, on_that, PassesFreeFields, FreeFields}
+use Rattle.jaeger_model.specs.StatedLaws.{SameButFree, no_more, on_both, on_this, on_that, PassesFreeFields, FreeFields}
 use Rattle.jaeger_model.specs.Logs.{MeansTags, IsLog, log_table}
 use Rattle.jaeger_model.specs.Meanings.{Means, MeansTime, MeansEnum}
 use Rattle.jaeger_model.specs.Processes.{IsProcess, MeansProcess, process_table}

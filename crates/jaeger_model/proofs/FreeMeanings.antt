@@ -3,7 +3,7 @@ use Rattle.std.proofs.Common.{◌≡◌, ◌++◌, ◌∷◌, ◌==◌, if◌the
 use Rattle.std.specs.Prelude.{◌↔◌}
 use Rattle.std.specs.List.{AllZip}
 use Rattle.std.proofs.lemmas.Slice.Zip.{AllZip-long}
-use Rattle.span_io.specs.RowLaws.{all_zip_append, all_zip_equal, all_zip_self, singular_moves}
+use Rattle.span_io.specs.laws.RowLaws.{all_zip_append, all_zip_equal, all_zip_self, singular_moves}
 use Rattle.span_io.specs.Tables.{Row, IsFree}
 use Rattle.thrift_core.specs.FieldValues.{of_id, values_of, truth_in, i32_in, i64_in, double_in, binary_in, struct_in, list_in, EachStruct}
 use Rattle.thrift_core.specs.Messages.{FieldItem}

@@ -2,7 +2,7 @@
 use Rattle.std.proofs.Common.{◌≡◌, ◌≤◌, ◌∷◌, ℕ, zero, suc, ℤ, pos, Bool, true, false, Option, Some, None, List, [], inl, inr, refl, sym, ap, ◌∙◌, arith}
 use Rattle.std.specs.List.{flat_map}
 use Rattle.span_io.specs.declared.cause.Cause.TheVariants as causes
-use Rattle.span_io.specs.OffenceLaws.{FormatLaws}
+use Rattle.span_io.specs.laws.OffenceLaws.{FormatLaws}
 use Rattle.span_io.specs.Tables.{MeansText, NotText, Values, Mean, givens}
 use Rattle.thrift_core.specs.FieldValues.{values_of, truth_in, i32_in, i64_in, double_in, binary_in}
 use Rattle.thrift_core.specs.Messages.{FieldItem, structs, fields_of}

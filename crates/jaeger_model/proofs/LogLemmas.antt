@@ -2,10 +2,10 @@
 use Rattle.std.proofs.Common.{◌≡◌, ◌-◌, ◌∷◌, ◌⊎◌, inl, inr, [], ℕ, zero, suc, Bool, List, Option, Some, None, of_z, w16, refl, sym, ap, subst, ◌∙◌, arith}
 use Rattle.std.specs.Prelude.{map}
 use Rattle.std.specs.List.{flat_map}
-use Rattle.span_io.specs.OffenceLaws.{FormatLaws, RulesLaws}
+use Rattle.span_io.specs.laws.OffenceLaws.{FormatLaws, RulesLaws}
 use Rattle.span_io.specs.RowsSoFar.{Gave}
 use Rattle.span_io.specs.Tables.{IsFree}
-use Rattle.span_io.specs.TableLaws.{TableShape, table_rules}
+use Rattle.span_io.specs.laws.TableLaws.{TableShape, table_rules}
 use Rattle.thrift_core.specs.declared.field.Field.{Field}
 use Rattle.thrift_core.specs.declared.type_code.TypeCode.{TypeCode}
 use Rattle.thrift_core.specs.declared.type_code.TypeCode.TheVariants as kinds

@@ -3,14 +3,14 @@ use Rattle.std.proofs.Common.{◌-◌, ℕ, List, [], inl, inr, refl, arith}
 use Rattle.std.specs.List.{flat_map}
 use Rattle.span_io.specs.declared.cause.Cause.{Cause}
 use Rattle.span_io.specs.declared.cause.Cause.TheVariants as causes
-use Rattle.span_io.specs.OffenceLaws.{FormatLaws}
+use Rattle.span_io.specs.laws.OffenceLaws.{FormatLaws}
 use Rattle.span_io.specs.Tables.{MeansText, NotText, Values, Mean, givens}
 use Rattle.thrift_core.specs.FieldValues.{values_of, i64_in, binary_in, list_in}
 use Rattle.thrift_core.specs.Messages.{FieldItem, structs, fields_of}
 use Rattle.thrift_core.specs.Parts.{Part, Spelling}
 use Rattle.thrift_core.specs.Protocols.{ReadsExactly, PartLaws}
 use Rattle.thrift_core.specs.Reading.{ReadingOf}
-use Rattle.thrift_core.specs.StructLaws.{struct_laws}
+use Rattle.thrift_core.specs.laws.StructLaws.{struct_laws}
 use Rattle.thrift_core.specs.Trees.{Trees}
 use Rattle.jaeger_model.proofs.LeafProofs.{tag_struct}
 use Rattle.jaeger_model.proofs.LogLemmas.{log_laws, process_laws, both_held}

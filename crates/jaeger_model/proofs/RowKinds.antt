@@ -7,17 +7,17 @@ use Rattle.span_io.specs.Causes.{cause_number}
 use Rattle.span_io.specs.declared.cause.Cause.{Cause}
 use Rattle.span_io.specs.declared.cause.Cause.TheVariants as causes
 use Rattle.span_io.specs.declared.halt.Halt.TheVariants as halts
-use Rattle.span_io.specs.OffenceLaws.{RulesLaws}
+use Rattle.span_io.specs.laws.OffenceLaws.{RulesLaws}
 use Rattle.span_io.specs.Offences.{Rules, Offence, Least, HereOrInside}
-use Rattle.span_io.specs.RowLaws.{singular_split, twice_or, one_number, not_text, some_text}
-use Rattle.span_io.specs.TableDecisions.{Decided, DecidedHere}
-use Rattle.span_io.specs.TableLaws.{IsFew}
+use Rattle.span_io.specs.laws.RowLaws.{singular_split, twice_or, one_number, not_text, some_text}
+use Rattle.span_io.specs.laws.TableDecisions.{Decided, DecidedHere}
+use Rattle.span_io.specs.laws.TableLaws.{IsFew}
 use Rattle.span_io.specs.Tables.{Singular, Twice, MeansText, NotText, nothing_inside}
 use Rattle.thrift_core.specs.declared.type_code.TypeCode.{TypeCode}
 use Rattle.thrift_core.specs.declared.type_code.TypeCode.TheVariants as kinds
 use Rattle.thrift_core.specs.FieldValues.{has_id, of_id, struct_in, list_in, IsStructOf, EachStruct}
 use Rattle.thrift_core.specs.Messages.{FieldItem, structs, whole_struct}
-use Rattle.thrift_core.specs.OneReading.{of_kind, value_front}
+use Rattle.thrift_core.specs.laws.OneReading.{of_kind, value_front}
 use Rattle.thrift_core.specs.Parts.{Part, Spelling}
 use Rattle.thrift_core.specs.Protocols.{ReadsExactly, PartLaws}
 use Rattle.thrift_core.specs.Reading.{ReadingOf}

@@ -7,9 +7,9 @@ use Rattle.std.proofs.lemmas.List.{length-append}
 use Rattle.span_io.specs.Causes.{cause_number}
 use Rattle.span_io.specs.declared.halt.Halt.TheVariants as halts
 use Rattle.span_io.specs.FreeItems.{SameOffence}
-use Rattle.span_io.specs.OffenceLaws.{RulesLaws, least_here, least_inside, none_in_item}
+use Rattle.span_io.specs.laws.OffenceLaws.{RulesLaws, least_here, least_inside, none_in_item}
 use Rattle.span_io.specs.Offences.{Rules, Offence, HereOrInside}
-use Rattle.span_io.specs.RowLaws.{all_zip_self}
+use Rattle.span_io.specs.laws.RowLaws.{all_zip_self}
 use Rattle.span_io.specs.Tables.{Row, Twice, nothing_inside, IsFree}
 use Rattle.thrift_core.specs.declared.type_code.TypeCode.{TypeCode}
 use Rattle.thrift_core.specs.declared.type_code.TypeCode.TheVariants as kinds
@@ -317,8 +317,8 @@ module _ (A B : Spelling) (k : Keeps A) (j : Keeps B) (left : ℕ) (own : List (
   abbrev AlikeLists : Trees × List ℕ → Trees × List ℕ → Type 0
   AlikeLists x y = Joined (ListAlike Padded) (λ z. ListThere A (left - 1) z.0 z.1) (λ z. ListThere B (left - 1) z.0 z.1) x y
 
-  lists_alike : (item other : FieldItem) → Twins A B left own Inside item other → AllZip AlikeLists (with_text item.text (given_to list_in id item)) (with_text other.text (given_to list_in id other))
-  lists_alike item other twins =
+  list_offence_alike : (item other : FieldItem) → Twins A B left own Inside item other → AllZip AlikeLists (with_text item.text (given_to list_in id item)) (with_text other.text (given_to list_in id other))
+  list_offence_alike item other twins =
       join (ListAlike Padded) (λ z. ListThere A (left - 1) z.0 z.1) (λ z. ListThere B (left - 1) z.0 z.1) (given_to list_in id item) (given_to list_in id other) item.text other.text
       (alike_given A B left own Inside list_in id (ListAlike Padded) (λ trees. inl refl) inner item other twins) (each_stood A left list_in id (λ z. ListThere A (left - 1) z.0 z.1) (lists_stand A left) item twins.stands)
       (each_stood B left list_in id (λ z. ListThere B (left - 1) z.0 z.1) (lists_stand B left) other twins.there)
@@ -384,5 +384,5 @@ module _ (A B : Spelling) (k : Keeps A) (j : Keeps B) (left : ℕ) (own : List (
   pub structures_pair : RowPair A B left own Inside (structures A (left - 2) K id V Means IsAbsent) (structures B (left - 2) J id V Means IsAbsent)
   structures_pair =
       singular_pair A B left own Inside (λ item. with_text item.text (given_to list_in id item)) (λ item. with_text item.text (given_to list_in id item)) (λ held value. Means held.0 value) (λ held value. Means held.0 value) IsAbsent BadElement BadElement
-      (λ held p n. ListOffends A (left - 2) K held p n) (λ held p n. ListOffends B (left - 2) J held p n) AlikeLists lists_alike free_list free_list (λ x n h. omega (arith, h.0)) (λ y n h. omega (arith, h.0))
+      (λ held p n. ListOffends A (left - 2) K held p n) (λ held p n. ListOffends B (left - 2) J held p n) AlikeLists list_offence_alike free_list free_list (λ x n h. omega (arith, h.0)) (λ y n h. omega (arith, h.0))
       (λ x y alike. lists_same x.0 y.0 alike.0 x.1 y.1 alike.1 alike.2)

@@ -5,14 +5,14 @@ use Rattle.std.proofs.lemmas.Bool.{cases_lt}
 use Rattle.span_ids.specs.Times.{nanos, last_micros}
 use Rattle.span_io.specs.declared.cause.Cause.{Cause}
 use Rattle.span_io.specs.declared.cause.Cause.TheVariants as causes
-use Rattle.span_io.specs.OffenceLaws.{FormatLaws}
+use Rattle.span_io.specs.laws.OffenceLaws.{FormatLaws}
 use Rattle.span_io.specs.Tables.{MeansText, NotText, Values, Mean, givens}
 use Rattle.thrift_core.specs.FieldValues.{values_of, i32_in, i64_in, binary_in, list_in}
 use Rattle.thrift_core.specs.Messages.{FieldItem, structs, fields_of}
 use Rattle.thrift_core.specs.Parts.{Part, Spelling}
 use Rattle.thrift_core.specs.Protocols.{ReadsExactly, PartLaws}
 use Rattle.thrift_core.specs.Reading.{ReadingOf}
-use Rattle.thrift_core.specs.StructLaws.{struct_laws}
+use Rattle.thrift_core.specs.laws.StructLaws.{struct_laws}
 use Rattle.thrift_core.specs.Trees.{Fields, Trees}
 use Rattle.jaeger_model.proofs.LeafProofs.{tag_struct, reference_struct}
 use Rattle.jaeger_model.proofs.OuterProofs.{log_struct}

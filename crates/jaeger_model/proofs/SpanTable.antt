@@ -1,8 +1,8 @@
 -- The table of a span.
 use Rattle.std.proofs.Common.{◌≡◌, ◌-◌, ◌∷◌, [], ℕ, List, of_z, w16, sym, ap, ◌∙◌, arith}
-use Rattle.span_io.specs.OffenceLaws.{FormatLaws, RulesLaws}
+use Rattle.span_io.specs.laws.OffenceLaws.{FormatLaws, RulesLaws}
 use Rattle.span_io.specs.Tables.{IsFree}
-use Rattle.span_io.specs.TableLaws.{TableShape, table_rules}
+use Rattle.span_io.specs.laws.TableLaws.{TableShape, table_rules}
 use Rattle.thrift_core.specs.declared.field.Field.{Field}
 use Rattle.thrift_core.specs.declared.type_code.TypeCode.{TypeCode}
 use Rattle.thrift_core.specs.declared.type_code.TypeCode.TheVariants as kinds

@@ -5,13 +5,13 @@ use Rattle.std.specs.Prelude.{◌↔◌}
 use Rattle.std.specs.List.{AllZip}
 use Rattle.span_io.specs.Causes.{cause_number}
 use Rattle.span_io.specs.declared.cause.Cause.{Cause}
-use Rattle.span_io.specs.OffenceLaws.{one_cause}
+use Rattle.span_io.specs.laws.OffenceLaws.{one_cause}
 use Rattle.span_io.specs.Offences.{Least}
-use Rattle.span_io.specs.RowLaws.{all_zip_equal}
+use Rattle.span_io.specs.laws.RowLaws.{all_zip_equal}
 use Rattle.span_io.specs.Tables.{Row, MeansText, NotText, IsFree}
 use Rattle.thrift_core.specs.FieldValues.{of_id, truth_in, i32_in, i64_in, double_in, binary_in, struct_in, list_in}
 use Rattle.thrift_core.specs.Messages.{FieldItem, fields_of}
-use Rattle.thrift_core.specs.OneReading.{one_fields}
+use Rattle.thrift_core.specs.laws.OneReading.{one_fields}
 use Rattle.thrift_core.specs.Parts.{Spelling}
 use Rattle.thrift_core.specs.Trees.{Tree, Fields, StructText, outer_levels}
 use Rattle.jaeger_model.proofs.BatchProofs.{batch_struct}
@@ -30,7 +30,7 @@ use Rattle.jaeger_model.specs.declared.span.SpanRef.{SpanRef}
 use Rattle.jaeger_model.specs.declared.tag.Tag.{Tag}
 use Rattle.jaeger_model.specs.FreeAtAnyDepth.{FieldsPadded, NothingInside, TagPadded, ReferencePadded, InTagged, LogPadded, ProcessPadded, InSpan, JSpanPadded, InBatch, FreeAtAnyDepth}
 use Rattle.jaeger_model.specs.InnerRows.{with_text, structures}
-use Rattle.jaeger_model.specs.Laws.{BatchOffends, OneTree}
+use Rattle.jaeger_model.specs.StatedLaws.{BatchOffends, OneTree}
 use Rattle.jaeger_model.specs.Logs.{MeansTags, IsLog, log_table, log_ends, log_rules}
 use Rattle.jaeger_model.specs.Meanings.{Means, MeansTime, MeansEnum}
 use Rattle.jaeger_model.specs.Processes.{IsProcess, MeansProcess, process_table, process_ends, process_rules}

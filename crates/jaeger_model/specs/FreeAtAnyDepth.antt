@@ -9,7 +9,7 @@ use Rattle.thrift_core.specs.Parts.{Spelling}
 use Rattle.thrift_core.specs.Trees.{Tree, structure, list_of, Fields, no_fields, field_then, Trees, no_trees, tree_then, StructText, outer_levels}
 use Rattle.jaeger_model.specs.Batches.{IsBatchText, batch_table}
 use Rattle.jaeger_model.specs.declared.batch.Batch.{Batch}
-use Rattle.jaeger_model.specs.Laws.{BatchOffends}
+use Rattle.jaeger_model.specs.StatedLaws.{BatchOffends}
 use Rattle.jaeger_model.specs.Logs.{log_table}
 use Rattle.jaeger_model.specs.Processes.{process_table}
 use Rattle.jaeger_model.specs.References.{reference_table}

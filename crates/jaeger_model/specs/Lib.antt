@@ -6,7 +6,6 @@ pub mod FreeAtAnyDepth
 pub mod Growing
 pub mod Identifiers
 pub mod InnerRows
-pub mod Laws
 pub mod ListsSoFar
 pub mod LogSoFar
 pub mod Logs
@@ -20,8 +19,9 @@ pub mod Rows
 pub mod RowsSoFar
 pub mod SpanSoFar
 pub mod Spans
+pub mod StatedLaws
 pub mod TagSoFar
 pub mod Tags
 pub mod Writable
-pub mod WritableLaws
 pub mod WrittenAgain
+pub mod laws

@@ -8,7 +8,7 @@ ghost use Rattle.jaeger_model.specs.Batches.{IsBatch, IsBatchText, MeansNothing,
 ghost use Rattle.jaeger_model.specs.BatchSoFar.{GaveBatch};
 ghost use Rattle.jaeger_model.specs.Counted.{IsCountedBatch};
 ghost use Rattle.jaeger_model.specs.declared.batch.Batch.{Batch};
-ghost use Rattle.jaeger_model.specs.Laws.{BatchOffends};
+ghost use Rattle.jaeger_model.specs.StatedLaws.{BatchOffends};
 ghost use Rattle.jaeger_model.specs.Rows.{nothing_wrong};
 ghost use Rattle.jaeger_model.specs.RowsSoFar.{JudgesField};
 

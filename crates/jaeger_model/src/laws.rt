@@ -1,5 +1,5 @@
 //! Laws of what structs mean, as contracts of functions that do nothing.
-ghost use Rattle.jaeger_model.specs.Laws.{OneBatch, SomeBatch, OneTree, FreeFields, ReadsTimes, ReadsProper};
+ghost use Rattle.jaeger_model.specs.StatedLaws.{OneBatch, SomeBatch, OneTree, FreeFields, ReadsTimes, ReadsProper};
 ghost use Rattle.jaeger_model.specs.FreeAtAnyDepth.{FreeAtAnyDepth};
 
 use thrift_core::Parts;

@@ -1,7 +1,7 @@
 //! Lists of structs.
 ghost use Rattle.std.specs.Prelude.{◌<◌, ◌^◌, ◌≡◌, ◌≢◌, ◌≤◌, ◌++◌, ◌-◌, [], ℕ, List, length, None, Some, Err, IfOk, OnOk, OnErr};
 ghost use Rattle.span_io.specs.Offences.{Rules, Offence, Judges};
-ghost use Rattle.span_io.specs.OffenceLaws.{RulesLaws};
+ghost use Rattle.span_io.specs.laws.OffenceLaws.{RulesLaws};
 ghost use Rattle.span_io.specs.RowsSoFar.{Gave, Sets};
 ghost use Rattle.span_io.specs.declared.cause.Cause.TheVariants as causes;
 ghost use Rattle.thrift_core.specs.declared.type_code.TypeCode.TheVariants as kinds;

@@ -1,7 +1,7 @@
 //! The walk over the fields of a struct.
 ghost use Rattle.std.specs.Prelude.{◌≡◌, ◌≤◌, ◌++◌, [], ℕ, List, length, IfOk, OnOk};
 ghost use Rattle.span_io.specs.Offences.{Offence, OnHalt};
-ghost use Rattle.span_io.specs.OffenceLaws.{RulesLaws};
+ghost use Rattle.span_io.specs.laws.OffenceLaws.{RulesLaws};
 ghost use Rattle.span_io.specs.Tables.{Row, rules_by};
 ghost use Rattle.span_io.specs.Gathering.{AddsItem, JudgesItem};
 ghost use Rattle.thrift_core.specs.Messages.{FieldItem, FieldStands, structs, whole_struct};

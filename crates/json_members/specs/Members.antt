@@ -2,8 +2,9 @@
 -- told as what it means, and as how it offends.
 use Rattle.std.specs.Prelude.{◌≡◌, ℕ, List, [], ◌∷◌, Bool, Option, Some, None, option_and_then}
 use Rattle.serde_json.specs.Data.{Data, null, Items, no_items, item, Members, no_members, member as has}
-use Rattle.serde_json.specs.Find.{get, as_bool, as_number, as_str, as_u64}
-use Rattle.span_io.specs.Paths.{Faults, nothing, here, valued, OfKind}
+use Rattle.serde_json.specs.Find.{get, as_array, as_bool, as_number, as_str, as_u64}
+use Rattle.span_io.specs.Paths.{Offences, nothing, here, each, valued, OfKind}
+use Rattle.std.specs.List.{AllZip}
 
 abbrev pub unless_null : Option Data → Option Data
 unless_null None = None
@@ -22,19 +23,26 @@ abbrev pub member_values : Members → List Data
 member_values no_members = []
 member_values (has key d more) = d ∷ member_values more
 
+-- what the elements of an array mean, and how they offend
+abbrev pub AreHeld : {A : Type 0} → (A → Data → Type 0) → List A → Data → Type 0
+AreHeld Means xs d = OfKind (λ ys ds. AllZip (λ x y. Means y x) (elements ds) ys) xs (as_array d)
+
+abbrev pub elements_offend : (Data → Offences) → Data → Offences
+elements_offend Offends d = valued (λ ds. each Offends (elements ds)) (as_array d)
+
 -- ---- texts and truth values
 
 abbrev pub IsText : List ℕ → Data → Type 0
 IsText text d = as_str d ≡ Some text
 
-abbrev pub text_faults : Data → Faults
-text_faults d = valued (λ text. nothing) (as_str d)
+abbrev pub text_offends : Data → Offences
+text_offends d = valued (λ text. nothing) (as_str d)
 
 abbrev pub IsTruth : Bool → Data → Type 0
 IsTruth truth d = as_bool d ≡ Some truth
 
-abbrev pub truth_faults : Data → Faults
-truth_faults d = valued (λ truth. nothing) (as_bool d)
+abbrev pub truth_offends : Data → Offences
+truth_offends d = valued (λ truth. nothing) (as_bool d)
 
 -- ---- numbers: a whole one has neither point nor exponent, and isn't `-0`
 
@@ -48,5 +56,5 @@ abbrev pub Spelled : {A : Type 0} → (List ℕ → A → Type 0) → A → Data
 Spelled Spells x d = OfKind (λ y text. Spells text y) x (as_str d)
 
 -- with this number, the text spells nothing
-abbrev pub unspelled : {A : Type 0} → (List ℕ → A → Type 0) → ℕ → Data → Faults
+abbrev pub unspelled : {A : Type 0} → (List ℕ → A → Type 0) → ℕ → Data → Offences
 unspelled Spells number d = valued (λ text. here (λ n. (n ≡ number) × ((x : _) → ¬ Spells text x))) (as_str d)

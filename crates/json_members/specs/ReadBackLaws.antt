@@ -19,7 +19,7 @@ use Rattle.serde_json.specs.Written.{outline, items_outline, members_outline, co
 use Rattle.serde_json.proofs.Numbers.{number_of-decimal}
 use Rattle.serde_json.proofs.Texts.{print-outline}
 use Rattle.json_members.specs.Canonical.{MemberRow, members_given, unless_empty}
-use Rattle.json_members.specs.Utf8Laws.{ascii_then}
+use Rattle.json_members.specs.laws.Utf8Laws.{ascii_then}
 
 -- ---- what its text gives back, nested at most n deep
 

@@ -2,10 +2,12 @@
 #![tactic(auto)]
 
 mod members;
+mod parts;
 mod reading;
 mod writing;
 
-pub use members::{member_of, take_member, text, text_of, truth_of};
+pub use members::{member_of, text, text_of, truth_of};
+pub use parts::{Table, bare_member, member, object};
 pub use reading::unread;
 pub use writing::{
     close_array, close_object, count_member, given_text_member, id_member, name_of, open_array,

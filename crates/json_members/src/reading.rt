@@ -1,18 +1,18 @@
 //! Bytes that are no text of a value.
 ghost use Rattle.json_members.specs.Texts.{IsUnread};
 
-use serde_json::Error;
+use json_nodes::Unread;
 use span_io::{Cause, Halt, Refusal};
 
 /// What is answered of bytes that gave no value.
-pub fn unread(error: &Error) -> Halt<Refusal>
-    ensures { IsUnread error.now result }
+pub fn unread(why: Unread) -> Halt<Refusal>
+    ensures { IsUnread why result }
 {
-    if error.is_memory() {
-        return Halt::OutOfMemory;
+    match why {
+        Unread::OutOfMemory => Halt::OutOfMemory,
+        Unread::BadJson => Halt::Why(Refusal {
+            unit: 0,
+            cause: Cause::BadJson,
+        }),
     }
-    Halt::Why(Refusal {
-        unit: 0,
-        cause: Cause::BadJson,
-    })
 }

@@ -59,7 +59,7 @@ pub fn whole_text_member(out: &mut Writer, name: &str, text: &str) -> Result<(),
 }
 
 /// Appends a member that is a text, unless it is empty.
-#[tactic(auto, using(crate::specs::WritingLaws::written))]
+#[tactic(auto, using(crate::specs::laws::WritingLaws::written))]
 pub fn text_member(out: &mut Writer, name: &str, text: &str) -> Result<(), OutOfMemory>
     ensures { Appends result out.old out.new (given_tokens name.now (text_data text.now)) }
 {
@@ -93,7 +93,7 @@ pub fn whole_count_member(out: &mut Writer, name: &str, count: u64) -> Result<()
 }
 
 /// Appends a member that is a number, unless it is 0.
-#[tactic(auto, using(crate::specs::WritingLaws::written))]
+#[tactic(auto, using(crate::specs::laws::WritingLaws::written))]
 pub fn count_member(out: &mut Writer, name: &str, count: u64) -> Result<(), OutOfMemory>
     ensures { Appends result out.old out.new (given_tokens name.now (count_data count)) }
 {

@@ -18,11 +18,12 @@ use Rattle.trace_model.specs.declared.span.Link.{Link}
 use Rattle.trace_model.specs.declared.span.Span.{Span}
 use Rattle.trace_model.specs.declared.value.Value.{Value, Text, Truth, Number, Eight, Bytes, List', Map', Nothing}
 use Rattle.span_tags.specs.Doubles.{double_at}
-use Rattle.span_tags.specs.LeastRows.{least_key, least_or, least_same, KeyAtMost, not_above_itself, least_of_keys, contains_here, contains_behind, contains_cases, contains_none, least_found, FaultAtMost, at_most_same, least_if, least_named, numbered_before, any_decides, itself}
+use Rattle.span_tags.specs.laws.LeastRows.{least_key, least_or, least_same, KeyAtMost, not_above_itself, least_of_keys, contains_here, contains_behind, contains_cases, contains_none, least_found, FaultAtMost, at_most_same, least_if, least_named, numbered_before, any_decides, itself}
 use Rattle.span_tags.specs.TagKeys.{service_key}
-use Rattle.map_jaeger.specs.Columns.{flags_in}
+use Rattle.map_jaeger.specs.ColumnWords.{flags_in}
 use Rattle.map_jaeger.specs.Faults.{HasReserved, in_span, in_event, HasOwn, IsOwnParent, HasDoubleInside, HasDouble, HasDoubleAt, IsSpanFault, IsResourceFault}
-use Rattle.map_jaeger.specs.Keys.{is_reserved, flags_key, event_key, reference_key}
+use Rattle.map_jaeger.specs.Columns.{is_reserved}
+use Rattle.map_jaeger.specs.Keys.{flags_key, event_key, reference_key}
 use Rattle.map_jaeger.specs.LeastFault.{end_fault, is_under, has_key, event_key_in, reserved_in, reserved_fault, own_by, own_fault, names_parent, is_own_link, link_fault, double_inside, has_double_inside, doubles_inside, double_fault, span_fault, resource_fault}
 use Rattle.map_jaeger.specs.Writing.{is_child_of}
 

@@ -9,8 +9,8 @@ use Rattle.trace_model.specs.declared.fault.Fault.TheVariants.{EndBeforeStart, R
 use Rattle.trace_model.specs.declared.span.Event.{Event}
 use Rattle.trace_model.specs.declared.trace.Group.{Group}
 use Rattle.trace_model.specs.declared.value.Value.{Value}
-use Rattle.span_tags.specs.FirstFaultLaws.{sound_spans, plain_span, first_counts}
-use Rattle.span_tags.specs.LeastRows.{any_none, contains_none, FaultAtMost}
+use Rattle.span_tags.specs.laws.FirstFaultLaws.{sound_spans, plain_span, first_counts}
+use Rattle.span_tags.specs.laws.LeastRows.{any_none, contains_none, FaultAtMost}
 use Rattle.span_tags.specs.Runs.{scoped}
 use Rattle.map_jaeger.specs.Faults.{HasReserved, in_span, in_event, HasDoubleInside, HasDouble, IsSpanFault, IsResourceFault, IsFaultOf}
 use Rattle.map_jaeger.specs.LeastFault.{span_fault, resource_fault, fault_of}

@@ -11,12 +11,12 @@ use Rattle.trace_model.specs.Remarks.{tags_dropped, numbered}
 use Rattle.trace_model.specs.declared.place.Place.TheVariants as places
 use Rattle.trace_model.specs.declared.span.Span.{Span}
 use Rattle.trace_model.specs.declared.trace.Group.{Group}
-use Rattle.span_tags.specs.RunLaws.{scoped_runs}
+use Rattle.span_tags.specs.laws.RunLaws.{scoped_runs}
 use Rattle.span_tags.specs.Runs.{Scoped, scoped, runs}
 use Rattle.span_tags.specs.TagKeys.{service_key}
 use Rattle.span_tags.specs.TagWords.{without, if_left}
 use Rattle.map_jaeger.specs.Faults.{HasNoFault}
-use Rattle.map_jaeger.specs.Laws.{IsHeld, BatchesReadBack, NormalForms, IsTimely, ReadIsNormal}
+use Rattle.map_jaeger.specs.StatedLaws.{IsHeld, BatchesReadBack, NormalForms, IsTimely, ReadIsNormal}
 use Rattle.map_jaeger.specs.Normal.{normal_span, normal_scoped, normal_resource, normal_group}
 use Rattle.map_jaeger.specs.Reading.{scoped_of, group_of}
 use Rattle.map_jaeger.specs.Remarks.{RepeatsOfSpan, AreRemarks, jspan_remarks}

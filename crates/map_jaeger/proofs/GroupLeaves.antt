@@ -8,7 +8,7 @@ use Rattle.jaeger_model.specs.declared.tag.TagValue.TheVariants as tags
 use Rattle.trace_model.specs.Attributes.{Rise, keys, attrs}
 use Rattle.trace_model.specs.Values.{IsSound}
 use Rattle.trace_model.specs.declared.value.Value.{Value, Text, List', Map', Nothing}
-use Rattle.span_tags.specs.AttributeLaws.{attrs_itself, map_rise}
+use Rattle.span_tags.specs.laws.AttributeLaws.{attrs_itself, map_rise}
 use Rattle.map_jaeger.specs.Faults.{HasDoubleInside, HasDouble}
 use Rattle.map_jaeger.specs.Normal.{normal_attributes}
 use Rattle.map_jaeger.specs.Reading.{attributes_of}

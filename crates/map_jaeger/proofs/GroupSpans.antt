@@ -12,13 +12,13 @@ use Rattle.trace_model.specs.declared.span.Span.{Span}
 use Rattle.trace_model.specs.declared.trace.Group.{Group}
 use Rattle.trace_model.specs.declared.trace.Scope.{Scope}
 use Rattle.trace_model.specs.declared.value.Value.{Value}
-use Rattle.span_tags.specs.AttributeLaws.{attrs_rise}
-use Rattle.span_tags.specs.FirstFaultLaws.{sound_spans, plain_span}
+use Rattle.span_tags.specs.laws.AttributeLaws.{attrs_rise}
+use Rattle.span_tags.specs.laws.FirstFaultLaws.{sound_spans, plain_span}
 use Rattle.span_tags.specs.PlacedFaults.{in_resource, in_span}
-use Rattle.span_tags.specs.RunLaws.{IsPlain, scoped_all, scoped_runs, runs_each}
+use Rattle.span_tags.specs.laws.RunLaws.{IsPlain, scoped_all, scoped_runs, runs_each}
 use Rattle.span_tags.specs.Runs.{Scoped, spans_of, scoped, runs}
 use Rattle.map_jaeger.specs.Faults.{IsSpanFault, IsResourceFault, HasNoFault}
-use Rattle.map_jaeger.specs.Laws.{IsHeld}
+use Rattle.map_jaeger.specs.StatedLaws.{IsHeld}
 use Rattle.map_jaeger.proofs.GroupFault.{plain_fault}
 
 abbrev pub NoSpanFault : Span → Type 0

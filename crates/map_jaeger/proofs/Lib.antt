@@ -11,7 +11,6 @@ pub mod SpanBack
 pub mod SpanParts
 pub mod SpanNormal
 pub mod SpanRead
-pub mod LeftOut
 pub mod Noted
 pub mod ReadLists
 pub mod ReadParts

@@ -1,6 +1,5 @@
 -- No double stands inside what is written where nothing is a fault.
-use Rattle.std.proofs.Common.{◌≡◌, ℕ, Bool, true, false, cond, ◌||◌, List, [], ◌∷◌, ◌++◌, filter, not, Option, Some, None, refl, ◌∙◌, if◌then◌else◌}
-use Rattle.std.specs.Prelude.{◌==◌, pos}
+use Rattle.std.proofs.Common.{◌≡◌, ℕ, Bool, true, false, cond, ◌||◌, List, [], ◌∷◌, ◌++◌, filter, not, Option, Some, None, refl, ◌∙◌}
 use Rattle.std.specs.List.{list_any}
 use Rattle.std.specs.Option.{option_or}
 use Rattle.std.specs.Ordering.{nat_cmp}
@@ -11,25 +10,22 @@ use Rattle.std.specs.Str.{bytes_eq}
 use Rattle.std.proofs.lemmas.List.Folds.{list_any-append}
 use Rattle.trace_model.specs.Attributes.{by_order, placed, attrs}
 use Rattle.trace_model.specs.declared.fault.Fault.TheVariants.{DoubleInText}
-use Rattle.trace_model.specs.declared.span.Code.{Code}
-use Rattle.trace_model.specs.declared.span.Code.TheVariants as statuses
-use Rattle.trace_model.specs.declared.span.Kind.{Kind}
-use Rattle.trace_model.specs.declared.span.Kind.TheVariants as kinds
 use Rattle.trace_model.specs.declared.span.Span.{Span}
 use Rattle.trace_model.specs.declared.trace.Group.{Group}
 use Rattle.trace_model.specs.declared.trace.Scope.{Scope}
-use Rattle.trace_model.specs.declared.value.Value.{Value, Number}
-use Rattle.span_tags.specs.LeastRows.{if_so}
-use Rattle.span_tags.specs.TagKeys.{error_key, dropped_attributes_key, dropped_events_key, dropped_links_key, library_name_key, library_version_key, scope_name_key, scope_version_key, code_key, state_key}
-use Rattle.span_tags.specs.TagWords.{Pairs, row, text_given, without, code_given}
-use Rattle.map_jaeger.specs.Columns.{Columns, rows, count_given}
+use Rattle.trace_model.specs.declared.value.Value.{Value, List', Map'}
+use Rattle.span_tags.specs.Columns.{rows_by}
+use Rattle.span_tags.specs.laws.LeastRows.{if_so}
+use Rattle.span_tags.specs.Runs.{Scoped}
+use Rattle.span_tags.specs.TagWords.{Pairs, row, text_given, without}
+use Rattle.map_jaeger.specs.Columns.{all_columns, row_of, columns_of, rows}
 use Rattle.map_jaeger.specs.Doubles.{scope_has_double, group_has_double}
-use Rattle.map_jaeger.specs.Keys.{description_key, kind_key, event_key, flags_key}
+use Rattle.map_jaeger.specs.Keys.{event_key, flags_key}
 use Rattle.map_jaeger.specs.LeastFault.{span_has_double, resource_has_double, end_fault, reserved_fault, own_fault, link_fault, double_fault, span_fault, resource_fault, first_fault, scopes_fault, fault_of, has_double_inside, doubles_inside}
+use Rattle.map_jaeger.specs.declared.columns.Column.{Column}
+use Rattle.map_jaeger.proofs.ColumnLemmas.{normal_column}
 use Rattle.map_jaeger.proofs.NoFault.{none_first, none_second}
-use Rattle.map_jaeger.specs.WritingSoFar.{columns_held}
-use Rattle.map_jaeger.specs.declared.writing_columns.Held.{Held}
-use Rattle.map_jaeger.specs.Writing.{error_given, description_given, kind_given}
+use Rattle.map_jaeger.proofs.SpanParts.{text_leaf, leaf_in}
 
 -- ---- members of which none passes
 
@@ -81,106 +77,25 @@ without_plain key pairs = kept has_double_inside (λ attribute. not (bytes_eq ke
 
 -- ---- columns
 
-abbrev RowsPlain : List ℕ → Option Value → Type 0
-RowsPlain key value = doubles_inside (row key value) ≡ false
+-- there is none in a leaf
+leaf_plain : (key : List ℕ) (value : Option Value) → normal_column value ≡ value → doubles_inside (row key value) ≡ false
+leaf_plain key None leaf = refl
+leaf_plain key (Some (List' shape members)) leaf = absurd (cc)
+leaf_plain key (Some (Map' shape members)) leaf = absurd (cc)
+leaf_plain key (Some other) leaf = refl
 
-text_plain : (key text : List ℕ) → RowsPlain key (text_given text)
-text_plain key [] = refl
-text_plain key (x ∷ more) = refl
+columns_plain : (columns : List Column) (one : Scoped Span) → doubles_inside (rows_by row_of columns (columns_of one)) ≡ false
+columns_plain [] one = refl
+columns_plain (column ∷ more) one = joined has_double_inside (row (row_of column).key (columns_of one column)) (rows_by row_of more (columns_of one))
+    (leaf_plain (row_of column).key (columns_of one column) (leaf_in one column)) (columns_plain more one)
 
-count_plain : (key : List ℕ) (n : ℕ) → RowsPlain key (count_given n)
-count_plain key n = by (n == 0)
-  where
-    by : (b : Bool) → RowsPlain key (if b then None else Some (Number (pos n)))
-    by true = refl
-    by false = refl
-
-error_plain : (key : List ℕ) (code : Code) → RowsPlain key (error_given code)
-error_plain key statuses.Unset = refl
-error_plain key statuses.Okay = refl
-error_plain key statuses.Fail = refl
-
-code_plain : (key : List ℕ) (code : Code) → RowsPlain key (code_given code)
-code_plain key statuses.Unset = refl
-code_plain key statuses.Okay = refl
-code_plain key statuses.Fail = refl
-
-description_plain : (key : List ℕ) (code : Code) (message : List ℕ) → RowsPlain key (description_given code message)
-description_plain key statuses.Unset message = refl
-description_plain key statuses.Okay message = text_plain key message
-description_plain key statuses.Fail message = text_plain key message
-
-kind_plain : (key : List ℕ) (kind : Kind) → RowsPlain key (kind_given kind)
-kind_plain key kinds.Unspecified = refl
-kind_plain key kinds.Internal = refl
-kind_plain key kinds.Server = refl
-kind_plain key kinds.Client = refl
-kind_plain key kinds.Producer = refl
-kind_plain key kinds.Consumer = refl
-
--- the rows from each column on
-abbrev from_state : Columns → Pairs
-from_state c = row state_key c.state
-
-abbrev from_kind : Columns → Pairs
-from_kind c = row kind_key c.kind ++ from_state c
-
-abbrev from_description : Columns → Pairs
-from_description c = row description_key c.description ++ from_kind c
-
-abbrev from_code : Columns → Pairs
-from_code c = row code_key c.code ++ from_description c
-
-abbrev from_scope_version : Columns → Pairs
-from_scope_version c = row scope_version_key c.scope_version ++ from_code c
-
-abbrev from_scope_name : Columns → Pairs
-from_scope_name c = row scope_name_key c.scope_name ++ from_scope_version c
-
-abbrev from_library_version : Columns → Pairs
-from_library_version c = row library_version_key c.library_version ++ from_scope_name c
-
-abbrev from_library_name : Columns → Pairs
-from_library_name c = row library_name_key c.library_name ++ from_library_version c
-
-abbrev from_dropped_links : Columns → Pairs
-from_dropped_links c = row dropped_links_key c.dropped_links ++ from_library_name c
-
-abbrev from_dropped_events : Columns → Pairs
-from_dropped_events c = row dropped_events_key c.dropped_events ++ from_dropped_links c
-
-abbrev from_dropped_attributes : Columns → Pairs
-from_dropped_attributes c = row dropped_attributes_key c.dropped_attributes ++ from_dropped_events c
-
-abbrev from_error : Columns → Pairs
-from_error c = row error_key c.error ++ from_dropped_attributes c
-
-row_before : (key : List ℕ) (value : Option Value) (rest : Pairs) → RowsPlain key value → doubles_inside rest ≡ false → doubles_inside (row key value ++ rest) ≡ false
-row_before key value rest one more = joined has_double_inside (row key value) rest one more
-
-columns_plain : (name version : List ℕ) (held : Held) → doubles_inside (rows (columns_held name version held)) ≡ false
-columns_plain name version held =
-    let c = columns_held name version held in
-    row_before error_key c.error (from_dropped_attributes c) (error_plain error_key held.status.code)
-    (row_before dropped_attributes_key c.dropped_attributes (from_dropped_events c) (count_plain dropped_attributes_key held.dropped_attributes)
-    (row_before dropped_events_key c.dropped_events (from_dropped_links c) (count_plain dropped_events_key held.dropped_events)
-    (row_before dropped_links_key c.dropped_links (from_library_name c) (count_plain dropped_links_key held.dropped_links)
-    (row_before library_name_key c.library_name (from_library_version c) refl
-    (row_before library_version_key c.library_version (from_scope_name c) refl
-    (row_before scope_name_key c.scope_name (from_scope_version c) (text_plain scope_name_key name)
-    (row_before scope_version_key c.scope_version (from_code c) (text_plain scope_version_key version)
-    (row_before code_key c.code (from_description c) (code_plain code_key held.status.code)
-    (row_before description_key c.description (from_kind c) (description_plain description_key held.status.code held.status.message)
-    (row_before kind_key c.kind (from_state c) (kind_plain kind_key held.kind)
-    (text_plain state_key held.state)))))))))))
-
-pub span_pairs_plain : (name version : List ℕ) (held : Held) (attributes : Pairs) → doubles_inside attributes ≡ false
-    → doubles_inside (rows (columns_held name version held) ++ without flags_key attributes) ≡ false
-span_pairs_plain name version held attributes none = joined has_double_inside (rows (columns_held name version held)) (without flags_key attributes)
-    (columns_plain name version held) (without_plain flags_key attributes none)
+pub span_pairs_plain : (one : Scoped Span) (attributes : Pairs) → doubles_inside attributes ≡ false
+    → doubles_inside (rows (columns_of one) ++ without flags_key attributes) ≡ false
+span_pairs_plain one attributes none = joined has_double_inside (rows (columns_of one)) (without flags_key attributes)
+    (columns_plain all_columns one) (without_plain flags_key attributes none)
 
 pub event_pairs_plain : (name : List ℕ) (attributes : Pairs) → doubles_inside attributes ≡ false → doubles_inside (row event_key (text_given name) ++ attributes) ≡ false
-event_pairs_plain name attributes none = joined has_double_inside (row event_key (text_given name)) attributes (text_plain event_key name) none
+event_pairs_plain name attributes none = joined has_double_inside (row event_key (text_given name)) attributes (leaf_plain event_key (text_given name) (text_leaf name)) none
 
 -- ---- what has no fault
 

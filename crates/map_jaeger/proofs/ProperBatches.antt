@@ -2,7 +2,9 @@
 use Rattle.std.proofs.Common.{◌≡◌, ℕ, ◌+◌, ◌%◌, ◌<◌, ◌≤◌, ◌^◌, pos, Bool, true, false, List, [], ◌∷◌, ◌++◌, map, get_or, All, Option, Some, None, unwrap_or, cond, refl, arith}
 use Rattle.std.specs.Prelude.{not, ◌==◌, codes, IsUtf8, FitsSigned}
 use Rattle.std.specs.Int.{w32, w64, cast_signed}
+use Rattle.std.specs.List.{list_all}
 use Rattle.std.specs.Str.{bytes_eq}
+use Rattle.std.proofs.Math.Dec.{ltb}
 use Rattle.std.proofs.Math.Facts.{sfits_to_z}
 use Rattle.std.proofs.lemmas.Int.{fits_signed_from_abs}
 use Rattle.std.proofs.lemmas.List.Elements.{All-nil, All-cons, All-append, All-filter, All-map}
@@ -23,15 +25,19 @@ use Rattle.trace_model.specs.declared.trace.Group.{Group}
 use Rattle.trace_model.specs.declared.trace.Scope.{Scope}
 use Rattle.trace_model.specs.declared.value.Value.{Value, Text, Number, Eight, Bytes, Truth, List', Map', Nothing}
 use Rattle.jaeger_model.specs.Proper as written
-use Rattle.span_tags.specs.AttributeLaws.{all_attrs}
-use Rattle.span_tags.specs.RunLaws.{scoped_all}
+use Rattle.span_tags.specs.laws.AttributeLaws.{all_attrs}
+use Rattle.span_tags.specs.laws.RunLaws.{scoped_all}
+use Rattle.span_tags.specs.laws.ColumnLaws.{all_rows}
 use Rattle.span_tags.specs.Runs.{Scoped, scoped, spans_of}
-use Rattle.span_tags.specs.TagKeys.{error_key, dropped_attributes_key, dropped_events_key, dropped_links_key, scope_name_key, scope_version_key, code_key, state_key, service_key}
+use Rattle.span_tags.specs.TagKeys.{service_key}
 use Rattle.span_tags.specs.TagWords.{row, text_given, without, code_given}
-use Rattle.map_jaeger.specs.Columns.{rows, flags_in, count_given}
-use Rattle.map_jaeger.specs.Keys.{description_key, kind_key, flags_key, event_key}
+use Rattle.map_jaeger.specs.ColumnWords.{flags_in, count_given, kind_given, error_given, description_given}
+use Rattle.map_jaeger.specs.Columns.{all_columns, row_of, columns_of, rows}
+use Rattle.map_jaeger.specs.Keys.{flags_key, event_key}
 use Rattle.map_jaeger.specs.TagValues.{tag_value, tag_of}
-use Rattle.map_jaeger.specs.Writing.{kind_given, error_given, description_given, columns_of, flags_of, tags_of, log_of, reference_of, jaeger_span, batch_of}
+use Rattle.map_jaeger.specs.Writing.{flags_of, tags_of, log_of, reference_of, jaeger_span, batch_of}
+use Rattle.map_jaeger.specs.declared.columns.Column.{Column}
+use Rattle.map_jaeger.specs.declared.columns.Column.TheVariants as columns
 use Rattle.map_jaeger.proofs.FlagLemmas.{IsFlags, flags_are}
 use Rattle.map_jaeger.proofs.GroupProper.{TextsAreUtf8, ascii, service_utf8}
 
@@ -89,21 +95,26 @@ pub record IsProperScoped (one : Scoped Span) : Type 0 where
   pub version : IsUtf8 one.version
   pub span : IsProperSpan one.span
 
+held_in : (one : Scoped Span) → IsProperScoped one → (column : Column) → Held (columns_of one column)
+held_in one h columns.Error = error_held one.span.status.code
+held_in one h columns.DroppedAttributes = count_held one.span.dropped_attributes h.span.dropped_attributes
+held_in one h columns.DroppedEvents = count_held one.span.dropped_events h.span.dropped_events
+held_in one h columns.DroppedLinks = count_held one.span.dropped_links h.span.dropped_links
+held_in one h columns.ScopeName = text_held one.name h.name
+held_in one h columns.ScopeVersion = text_held one.version h.version
+held_in one h columns.Code = code_held one.span.status.code
+held_in one h columns.Description = description_held one.span.status.code one.span.status.message h.span.status.message
+held_in one h columns.Kind = kind_held one.span.kind
+held_in one h columns.State = text_held one.span.state h.span.state
+held_in one h other = tt
+
+key_ascii : (column : Column) → list_all (λ b. ltb b 128) (row_of column).key ≡ true
+key_ascii columns.Error = refl
+key_ascii other = refl
+
 rows_proper : (one : Scoped Span) → IsProperScoped one → AreProper (rows (columns_of one))
-rows_proper one h =
-    let c = columns_of one in
-    All-append IsProperPair (row error_key c.error) _ (row_proper error_key (word error_key (ascii error_key refl)) c.error (error_held one.span.status.code))
-    (All-append IsProperPair (row dropped_attributes_key c.dropped_attributes) _ (row_proper dropped_attributes_key (word dropped_attributes_key (ascii dropped_attributes_key refl)) c.dropped_attributes (count_held one.span.dropped_attributes h.span.dropped_attributes))
-    (All-append IsProperPair (row dropped_events_key c.dropped_events) _ (row_proper dropped_events_key (word dropped_events_key (ascii dropped_events_key refl)) c.dropped_events (count_held one.span.dropped_events h.span.dropped_events))
-    (All-append IsProperPair (row dropped_links_key c.dropped_links) _ (row_proper dropped_links_key (word dropped_links_key (ascii dropped_links_key refl)) c.dropped_links (count_held one.span.dropped_links h.span.dropped_links))
-    (All-append IsProperPair [] _ (All-nil IsProperPair)
-    (All-append IsProperPair [] _ (All-nil IsProperPair)
-    (All-append IsProperPair (row scope_name_key c.scope_name) _ (row_proper scope_name_key (word scope_name_key (ascii scope_name_key refl)) c.scope_name (text_held one.name h.name))
-    (All-append IsProperPair (row scope_version_key c.scope_version) _ (row_proper scope_version_key (word scope_version_key (ascii scope_version_key refl)) c.scope_version (text_held one.version h.version))
-    (All-append IsProperPair (row code_key c.code) _ (row_proper code_key (word code_key (ascii code_key refl)) c.code (code_held one.span.status.code))
-    (All-append IsProperPair (row description_key c.description) _ (row_proper description_key (word description_key (ascii description_key refl)) c.description (description_held one.span.status.code one.span.status.message h.span.status.message))
-    (All-append IsProperPair (row kind_key c.kind) _ (row_proper kind_key (word kind_key (ascii kind_key refl)) c.kind (kind_held one.span.kind))
-    (row_proper state_key (word state_key (ascii state_key refl)) c.state (text_held one.span.state h.span.state))))))))))))
+rows_proper one h = all_rows row_of IsProperPair all_columns (columns_of one) (λ column.
+    let key = (row_of column).key in row_proper key (word key (ascii key (key_ascii column))) (columns_of one column) (held_in one h column))
 
 -- ---- flags
 

@@ -23,13 +23,17 @@ use Rattle.jaeger_model.specs.declared.span.SpanRef.{SpanRef}
 use Rattle.jaeger_model.specs.declared.tag.Tag.{Tag}
 use Rattle.jaeger_model.specs.declared.tag.TagValue.{TagValue}
 use Rattle.jaeger_model.specs.declared.tag.TagValue.TheVariants as tags
-use Rattle.span_tags.specs.AttributeLaws.{all_attrs}
+use Rattle.span_tags.specs.laws.AttributeLaws.{all_attrs}
 use Rattle.span_tags.specs.Runs.{Scoped, in_front, is_of, plain_scope, runs}
-use Rattle.span_tags.specs.TagKeys.{dropped_attributes_key, dropped_events_key, dropped_links_key, library_name_key, library_version_key, scope_name_key, scope_version_key, state_key, service_key}
+use Rattle.span_tags.specs.TagKeys.{service_key}
 use Rattle.span_tags.specs.TagWords.{row, text_in, at_most, decimal_in, count_in, text_given, without, name_in}
-use Rattle.map_jaeger.specs.Keys.{description_key, flags_key, event_key, reference_key, child_of_word}
-use Rattle.map_jaeger.specs.Reading.{attributes_of, message_by, flag_bits, high_flags, high_flags_of, is_free, event_of, link_of_reference, is_own_parent, parent_of, names, scoped_of, span_attributes, group_of}
+use Rattle.map_jaeger.specs.ColumnWords.{message_by}
+use Rattle.map_jaeger.specs.Columns.{row_of, looked, is_free}
+use Rattle.map_jaeger.specs.Keys.{flags_key, event_key, reference_key, child_of_word}
+use Rattle.map_jaeger.specs.Reading.{attributes_of, flag_bits, high_flags, high_flags_of, event_of, link_of_reference, is_own_parent, parent_of, names, scoped_of, span_attributes, group_of}
 use Rattle.map_jaeger.specs.TagValues.{value_of, attribute_of}
+use Rattle.map_jaeger.specs.declared.columns.Column.{Column}
+use Rattle.map_jaeger.specs.declared.columns.Column.TheVariants as columns
 use Rattle.map_jaeger.proofs.GroupProper.{ascii}
 use Rattle.map_jaeger.proofs.ProperBatches.{IsProperScoped, row_proper, word, text_held}
 
@@ -53,6 +57,9 @@ without_proper key attributes all = All-filter (λ attribute. not (bytes_eq key 
 
 under : (key : List ℕ) (attributes : List (List ℕ × Value)) → AreProper attributes → IfSome (at key attributes) IsProperValue
 under key attributes all = All-lookup IsProperValue (bytes_eq key) attributes (λ k d lt. (all k d lt).value)
+
+in_column : (attributes : List (List ℕ × Value)) → AreProper attributes → (column : Column) → IfSome (looked attributes column) IsProperValue
+in_column attributes all column = under (row_of column).key attributes all
 
 text_in_proper : (value : Option Value) → IfSome value IsProperValue → IfSome (text_in value) IsUtf8
 text_in_proper None held = tt
@@ -155,23 +162,24 @@ span_proper : (span : JSpan) → written.IsProperJSpan span → IsProperSpan (sc
 span_proper span h =
     let attributes = attributes_of span.tags in
     let all : AreProper attributes = attributes_proper span.tags h.tags in
+    let c = looked attributes in
     let links = filter (λ reference. not (is_own_parent span.trace reference && names (parent_of span) reference.span)) span.references in
     let kept : All written.IsProperReference links = All-filter (λ reference. not (is_own_parent span.trace reference && names (parent_of span) reference.span)) written.IsProperReference span.references h.references in
     record {
       trace = h.trace;
       id = h.id;
-      state = said (at state_key attributes) (under state_key attributes all);
+      state = said (c columns.State) (in_column attributes all columns.State);
       parent = or_named span.parent (option_map (λ reference. reference.span) (find (is_own_parent span.trace) span.references)) h.parent (named_proper (is_own_parent span.trace) span.references h.references);
       name = h.name;
       start = h.start;
       end = h.end;
       attributes = span_attributes_proper span.flags attributes all;
-      dropped_attributes = count_proper (at dropped_attributes_key attributes);
+      dropped_attributes = count_proper (c columns.DroppedAttributes);
       events = All-map IsProperEvent event_of span.logs (λ k d lt. event_proper (get_or span.logs k d) (h.logs k d lt));
-      dropped_events = count_proper (at dropped_events_key attributes);
+      dropped_events = count_proper (c columns.DroppedEvents);
       links = All-map IsProperLink link_of_reference links (λ k d lt. link_proper (get_or links k d) (kept k d lt));
-      dropped_links = count_proper (at dropped_links_key attributes);
-      status = record { message = message_proper (scoped_of span).span.status.code (at description_key attributes) (under description_key attributes all) };
+      dropped_links = count_proper (c columns.DroppedLinks);
+      status = record { message = message_proper (scoped_of span).span.status.code (c columns.Description) (in_column attributes all columns.Description) };
       flags = omega arith;
     }
 
@@ -182,9 +190,10 @@ scoped_proper : (span : JSpan) → written.IsProperJSpan span → IsProperScoped
 scoped_proper span h =
     let attributes = attributes_of span.tags in
     let all : AreProper attributes = attributes_proper span.tags h.tags in
+    let c = looked attributes in
     record {
-      name = name_proper (at scope_name_key attributes) (at library_name_key attributes) (under scope_name_key attributes all) (under library_name_key attributes all);
-      version = name_proper (at scope_version_key attributes) (at library_version_key attributes) (under scope_version_key attributes all) (under library_version_key attributes all);
+      name = name_proper (c columns.ScopeName) (c columns.LibraryName) (in_column attributes all columns.ScopeName) (in_column attributes all columns.LibraryName);
+      version = name_proper (c columns.ScopeVersion) (c columns.LibraryVersion) (in_column attributes all columns.ScopeVersion) (in_column attributes all columns.LibraryVersion);
       span = span_proper span h;
     }
 

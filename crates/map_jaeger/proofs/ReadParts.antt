@@ -1,21 +1,21 @@
 -- The tags of Jaeger's own among the tags of a span, and the others.
-use Rattle.std.proofs.Common.{◌≡◌, ℕ, List, [], ◌++◌, map, true, cond, not, Option, None, refl, sym, ap, subst, ◌∙◌}
+use Rattle.std.proofs.Common.{◌≡◌, ℕ, List, [], ◌++◌, map, cond, not, Option, None, sym, ap, subst, ◌∙◌}
 use Rattle.jaeger_model.specs.declared.span.JSpan.{JSpan}
-use Rattle.trace_model.specs.Attributes.{Rise, keys, attrs, at}
+use Rattle.trace_model.specs.Attributes.{Rise, keys, attrs}
 use Rattle.trace_model.specs.declared.span.Event.{Event}
 use Rattle.trace_model.specs.declared.span.Span.{Span}
 use Rattle.trace_model.specs.declared.value.Value.{Value}
-use Rattle.span_tags.specs.AttributeLaws.{attrs_itself, attrs_rise, at_filter, filter_rise}
+use Rattle.span_tags.specs.laws.AttributeLaws.{attrs_itself, attrs_rise, at_filter, filter_rise}
 use Rattle.span_tags.specs.Runs.{Scoped}
-use Rattle.span_tags.specs.TagKeys.{error_key, dropped_attributes_key, dropped_events_key, dropped_links_key, library_name_key, library_version_key, scope_name_key, scope_version_key, code_key, state_key}
 use Rattle.span_tags.specs.TagWords.{Pairs, row}
-use Rattle.map_jaeger.specs.Columns.{Columns, looked}
-use Rattle.map_jaeger.specs.Keys.{description_key, kind_key, flags_key}
+use Rattle.map_jaeger.specs.Columns.{Columns, row_of, looked, left_out, is_free}
+use Rattle.map_jaeger.specs.Keys.{flags_key}
 use Rattle.map_jaeger.specs.ReadColumns.{ArePartsOf, own_tags, free_tags, scoped_by_parts}
-use Rattle.map_jaeger.specs.Reading.{attributes_of, event_of, high_flags_of, is_free, scoped_by, scoped_of, span_attributes}
-use Rattle.map_jaeger.specs.Remarks.{left_out}
+use Rattle.map_jaeger.specs.Reading.{attributes_of, event_of, high_flags_of, scoped_by, scoped_of, span_attributes}
 use Rattle.map_jaeger.specs.TagValues.{attribute_of}
+use Rattle.map_jaeger.specs.declared.columns.Column.{Column}
 use Rattle.map_jaeger.specs.declared.reading.attributes.Parted.{Parted}
+use Rattle.map_jaeger.proofs.ColumnLemmas.{its_key}
 
 -- ---- parts
 
@@ -23,28 +23,14 @@ use Rattle.map_jaeger.specs.declared.reading.attributes.Parted.{Parted}
 pub no_row : (key : List ℕ) (value : Option Value) (free : Pairs) → value ≡ None → Rise (keys free) → free ≡ attrs (row key value ++ free)
 no_row key value free none up = sym (attrs_itself free up) ∙ ap (λ v. attrs (row key v ++ free)) (sym none)
 
-own_at : (key : List ℕ) (tags : Pairs) → not (is_free key) ≡ true → at key (own_tags tags) ≡ at key tags
-own_at key tags own = at_filter key (λ k. not (is_free k)) tags ∙ ap (λ b. cond b (at key tags) None) own
-
 pub looked_own : (tags : Pairs) → looked (own_tags tags) ≡ looked tags
-looked_own tags = λ i. record {
-  error = own_at error_key tags refl i;
-  dropped_attributes = own_at dropped_attributes_key tags refl i;
-  dropped_events = own_at dropped_events_key tags refl i;
-  dropped_links = own_at dropped_links_key tags refl i;
-  library_name = own_at library_name_key tags refl i;
-  library_version = own_at library_version_key tags refl i;
-  scope_name = own_at scope_name_key tags refl i;
-  scope_version = own_at scope_version_key tags refl i;
-  code = own_at code_key tags refl i;
-  description = own_at description_key tags refl i;
-  kind = own_at kind_key tags refl i;
-  state = own_at state_key tags refl i;
-}
+looked_own tags = λ i column. own column i
+  where
+    own : (column : Column) → looked (own_tags tags) column ≡ looked tags column
+    own column = at_filter (row_of column).key (λ k. not (is_free k)) tags ∙ ap (λ b. cond (not (not b)) (looked tags column) None) (its_key column)
 
-pub left_of_own : (own tags : Pairs) → own ≡ own_tags tags → left_out (looked own) (at flags_key own) ≡ left_out (looked tags) (at flags_key tags)
-left_of_own own tags is = ap (λ l. left_out (looked l) (at flags_key l)) is
-    ∙ (ap (λ c. left_out c (at flags_key (own_tags tags))) (looked_own tags) ∙ ap (left_out (looked tags)) (own_at flags_key tags refl))
+pub left_of_own : (own tags : Pairs) → own ≡ own_tags tags → left_out (looked own) ≡ left_out (looked tags)
+left_of_own own tags is = ap (λ l. left_out (looked l)) is ∙ ap left_out (looked_own tags)
 
 pub free_rise : (span : JSpan) (tags : Pairs) (parts : Parted) → tags ≡ attributes_of span.tags → ArePartsOf tags parts → Rise (keys parts.free)
 free_rise span tags parts same are = subst (λ (l : Pairs). Rise (keys l)) (sym are.free)

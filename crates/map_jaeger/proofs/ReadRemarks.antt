@@ -10,11 +10,10 @@ use Rattle.trace_model.specs.declared.remark.Remark.{Remark}
 use Rattle.trace_model.specs.declared.value.Value.{Value}
 use Rattle.span_tags.specs.TagKeys.{service_key}
 use Rattle.span_tags.specs.TagWords.{if_left}
-use Rattle.map_jaeger.specs.Columns.{looked}
-use Rattle.map_jaeger.specs.Keys.{flags_key}
+use Rattle.map_jaeger.specs.Columns.{looked, left_out}
 use Rattle.map_jaeger.specs.Noted.{AddsNoted, AreNumbered}
 use Rattle.map_jaeger.specs.Reading.{attributes_of}
-use Rattle.map_jaeger.specs.Remarks.{AreRemarks, RepeatsOf, RepeatsOfSpan, left_out, log_remarks, jspan_remarks}
+use Rattle.map_jaeger.specs.Remarks.{AreRemarks, RepeatsOf, RepeatsOfSpan, log_remarks, jspan_remarks}
 use Rattle.map_jaeger.specs.TagValues.{attribute_of}
 
 pub if_there : {T E P : Type 0} (r : Result T E) → P → OnOk r P
@@ -31,16 +30,16 @@ pub span_noted : (n : ℕ) (span : JSpan) (tags : List (List ℕ × Value)) (key
     → tags ≡ attributes_of span.tags → AreRepeated keys (map attribute_of span.tags) → AreNumbered RepeatsOf (log_remarks n) 1 span.logs events
     → first ≡ found ++ equal_keys (places.Span n) keys
     → second ≡ first ++ link_dropped (places.Span n) (nat_lt 0 span.invalid_refs)
-    → third ≡ second ++ tags_dropped (places.Span n) (left_out (looked tags) (at flags_key tags))
+    → third ≡ second ++ tags_dropped (places.Span n) (left_out (looked tags))
     → all ≡ third ++ events → AddsNoted RepeatsOfSpan jspan_remarks n span found all
 span_noted n span tags keys found first second third all events same repeated logs e1 e2 e3 e4 =
-    let left : third ≡ second ++ tags_dropped (places.Span n) (left_out (looked (attributes_of span.tags)) (at flags_key (attributes_of span.tags))) =
-    e3 ∙ ap (λ t. second ++ tags_dropped (places.Span n) (left_out (looked t) (at flags_key t))) same in
+    let left : third ≡ second ++ tags_dropped (places.Span n) (left_out (looked (attributes_of span.tags))) =
+    e3 ∙ ap (λ t. second ++ tags_dropped (places.Span n) (left_out (looked t))) same in
     record {
       note = record { span = keys; logs = logs.notes };
       its = record { tags = repeated; logs = logs.theirs };
       all = four found (equal_keys (places.Span n) keys) (link_dropped (places.Span n) (nat_lt 0 span.invalid_refs))
-          (tags_dropped (places.Span n) (left_out (looked (attributes_of span.tags)) (at flags_key (attributes_of span.tags))))
+          (tags_dropped (places.Span n) (left_out (looked (attributes_of span.tags))))
           _ first second third all e1 e2 left (e4 ∙ ap (λ l. third ++ l) logs.all);
     }
 

@@ -15,12 +15,13 @@ use Rattle.trace_model.specs.Values.{IsSound, AreSound}
 use Rattle.trace_model.specs.declared.span.Span.{Span}
 use Rattle.trace_model.specs.declared.trace.Scope.{Scope}
 use Rattle.trace_model.specs.declared.value.Value.{Value, Text}
-use Rattle.span_tags.specs.AttributeLaws.{attrs_rise, all_attrs, filter_rise}
+use Rattle.span_tags.specs.laws.AttributeLaws.{attrs_rise, all_attrs, filter_rise}
 use Rattle.span_tags.specs.Runs.{Scoped, in_front, is_of, plain_scope, runs}
 use Rattle.span_tags.specs.TagKeys.{service_key}
 use Rattle.span_tags.specs.TagWords.{row, text_given, without}
 use Rattle.map_jaeger.specs.Keys.{flags_key, event_key, reference_key, child_of_word}
-use Rattle.map_jaeger.specs.Reading.{attributes_of, event_of, flag_bits, high_flags_of, is_free, is_own_parent, link_of_reference, names, parent_of, resource_of, scoped_of, span_attributes}
+use Rattle.map_jaeger.specs.Columns.{is_free}
+use Rattle.map_jaeger.specs.Reading.{attributes_of, event_of, flag_bits, high_flags_of, is_own_parent, link_of_reference, names, parent_of, resource_of, scoped_of, span_attributes}
 use Rattle.map_jaeger.specs.TagValues.{attribute_of, value_of}
 
 abbrev HoldsSound : List ℕ × Value → Type 0

@@ -1,5 +1,5 @@
 -- A span that was written is read as its normal form, without a remark.
-use Rattle.std.proofs.Common.{◌≡◌, ℕ, Bool, true, false, cond, not, ◌||◌, ◌&&◌, ◌==◌, List, [], ◌∷◌, ◌++◌, map, filter, find, get_or, suc, All, Contains, Option, Some, None, is_some, unwrap_or, option_map, refl, sym, ap, ◌∙◌, subst, true≢false, decimal}
+use Rattle.std.proofs.Common.{◌≡◌, ℕ, Bool, true, false, cond, not, ◌&&◌, ◌==◌, List, [], ◌∷◌, ◌++◌, map, filter, find, get_or, suc, All, Contains, Option, Some, None, is_some, unwrap_or, option_map, refl, sym, ap, ◌∙◌, subst, true≢false, decimal}
 use Rattle.std.specs.List.{AllZip, zip}
 use Rattle.std.specs.Option.{option_or}
 use Rattle.std.specs.Str.{bytes_eq}
@@ -15,27 +15,24 @@ use Rattle.trace_model.specs.declared.place.Place.TheVariants as places
 use Rattle.trace_model.specs.declared.span.Event.{Event}
 use Rattle.trace_model.specs.declared.span.Span.{Span}
 use Rattle.trace_model.specs.declared.value.Value.{Value, Text}
-use Rattle.span_tags.specs.AttributeLaws.{same_key, key_itself, other_way, option_or-none, last_at, key_of_some, at_absent, attrs_rise, at_attrs-append, same_pairs, at_filter, filter_rise, at_map, map_rise}
-use Rattle.span_tags.specs.RowLaws.{last_at-row}
+use Rattle.span_tags.specs.laws.AttributeLaws.{same_key, key_itself, other_way, option_or-none, last_at, key_of_some, at_absent, attrs_rise, at_attrs-append, same_pairs, at_filter, filter_rise, at_map, map_rise}
+use Rattle.span_tags.specs.laws.RowLaws.{last_at-row}
+use Rattle.span_tags.specs.laws.ColumnLaws.{none_left}
 use Rattle.span_tags.specs.Runs.{Scoped}
-use Rattle.span_tags.specs.TagKeys.{error_key, dropped_attributes_key, dropped_events_key, dropped_links_key, library_name_key, library_version_key, scope_name_key, scope_version_key, code_key, state_key}
 use Rattle.span_tags.specs.TagWords.{row, text_in, without, is_idle, if_left}
-use Rattle.map_jaeger.specs.Columns.{rows, looked, flags_in}
+use Rattle.map_jaeger.specs.ColumnWords.{flags_in}
+use Rattle.map_jaeger.specs.Columns.{all_columns, row_of, columns_of, rows, looked, left_out, has_column, is_free, is_reserved}
 use Rattle.map_jaeger.specs.Faults.{in_span, in_event, IsSpanFault, IsOwnParent}
-use Rattle.map_jaeger.specs.Keys.{is_reserved, flags_key, event_key, description_key, kind_key}
+use Rattle.map_jaeger.specs.Keys.{flags_key, event_key}
 use Rattle.map_jaeger.specs.Normal.{normal_scoped, normal_event, normal_link, normal_attributes}
-use Rattle.map_jaeger.specs.Reading.{attributes_of, high_flags, high_flags_of, is_free, span_attributes, is_own_parent, parent_of, names, event_of, link_of_reference, links_of, scoped_by, scoped_of}
-use Rattle.map_jaeger.specs.Remarks.{left_out, log_remarks, jspan_remarks, SpanKeys, RepeatsOf, RepeatsOfSpan}
+use Rattle.map_jaeger.specs.Reading.{attributes_of, high_flags, high_flags_of, span_attributes, is_own_parent, parent_of, names, event_of, link_of_reference, links_of, scoped_by, scoped_of}
+use Rattle.map_jaeger.specs.Remarks.{log_remarks, jspan_remarks, SpanKeys, RepeatsOf, RepeatsOfSpan}
 use Rattle.map_jaeger.specs.TagValues.{attribute_of, normal_value}
-use Rattle.map_jaeger.specs.Writing.{columns_of, flags_of, log_of, reference_of, jaeger_span}
+use Rattle.map_jaeger.specs.Writing.{flags_of, log_of, reference_of, jaeger_span}
 use Rattle.map_jaeger.proofs.ColumnLemmas.{none_in_rows, AreFree, normal_column, looked_back_leaves}
-use Rattle.map_jaeger.proofs.FlagLemmas.{count_back, count_told, own_back, low_back, high_flags_back}
+use Rattle.map_jaeger.proofs.FlagLemmas.{count_back, own_back, low_back, high_flags_back}
 use Rattle.map_jaeger.proofs.GroupLeaves.{map_back, attributes_back}
-use Rattle.map_jaeger.proofs.SpanParts.{back_each, find_none, filter_each, none_of, kind_back, code_back, message_back, text_back, name_back, columns_leaves, text_told, error_told, code_told, description_told, kind_told, named, told_fields, event_back, event_told, root_link, kept_link, link_back}
-
-none_either : (b : Bool) (o : Option Value) → o ≡ None → cond b o None ≡ None
-none_either true o e = e
-none_either false o e = refl
+use Rattle.map_jaeger.proofs.SpanParts.{back_each, find_none, filter_each, none_of, kind_back, code_back, message_back, text_back, name_back, columns_leaves, told_in, named, told_fields, event_back, event_told, root_link, kept_link, link_back}
 
 high_leaf : (n : ℕ) → normal_column (high_flags n) ≡ high_flags n
 high_leaf n = by (n == 0)
@@ -79,8 +76,8 @@ module _ (one : Scoped Span) (sound : IsSoundSpan one.span) (proper : IsProperSp
   up : Rise (keys one.span.attributes)
   up = sound.attributes.rising
 
-  free : AreFree one.span.attributes
-  free k is = at_absent k one.span.attributes (λ there. faultless (Reserved k) (in_span is there))
+  reserved_absent : (k : List ℕ) → is_reserved k ≡ true → at k one.span.attributes ≡ None
+  reserved_absent k is = at_absent k one.span.attributes (λ there. faultless (Reserved k) (in_span is there))
 
   formed : is_some (at flags_key one.span.attributes) ≡ true → flags_in (at flags_key one.span.attributes) ≡ None → ⊥
   formed there none = faultless (OwnKey flags_key) (refl, key_of_some flags_key one.span.attributes there, none)
@@ -103,7 +100,11 @@ module _ (one : Scoped Span) (sound : IsSoundSpan one.span) (proper : IsProperSp
   at_others k = at_filter k (λ q. not (bytes_eq flags_key q)) one.span.attributes
 
   others_free : AreFree others
-  others_free k is = at_others k ∙ none_either (not (bytes_eq flags_key k)) (at k one.span.attributes) (free k is)
+  others_free k is = at_others k ∙ by (bytes_eq flags_key k) refl
+    where
+      by : (f : Bool) → bytes_eq flags_key k ≡ f → cond (not f) (at k one.span.attributes) None ≡ None
+      by true own_key = refl
+      by false apart = reserved_absent k (λ i. is i && not (apart i))
 
   abbrev told : List (List ℕ × Value)
   told = rows (columns_of one) ++ others
@@ -121,15 +122,12 @@ module _ (one : Scoped Span) (sound : IsSoundSpan one.span) (proper : IsProperSp
   columns_back : looked held ≡ columns_of one
   columns_back = looked_back_leaves (columns_of one) others others_rise others_free (columns_leaves one)
 
-  at_held : (k : List ℕ) → is_reserved k ≡ false → at k held ≡ normal_column (at k others)
+  at_held : (k : List ℕ) → has_column k ≡ false → at k held ≡ normal_column (at k others)
   at_held k e =
       at_map normal_value k (attrs told)
       ∙ ap normal_column (at_attrs-append k (rows (columns_of one)) others others_rise
       ∙ ap (option_or (at k others)) (none_in_rows k (columns_of one) e)
       ∙ option_or-none (at k others))
-
-  own_held : at flags_key held ≡ None
-  own_held = at_held flags_key refl ∙ ap normal_column (at_others flags_key)
 
   -- ---- attributes
 
@@ -157,13 +155,14 @@ module _ (one : Scoped Span) (sound : IsSoundSpan one.span) (proper : IsProperSp
   own_at : (k : List ℕ) → flags_key ≡ k → high ≡ at k normal
   own_at k e = high_back ∙ sym own_leaf ∙ sym (normal_at flags_key) ∙ ap (λ q. at q normal) e
 
-  read_by : (k : List ℕ) (r f : Bool) → is_reserved k ≡ r → bytes_eq flags_key k ≡ f
-      → option_or (cond (not (r || f)) (at k held) None) (cond (bytes_eq k flags_key) high None) ≡ at k normal
-  read_by k true true is own_key = absurd (true≢false (sym is ∙ ap is_reserved (sym (same_key flags_key k own_key))))
-  read_by k true false is apart =
-      ap (λ b. cond b high None) (other_way flags_key k apart) ∙ sym (normal_at k ∙ ap normal_column (free k is))
-  read_by k false true is own_key =
+  read_by : (k : List ℕ) (b f : Bool) → has_column k ≡ b → bytes_eq flags_key k ≡ f
+      → option_or (cond (not b) (at k held) None) (cond (bytes_eq k flags_key) high None) ≡ at k normal
+  read_by k true true is own_key =
       ap (λ b. cond b high None) (ap (λ q. bytes_eq q flags_key) (sym (same_key flags_key k own_key)) ∙ key_itself flags_key) ∙ own_at k (same_key flags_key k own_key)
+  read_by k true false is apart =
+      ap (λ b. cond b high None) (other_way flags_key k apart)
+      ∙ sym (normal_at k ∙ ap normal_column (reserved_absent k (λ i. is i && not (apart i))))
+  read_by k false true is own_key = absurd (true≢false (ap has_column (same_key flags_key k own_key) ∙ is))
   read_by k false false is apart =
       ap (λ b. option_or (at k held) (cond b high None)) (other_way flags_key k apart)
       ∙ option_or-none (at k held)
@@ -174,7 +173,7 @@ module _ (one : Scoped Span) (sound : IsSoundSpan one.span) (proper : IsProperSp
   read_at : (k : List ℕ) → read k ≡ at k normal
   read_at k =
       (λ i. option_or (at_filter k is_free held i) (last_at-row k flags_key high i))
-      ∙ read_by k (is_reserved k) (bytes_eq flags_key k) refl refl
+      ∙ read_by k (has_column k) (bytes_eq flags_key k) refl refl
 
   attributes_same : span_attributes (flags_of one.span) held ≡ normal
   attributes_same = same_pairs (span_attributes (flags_of one.span) held) normal
@@ -244,26 +243,11 @@ module _ (one : Scoped Span) (sound : IsSoundSpan one.span) (proper : IsProperSp
 
   -- ---- no tag is left out, and no key repeated
 
-  none_left : left_out (columns_of one) None ≡ []
-  none_left = λ i. if_left error_key (error_told one.span.status.code i)
-      ++ (if_left flags_key false
-      ++ (if_left dropped_attributes_key (count_told one.span.dropped_attributes proper.dropped_attributes i)
-      ++ (if_left dropped_events_key (count_told one.span.dropped_events proper.dropped_events i)
-      ++ (if_left dropped_links_key (count_told one.span.dropped_links proper.dropped_links i)
-      ++ (if_left library_name_key false
-      ++ (if_left library_version_key false
-      ++ (if_left scope_name_key (text_told one.name i)
-      ++ (if_left scope_version_key (text_told one.version i)
-      ++ (if_left code_key (code_told one.span.status.code i)
-      ++ (if_left description_key (description_told one.span.status.code one.span.status.message i)
-      ++ (if_left kind_key (kind_told one.span.kind i)
-      ++ if_left state_key (text_told one.span.state i))))))))))))
-
-  pub none_left_out : left_out (looked (attributes_of (jaeger_span one).tags)) (at flags_key (attributes_of (jaeger_span one).tags)) ≡ []
+  pub none_left_out : left_out (looked (attributes_of (jaeger_span one).tags)) ≡ []
   none_left_out =
-      ap (λ l. left_out (looked l) (at flags_key l)) tags_back
-      ∙ (λ i. left_out (columns_back i) (own_held i))
-      ∙ none_left
+      ap (λ l. left_out (looked l)) tags_back
+      ∙ ap left_out columns_back
+      ∙ none_left row_of all_columns (columns_of one) (told_in one proper)
 
   module _ (unrepeated : NoneRepeated) where
     tags_once : AreRepeated [] (map attribute_of (jaeger_span one).tags)

@@ -24,15 +24,18 @@ use Rattle.trace_model.specs.declared.span.Kind.TheVariants as kinds
 use Rattle.trace_model.specs.declared.span.Link.{Link}
 use Rattle.trace_model.specs.declared.span.Span.{Span}
 use Rattle.trace_model.specs.declared.value.Value.{Value, Text}
-use Rattle.span_tags.specs.AttributeLaws.{attrs_rise, at_map, keys_map, map_rise, map_attrs}
+use Rattle.span_tags.specs.laws.AttributeLaws.{attrs_rise, at_map, keys_map, map_rise, map_attrs}
 use Rattle.span_tags.specs.Runs.{Scoped}
 use Rattle.span_tags.specs.TagWords.{row, text_given, without}
-use Rattle.map_jaeger.specs.Columns.{rows, flags_in}
+use Rattle.map_jaeger.specs.ColumnWords.{flags_in, kind_given, description_given}
+use Rattle.map_jaeger.specs.Columns.{columns_of, rows}
 use Rattle.map_jaeger.specs.Faults.{HasReserved, in_span, in_event, IsOwnParent, HasDouble, IsSpanFault}
 use Rattle.map_jaeger.specs.Keys.{flags_key, event_key, reference_key, child_of_word}
 use Rattle.map_jaeger.specs.Normal.{normal_attributes, normal_kind, normal_status, normal_event, normal_link, normal_span, normal_scoped}
 use Rattle.map_jaeger.specs.TagValues.{normal_value, tag_of}
-use Rattle.map_jaeger.specs.Writing.{kind_given, description_given, columns_of, flags_of, tags_of, log_of, is_child_of, reference_of, jaeger_span}
+use Rattle.map_jaeger.specs.Writing.{flags_of, tags_of, log_of, is_child_of, reference_of, jaeger_span}
+use Rattle.map_jaeger.specs.declared.columns.Column.{Column}
+use Rattle.map_jaeger.specs.declared.columns.Column.TheVariants as columns
 use Rattle.map_jaeger.proofs.ColumnLemmas.{normal_rows}
 use Rattle.map_jaeger.proofs.GroupLeaves.{IsLeaf, AreLeaves, leaf_sound, normal_leaves, leaves_normal, leaves_plain, tags_same}
 use Rattle.map_jaeger.proofs.GroupProper.{TextsAreUtf8, normal_proper as attributes_proper}
@@ -284,15 +287,14 @@ module _ (span : Span) (sound : IsSoundSpan span) (proper : IsProperSpan span) (
       }
 
 module _ (one : Scoped Span) (sound : IsSoundSpan one.span) (proper : IsProperSpan one.span) (faultless : (fault : Fault) → IsSpanFault one.span fault → ⊥) where
-  columns_same : columns_of (normal_scoped one) ≡ columns_of one
-  columns_same = λ i. record (columns_of one) {
-    description = message_same one.span.status.code one.span.status.message i;
-    kind = kind_same one.span.kind i;
-  }
+  same_in : (column : Column) → columns_of (normal_scoped one) column ≡ columns_of one column
+  same_in columns.Description = message_same one.span.status.code one.span.status.message
+  same_in columns.Kind = kind_same one.span.kind
+  same_in other = refl
 
   tags_kept : tags_of (normal_scoped one) ≡ tags_of one
   tags_kept =
-      (λ i. map tag_of (attrs (rows (columns_same i) ++ without_map flags_key one.span.attributes i)))
+      (λ i. map tag_of (attrs (rows (λ column. same_in column i) ++ without_map flags_key one.span.attributes i)))
       ∙ tags_alike (rows (columns_of one)) (without flags_key one.span.attributes) (normal_rows (columns_of one) ∙ ap rows (columns_leaves one))
 
   flags_kept : flags_of (normal_span one.span) ≡ flags_of one.span

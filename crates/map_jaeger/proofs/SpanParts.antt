@@ -6,6 +6,7 @@ use Rattle.std.specs.Str.{bytes_eq}
 use Rattle.std.proofs.lemmas.List.{get_or_default}
 use Rattle.std.proofs.lemmas.List.Elements.{All-head, All-tail}
 use Rattle.trace_model.specs.Attributes.{Rise, keys, attrs, at}
+use Rattle.trace_model.specs.Proper.{IsProperSpan}
 use Rattle.trace_model.specs.declared.span.Code.{Code}
 use Rattle.trace_model.specs.declared.span.Code.TheVariants as statuses
 use Rattle.trace_model.specs.declared.span.Event.{Event}
@@ -14,19 +15,22 @@ use Rattle.trace_model.specs.declared.span.Kind.TheVariants as kinds
 use Rattle.trace_model.specs.declared.span.Link.{Link}
 use Rattle.trace_model.specs.declared.span.Span.{Span}
 use Rattle.trace_model.specs.declared.value.Value.{Value, Number}
-use Rattle.span_tags.specs.AttributeLaws.{same_key, other_way, option_or-none, attrs_rise, at_attrs-append, same_pairs, at_filter, filter_rise, at_map, map_rise}
-use Rattle.span_tags.specs.RowLaws.{last_at-row}
+use Rattle.span_tags.specs.laws.AttributeLaws.{same_key, other_way, option_or-none, attrs_rise, at_attrs-append, same_pairs, at_filter, filter_rise, at_map, map_rise}
+use Rattle.span_tags.specs.laws.RowLaws.{last_at-row}
 use Rattle.span_tags.specs.Runs.{Scoped}
 use Rattle.span_tags.specs.TagWords.{row, text_in, text_given, without, code_in, name_in, is_idle, if_left, code_given}
-use Rattle.map_jaeger.specs.Columns.{count_given}
+use Rattle.map_jaeger.specs.ColumnWords.{count_given, kind_in, kind_given, error_in, error_given, is_idle_error, message_by, description_given, is_idle_description}
+use Rattle.map_jaeger.specs.Columns.{columns_of, is_idle_in}
 use Rattle.map_jaeger.specs.Faults.{IsOwnParent}
 use Rattle.map_jaeger.specs.Keys.{event_key, reference_key}
 use Rattle.map_jaeger.specs.Normal.{normal_kind, normal_status, normal_event, normal_link, normal_attributes}
-use Rattle.map_jaeger.specs.Reading.{attributes_of, kind_in, error_in, message_by, event_of, link_of_reference, names}
-use Rattle.map_jaeger.specs.Remarks.{is_idle_error, is_idle_description}
+use Rattle.map_jaeger.specs.Reading.{attributes_of, event_of, link_of_reference, names}
 use Rattle.map_jaeger.specs.TagValues.{normal_value}
-use Rattle.map_jaeger.specs.Writing.{kind_given, error_given, description_given, columns_of, log_of, is_child_of, reference_of}
+use Rattle.map_jaeger.specs.Writing.{log_of, is_child_of, reference_of}
+use Rattle.map_jaeger.specs.declared.columns.Column.{Column}
+use Rattle.map_jaeger.specs.declared.columns.Column.TheVariants as columns
 use Rattle.map_jaeger.proofs.ColumnLemmas.{normal_column, normal_columns}
+use Rattle.map_jaeger.proofs.FlagLemmas.{count_told}
 use Rattle.map_jaeger.proofs.GroupLeaves.{attributes_back}
 
 -- ---- lists
@@ -122,21 +126,21 @@ kind_leaf kinds.Client = refl
 kind_leaf kinds.Producer = refl
 kind_leaf kinds.Consumer = refl
 
+pub leaf_in : (one : Scoped Span) (column : Column) → normal_column (columns_of one column) ≡ columns_of one column
+leaf_in one columns.Error = error_leaf one.span.status.code
+leaf_in one columns.DroppedAttributes = count_leaf one.span.dropped_attributes
+leaf_in one columns.DroppedEvents = count_leaf one.span.dropped_events
+leaf_in one columns.DroppedLinks = count_leaf one.span.dropped_links
+leaf_in one columns.ScopeName = text_leaf one.name
+leaf_in one columns.ScopeVersion = text_leaf one.version
+leaf_in one columns.Code = code_leaf one.span.status.code
+leaf_in one columns.Description = description_leaf one.span.status.code one.span.status.message
+leaf_in one columns.Kind = kind_leaf one.span.kind
+leaf_in one columns.State = text_leaf one.span.state
+leaf_in one other = refl
+
 pub columns_leaves : (one : Scoped Span) → normal_columns (columns_of one) ≡ columns_of one
-columns_leaves one = λ i. record {
-  error = error_leaf one.span.status.code i;
-  dropped_attributes = count_leaf one.span.dropped_attributes i;
-  dropped_events = count_leaf one.span.dropped_events i;
-  dropped_links = count_leaf one.span.dropped_links i;
-  library_name = None;
-  library_version = None;
-  scope_name = text_leaf one.name i;
-  scope_version = text_leaf one.version i;
-  code = code_leaf one.span.status.code i;
-  description = description_leaf one.span.status.code one.span.status.message i;
-  kind = kind_leaf one.span.kind i;
-  state = text_leaf one.span.state i;
-}
+columns_leaves one = λ i column. leaf_in one column i
 
 -- ---- columns: none is idle
 
@@ -144,28 +148,41 @@ pub text_told : (text : List ℕ) → is_idle (text_given text) (text_in (text_g
 text_told [] = refl
 text_told (x ∷ more) = refl
 
-pub error_told : (code : Code) → is_idle_error (error_given code) (error_in (error_given code)) (code_in (code_given code)) ≡ false
+error_told : (code : Code) → is_idle_error (error_given code) (error_in (error_given code)) (code_in (code_given code)) ≡ false
 error_told statuses.Unset = refl
 error_told statuses.Okay = refl
 error_told statuses.Fail = refl
 
-pub code_told : (code : Code) → is_idle (code_given code) (code_in (code_given code)) ≡ false
+code_told : (code : Code) → is_idle (code_given code) (code_in (code_given code)) ≡ false
 code_told statuses.Unset = refl
 code_told statuses.Okay = refl
 code_told statuses.Fail = refl
 
-pub description_told : (code : Code) (message : List ℕ) → is_idle_description (description_given code message) (code_by code) ≡ false
+description_told : (code : Code) (message : List ℕ) → is_idle_description (description_given code message) (code_by code) ≡ false
 description_told statuses.Unset message = refl
 description_told statuses.Okay message = text_told message
 description_told statuses.Fail message = text_told message
 
-pub kind_told : (kind : Kind) → is_idle (kind_given kind) (kind_in (kind_given kind)) ≡ false
+kind_told : (kind : Kind) → is_idle (kind_given kind) (kind_in (kind_given kind)) ≡ false
 kind_told kinds.Unspecified = refl
 kind_told kinds.Internal = refl
 kind_told kinds.Server = refl
 kind_told kinds.Client = refl
 kind_told kinds.Producer = refl
 kind_told kinds.Consumer = refl
+
+pub told_in : (one : Scoped Span) → IsProperSpan one.span → (column : Column) → is_idle_in (columns_of one) column ≡ false
+told_in one proper columns.Error = error_told one.span.status.code
+told_in one proper columns.DroppedAttributes = count_told one.span.dropped_attributes proper.dropped_attributes
+told_in one proper columns.DroppedEvents = count_told one.span.dropped_events proper.dropped_events
+told_in one proper columns.DroppedLinks = count_told one.span.dropped_links proper.dropped_links
+told_in one proper columns.ScopeName = text_told one.name
+told_in one proper columns.ScopeVersion = text_told one.version
+told_in one proper columns.Code = code_told one.span.status.code
+told_in one proper columns.Description = description_told one.span.status.code one.span.status.message
+told_in one proper columns.Kind = kind_told one.span.kind
+told_in one proper columns.State = text_told one.span.state
+told_in one proper other = refl
 
 -- ---- an event
 

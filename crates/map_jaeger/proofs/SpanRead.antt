@@ -1,5 +1,5 @@
 -- What is read of a span is its own normal form, and nothing in it is a fault. The flags have 32 bits, as jaeger.thrift says.
-use Rattle.std.proofs.Common.{◌≡◌, ℕ, ◌-◌, ◌%◌, decimal, Bool, true, false, cond, not, ◌&&◌, ◌||◌, ◌==◌, List, [], ◌∷◌, ◌++◌, map, filter, find, get_or, All, Contains, Option, Some, None, is_some, unwrap_or, option_map, option_and_then, refl, sym, ap, ◌∙◌, true≢false, ⊎_elim, eq-eqb, arith}
+use Rattle.std.proofs.Common.{◌≡◌, ℕ, ◌-◌, ◌%◌, decimal, Bool, true, false, cond, not, ◌&&◌, ◌==◌, List, [], ◌∷◌, ◌++◌, map, filter, find, get_or, All, Contains, Option, Some, None, is_some, unwrap_or, option_map, option_and_then, refl, sym, ap, ◌∙◌, true≢false, ⊎_elim, eq-eqb, arith}
 use Rattle.std.specs.Prelude.{Any, if◌then◌else◌, codes}
 use Rattle.std.specs.Option.{option_or}
 use Rattle.std.specs.Str.{bytes_eq}
@@ -15,16 +15,18 @@ use Rattle.trace_model.specs.declared.span.Code.{Code}
 use Rattle.trace_model.specs.declared.span.Code.TheVariants as statuses
 use Rattle.trace_model.specs.declared.span.Kind.TheVariants as kinds
 use Rattle.trace_model.specs.declared.value.Value.{Value, Text}
-use Rattle.span_tags.specs.AttributeLaws.{same_key, other_way, some_of_key, at_there, attrs_rise, at_attrs-append, all_attrs, at_filter, filter_rise}
-use Rattle.span_tags.specs.RowLaws.{last_at-row}
+use Rattle.span_tags.specs.laws.AttributeLaws.{other_way, some_of_key, at_there, attrs_rise, at_attrs-append, all_attrs, at_filter, filter_rise}
+use Rattle.span_tags.specs.laws.RowLaws.{last_at-row}
 use Rattle.span_tags.specs.TagWords.{row, text_in, without}
-use Rattle.map_jaeger.specs.Columns.{looked, flags_in}
+use Rattle.map_jaeger.specs.ColumnWords.{flags_in, kind_named, kind_in, message_by}
+use Rattle.map_jaeger.specs.Columns.{looked, status_of_columns, has_column, is_free, is_reserved}
 use Rattle.map_jaeger.specs.Faults.{HasReserved, in_span, in_event, IsOwnParent, HasDouble, IsSpanFault}
-use Rattle.map_jaeger.specs.Keys.{is_reserved, flags_key, event_key}
-use Rattle.map_jaeger.specs.Laws.{IsTimely}
+use Rattle.map_jaeger.specs.Keys.{flags_key, event_key}
+use Rattle.map_jaeger.specs.StatedLaws.{IsTimely}
 use Rattle.map_jaeger.specs.Normal.{normal_attributes, normal_kind, normal_status, normal_event, normal_link, normal_span}
-use Rattle.map_jaeger.specs.Reading.{attributes_of, kind_named, kind_in, status_of_columns, message_by, flag_bits, high_flags, high_flags_of, is_free, span_attributes, event_of, link_of_reference, is_own_parent, parent_of, names, scoped_of}
+use Rattle.map_jaeger.specs.Reading.{attributes_of, flag_bits, high_flags, high_flags_of, span_attributes, event_of, link_of_reference, is_own_parent, parent_of, names, scoped_of}
 use Rattle.map_jaeger.specs.TagValues.{attribute_of}
+use Rattle.map_jaeger.specs.declared.columns.Column.TheVariants as columns
 use Rattle.map_jaeger.proofs.FlagLemmas.{read_formed}
 use Rattle.map_jaeger.proofs.GroupLeaves.{IsLeaf, AreLeaves, tags_leaves, leaves_normal, leaves_plain}
 use Rattle.map_jaeger.proofs.GroupResource.{at_without}
@@ -114,13 +116,13 @@ module _ (span : JSpan) where
   own_at : at flags_key attributes ≡ high
   own_at = at_attributes flags_key
 
-  reserved_by : (k : List ℕ) (r f : Bool) → is_reserved k ≡ r → bytes_eq flags_key k ≡ f → r ≡ true → option_or (cond (not (r || f)) (at k tags) None) (cond (bytes_eq k flags_key) high None) ≡ None
-  reserved_by k true true is own e = absurd (true≢false (sym is ∙ ap is_reserved (sym (same_key flags_key k own))))
-  reserved_by k true false is apart e = ap (λ b. cond b high None) (other_way flags_key k apart)
-  reserved_by k false f is own e = absurd (true≢false (sym e))
+  reserved_by : (k : List ℕ) (b f : Bool) → bytes_eq flags_key k ≡ f → (b && not f) ≡ true → option_or (cond (not b) (at k tags) None) (cond (bytes_eq k flags_key) high None) ≡ None
+  reserved_by k true true own e = absurd (true≢false (sym e))
+  reserved_by k true false apart e = ap (λ b. cond b high None) (other_way flags_key k apart)
+  reserved_by k false f own e = absurd (true≢false (sym e))
 
   reserved_at : (k : List ℕ) → is_reserved k ≡ true → at k attributes ≡ None
-  reserved_at k is = at_attributes k ∙ reserved_by k (is_reserved k) (bytes_eq flags_key k) refl refl is
+  reserved_at k is = at_attributes k ∙ reserved_by k (has_column k) (bytes_eq flags_key k) refl is
 
   -- ---- events
 
@@ -212,12 +214,12 @@ module _ (span : JSpan) where
         let links : map normal_link (map link_of_reference others) ≡ map link_of_reference others =
         back_each normal_link link_of_reference link_of_reference others (λ k d lt. link_read (get_or others k d)) in
         λ i. record ((scoped_of span).span) {
-          kind = kind_read (looked tags).kind i;
+          kind = kind_read (looked tags columns.Kind) i;
           start = sym timely.start i;
           end = sym timely.end i;
           attributes = same i;
           events = events i;
           links = links i;
-          status = record { code = status_of_columns (looked tags); message = message_read (status_of_columns (looked tags)) (looked tags).description i };
+          status = record { code = status_of_columns (looked tags); message = message_read (status_of_columns (looked tags)) (looked tags columns.Description) i };
           flags = bit_twice (flag_bits span.flags) i;
         }

@@ -9,9 +9,9 @@ use Rattle.trace_model.specs.declared.fault.Fault.TheVariants.{EndBeforeStart}
 use Rattle.trace_model.specs.declared.span.Event.{Event}
 use Rattle.trace_model.specs.declared.span.Span.{Span}
 use Rattle.trace_model.specs.declared.trace.Group.{Group}
-use Rattle.span_tags.specs.LeastRows.{if_so}
+use Rattle.span_tags.specs.laws.LeastRows.{if_so}
 use Rattle.span_tags.specs.Runs.{Scoped, scoped}
-use Rattle.map_jaeger.specs.Laws.{IsTimely}
+use Rattle.map_jaeger.specs.StatedLaws.{IsTimely}
 use Rattle.map_jaeger.specs.LeastFault.{end_fault, span_fault, resource_fault, scopes_fault, fault_of}
 use Rattle.map_jaeger.specs.Writing.{log_of, jaeger_span, batch_of}
 use Rattle.map_jaeger.proofs.NoFault.{FindsNone, none_first, none_second, scopes_none}

@@ -1,67 +1,109 @@
--- What the tags of a span hold under the reserved keys, one column for each key. The table of writing and that of reading meet here: the
--- one fills the columns from a span and its scope, the other looks each up in the tags.
-use Rattle.std.specs.Prelude.{ℕ, ◌%◌, ◌&&◌, ◌==◌, nat_le, if◌then◌else◌, pos, List, ◌++◌, Option, Some, None, option_and_then}
-use Rattle.trace_model.specs.Attributes.{at}
-use Rattle.trace_model.specs.declared.value.Value.{Value, Number}
-use Rattle.span_tags.specs.TagKeys.{error_key, dropped_attributes_key, dropped_events_key, dropped_links_key, library_name_key, library_version_key, scope_name_key, scope_version_key, code_key, state_key}
-use Rattle.span_tags.specs.TagWords.{decimal_in, row, text_in}
-use Rattle.map_jaeger.specs.Keys.{description_key, kind_key}
+-- The table of a span's tags (OpenTelemetry exporter page for Jaeger), a row for each tag that has a meaning of its own. Writing fills the
+-- columns from a span and its scope, reading looks each up in the tags, and a remark tells each that says nothing.
+use Rattle.std.specs.Prelude.{ℕ, Bool, false, not, ◌&&◌, if◌then◌else◌, List, [], ◌∷◌, None, unwrap_or, is_some, codes}
+use Rattle.std.specs.Str.{bytes_eq}
+use Rattle.trace_model.specs.Remarks.{Keys}
+use Rattle.trace_model.specs.declared.span.Code.{Code}
+use Rattle.trace_model.specs.declared.span.Code.TheVariants as statuses
+use Rattle.trace_model.specs.declared.span.Span.{Span}
+use Rattle.span_tags.specs.Columns.{ColumnsOf, Row, is_key, looked_by, rows_by, left_out_by}
+use Rattle.span_tags.specs.Runs.{Scoped}
+use Rattle.span_tags.specs.TagWords.{Pairs, text_in, text_given, count_in, code_in, code_given, is_idle, is_idle_library}
+use Rattle.map_jaeger.specs.ColumnWords.{count_given, kind_in, kind_given, error_in, error_given, is_idle_error, description_given, is_idle_description}
+use Rattle.map_jaeger.specs.Keys.{flags_key}
+use Rattle.map_jaeger.specs.declared.columns.Column.{Column}
+use Rattle.map_jaeger.specs.declared.columns.Column.TheVariants as columns
 
-pub record Columns : Type 0 where
-  pub error : Option Value
-  pub dropped_attributes : Option Value
-  pub dropped_events : Option Value
-  pub dropped_links : Option Value
-  pub library_name : Option Value
-  pub library_version : Option Value
-  pub scope_name : Option Value
-  pub scope_version : Option Value
-  pub code : Option Value
-  pub description : Option Value
-  pub kind : Option Value
-  pub state : Option Value
+-- by rising keys
+abbrev pub all_columns : List Column
+all_columns = columns.Error ∷ columns.Flags ∷ columns.DroppedAttributes ∷ columns.DroppedEvents ∷ columns.DroppedLinks ∷ columns.LibraryName ∷ columns.LibraryVersion
+    ∷ columns.ScopeName ∷ columns.ScopeVersion ∷ columns.Code ∷ columns.Description ∷ columns.Kind ∷ columns.State ∷ []
 
--- the tags that hold the columns, in the order of their keys
-abbrev pub rows : Columns → List (List ℕ × Value)
-rows c = row error_key c.error
-    ++ (row dropped_attributes_key c.dropped_attributes
-    ++ (row dropped_events_key c.dropped_events
-    ++ (row dropped_links_key c.dropped_links
-    ++ (row library_name_key c.library_name
-    ++ (row library_version_key c.library_version
-    ++ (row scope_name_key c.scope_name
-    ++ (row scope_version_key c.scope_version
-    ++ (row code_key c.code
-    ++ (row description_key c.description
-    ++ (row kind_key c.kind
-    ++ row state_key c.state))))))))))
+abbrev pub Columns : Type 0
+Columns = ColumnsOf Column
+
+-- ---- rows
+
+abbrev pub TagRow : Type 0
+TagRow = Row Column (Scoped Span)
+
+abbrev pub text_row : List ℕ → (Scoped Span → List ℕ) → TagRow
+text_row key text = record { key = key; given = λ one. text_given (text one); is_idle = λ value c. is_idle value (text_in value) }
+
+abbrev pub count_row : List ℕ → (Span → ℕ) → TagRow
+count_row key count = record { key = key; given = λ one. count_given (count one.span); is_idle = λ value c. is_idle value (count_in value) }
+
+-- of an older key, which is read where the newer is absent, and never written
+abbrev pub older_row : List ℕ → Column → TagRow
+older_row key newer = record { key = key; given = λ one. None; is_idle = λ value c. is_idle_library value (text_in value) (text_in (c newer)) }
+
+-- `error` decides where there is no code
+abbrev pub status_of_columns : Columns → Code
+status_of_columns c = unwrap_or (code_in (c columns.Code)) (if unwrap_or (error_in (c columns.Error)) false then statuses.Fail else statuses.Unset)
+
+abbrev pub row_of : Column → TagRow
+row_of columns.Error = record {
+  key = codes "error";
+  given = λ one. error_given one.span.status.code;
+  is_idle = λ value c. is_idle_error value (error_in value) (code_in (c columns.Code));
+}
+-- flags have a place of their own
+row_of columns.Flags = record { key = flags_key; given = λ one. None; is_idle = λ value c. is_some value }
+row_of columns.DroppedAttributes = count_row (codes "otel.dropped_attributes_count") (λ span. span.dropped_attributes)
+row_of columns.DroppedEvents = count_row (codes "otel.dropped_events_count") (λ span. span.dropped_events)
+row_of columns.DroppedLinks = count_row (codes "otel.dropped_links_count") (λ span. span.dropped_links)
+row_of columns.LibraryName = older_row (codes "otel.library.name") columns.ScopeName
+row_of columns.LibraryVersion = older_row (codes "otel.library.version") columns.ScopeVersion
+row_of columns.ScopeName = text_row (codes "otel.scope.name") (λ one. one.name)
+row_of columns.ScopeVersion = text_row (codes "otel.scope.version") (λ one. one.version)
+row_of columns.Code = record {
+  key = codes "otel.status_code";
+  given = λ one. code_given one.span.status.code;
+  is_idle = λ value c. is_idle value (code_in value);
+}
+row_of columns.Description = record {
+  key = codes "otel.status_description";
+  given = λ one. description_given one.span.status.code one.span.status.message;
+  is_idle = λ value c. is_idle_description value (status_of_columns c);
+}
+row_of columns.Kind = record {
+  key = codes "span.kind";
+  given = λ one. kind_given one.span.kind;
+  is_idle = λ value c. is_idle value (kind_in value);
+}
+row_of columns.State = text_row (codes "w3c.tracestate") (λ one. one.span.state)
+
+-- ---- columns
 
 -- what these tags hold in each column
-abbrev pub looked : List (List ℕ × Value) → Columns
-looked tags = record {
-  error = at error_key tags;
-  dropped_attributes = at dropped_attributes_key tags;
-  dropped_events = at dropped_events_key tags;
-  dropped_links = at dropped_links_key tags;
-  library_name = at library_name_key tags;
-  library_version = at library_version_key tags;
-  scope_name = at scope_name_key tags;
-  scope_version = at scope_version_key tags;
-  code = at code_key tags;
-  description = at description_key tags;
-  kind = at kind_key tags;
-  state = at state_key tags;
-}
+abbrev pub looked : Pairs → Columns
+looked tags = looked_by row_of tags
 
--- ---- flags and counts
+-- what a span and its scope hold there
+abbrev pub columns_of : Scoped Span → Columns
+columns_of one = λ column. (row_of column).given one
 
-abbrev pub are_high_flags : ℕ → Option ℕ
-are_high_flags n = if (n % 2 == 0) && (nat_le 2 n && nat_le n 4294967294) then Some n else None
+-- there is a tag, and it says nothing
+abbrev pub is_idle_in : Columns → Column → Bool
+is_idle_in c column = (row_of column).is_idle (c column) c
 
--- flags but the first bit: the text that is the decimal of an even number of 32 bits, not zero
-abbrev pub flags_in : Option Value → Option ℕ
-flags_in value = option_and_then are_high_flags (option_and_then decimal_in (text_in value))
+-- the tags that hold the columns, in the order of their keys
+abbrev pub rows : Columns → Pairs
+rows c = rows_by row_of all_columns c
 
--- a count, unless it is 0
-abbrev pub count_given : ℕ → Option Value
-count_given n = if n == 0 then None else Some (Number (pos n))
+-- those that say nothing
+abbrev pub left_out : Columns → Keys
+left_out c = left_out_by row_of all_columns c
+
+-- ---- keys
+
+abbrev pub has_column : List ℕ → Bool
+has_column key = is_key row_of all_columns key
+
+-- no tag of the table stands under the key
+abbrev pub is_free : List ℕ → Bool
+is_free key = not (has_column key)
+
+-- no attribute of a trace may stand under the key: all of these but the one of Jaeger's own
+abbrev pub is_reserved : List ℕ → Bool
+is_reserved key = has_column key && not (bytes_eq flags_key key)

@@ -12,8 +12,9 @@ use Rattle.trace_model.specs.declared.trace.Group.{Group}
 use Rattle.trace_model.specs.declared.value.Value.{Value, List', Map'}
 use Rattle.span_tags.specs.PlacedFaults.{CountsBy}
 use Rattle.span_tags.specs.TagKeys.{service_key}
-use Rattle.map_jaeger.specs.Columns.{flags_in}
-use Rattle.map_jaeger.specs.Keys.{is_reserved, flags_key, event_key, reference_key}
+use Rattle.map_jaeger.specs.ColumnWords.{flags_in}
+use Rattle.map_jaeger.specs.Columns.{is_reserved}
+use Rattle.map_jaeger.specs.Keys.{flags_key, event_key, reference_key}
 use Rattle.map_jaeger.specs.Writing.{is_child_of}
 
 -- ---- the rows of a span

@@ -16,11 +16,12 @@ use Rattle.trace_model.specs.declared.trace.Scope.{Scope}
 use Rattle.trace_model.specs.declared.value.Value.{Value, List', Map'}
 use Rattle.span_tags.specs.Doubles.{double_at}
 use Rattle.span_tags.specs.FirstFault.{first_by, first_in, first_of}
-use Rattle.span_tags.specs.LeastRows.{if_so, least_key}
+use Rattle.span_tags.specs.laws.LeastRows.{if_so, least_key}
 use Rattle.span_tags.specs.TagKeys.{service_key}
-use Rattle.map_jaeger.specs.Columns.{flags_in}
+use Rattle.map_jaeger.specs.ColumnWords.{flags_in}
 use Rattle.map_jaeger.specs.Faults.{HasNoFault, IsFaultOf}
-use Rattle.map_jaeger.specs.Keys.{is_reserved, flags_key, event_key, reference_key}
+use Rattle.map_jaeger.specs.Columns.{is_reserved}
+use Rattle.map_jaeger.specs.Keys.{flags_key, event_key, reference_key}
 use Rattle.map_jaeger.specs.Writing.{is_child_of}
 
 -- ---- the rows of a span, by their numbers

@@ -1,8 +1,9 @@
 pub mod Columns
+pub mod ColumnWords
 pub mod Doubles
 pub mod Faults
 pub mod Keys
-pub mod Laws
+pub mod StatedLaws
 pub mod LeastFault
 pub mod Losses
 pub mod Normal

@@ -1,67 +1,32 @@
 -- What a batch means (OpenTelemetry exporter page for Jaeger, read backwards; jaeger.thrift): its process is a resource, and each of its
--- spans a span, whose tags are attributes but for those of the reserved keys. Of equal tags the last counts, wherever it stands.
-use Rattle.std.specs.Prelude.{ℕ, ◌-◌, ◌%◌, ◌^◌, ℤ, Bool, true, false, not, ◌&&◌, ◌||◌, ◌==◌, if◌then◌else◌, List, [], ◌∷◌, ◌++◌, map, filter, find, Option, Some, None, option_map, option_and_then, unwrap_or, decimal, codes}
+-- spans a span, whose tags are attributes but for those of the table. Of equal tags the last counts, wherever it stands.
+use Rattle.std.specs.Prelude.{ℕ, ◌-◌, ◌%◌, ◌^◌, ℤ, Bool, false, not, ◌&&◌, ◌==◌, if◌then◌else◌, List, [], ◌∷◌, ◌++◌, map, filter, find, Option, Some, None, option_map, unwrap_or, decimal}
 use Rattle.std.specs.Int.{w32, cast_unsigned}
 use Rattle.std.specs.Option.{option_or}
-use Rattle.std.specs.Str.{bytes_eq}
 use Rattle.jaeger_model.specs.declared.batch.Batch.{Batch}
 use Rattle.jaeger_model.specs.declared.span.JSpan.{JSpan}
 use Rattle.jaeger_model.specs.declared.span.Log.{Log}
 use Rattle.jaeger_model.specs.declared.span.SpanRef.{SpanRef}
 use Rattle.jaeger_model.specs.declared.tag.Tag.{Tag}
 use Rattle.trace_model.specs.Attributes.{attrs, at}
-use Rattle.trace_model.specs.declared.span.Code.{Code}
-use Rattle.trace_model.specs.declared.span.Code.TheVariants as statuses
 use Rattle.trace_model.specs.declared.span.Event.{Event}
-use Rattle.trace_model.specs.declared.span.Kind.{Kind}
 use Rattle.trace_model.specs.declared.span.Kind.TheVariants as kinds
 use Rattle.trace_model.specs.declared.span.Link.{Link}
 use Rattle.trace_model.specs.declared.span.Span.{Span}
 use Rattle.trace_model.specs.declared.trace.Group.{Group}
-use Rattle.trace_model.specs.declared.value.Value.{Value, Text, Truth}
+use Rattle.trace_model.specs.declared.value.Value.{Value, Text}
 use Rattle.span_tags.specs.Runs.{Scoped, runs}
 use Rattle.span_tags.specs.TagKeys.{service_key}
-use Rattle.span_tags.specs.TagWords.{row, text_in, count_in, text_given, code_in, name_in, without}
-use Rattle.map_jaeger.specs.Columns.{Columns, looked}
-use Rattle.map_jaeger.specs.Keys.{is_reserved, flags_key, event_key, reference_key, child_of_word}
+use Rattle.span_tags.specs.TagWords.{row, text_in, count_in, text_given, name_in, without}
+use Rattle.map_jaeger.specs.ColumnWords.{kind_in, message_by}
+use Rattle.map_jaeger.specs.Columns.{Columns, looked, status_of_columns, is_free}
+use Rattle.map_jaeger.specs.Keys.{flags_key, event_key, reference_key, child_of_word}
 use Rattle.map_jaeger.specs.TagValues.{attribute_of}
+use Rattle.map_jaeger.specs.declared.columns.Column.TheVariants as columns
 
 -- the attributes that tags are
 abbrev pub attributes_of : List Tag → List (List ℕ × Value)
 attributes_of tags = attrs (map attribute_of tags)
-
--- ---- columns
-
--- `span.kind`: one of five texts
-abbrev pub kind_named : List ℕ → Option Kind
-kind_named text =
-    if bytes_eq text (codes "client") then Some kinds.Client
-    else (if bytes_eq text (codes "consumer") then Some kinds.Consumer
-    else (if bytes_eq text (codes "internal") then Some kinds.Internal
-    else (if bytes_eq text (codes "producer") then Some kinds.Producer
-    else (if bytes_eq text (codes "server") then Some kinds.Server else None))))
-
-abbrev pub kind_in : Option Value → Option Kind
-kind_in value = option_and_then kind_named (text_in value)
-
--- `error`: a truth value, or the text of one
-abbrev pub truth_named : List ℕ → Option Bool
-truth_named text = if bytes_eq text (codes "true") then Some true else (if bytes_eq text (codes "false") then Some false else None)
-
-abbrev pub error_in : Option Value → Option Bool
-error_in (Some (Truth truth)) = Some truth
-error_in (Some (Text text)) = truth_named text
-error_in other = None
-
--- `error` decides where there is no code
-abbrev pub status_of_columns : Columns → Code
-status_of_columns c = unwrap_or (code_in c.code) (if unwrap_or (error_in c.error) false then statuses.Fail else statuses.Unset)
-
--- an unset status has no description
-abbrev pub message_by : Code → Option Value → List ℕ
-message_by statuses.Unset description = []
-message_by statuses.Okay description = unwrap_or (text_in description) []
-message_by statuses.Fail description = unwrap_or (text_in description) []
 
 -- ---- flags: the first bit is the span's, and the others stand under a key of their own
 
@@ -76,10 +41,6 @@ abbrev pub high_flags_of : ℤ → Option Value
 high_flags_of flags = high_flags (flag_bits flags - flag_bits flags % 2)
 
 -- ---- attributes, events and links
-
--- no tag of Jaeger's own stands under the key
-abbrev pub is_free : List ℕ → Bool
-is_free key = not (is_reserved key || bytes_eq flags_key key)
 
 abbrev pub span_attributes : ℤ → List (List ℕ × Value) → List (List ℕ × Value)
 span_attributes flags tags = attrs (row flags_key (high_flags_of flags) ++ filter (λ attribute. is_free attribute.0) tags)
@@ -127,26 +88,26 @@ abbrev pub span_by : JSpan → Columns → List (List ℕ × Value) → Span
 span_by span c tags = record {
   trace = span.trace;
   id = span.id;
-  state = unwrap_or (text_in c.state) [];
+  state = unwrap_or (text_in (c columns.State)) [];
   parent = parent_of span;
   name = span.name;
-  kind = unwrap_or (kind_in c.kind) kinds.Internal;
+  kind = unwrap_or (kind_in (c columns.Kind)) kinds.Internal;
   start = span.start;
   end = span.end;
   attributes = span_attributes span.flags tags;
-  dropped_attributes = unwrap_or (count_in c.dropped_attributes) 0;
+  dropped_attributes = unwrap_or (count_in (c columns.DroppedAttributes)) 0;
   events = map event_of span.logs;
-  dropped_events = unwrap_or (count_in c.dropped_events) 0;
+  dropped_events = unwrap_or (count_in (c columns.DroppedEvents)) 0;
   links = links_of span;
-  dropped_links = unwrap_or (count_in c.dropped_links) 0;
-  status = record { code = status_of_columns c; message = message_by (status_of_columns c) c.description };
+  dropped_links = unwrap_or (count_in (c columns.DroppedLinks)) 0;
+  status = record { code = status_of_columns c; message = message_by (status_of_columns c) (c columns.Description) };
   flags = flag_bits span.flags % 2;
 }
 
 abbrev pub scoped_by : JSpan → Columns → List (List ℕ × Value) → Scoped Span
 scoped_by span c tags = record {
-  name = name_in c.scope_name c.library_name;
-  version = name_in c.scope_version c.library_version;
+  name = name_in (c columns.ScopeName) (c columns.LibraryName);
+  version = name_in (c columns.ScopeVersion) (c columns.LibraryVersion);
   span = span_by span c tags;
 }
 

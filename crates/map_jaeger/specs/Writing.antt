@@ -1,6 +1,6 @@
 -- The batch of a group (OpenTelemetry exporter page for Jaeger; jaeger.thrift), where nothing in it is a fault. Tags and log fields stand by
 -- rising keys.
-use Rattle.std.specs.Prelude.{ℕ, ◌+◌, ◌%◌, ℤ, Bool, true, false, List, ◌++◌, map, Option, Some, None, unwrap_or, codes}
+use Rattle.std.specs.Prelude.{◌+◌, ◌%◌, ℤ, Bool, false, List, ◌++◌, map, Option, Some, unwrap_or}
 use Rattle.std.specs.Int.{w32, cast_signed}
 use Rattle.std.specs.Str.{bytes_eq}
 use Rattle.jaeger_model.specs.declared.batch.Batch.{Batch}
@@ -10,60 +10,18 @@ use Rattle.jaeger_model.specs.declared.span.SpanRef.{SpanRef}
 use Rattle.jaeger_model.specs.declared.tag.Tag.{Tag}
 use Rattle.span_ids.specs.Times.{floor}
 use Rattle.trace_model.specs.Attributes.{attrs, at}
-use Rattle.trace_model.specs.declared.span.Code.{Code}
-use Rattle.trace_model.specs.declared.span.Code.TheVariants as statuses
 use Rattle.trace_model.specs.declared.span.Event.{Event}
-use Rattle.trace_model.specs.declared.span.Kind.{Kind}
-use Rattle.trace_model.specs.declared.span.Kind.TheVariants as kinds
 use Rattle.trace_model.specs.declared.span.Link.{Link}
 use Rattle.trace_model.specs.declared.span.Span.{Span}
 use Rattle.trace_model.specs.declared.trace.Group.{Group}
-use Rattle.trace_model.specs.declared.value.Value.{Value, Text, Truth}
+use Rattle.trace_model.specs.declared.value.Value.{Value, Text}
 use Rattle.span_tags.specs.Runs.{Scoped, scoped}
 use Rattle.span_tags.specs.TagKeys.{service_key}
-use Rattle.span_tags.specs.TagWords.{row, text_given, without, code_given, text_or_none}
-use Rattle.map_jaeger.specs.Columns.{Columns, rows, flags_in, count_given}
+use Rattle.span_tags.specs.TagWords.{row, text_given, without, text_or_none}
+use Rattle.map_jaeger.specs.ColumnWords.{flags_in}
+use Rattle.map_jaeger.specs.Columns.{columns_of, rows}
 use Rattle.map_jaeger.specs.Keys.{flags_key, event_key, reference_key, child_of_word}
 use Rattle.map_jaeger.specs.TagValues.{tag_of}
-
--- ---- columns
-
--- `span.kind`
-abbrev pub kind_given : Kind → Option Value
-kind_given kinds.Unspecified = None
-kind_given kinds.Internal = None
-kind_given kinds.Server = Some (Text (codes "server"))
-kind_given kinds.Client = Some (Text (codes "client"))
-kind_given kinds.Producer = Some (Text (codes "producer"))
-kind_given kinds.Consumer = Some (Text (codes "consumer"))
-
--- `error`
-abbrev pub error_given : Code → Option Value
-error_given statuses.Unset = None
-error_given statuses.Okay = None
-error_given statuses.Fail = Some (Truth true)
-
--- `otel.status_description`
-abbrev pub description_given : Code → List ℕ → Option Value
-description_given statuses.Unset message = None
-description_given statuses.Okay message = text_given message
-description_given statuses.Fail message = text_given message
-
-abbrev pub columns_of : Scoped Span → Columns
-columns_of one = record {
-  error = error_given one.span.status.code;
-  dropped_attributes = count_given one.span.dropped_attributes;
-  dropped_events = count_given one.span.dropped_events;
-  dropped_links = count_given one.span.dropped_links;
-  library_name = None;
-  library_version = None;
-  scope_name = text_given one.name;
-  scope_version = text_given one.version;
-  code = code_given one.span.status.code;
-  description = description_given one.span.status.code one.span.status.message;
-  kind = kind_given one.span.kind;
-  state = text_given one.span.state;
-}
 
 -- ---- flags: the first bit of the span's, and those under the key of their own
 

@@ -4,12 +4,12 @@ ghost use Rattle.std.specs.Prelude.{◌≡◌, ◌↔◌, None, option_map, IfOk
 ghost use Rattle.std.specs.List.{list_any};
 ghost use Rattle.trace_model.specs.Soundness.{IsSoundGroup};
 ghost use Rattle.span_tags.specs.Doubles as told;
-ghost use Rattle.span_tags.specs.LeastRows as least_rows;
+ghost use Rattle.span_tags.specs.laws.LeastRows as least_rows;
 ghost use Rattle.map_jaeger.specs.Faults.{HasNoFault, IsFaultOf};
 ghost use Rattle.map_jaeger.specs.Keys as keys;
 ghost use Rattle.map_jaeger.specs.LeastFault as least;
 
-use crate::keys::is_reserved;
+use crate::columns::is_reserved;
 use crate::writing::is_child_of;
 use crate::writing_flags::flags_in;
 use span_ids::SpanId;

@@ -1,5 +1,5 @@
 //! Laws of the table, as contracts of functions that do nothing.
-ghost use Rattle.map_jaeger.specs.Laws.{BatchesReadBack, NormalForms, ReadIsNormal, ReadIsSound, FaultsFound, NoneLost, WrittenIsProper, ReadIsProper};
+ghost use Rattle.map_jaeger.specs.StatedLaws.{BatchesReadBack, NormalForms, ReadIsNormal, ReadIsSound, FaultsFound, NoneLost, WrittenIsProper, ReadIsProper};
 
 /// Reading the batch of a group that Jaeger can hold gives its normal form, without a remark.
 pub fn batches_read_back()

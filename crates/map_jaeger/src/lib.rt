@@ -1,8 +1,8 @@
 //! Batches of Jaeger as groups of a trace, and back, by the OpenTelemetry exporter page for Jaeger.
 #![tactic(auto)]
 
+mod columns;
 mod faults;
-mod keys;
 pub mod laws;
 mod losing;
 mod reading;

@@ -7,20 +7,22 @@ ghost use Rattle.span_tags.specs.Runs.{scoped, spans_of, under};
 ghost use Rattle.span_tags.specs.TagKeys.{service_key};
 ghost use Rattle.span_tags.specs.TagWords.{without};
 ghost use Rattle.map_jaeger.specs.Doubles.{event_has_double, group_has_double, scope_has_double};
-ghost use Rattle.map_jaeger.specs.Laws.{IsTimely};
+ghost use Rattle.map_jaeger.specs.StatedLaws.{IsTimely};
 ghost use Rattle.map_jaeger.specs.LeastFault.{JudgesFault};
 ghost use Rattle.map_jaeger.specs.LeastFault as least;
 ghost use Rattle.map_jaeger.specs.TagValues as values;
 ghost use Rattle.map_jaeger.specs.Writing as told;
-ghost use Rattle.map_jaeger.specs.WritingSoFar.{fields_held, tags_held};
+ghost use Rattle.map_jaeger.specs.WritingSoFar.{fields_held, tags_with};
 
+use crate::columns::COLUMNS;
 use crate::faults::fault_of_group;
-use crate::writing_columns::{Held, put_columns};
+use crate::writing_columns::put_columns;
 use crate::writing_flags::flags_of;
 use jaeger_model::{Batch, JSpan, Log, SpanRef, Tag, TagValue};
 use span_io::{Halt, Items, OutOfMemory, Text};
 use span_tags::{others, put_row, text_kept, text_or_none, text_told};
 use std::alloc::Global;
+use std::mem;
 use trace_model::{Attrs, Event, Fault, Group, Link, Scope, Span, Value, find};
 
 // ---- tags
@@ -73,15 +75,15 @@ fn tags_of_span(
     alloc: Global,
     name: &Text,
     version: &Text,
-    held: Held,
+    span: &Span,
     attributes: Attrs,
 ) -> Result<Items<Tag>, OutOfMemory>
     requires plain { least.doubles_inside attributes ≡ false }
     requires rising { Rise (keys_of attributes) }
-    ensures { IfOk result (λ tags. tags ≡ tags_held name.now version.now held attributes) }
+    ensures { IfOk result (λ tags. tags ≡ tags_with (under name.now version.now span.now) attributes) }
 {
     let mut pairs = attributes_but("jaeger.flags", attributes).into_vec();
-    put_columns(alloc, &mut pairs, name, version, held)?;
+    put_columns(alloc, &mut pairs, name, version, span, &COLUMNS)?;
     tags_in_order(alloc, pairs)
 }
 
@@ -162,14 +164,9 @@ fn span_of(alloc: Global, name: &Text, version: &Text, span: Span) -> Result<JSp
 {
     let flags = flags_of(&span);
     let references = references_of(alloc, &span.links)?;
-    let held = Held {
-        status: span.status,
-        kind: span.kind,
-        state: span.state,
-        dropped_attributes: span.dropped_attributes,
-        dropped_events: span.dropped_events,
-        dropped_links: span.dropped_links,
-    };
+    let mut span = span;
+    let attributes = mem::replace(&mut span.attributes, Items::new(alloc));
+    let tags = tags_of_span(alloc, name, version, &span, attributes)?;
     Ok(JSpan {
         trace: span.trace,
         id: span.id,
@@ -180,7 +177,7 @@ fn span_of(alloc: Global, name: &Text, version: &Text, span: Span) -> Result<JSp
         flags,
         start: span.start.floor(),
         end: span.end.floor(),
-        tags: tags_of_span(alloc, name, version, held, span.attributes)?,
+        tags,
         logs: logs_of(alloc, span.events)?,
     })
 }

@@ -1,28 +1,20 @@
-//! The columns of a span, as tags hold them under the reserved keys.
-ghost use Rattle.std.specs.Prelude.{◌≡◌, ◌++◌, ℕ, List, IfOk, OnOk};
+//! The columns of a span, as tags hold them.
+ghost use Rattle.std.specs.Prelude.{◌≡◌, ◌++◌, IfOk, OnOk};
 ghost use Rattle.trace_model.specs.Attributes.{attrs};
-ghost use Rattle.map_jaeger.specs.Columns as columns;
-ghost use Rattle.map_jaeger.specs.Writing as told;
-ghost use Rattle.map_jaeger.specs.WritingSoFar.{columns_held};
+ghost use Rattle.span_tags.specs.Columns.{rows_by};
+ghost use Rattle.span_tags.specs.Runs.{under};
+ghost use Rattle.span_tags.specs.TagWords.{Pairs, row};
+ghost use Rattle.map_jaeger.specs.ColumnWords as told;
+ghost use Rattle.map_jaeger.specs.Columns.{columns_of, row_of};
 
+use crate::columns::Column;
 use span_io::{OutOfMemory, Text};
-use span_tags::{code_given, put_row, text_given, text_kept, word_given};
+use span_tags::{code_given, put_row, text_given, word_given};
 use std::alloc::Global;
-use trace_model::{Code, Kind, Status, Value};
-
-/// What the columns of a span hold, beside the name and version of its scope.
-#[derive(Debug, Drop)]
-pub(crate) struct Held {
-    pub status: Status,
-    pub kind: Kind,
-    pub state: Text,
-    pub dropped_attributes: u32,
-    pub dropped_events: u32,
-    pub dropped_links: u32,
-}
+use trace_model::{Code, Kind, Span, Status, Value};
 
 fn count_given(count: u32) -> Option<Value>
-    ensures { result ≡ columns.count_given count }
+    ensures { result ≡ told.count_given count }
 {
     if count == 0 {
         return None;
@@ -39,12 +31,12 @@ fn error_given(code: Code) -> Option<Value>
     }
 }
 
-fn description_given(status: Status) -> Option<Value>
-    ensures { result ≡ told.description_given status.code status.message }
+fn description_given(status: &Status) -> Result<Option<Value>, OutOfMemory>
+    ensures { IfOk result (λ value. value ≡ told.description_given status.now.code status.now.message) }
 {
     match status.code {
-        Code::Unset => None,
-        Code::Okay | Code::Fail => text_kept(status.message),
+        Code::Unset => Ok(None),
+        Code::Okay | Code::Fail => text_given(&status.message),
     }
 }
 
@@ -60,31 +52,65 @@ fn kind_given(alloc: Global, kind: Kind) -> Result<Option<Value>, OutOfMemory>
     }
 }
 
-// Puts the tags of the columns in their places among attributes.
+// What a span holds in a column, under the name and version of its scope.
+fn given(
+    alloc: Global,
+    name: &Text,
+    version: &Text,
+    span: &Span,
+    column: Column,
+) -> Result<Option<Value>, OutOfMemory>
+    ensures { IfOk result (λ value. value ≡ columns_of (under name.now version.now span.now) column) }
+{
+    match column {
+        Column::Error => Ok(error_given(span.status.code)),
+        Column::Flags | Column::LibraryName | Column::LibraryVersion => Ok(None),
+        Column::DroppedAttributes => Ok(count_given(span.dropped_attributes)),
+        Column::DroppedEvents => Ok(count_given(span.dropped_events)),
+        Column::DroppedLinks => Ok(count_given(span.dropped_links)),
+        Column::ScopeName => text_given(name),
+        Column::ScopeVersion => text_given(version),
+        Column::Code => code_given(alloc, span.status.code),
+        Column::Description => description_given(&span.status),
+        Column::Kind => kind_given(alloc, span.kind),
+        Column::State => text_given(&span.state),
+    }
+}
+
+// Puts the tag of a column in its place among attributes.
+fn put_column(
+    alloc: Global,
+    pairs: &mut Vec<(Text, Value)>,
+    name: &Text,
+    version: &Text,
+    span: &Span,
+    column: Column,
+) -> Result<(), OutOfMemory>
+    ensures { (rest : Pairs) → pairs.old.items ≡ attrs rest
+        → OnOk result (pairs.new.items
+        ≡ attrs (row (row_of column).key (columns_of (under name.now version.now span.now) column) ++ rest)) }
+{
+    let value = given(alloc, name, version, span, column)?;
+    put_row(alloc, pairs, column.key(), value)
+}
+
+/// Puts the tags of these columns in their places among attributes, the last first.
 pub(crate) fn put_columns(
     alloc: Global,
     pairs: &mut Vec<(Text, Value)>,
     name: &Text,
     version: &Text,
-    held: Held,
+    span: &Span,
+    columns: &[Column],
 ) -> Result<(), OutOfMemory>
-    ensures { (rest : List (List ℕ × Value)) → pairs.old.items ≡ attrs rest
-        → OnOk result (pairs.new.items ≡ attrs (columns.rows (columns_held name.now version.now held) ++ rest)) }
+    ensures { (rest : Pairs) → pairs.old.items ≡ attrs rest
+        → OnOk result (pairs.new.items
+        ≡ attrs (rows_by row_of columns.now (columns_of (under name.now version.now span.now)) ++ rest)) }
 {
-    let code = held.status.code;
-    put_row(alloc, pairs, "w3c.tracestate", text_kept(held.state))?;
-    put_row(alloc, pairs, "span.kind", kind_given(alloc, held.kind)?)?;
-    let description = description_given(held.status);
-    put_row(alloc, pairs, "otel.status_description", description)?;
-    put_row(alloc, pairs, "otel.status_code", code_given(alloc, code)?)?;
-    put_row(alloc, pairs, "otel.scope.version", text_given(version)?)?;
-    put_row(alloc, pairs, "otel.scope.name", text_given(name)?)?;
-    let links = count_given(held.dropped_links);
-    put_row(alloc, pairs, "otel.dropped_links_count", links)?;
-    let events = count_given(held.dropped_events);
-    put_row(alloc, pairs, "otel.dropped_events_count", events)?;
-    let attributes = count_given(held.dropped_attributes);
-    put_row(alloc, pairs, "otel.dropped_attributes_count", attributes)?;
-    put_row(alloc, pairs, "error", error_given(code))?;
+    let mut left = columns;
+    'columns: while let Some((column, before)) = left.split_last() {
+        put_column(alloc, pairs, name, version, span, *column)?;
+        left = before;
+    }
     Ok(())
 }

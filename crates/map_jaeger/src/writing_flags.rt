@@ -1,6 +1,6 @@
 //! The flags of a span: the first bit is its own, and an attribute of their own key tells the others.
 ghost use Rattle.std.specs.Prelude.{◌≡◌, ◌%◌, option_map, unwrap_or, IfSome};
-ghost use Rattle.map_jaeger.specs.Columns as columns;
+ghost use Rattle.map_jaeger.specs.ColumnWords as columns;
 ghost use Rattle.map_jaeger.specs.Writing as told;
 
 use span_tags::decimal_in;

@@ -1,5 +1,5 @@
 -- What is written in the columns is looked up again: the rows of a record of columns, before pairs under other keys, hold those columns.
-use Rattle.std.proofs.Common.{◌≡◌, ℕ, true, false, List, [], ◌∷◌, ◌++◌, Option, None, option_map, refl, sym, ap, ◌∙◌, append-nil}
+use Rattle.std.proofs.Common.{◌≡◌, ℕ, true, false, List, [], ◌∷◌, ◌++◌, map, Contains, lit≤, Option, None, option_map, refl, sym, ap, ◌∙◌, append-nil}
 use Rattle.std.specs.Prelude.{cond}
 use Rattle.std.specs.List.{list_any}
 use Rattle.std.specs.Option.{option_or}
@@ -7,12 +7,16 @@ use Rattle.std.specs.Str.{bytes_eq}
 use Rattle.trace_model.specs.Attributes.{attrs, at}
 use Rattle.trace_model.specs.ValueTexts.{value_text}
 use Rattle.trace_model.specs.declared.value.Value.{Value, Text}
-use Rattle.span_tags.specs.AttributeLaws.{last_at, last_at-append, at_attrs, on_values}
-use Rattle.span_tags.specs.RowLaws.{Told, rows_of, last_told, last_at-rows, told_none, told_at, last_told-at, on_rows}
+use Rattle.span_tags.specs.laws.AttributeLaws.{last_at, last_at-append, at_attrs, on_values}
+use Rattle.span_tags.specs.laws.RowLaws.{Told, rows_of, last_told, last_at-rows, told_none, told_at, last_told-at, on_rows}
 use Rattle.span_tags.specs.TagKeys.{error_key, dropped_attributes_key, dropped_events_key, dropped_links_key, library_name_key, library_version_key, scope_name_key, scope_version_key, code_key, state_key}
 use Rattle.span_tags.specs.TagWords.{Pairs, row}
-use Rattle.map_zipkin.specs.Keys.{column_keys, debug_key, local_ipv4_key, local_ipv6_key, local_port_key, remote_ipv4_key, remote_ipv6_key, remote_port_key, shared_key, own_keys, is_own}
-use Rattle.map_zipkin.specs.TagColumns.{TagColumns, column_rows, columns_in, own_rows, own_in}
+use Rattle.map_zipkin.specs.Keys.{column_keys, is_zipkin_reserved, peer_key}
+use Rattle.map_zipkin.specs.OwnColumns.{all_own, own_row, own_form, own_forms, is_own, own_rows, own_in}
+use Rattle.map_zipkin.specs.TagColumns.{TagColumns, column_rows, columns_in}
+use Rattle.map_zipkin.specs.Writing.{is_told}
+use Rattle.map_zipkin.specs.declared.own.Own.{Own}
+use Rattle.map_zipkin.specs.declared.own.Own.TheVariants as owns
 
 -- ---- rows
 
@@ -89,16 +93,33 @@ texts_in_rows c = ap (on_values textual) (rows_are c) ∙ on_rows textual (told 
 
 -- ---- keys of Zipkin's own
 
-own_rows_are : (l : Pairs) → own_rows (own_in l) ≡ rows_of (told_at l own_keys)
-own_rows_are l = λ i. row debug_key (at debug_key l)
-    ++ (row local_ipv4_key (at local_ipv4_key l)
-    ++ (row local_ipv6_key (at local_ipv6_key l)
-    ++ (row local_port_key (at local_port_key l)
-    ++ (row remote_ipv4_key (at remote_ipv4_key l)
-    ++ (row remote_ipv6_key (at remote_ipv6_key l)
-    ++ (row remote_port_key (at remote_port_key l)
-    ++ sym (append-nil (row shared_key (at shared_key l))) i))))))
+abbrev own_keys : List (List ℕ)
+own_keys = map (λ own. (own_row own).key) all_own
 
 -- the rows of what pairs hold under the own keys hold it there, and nothing else
 pub own_at : (k : List ℕ) (l : Pairs) → last_at k (own_rows (own_in l)) ≡ cond (is_own k) (at k l) None
-own_at k l = ap (last_at k) (own_rows_are l) ∙ last_at-rows k (told_at l own_keys) ∙ last_told-at k l own_keys
+own_at k l = last_at-rows k (told_at l own_keys) ∙ last_told-at k l own_keys
+
+-- no own key is one of a column, or has a place of its own
+pub own_apart : (own : Own) → is_zipkin_reserved (own_row own).key ≡ false
+own_apart owns.Debug = refl
+own_apart other = refl
+
+pub own_untold : (own : Own) → is_told (own_row own).key ≡ false
+own_untold owns.Debug = refl
+own_untold other = refl
+
+pub own_no_peer : (own : Own) → bytes_eq peer_key (own_row own).key ≡ false
+own_no_peer owns.Debug = refl
+own_no_peer other = refl
+
+-- each own key is among those with their forms
+pub own_there : (own : Own) → Contains own_forms ((own_row own).key, own_form own)
+own_there owns.Debug = (0, lit≤ tt, refl)
+own_there owns.LocalIpv4 = (1, lit≤ tt, refl)
+own_there owns.LocalIpv6 = (2, lit≤ tt, refl)
+own_there owns.LocalPort = (3, lit≤ tt, refl)
+own_there owns.RemoteIpv4 = (4, lit≤ tt, refl)
+own_there owns.RemoteIpv6 = (5, lit≤ tt, refl)
+own_there owns.RemotePort = (6, lit≤ tt, refl)
+own_there owns.Shared = (7, lit≤ tt, refl)

@@ -10,7 +10,7 @@ use Rattle.trace_model.specs.declared.trace.Group.{Group}
 use Rattle.trace_model.specs.declared.value.Value.{Text, Truth}
 use Rattle.zipkin_json.specs.declared.span.ZKind.TheVariants as zkinds
 use Rattle.zipkin_json.specs.declared.span.ZSpan.{ZSpan}
-use Rattle.map_zipkin.specs.Keys.{peer_key, local_port_key}
+use Rattle.map_zipkin.specs.Keys.{peer_key}
 use Rattle.map_zipkin.specs.Regrouped.{RunSpan}
 use Rattle.map_zipkin.specs.Normal.{normal_spans}
 use Rattle.map_zipkin.specs.Reading.{run_span_of}
@@ -27,7 +27,7 @@ call = record {
   kind = kinds.Client;
   start = 1500;
   end = 2999;
-  attributes = (codes "cached", Truth false) ∷ (peer_key, Text (codes "db")) ∷ (local_port_key, Text (codes "80")) ∷ [];
+  attributes = (codes "cached", Truth false) ∷ (peer_key, Text (codes "db")) ∷ (codes "zipkin.local.port", Text (codes "80")) ∷ [];
   dropped_attributes = 0;
   events = [];
   dropped_events = 0;
@@ -74,7 +74,7 @@ back = (
   record call {
     start = 1000;
     end = 2000;
-    attributes = (codes "cached", Text (codes "false")) ∷ (peer_key, Text (codes "db")) ∷ (local_port_key, Text (codes "80")) ∷ [];
+    attributes = (codes "cached", Text (codes "false")) ∷ (peer_key, Text (codes "db")) ∷ (codes "zipkin.local.port", Text (codes "80")) ∷ [];
     flags = 0;
   },
 )

@@ -9,8 +9,8 @@ use Rattle.std.specs.Ordering.{nat_cmp}
 use Rattle.std.specs.declared.cmp.Ordering.TheVariants.{Less}
 use Rattle.std.proofs.lemmas.List.Elements.{All-weaker}
 use Rattle.std.proofs.lemmas.Bool.Decides.{Decides-and, Decides-or, Decides-like, Decides-ltb}
-use Rattle.span_tags.specs.FirstFaultLaws.{plain_span, sound_spans, first_counts}
-use Rattle.span_tags.specs.LeastRows.{least_or, least_same, KeyAtMost, below_is_at_most, not_above_itself, any_none, any_cases, any_here, any_behind, any_decides, itself, least_found, FaultAtMost, least_if, least_named, numbered_before}
+use Rattle.span_tags.specs.laws.FirstFaultLaws.{plain_span, sound_spans, first_counts}
+use Rattle.span_tags.specs.laws.LeastRows.{least_or, least_same, KeyAtMost, below_is_at_most, not_above_itself, any_none, any_cases, any_here, any_behind, any_decides, itself, least_found, FaultAtMost, least_if, least_named, numbered_before}
 use Rattle.span_tags.specs.Runs.{scoped}
 use Rattle.span_tags.specs.TagWords.{Pairs}
 use Rattle.trace_model.specs.Attributes.{Rise, keys, at}
@@ -30,7 +30,7 @@ use Rattle.trace_model.specs.declared.value.Value.{Value}
 use Rattle.map_zipkin.specs.Faults.{HasReservedKey, IsOutOfForm, HasOwnKey, IsToldWrong, HasDoubleIn, IsZipkinSpanFault, IsZipkinResourceFault, IsZipkinFaultOf}
 use Rattle.map_zipkin.specs.Keys.{is_zipkin_reserved}
 use Rattle.map_zipkin.specs.LeastZipkinFault.{zipkin_end_fault, zipkin_reserved_in, zipkin_reserved_fault, is_out_of_form, out_of_form, zipkin_own_fault, is_bare, is_told_wrong, event_fault, zipkin_double_fault, zipkin_span_fault, zipkin_resource_fault, zipkin_fault_of}
-use Rattle.map_zipkin.specs.TagColumns.{own_forms}
+use Rattle.map_zipkin.specs.OwnColumns.{own_forms}
 
 -- ---- reserved keys
 

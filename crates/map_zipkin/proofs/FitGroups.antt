@@ -4,10 +4,9 @@ use Rattle.std.specs.List.{list_any}
 use Rattle.std.proofs.lemmas.Bool.{le-ltb}
 use Rattle.std.proofs.lemmas.List.Elements.{All-head, All-tail}
 use Rattle.span_tags.specs.PlacedFaults.{in_resource}
-use Rattle.span_tags.specs.RunLaws.{scoped_each}
+use Rattle.span_tags.specs.laws.RunLaws.{scoped_each}
 use Rattle.span_tags.specs.Runs.{Scoped, spans_of}
 use Rattle.span_tags.specs.TagWords.{Pairs}
-use Rattle.trace_model.specs.Attributes.{at}
 use Rattle.trace_model.specs.EventTexts.{holds_double}
 use Rattle.trace_model.specs.ValueTexts.{has_double}
 use Rattle.trace_model.specs.declared.fault.Fault.TheVariants.{DoubleInText}
@@ -17,9 +16,10 @@ use Rattle.trace_model.specs.declared.trace.Group.{Group}
 use Rattle.trace_model.specs.declared.trace.Scope.{Scope}
 use Rattle.trace_model.specs.declared.value.Value.{Value}
 use Rattle.map_zipkin.specs.Faults.{HasDoubleIn, HasNoZipkinFault}
-use Rattle.map_zipkin.specs.Keys.{local_port_key, remote_port_key}
-use Rattle.map_zipkin.specs.TagColumns.{is_port_text, port_told}
+use Rattle.map_zipkin.specs.OwnColumns.{own_in, is_port_text}
+use Rattle.map_zipkin.specs.TagColumns.{port_told}
 use Rattle.map_zipkin.specs.Unfit.{event_unfit, port_unfit, ports_unfit, span_unfit, scope_unfit, group_unfit}
+use Rattle.map_zipkin.specs.declared.own.Own.TheVariants as owns
 use Rattle.map_zipkin.proofs.EventsBack.{none_of, none_passes}
 use Rattle.map_zipkin.proofs.HeldSpans.{NoSpanFault, spans_plain}
 use Rattle.map_zipkin.proofs.OwnForms.{IsFormed, port_fits}
@@ -48,8 +48,8 @@ span_fit span none =
     both_false (holds_double span.attributes) (ports_unfit span.attributes || list_any event_unfit span.events)
     (pairs_fit span.attributes (λ any. none DoubleInText (inl any)))
     (both_false (ports_unfit span.attributes) (list_any event_unfit span.events)
-    (both_false (port_unfit (at local_port_key span.attributes)) (port_unfit (at remote_port_key span.attributes))
-    (port_fit (at local_port_key span.attributes) formed.local_port) (port_fit (at remote_port_key span.attributes) formed.remote_port))
+    (both_false (port_unfit (own_in span.attributes owns.LocalPort)) (port_unfit (own_in span.attributes owns.RemotePort))
+    (port_fit (own_in span.attributes owns.LocalPort) (formed owns.LocalPort)) (port_fit (own_in span.attributes owns.RemotePort) (formed owns.RemotePort)))
     (events_fit span.events (none_of (λ event. HasDoubleIn event.attributes) span.events (λ any. none DoubleInText (inr any)))))
 
 abbrev IsPlain : Scoped Span → Type 0

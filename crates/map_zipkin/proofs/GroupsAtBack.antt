@@ -5,8 +5,8 @@ use Rattle.std.proofs.lemmas.Bool.{le-leb, leb-true, leb-false}
 use Rattle.std.proofs.lemmas.List.{append-nil}
 use Rattle.std.proofs.lemmas.List.Elements.{All-nil, All-cons, All-head, All-tail}
 use Rattle.std.specs.Str.{bytes_eq}
-use Rattle.span_tags.specs.AttributeLaws.{same_key}
-use Rattle.span_tags.specs.RunLaws.{in_front_spans}
+use Rattle.span_tags.specs.laws.AttributeLaws.{same_key}
+use Rattle.span_tags.specs.laws.RunLaws.{in_front_spans}
 use Rattle.span_tags.specs.Runs.{Scoped, scoped, in_front}
 use Rattle.span_tags.specs.TagWords.{Pairs}
 use Rattle.trace_model.specs.OtlpParts.{NotedGroup}

@@ -6,9 +6,9 @@ use Rattle.trace_model.specs.declared.fault.Fault.TheVariants.{EndBeforeStart, R
 use Rattle.std.specs.Prelude.{◌≢◌, IsUtf8}
 use Rattle.std.proofs.lemmas.List.Elements.{All-nil, All-cons, All-head, All-tail, All-map, All-weaker}
 use Rattle.std.proofs.lemmas.Str.{IsUtf8-nil}
-use Rattle.span_tags.specs.AttributeLaws.{attrs_rise}
+use Rattle.span_tags.specs.laws.AttributeLaws.{attrs_rise}
 use Rattle.span_tags.specs.PlacedFaults.{in_span, in_resource}
-use Rattle.span_tags.specs.RunLaws.{IsPlain, scoped_each}
+use Rattle.span_tags.specs.laws.RunLaws.{IsPlain, scoped_each}
 use Rattle.span_tags.specs.Runs.{Scoped, spans_of, scoped, under}
 use Rattle.span_tags.specs.TagWords.{Pairs}
 use Rattle.trace_model.specs.Proper.{IsProperPair, AreProper, IsProperSpan, IsProperScope, IsProperGroup}
@@ -22,7 +22,7 @@ use Rattle.trace_model.specs.declared.value.Value.{Value}
 use Rattle.zipkin_json.specs.Proper.{IsProperZSpan, IsTimelyZSpan}
 use Rattle.zipkin_json.specs.declared.span.ZSpan.{ZSpan}
 use Rattle.map_zipkin.specs.Faults.{IsZipkinSpanFault, IsZipkinResourceFault, HasNoZipkinFault}
-use Rattle.map_zipkin.specs.Laws.{ReadIsHeld}
+use Rattle.map_zipkin.specs.StatedLaws.{ReadIsHeld}
 use Rattle.map_zipkin.specs.Reading.{run_span_of, groups_of}
 use Rattle.map_zipkin.proofs.EventFacts.{EventsRead, EventsProper}
 use Rattle.map_zipkin.proofs.ReadFaults.{read_no_fault, resource_no_fault}

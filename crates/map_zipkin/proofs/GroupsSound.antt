@@ -1,7 +1,7 @@
 -- The groups that are read are sound, whatever the spans are.
 use Rattle.std.proofs.Common.{List, All, map, get_or, sym, subst}
 use Rattle.std.proofs.lemmas.List.Elements.{All-map, All-weaker}
-use Rattle.span_tags.specs.RunLaws.{IsPlain, scoped_each}
+use Rattle.span_tags.specs.laws.RunLaws.{IsPlain, scoped_each}
 use Rattle.span_tags.specs.Runs.{Scoped, spans_of}
 use Rattle.trace_model.specs.Soundness.{IsSoundSpan, IsSoundScope, IsSoundGroup}
 use Rattle.trace_model.specs.Values.{AreSound}

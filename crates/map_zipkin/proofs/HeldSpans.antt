@@ -10,10 +10,10 @@ use Rattle.trace_model.specs.declared.span.Span.{Span}
 use Rattle.trace_model.specs.declared.trace.Group.{Group}
 use Rattle.trace_model.specs.declared.trace.Scope.{Scope}
 use Rattle.span_tags.specs.PlacedFaults.{in_span}
-use Rattle.span_tags.specs.RunLaws.{scoped_all}
+use Rattle.span_tags.specs.laws.RunLaws.{scoped_all}
 use Rattle.span_tags.specs.Runs.{Scoped, spans_of, scoped}
 use Rattle.map_zipkin.specs.Faults.{IsZipkinSpanFault, HasNoZipkinFault}
-use Rattle.map_zipkin.specs.Laws.{IsHeldByZipkin}
+use Rattle.map_zipkin.specs.StatedLaws.{IsHeldByZipkin}
 
 abbrev pub NoSpanFault : Span → Type 0
 NoSpanFault span = (fault : Fault) → IsZipkinSpanFault span fault → ⊥

@@ -12,8 +12,8 @@ use Rattle.std.proofs.lemmas.Map.Text.{is_eq-slice_cmp}
 use Rattle.trace_model.specs.Attributes.{Rise, keys, by_order, placed, attrs}
 use Rattle.trace_model.specs.ValueTexts.{value_text}
 use Rattle.trace_model.specs.declared.value.Value.{Value, Text}
-use Rattle.span_tags.specs.AttributeLaws.{same_key, below_all, attrs_itself, attrs_rise, at_attrs, same_pairs, at_filter, filter_rise, map_attrs}
-use Rattle.span_tags.specs.RowLaws.{last_at-filter}
+use Rattle.span_tags.specs.laws.AttributeLaws.{same_key, below_all, attrs_itself, attrs_rise, at_attrs, same_pairs, at_filter, filter_rise, map_attrs}
+use Rattle.span_tags.specs.laws.RowLaws.{last_at-filter}
 use Rattle.span_tags.specs.TagWords.{Pairs}
 use Rattle.map_zipkin.specs.Writing.{as_text, as_texts, is_told, told_pairs, zipkin_tag_of}
 use Rattle.map_zipkin.specs.WritingSoFar.{rows_below, rows_above}

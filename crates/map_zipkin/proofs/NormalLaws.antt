@@ -8,7 +8,7 @@ use Rattle.trace_model.specs.declared.trace.Group.{Group}
 use Rattle.map_zipkin.specs.Faults.{HasNoZipkinFault}
 use Rattle.zipkin_json.specs.Proper.{IsProperZSpan, IsTimelyZSpan}
 use Rattle.zipkin_json.specs.declared.span.ZSpan.{ZSpan}
-use Rattle.map_zipkin.specs.Laws.{IsHeldByZipkin, SpansReadBack, WrittenIsWritable, ZipkinNormalForms}
+use Rattle.map_zipkin.specs.StatedLaws.{IsHeldByZipkin, SpansReadBack, WrittenIsWritable, ZipkinNormalForms}
 use Rattle.map_zipkin.specs.Normal.{normal_spans, zipkin_normal}
 use Rattle.map_zipkin.specs.NotedGroups.{plain_noted, noted_groups_of}
 use Rattle.map_zipkin.specs.Reading.{run_span_of, groups_of}

@@ -3,13 +3,14 @@ use Rattle.std.proofs.Common.{◌≡◌, ℕ, Bool, true, false, cond, List, [],
 use Rattle.std.specs.Prelude.{filter, not, ◌||◌}
 use Rattle.std.specs.Option.{option_or}
 use Rattle.std.specs.Str.{bytes_eq}
-use Rattle.span_tags.specs.AttributeLaws.{last_at, key_itself, same_key, other_way, option_or-none, at_attrs-append, attrs_rise, at_filter, filter_rise, at_map, map_rise, same_pairs}
+use Rattle.span_tags.specs.laws.AttributeLaws.{last_at, key_itself, same_key, other_way, option_or-none, at_attrs-append, attrs_rise, at_filter, filter_rise, at_map, map_rise, same_pairs}
 use Rattle.span_tags.specs.TagKeys.{service_key}
 use Rattle.span_tags.specs.TagWords.{Pairs, row, without, text_given, text_or_none}
 use Rattle.trace_model.specs.Attributes.{Rise, keys, at}
 use Rattle.trace_model.specs.ValueTexts.{value_text}
 use Rattle.trace_model.specs.declared.value.Value.{Value, Text}
-use Rattle.map_zipkin.specs.Keys.{is_own, peer_key}
+use Rattle.map_zipkin.specs.Keys.{peer_key}
+use Rattle.map_zipkin.specs.OwnColumns.{is_own}
 use Rattle.map_zipkin.specs.Normal.{normal_pairs}
 use Rattle.map_zipkin.specs.Writing.{as_texts, prefixed, resource_pairs, is_told, told_pairs}
 use Rattle.map_zipkin.proofs.ReadFaults.{found_has}

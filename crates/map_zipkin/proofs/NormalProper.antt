@@ -7,8 +7,8 @@ use Rattle.std.specs.Str.{bytes_eq}
 use Rattle.std.proofs.lemmas.List.Elements.{All-nil, All-cons, All-head, All-tail, All-append, All-filter, All-map, All-weaker}
 use Rattle.std.proofs.lemmas.Map.Entries.{All-lookup}
 use Rattle.std.proofs.lemmas.Str.{IsUtf8-nil}
-use Rattle.span_tags.specs.AttributeLaws.{all_attrs}
-use Rattle.span_tags.specs.RunLaws.{scoped_all}
+use Rattle.span_tags.specs.laws.AttributeLaws.{all_attrs}
+use Rattle.span_tags.specs.laws.RunLaws.{scoped_all}
 use Rattle.span_tags.specs.Runs.{Scoped, spans_of, scoped}
 use Rattle.span_tags.specs.TagKeys.{service_key}
 use Rattle.span_tags.specs.TagWords.{Pairs, row, without, text_given, text_or_none}
@@ -24,7 +24,7 @@ use Rattle.trace_model.specs.declared.trace.Group.{Group}
 use Rattle.trace_model.specs.declared.trace.Scope.{Scope}
 use Rattle.trace_model.specs.declared.value.Value.{Value, Text}
 use Rattle.map_zipkin.specs.Keys.{peer_key}
-use Rattle.map_zipkin.specs.Laws.{IsHeldByZipkin}
+use Rattle.map_zipkin.specs.StatedLaws.{IsHeldByZipkin}
 use Rattle.map_zipkin.specs.Normal.{normal_pairs, message_kept, zipkin_normal_event, zipkin_normal_span, normal_one, normal_spans, zipkin_normal}
 use Rattle.map_zipkin.specs.Regrouped.{RunSpan}
 use Rattle.map_zipkin.specs.Writing.{as_text, as_texts}

@@ -8,7 +8,7 @@ use Rattle.trace_model.specs.OtlpParts.{NotedGroup}
 use Rattle.trace_model.specs.Remarks.{Keys, numbered}
 use Rattle.trace_model.specs.declared.trace.Group.{Group}
 use Rattle.zipkin_json.specs.declared.span.ZSpan.{ZSpan}
-use Rattle.map_zipkin.specs.Laws.{GroupsNoted}
+use Rattle.map_zipkin.specs.StatedLaws.{GroupsNoted}
 use Rattle.map_zipkin.specs.NotedGroups.{plain_noted, left_out_remarks, spans_in, with_left_out}
 use Rattle.map_zipkin.specs.Reading.{run_span_of, groups_of}
 use Rattle.map_zipkin.specs.Regrouped.{RunSpan, run_of, runs_of}

@@ -13,15 +13,15 @@ use Rattle.trace_model.specs.declared.place.Place.TheVariants as places
 use Rattle.trace_model.specs.declared.span.Span.{Span}
 use Rattle.trace_model.specs.declared.trace.Group.{Group}
 use Rattle.trace_model.specs.declared.trace.Scope.{Scope}
-use Rattle.span_tags.specs.AttributeLaws.{key_itself}
+use Rattle.span_tags.specs.laws.AttributeLaws.{key_itself}
 use Rattle.span_tags.specs.Losses.{is_empty, differ, lost, lost_keys, Names, named, scopes_losses}
-use Rattle.span_tags.specs.QuietLaws.{Quiet, both, quiet_as, row_quiet, differ_not, given_not, same_test, same_parts, keys_quiet, scopes_quiet}
-use Rattle.span_tags.specs.RunLaws.{IsPlain, in_front_spans, scoped_all, on_span}
+use Rattle.span_tags.specs.laws.QuietLaws.{Quiet, both, quiet_as, row_quiet, differ_not, given_not, same_test, same_parts, keys_quiet, scopes_quiet}
+use Rattle.span_tags.specs.laws.RunLaws.{IsPlain, in_front_spans, scoped_all, on_span}
 use Rattle.span_tags.specs.Runs.{Scoped, spans_of, scoped, in_front, runs}
 use Rattle.span_tags.specs.TagKeys.{service_key}
 use Rattle.span_tags.specs.TagWords.{Pairs}
 use Rattle.map_zipkin.specs.Keys.{peer_key}
-use Rattle.map_zipkin.specs.Laws.{IsPlainGroup, NothingLost}
+use Rattle.map_zipkin.specs.StatedLaws.{IsPlainGroup, NothingLost}
 use Rattle.map_zipkin.specs.Losses.{goes, changes, span_losses, resource_losses, follows, names_before, last_of, run_behind, has_no_span, unit_losses, group_losses, groups_losses}
 use Rattle.map_zipkin.specs.LossWalks.{kept_texts}
 use Rattle.map_zipkin.specs.Normal.{normal_pairs, zipkin_normal_span, normal_one, normal_spans}

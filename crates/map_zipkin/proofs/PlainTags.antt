@@ -10,7 +10,7 @@ use Rattle.trace_model.specs.Attributes.{by_order, attrs, at}
 use Rattle.trace_model.specs.EventTexts.{holds_double}
 use Rattle.trace_model.specs.ValueTexts.{has_double}
 use Rattle.trace_model.specs.declared.value.Value.{Value}
-use Rattle.span_tags.specs.AttributeLaws.{all_attrs}
+use Rattle.span_tags.specs.laws.AttributeLaws.{all_attrs}
 use Rattle.span_tags.specs.Doubles.{double_at}
 use Rattle.span_tags.specs.TagKeys.{service_key, error_key, dropped_attributes_key, dropped_events_key, dropped_links_key, scope_name_key, scope_version_key, code_key, state_key}
 use Rattle.span_tags.specs.TagWords.{Pairs, row, without, text_given, code_given}

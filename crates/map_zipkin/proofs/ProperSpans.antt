@@ -12,7 +12,7 @@ use Rattle.std.proofs.lemmas.Map.Entries.{All-lookup}
 use Rattle.std.proofs.lemmas.Str.{IsUtf8-nil, IsUtf8-append, IsUtf8-from_ascii}
 use Rattle.std.proofs.lemmas.Str.Ascii.{IsAscii-from_all}
 use Rattle.span_ids.specs.Times.{floor}
-use Rattle.span_tags.specs.AttributeLaws.{attrs_rise, all_attrs}
+use Rattle.span_tags.specs.laws.AttributeLaws.{attrs_rise, all_attrs}
 use Rattle.span_tags.specs.Runs.{Scoped, scoped}
 use Rattle.span_tags.specs.TagKeys.{error_key, dropped_attributes_key, dropped_events_key, dropped_links_key, scope_name_key, scope_version_key, code_key, state_key, service_key}
 use Rattle.span_tags.specs.TagWords.{Pairs, row, without, text_given, code_given, text_or_none}
@@ -29,10 +29,13 @@ use Rattle.trace_model.specs.declared.trace.Group.{Group}
 use Rattle.trace_model.specs.declared.value.Value.{Value, Text, Truth, Number, Eight, Bytes, List', Map', Nothing}
 use Rattle.zipkin_json.specs.Proper as written
 use Rattle.map_zipkin.specs.Faults.{HasNoZipkinFault}
-use Rattle.map_zipkin.specs.Keys.{resource_prefix, peer_key, local_ipv4_key, local_ipv6_key, local_port_key, remote_ipv4_key, remote_ipv6_key, remote_port_key}
-use Rattle.map_zipkin.specs.Laws.{IsHeldByZipkin, WrittenIsWritable}
+use Rattle.map_zipkin.specs.Keys.{resource_prefix, peer_key}
+use Rattle.map_zipkin.specs.OwnColumns.{OwnColumns, own_row, own_in}
+use Rattle.map_zipkin.specs.StatedLaws.{IsHeldByZipkin, WrittenIsWritable}
 use Rattle.map_zipkin.specs.TagColumns.{column_rows, count_text, text_told}
 use Rattle.map_zipkin.specs.Writing.{error_message, zipkin_columns_of, as_text, as_texts, prefixed, resource_pairs, is_told, told_pairs, zipkin_tag_of, zipkin_tags_of, annotation_of, zipkin_span, spans_of_group}
+use Rattle.map_zipkin.specs.declared.own.Own.{Own}
+use Rattle.map_zipkin.specs.declared.own.Own.TheVariants as owns
 use Rattle.map_zipkin.proofs.HeldSpans.{NoSpanFault, spans_plain, IsHeldSpan, held_spans}
 use Rattle.map_zipkin.proofs.OwnForms.{port_fits}
 use Rattle.map_zipkin.proofs.SpanBack.{all_formed}
@@ -195,6 +198,8 @@ module _ (utf8 : TextsAreUtf8) (events_utf8 : EventsAreUtf8) where
   span_proper resource one proper h =
       let its = h.proper.attributes in
       let formed : AreFormed one.span.attributes = all_formed one.span h.no_fault in
+      let held : OwnColumns = own_in one.span.attributes in
+      let held_proper : (own : Own) → IfSome (held own) IsProperValue = λ own. at_proper (own_row own).key one.span.attributes its in
       let first = h.proper.start in
       let last = h.proper.end in
       record {
@@ -206,15 +211,15 @@ module _ (utf8 : TextsAreUtf8) (events_utf8 : EventsAreUtf8) where
         end = omega (arith, last);
         local = record {
           service = service_utf8 (at service_key resource) (at_proper service_key resource proper);
-          ipv4 = told_utf8 (at local_ipv4_key one.span.attributes) (at_proper local_ipv4_key one.span.attributes its);
-          ipv6 = told_utf8 (at local_ipv6_key one.span.attributes) (at_proper local_ipv6_key one.span.attributes its);
-          port = port_fits (at local_port_key one.span.attributes) formed.local_port;
+          ipv4 = told_utf8 (held owns.LocalIpv4) (held_proper owns.LocalIpv4);
+          ipv6 = told_utf8 (held owns.LocalIpv6) (held_proper owns.LocalIpv6);
+          port = port_fits (held owns.LocalPort) (formed owns.LocalPort);
         };
         remote = record {
           service = service_utf8 (at peer_key one.span.attributes) (at_proper peer_key one.span.attributes its);
-          ipv4 = told_utf8 (at remote_ipv4_key one.span.attributes) (at_proper remote_ipv4_key one.span.attributes its);
-          ipv6 = told_utf8 (at remote_ipv6_key one.span.attributes) (at_proper remote_ipv6_key one.span.attributes its);
-          port = port_fits (at remote_port_key one.span.attributes) formed.remote_port;
+          ipv4 = told_utf8 (held owns.RemoteIpv4) (held_proper owns.RemoteIpv4);
+          ipv6 = told_utf8 (held owns.RemoteIpv6) (held_proper owns.RemoteIpv6);
+          port = port_fits (held owns.RemotePort) (formed owns.RemotePort);
         };
         annotations = All-map written.IsProperAnnotation annotation_of one.span.events (λ k d lt. annotation_proper (get_or one.span.events k d) (h.proper.events k d lt));
         tags = tags_proper resource one proper h;

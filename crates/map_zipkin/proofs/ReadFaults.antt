@@ -1,13 +1,13 @@
 -- Nothing in a span that was read is a fault, nor in its resource.
 use Rattle.std.proofs.Common.{◌≡◌, ℕ, zero, suc, ◌<◌, ◌≤◌, ◌^◌, ◌==◌, Bool, true, false, cond, nat_le, ◌&&◌, List, [], ◌∷◌, map, get_or, All, Contains, Option, Some, None, decimal, refl, sym, ap, ◌∙◌, subst, true≢false, le-leb, ⊎_elim, is_some, arith}
-use Rattle.std.specs.Prelude.{Any, ◌||◌, not}
+use Rattle.std.specs.Prelude.{Any, ◌||◌, codes, not}
 use Rattle.std.specs.List.{list_any, list_all}
 use Rattle.std.specs.Str.{bytes_eq}
 use Rattle.std.specs.Str.Parse.{digits_value}
 use Rattle.std.proofs.lemmas.Fmt.{decimal_is_IsNumeral_wide}
 use Rattle.std.proofs.lemmas.List.Elements.{All-nil, All-cons, All-head, All-tail, All-map, All-contains}
-use Rattle.span_tags.specs.AttributeLaws.{key_itself, same_key}
-use Rattle.span_tags.specs.TagWords.{Pairs, decimal_in}
+use Rattle.span_tags.specs.laws.AttributeLaws.{key_itself, same_key}
+use Rattle.span_tags.specs.TagWords.{Pairs, decimal_in, text_given}
 use Rattle.trace_model.specs.Attributes.{keys, at}
 use Rattle.trace_model.specs.EventReading.{event_text_read}
 use Rattle.trace_model.specs.EventTexts.{holds_double}
@@ -18,9 +18,13 @@ use Rattle.trace_model.specs.declared.value.Value.{Value, Text}
 use Rattle.zipkin_json.specs.Proper.{IsProperZSpan, IsTimelyZSpan}
 use Rattle.zipkin_json.specs.declared.span.ZSpan.{ZSpan}
 use Rattle.map_zipkin.specs.Faults.{IsOutOfForm, IsToldWrong, HasDoubleIn, IsZipkinSpanFault, IsZipkinResourceFault}
-use Rattle.map_zipkin.specs.Keys.{is_zipkin_reserved, is_own, peer_key}
+use Rattle.map_zipkin.specs.Keys.{is_zipkin_reserved, peer_key}
+use Rattle.map_zipkin.specs.OwnColumns.{own_row, own_form, own_forms, own_of, is_own, truth_given, is_true_text, is_address, has_port, is_port_text}
 use Rattle.map_zipkin.specs.Reading.{pairs_of, is_free_tag, attributes_by, event_by, zipkin_event_of, run_span_of}
-use Rattle.map_zipkin.specs.TagColumns.{own_forms, has_port, is_port_text}
+use Rattle.map_zipkin.specs.TagColumns.{count_text}
+use Rattle.map_zipkin.specs.declared.own.Own.{Own}
+use Rattle.map_zipkin.specs.declared.own.Own.TheVariants as owns
+use Rattle.map_zipkin.proofs.ColumnLemmas.{own_apart}
 use Rattle.map_zipkin.proofs.EventFacts.{EventsRead}
 use Rattle.map_zipkin.proofs.ReadTexts.{kept, IsTextPair, attributes_all, attributes_texts}
 
@@ -79,14 +83,7 @@ unreserved : (span : ZSpan) (tags : Pairs) → All IsUnreserved (attributes_by s
 unreserved span tags = attributes_all IsUnreserved span tags (record {
   service = λ x more e. refl;
   tag = λ x more e. refl;
-  debug = refl;
-  local_ipv4 = λ x more e. refl;
-  local_ipv6 = λ x more e. refl;
-  local_port = λ e. refl;
-  remote_ipv4 = λ x more e. refl;
-  remote_ipv6 = λ x more e. refl;
-  remote_port = λ e. refl;
-  shared = refl;
+  own = λ own value e. own_apart own;
   others = kept (λ pair. Unit {0}) IsUnreserved (λ tag. is_free_tag tag.0) (λ pair held e. free_unreserved (is_zipkin_reserved pair.0) _ e) tags (anything tags);
 })
 
@@ -128,18 +125,40 @@ port_formed n lt e =
     ∙ ap (λ b. b && nat_le n 65535) (le-leb 1 n low)
     ∙ le-leb n 65535 (omega (arith, lt))
 
+truth_formed : (truth : Bool) (value : Value) → truth_given truth ≡ Some value → is_true_text value ≡ true
+truth_formed false value e = absurd (cc)
+truth_formed true value e = let is : value ≡ Text (codes "true") = cc in ap is_true_text is
+
+address_formed : (text : List ℕ) (value : Value) → text_given text ≡ Some value → is_address value ≡ true
+address_formed [] value e = absurd (cc)
+address_formed (x ∷ more) value e = let is : value ≡ Text (x ∷ more) = cc in ap is_address is
+
+count_formed : (n : ℕ) → n < 65536 → (value : Value) → count_text n ≡ Some value → is_port_text value ≡ true
+count_formed n lt value e = by (n == 0) refl e
+  where
+    by : (b : Bool) → (n == 0) ≡ b → cond b None (Some (Text (decimal n))) ≡ Some value → is_port_text value ≡ true
+    by true none e = absurd (cc)
+    by false some e = let is : value ≡ Text (decimal n) = cc in ap is_port_text is ∙ port_formed n lt some
+
+own_formed : (span : ZSpan) → IsProperZSpan span → (own : Own) (value : Value) → own_of span own ≡ Some value → own_form own value ≡ true
+own_formed span proper owns.Debug value e = truth_formed span.debug value e
+own_formed span proper owns.LocalIpv4 value e = address_formed span.local.ipv4 value e
+own_formed span proper owns.LocalIpv6 value e = address_formed span.local.ipv6 value e
+own_formed span proper owns.LocalPort value e = count_formed span.local.port proper.local.port value e
+own_formed span proper owns.RemoteIpv4 value e = address_formed span.remote.ipv4 value e
+own_formed span proper owns.RemoteIpv6 value e = address_formed span.remote.ipv6 value e
+own_formed span proper owns.RemotePort value e = count_formed span.remote.port proper.remote.port value e
+own_formed span proper owns.Shared value e = truth_formed span.shared value e
+
+fine_own : (own : Own) (value : Value) → own_form own value ≡ true → IsFormed ((own_row own).key, value)
+fine_own owns.Debug value e = ap (λ b. b && true) e
+fine_own other value e = ap (λ b. b && true) e
+
 formed : (span : ZSpan) → IsProperZSpan span → (tags : Pairs) → All IsFormed (attributes_by span tags)
 formed span proper tags = attributes_all IsFormed span tags (record {
   service = λ x more e. refl;
   tag = λ x more e. refl;
-  debug = refl;
-  local_ipv4 = λ x more e. refl;
-  local_ipv6 = λ x more e. refl;
-  local_port = λ e. ap (λ b. b && true) (port_formed span.local.port proper.local.port e);
-  remote_ipv4 = λ x more e. refl;
-  remote_ipv6 = λ x more e. refl;
-  remote_port = λ e. ap (λ b. b && true) (port_formed span.remote.port proper.remote.port e);
-  shared = refl;
+  own = λ own value e. fine_own own value (own_formed span proper own value e);
   others = kept (λ pair. Unit {0}) IsFormed (λ tag. is_free_tag tag.0)
       (λ pair held e. other_formed pair own_forms (free_own (is_zipkin_reserved pair.0) (is_own pair.0) (bytes_eq peer_key pair.0) e)) tags (anything tags);
 })

@@ -1,6 +1,6 @@
 -- What is read of a proper span is sound and proper.
 use Rattle.std.proofs.Common.{◌≡◌, ℕ, ◌<◌, ◌≤◌, ◌^◌, pos, negsuc, Bool, true, false, cond, nat_le, List, [], ◌∷◌, ◌++◌, take, drop, get_or, All, Option, Some, None, option_and_then, unwrap_or, decimal, is_some, refl, sym, ap, ◌∙◌, subst, true≢false, leb-true, take-append-drop, lit≤, arith}
-use Rattle.std.specs.Prelude.{◌&&◌, not, codes, IsUtf8}
+use Rattle.std.specs.Prelude.{◌&&◌, ◌==◌, not, codes, IsUtf8}
 use Rattle.std.specs.Option.{IfSome, option_or}
 use Rattle.std.specs.Str.{bytes_eq}
 use Rattle.std.proofs.lemmas.Fmt.{IsAscii-decimal}
@@ -11,9 +11,9 @@ use Rattle.std.proofs.lemmas.Bool.{ltb-true}
 use Rattle.std.proofs.Math.Dec.{ltb}
 use Rattle.std.specs.List.{list_all}
 use Rattle.std.proofs.lemmas.Str.{IsUtf8-nil, IsUtf8-drop, IsUtf8-from_ascii, IsCharBoundary-after_ascii}
-use Rattle.span_tags.specs.AttributeLaws.{attrs_rise, same_key}
+use Rattle.span_tags.specs.laws.AttributeLaws.{attrs_rise, same_key}
 use Rattle.span_tags.specs.TagKeys.{service_key, error_key, state_key, dropped_attributes_key, dropped_events_key, dropped_links_key, library_name_key, library_version_key, scope_name_key, scope_version_key}
-use Rattle.span_tags.specs.TagWords.{Pairs, text_in, at_most, decimal_in, count_in, name_in}
+use Rattle.span_tags.specs.TagWords.{Pairs, text_in, text_given, at_most, decimal_in, count_in, name_in}
 use Rattle.trace_model.specs.Attributes.{Rise, keys, at}
 use Rattle.trace_model.specs.EventReading.{event_text_read}
 use Rattle.trace_model.specs.Proper.{IsProperValue, IsProperPair, AreProper, IsProperEvent, IsProperSpan, IsProperLink}
@@ -23,10 +23,14 @@ use Rattle.trace_model.specs.declared.span.Code.{Code}
 use Rattle.trace_model.specs.declared.span.Code.TheVariants as statuses
 use Rattle.trace_model.specs.declared.value.Value.{Value, Text, Truth, Number, Eight, Bytes, List', Map', Nothing}
 use Rattle.zipkin_json.specs.Proper as written
-use Rattle.zipkin_json.specs.Proper.{IsProperZSpan, IsTimelyZSpan}
+use Rattle.zipkin_json.specs.Proper.{IsProperZSpan}
 use Rattle.zipkin_json.specs.declared.span.ZSpan.{ZSpan}
-use Rattle.map_zipkin.specs.Keys.{resource_prefix, peer_key, debug_key, local_ipv4_key, local_ipv6_key, local_port_key, remote_ipv4_key, remote_ipv6_key, remote_port_key, shared_key}
+use Rattle.map_zipkin.specs.Keys.{resource_prefix, peer_key}
+use Rattle.map_zipkin.specs.OwnColumns.{own_row, own_of, truth_given}
 use Rattle.map_zipkin.specs.Reading.{pair_of, pairs_of, is_free_tag, resource_tags, resource_by, attributes_by, event_by, zipkin_event_of, message_of, run_span_of}
+use Rattle.map_zipkin.specs.TagColumns.{count_text}
+use Rattle.map_zipkin.specs.declared.own.Own.{Own}
+use Rattle.map_zipkin.specs.declared.own.Own.TheVariants as owns
 use Rattle.map_zipkin.proofs.EventFacts.{EventsRead, EventsProper}
 use Rattle.map_zipkin.proofs.ReadFaults.{found_has}
 use Rattle.map_zipkin.proofs.ReadTexts.{IsTextPair, attributes_all, attributes_texts, attributes_rise, resource_all, resource_tags_all, resource_texts, resource_rise}
@@ -154,19 +158,41 @@ key_behind key k true same e utf8 =
 number_utf8 : (n : ℕ) → n < 65536 → IsUtf8 (decimal n)
 number_utf8 n lt = IsUtf8-from_ascii (decimal n) (IsAscii-decimal n (omega (arith, lt)))
 
+own_ascii : (own : Own) → list_all (λ b. ltb b 128) (own_row own).key ≡ true
+own_ascii owns.Debug = refl
+own_ascii other = refl
+
+truth_proper : (truth : Bool) (value : Value) → truth_given truth ≡ Some value → IsProperValue value
+truth_proper false value e = absurd (cc)
+truth_proper true value e = let is : Text (codes "true") ≡ value = cc in subst IsProperValue is (word (codes "true") refl)
+
+text_proper : (text : List ℕ) → IsUtf8 text → (value : Value) → text_given text ≡ Some value → IsProperValue value
+text_proper [] utf8 value e = absurd (cc)
+text_proper (x ∷ more) utf8 value e = let is : Text (x ∷ more) ≡ value = cc in subst IsProperValue is utf8
+
+count_proper_in : (n : ℕ) → n < 65536 → (value : Value) → count_text n ≡ Some value → IsProperValue value
+count_proper_in n lt value e = by (n == 0) e
+  where
+    by : (b : Bool) → cond b None (Some (Text (decimal n))) ≡ Some value → IsProperValue value
+    by true e = absurd (cc)
+    by false e = let is : Text (decimal n) ≡ value = cc in subst IsProperValue is (number_utf8 n lt)
+
 module _ (span : ZSpan) (proper : IsProperZSpan span) where
+  own_proper : (own : Own) (value : Value) → own_of span own ≡ Some value → IsProperValue value
+  own_proper owns.Debug value e = truth_proper span.debug value e
+  own_proper owns.LocalIpv4 value e = text_proper span.local.ipv4 proper.local.ipv4 value e
+  own_proper owns.LocalIpv6 value e = text_proper span.local.ipv6 proper.local.ipv6 value e
+  own_proper owns.LocalPort value e = count_proper_in span.local.port proper.local.port value e
+  own_proper owns.RemoteIpv4 value e = text_proper span.remote.ipv4 proper.remote.ipv4 value e
+  own_proper owns.RemoteIpv6 value e = text_proper span.remote.ipv6 proper.remote.ipv6 value e
+  own_proper owns.RemotePort value e = count_proper_in span.remote.port proper.remote.port value e
+  own_proper owns.Shared value e = truth_proper span.shared value e
+
   pub attributes_proper : AreProper (attributes_by span (pairs_of span))
   attributes_proper = attributes_all IsProperPair span (pairs_of span) (record {
     service = λ x more e. record { key = word peer_key refl; value = subst IsUtf8 e proper.remote.service };
     tag = λ x more e. record { key = word peer_key refl; value = (found_has IsProperPair peer_key (pairs_of span) (Text (x ∷ more)) (tags_proper span proper) e).value };
-    debug = record { key = word debug_key refl; value = word (codes "true") refl };
-    local_ipv4 = λ x more e. record { key = word local_ipv4_key refl; value = subst IsUtf8 e proper.local.ipv4 };
-    local_ipv6 = λ x more e. record { key = word local_ipv6_key refl; value = subst IsUtf8 e proper.local.ipv6 };
-    local_port = λ e. record { key = word local_port_key refl; value = number_utf8 span.local.port proper.local.port };
-    remote_ipv4 = λ x more e. record { key = word remote_ipv4_key refl; value = subst IsUtf8 e proper.remote.ipv4 };
-    remote_ipv6 = λ x more e. record { key = word remote_ipv6_key refl; value = subst IsUtf8 e proper.remote.ipv6 };
-    remote_port = λ e. record { key = word remote_port_key refl; value = number_utf8 span.remote.port proper.remote.port };
-    shared = record { key = word shared_key refl; value = word (codes "true") refl };
+    own = λ own value e. record { key = word (own_row own).key (own_ascii own); value = own_proper own value e };
     others = All-filter (λ tag. is_free_tag tag.0) IsProperPair (pairs_of span) (tags_proper span proper);
   })
 

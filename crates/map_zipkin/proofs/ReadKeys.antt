@@ -5,15 +5,13 @@ use Rattle.std.specs.Option.{MatchOption}
 use Rattle.std.specs.Result.{OnOk}
 use Rattle.std.specs.Str.Pattern.{FindsTextPrefix, StripsPrefix}
 use Rattle.trace_model.specs.declared.value.Value.{Value}
-use Rattle.zipkin_json.specs.declared.span.Endpoint.{Endpoint}
 use Rattle.span_tags.specs.TagKeys.{service_key}
-use Rattle.span_tags.specs.TagWords.{Pairs, row, without}
-use Rattle.map_zipkin.specs.ReadColumns.{local_rows, zipkin_own_by, remote_rows}
-use Rattle.map_zipkin.specs.TagColumns.{own_rows, truth_given}
+use Rattle.span_tags.specs.TagWords.{Pairs, without}
+use Rattle.map_zipkin.specs.OwnColumns.{is_own}
 use Rattle.std.specs.List.{list_any}
 use Rattle.std.specs.Str.{bytes_eq}
-use Rattle.map_zipkin.specs.Keys.{resource_prefix, resource_key, column_keys, is_own, peer_key, debug_key, shared_key}
-use Rattle.map_zipkin.specs.Reading.{is_free_tag, resource_row, resource_tags, peer_of}
+use Rattle.map_zipkin.specs.Keys.{resource_prefix, resource_key, column_keys, peer_key}
+use Rattle.map_zipkin.specs.Reading.{is_free_tag, resource_row, resource_tags}
 use Rattle.map_zipkin.proofs.ResourceTags.{key_behind, key_in_front}
 
 pub key_found : (key : List ℕ) (n : ℕ) → key ≡ resource_prefix ++ drop n key → resource_key key ≡ Some (drop n key)
@@ -95,15 +93,3 @@ free_step tag rest more all first old new left one so_far =
     ap (λ l. l ++ free_tags more) one
     ∙ append_assoc old (free_tags (tag ∷ [])) (free_tags more)
     ∙ ap (λ l. old ++ l) (sym (ap free_tags left ∙ free_more tag more)) ∙ so_far
-
--- ---- the pairs of endpoints and marks, pushed one after the other
-
-pub ends_joined : (marks : Bool × Bool) (local remote : Endpoint) (tag peer debug shared : Option Value) (p0 p1 p2 p3 p4 p5 : Pairs)
-    → peer ≡ peer_of remote.service tag → debug ≡ truth_given marks.0 → shared ≡ truth_given marks.1
-    → p0 ≡ [] → p1 ≡ p0 ++ row peer_key peer → p2 ≡ p1 ++ row debug_key debug
-    → p3 ≡ p2 ++ local_rows local.ipv4 local.ipv6 local.port
-    → p4 ≡ p3 ++ remote_rows remote.ipv4 remote.ipv6 remote.port
-    → p5 ≡ p4 ++ row shared_key shared
-    → p5 ≡ row peer_key (peer_of remote.service tag) ++ own_rows (zipkin_own_by marks.0 marks.1 local remote)
-ends_joined marks local remote tag peer debug shared p0 p1 p2 p3 p4 p5 w1 w2 w3 e0 e1 e2 e3 e4 e5 =
-    rw (e5, e4, e3, e2, e1, e0, w1, w2, w3) (simp append_assoc)

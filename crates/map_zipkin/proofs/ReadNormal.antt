@@ -5,7 +5,7 @@ use Rattle.std.specs.List.{flat_map}
 use Rattle.std.specs.Str.{bytes_eq}
 use Rattle.std.proofs.lemmas.List.Elements.{All-head, All-tail}
 use Rattle.span_ids.specs.Times.{floor}
-use Rattle.span_tags.specs.AttributeLaws.{key_itself}
+use Rattle.span_tags.specs.laws.AttributeLaws.{key_itself}
 use Rattle.span_tags.specs.Runs.{scoped}
 use Rattle.span_tags.specs.TagKeys.{service_key, error_key}
 use Rattle.span_tags.specs.TagWords.{Pairs, text_given, text_or_none}
@@ -19,11 +19,13 @@ use Rattle.zipkin_json.specs.Proper.{IsTimelyZSpan}
 use Rattle.zipkin_json.specs.declared.span.ZKind.{ZKind}
 use Rattle.zipkin_json.specs.declared.span.ZKind.TheVariants as zkinds
 use Rattle.zipkin_json.specs.declared.span.ZSpan.{ZSpan}
-use Rattle.map_zipkin.specs.Keys.{is_zipkin_reserved, is_own, peer_key, debug_key, local_port_key, remote_port_key, shared_key}
-use Rattle.map_zipkin.specs.Laws.{ReadIsZipkinNormal}
+use Rattle.map_zipkin.specs.Keys.{is_zipkin_reserved, peer_key}
+use Rattle.map_zipkin.specs.OwnColumns.{own_row, is_own}
+use Rattle.map_zipkin.specs.StatedLaws.{ReadIsZipkinNormal}
 use Rattle.map_zipkin.specs.Normal.{zipkin_normal_kind, message_kept, zipkin_normal_event, zipkin_normal_span, normal_pairs, normal_spans, zipkin_normal}
 use Rattle.map_zipkin.specs.Reading.{pairs_of, resource_tags, resource_by, attributes_by, is_free_tag, event_by, zipkin_event_of, zipkin_kind_read, message_of, run_span_of, groups_of}
 use Rattle.map_zipkin.specs.Regrouped.{RunSpan, run_of, runs_of, regrouped}
+use Rattle.map_zipkin.proofs.ColumnLemmas.{own_no_peer}
 use Rattle.map_zipkin.proofs.EventFacts.{EventsRead}
 use Rattle.map_zipkin.proofs.GroupsHeld.{read_without_fault}
 use Rattle.map_zipkin.proofs.NormalPairs.{normal_itself}
@@ -109,14 +111,7 @@ peer_said : (span : ZSpan) (tags : Pairs) → All (IsSaid peer_key) (attributes_
 peer_said span tags = attributes_all (IsSaid peer_key) span tags (record {
   service = λ x more e same empty. some_text x more empty;
   tag = λ x more e same empty. some_text x more empty;
-  debug = λ same empty. off (bytes_eq peer_key debug_key) refl same;
-  local_ipv4 = λ x more e same empty. some_text x more empty;
-  local_ipv6 = λ x more e same empty. some_text x more empty;
-  local_port = λ e same empty. off (bytes_eq peer_key local_port_key) refl same;
-  remote_ipv4 = λ x more e same empty. some_text x more empty;
-  remote_ipv6 = λ x more e same empty. some_text x more empty;
-  remote_port = λ e same empty. off (bytes_eq peer_key remote_port_key) refl same;
-  shared = λ same empty. off (bytes_eq peer_key shared_key) refl same;
+  own = λ own value e same empty. off (bytes_eq peer_key (own_row own).key) (own_no_peer own) same;
   others = kept (λ pair. Unit {0}) (IsSaid peer_key) (λ tag. is_free_tag tag.0)
       (λ pair held e same empty. off (bytes_eq peer_key pair.0) (free_peer (is_zipkin_reserved pair.0) (is_own pair.0) (bytes_eq peer_key pair.0) e) same) tags (anything tags);
 })

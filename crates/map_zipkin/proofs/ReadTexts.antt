@@ -4,15 +4,19 @@ use Rattle.std.proofs.Common.{◌≡◌, ℕ, ◌==◌, Bool, true, false, cond,
 use Rattle.std.specs.Prelude.{not, codes, filter}
 use Rattle.std.specs.Str.{bytes_eq}
 use Rattle.std.proofs.lemmas.List.Elements.{All-nil, All-cons, All-head, All-tail, All-append, All-filter}
-use Rattle.span_tags.specs.AttributeLaws.{all_attrs, attrs_rise}
+use Rattle.span_tags.specs.laws.AttributeLaws.{all_attrs, attrs_rise}
+use Rattle.span_tags.specs.laws.ColumnLaws.{all_rows}
 use Rattle.span_tags.specs.TagKeys.{service_key}
 use Rattle.span_tags.specs.TagWords.{Pairs, row, without, text_in, text_given}
 use Rattle.trace_model.specs.Attributes.{Rise, keys, at}
 use Rattle.trace_model.specs.declared.value.Value.{Value, Text}
 use Rattle.zipkin_json.specs.declared.span.ZSpan.{ZSpan}
-use Rattle.map_zipkin.specs.Keys.{resource_key, peer_key, debug_key, local_ipv4_key, local_ipv6_key, local_port_key, remote_ipv4_key, remote_ipv6_key, remote_port_key, shared_key}
+use Rattle.map_zipkin.specs.Keys.{resource_key, peer_key}
+use Rattle.map_zipkin.specs.OwnColumns.{all_own, own_row, own_rows, own_of, truth_given}
 use Rattle.map_zipkin.specs.Reading.{pair_of, pairs_of, resource_row, resource_tags, resource_by, peer_of, is_free_tag, attributes_by}
-use Rattle.map_zipkin.specs.TagColumns.{own_rows, own_of, count_text, truth_given}
+use Rattle.map_zipkin.specs.TagColumns.{count_text}
+use Rattle.map_zipkin.specs.declared.own.Own.{Own}
+use Rattle.map_zipkin.specs.declared.own.Own.TheVariants as owns
 
 -- ---- lists
 
@@ -32,16 +36,9 @@ module _ (P : List ℕ × Value → Type 0) (key : List ℕ) where
   some_all [] here = All-nil P
   some_all (x ∷ more) here = All-cons P (key, Text (x ∷ more)) [] (here x more refl) (All-nil P)
 
-  truth_all : (truth : Bool) → P (key, Text (codes "true")) → All P (row key (truth_given truth))
-  truth_all false here = All-nil P
-  truth_all true here = All-cons P (key, Text (codes "true")) [] here (All-nil P)
-
-  count_by : (n : ℕ) (b : Bool) → (n == 0) ≡ b → ((n == 0) ≡ false → P (key, Text (decimal n))) → All P (row key (cond b None (Some (Text (decimal n)))))
-  count_by n true e here = All-nil P
-  count_by n false e here = All-cons P (key, Text (decimal n)) [] (here e) (All-nil P)
-
-  count_all : (n : ℕ) → ((n == 0) ≡ false → P (key, Text (decimal n))) → All P (row key (count_text n))
-  count_all n here = count_by n (n == 0) refl here
+  value_all : (value : Option Value) → ((v : Value) → value ≡ Some v → P (key, v)) → All P (row key value)
+  value_all None here = All-nil P
+  value_all (Some v) here = All-cons P (key, v) [] (here v refl) (All-nil P)
 
   other_all : (tag : Option Value) → ((x : ℕ) (more : List ℕ) → tag ≡ Some (Text (x ∷ more)) → P (key, Text (x ∷ more))) → All P (row key (option_and_then text_given (text_in tag)))
   other_all None here = All-nil P
@@ -59,30 +56,14 @@ module _ (P : List ℕ × Value → Type 0) (key : List ℕ) where
 pub record HoldOf (P : List ℕ × Value → Type 0) (span : ZSpan) (tags : Pairs) : Type 0 where
   pub service : (x : ℕ) (more : List ℕ) → span.remote.service ≡ x ∷ more → P (peer_key, Text (x ∷ more))
   pub tag : (x : ℕ) (more : List ℕ) → at peer_key tags ≡ Some (Text (x ∷ more)) → P (peer_key, Text (x ∷ more))
-  pub debug : P (debug_key, Text (codes "true"))
-  pub local_ipv4 : (x : ℕ) (more : List ℕ) → span.local.ipv4 ≡ x ∷ more → P (local_ipv4_key, Text (x ∷ more))
-  pub local_ipv6 : (x : ℕ) (more : List ℕ) → span.local.ipv6 ≡ x ∷ more → P (local_ipv6_key, Text (x ∷ more))
-  pub local_port : (span.local.port == 0) ≡ false → P (local_port_key, Text (decimal span.local.port))
-  pub remote_ipv4 : (x : ℕ) (more : List ℕ) → span.remote.ipv4 ≡ x ∷ more → P (remote_ipv4_key, Text (x ∷ more))
-  pub remote_ipv6 : (x : ℕ) (more : List ℕ) → span.remote.ipv6 ≡ x ∷ more → P (remote_ipv6_key, Text (x ∷ more))
-  pub remote_port : (span.remote.port == 0) ≡ false → P (remote_port_key, Text (decimal span.remote.port))
-  pub shared : P (shared_key, Text (codes "true"))
+  pub own : (own : Own) (value : Value) → own_of span own ≡ Some value → P ((own_row own).key, value)
   pub others : All P (filter (λ tag. is_free_tag tag.0) tags)
 
 pub attributes_all : (P : List ℕ × Value → Type 0) (span : ZSpan) (tags : Pairs) → HoldOf P span tags → All P (attributes_by span tags)
 attributes_all P span tags h =
     all_attrs P (row peer_key (peer_of span.remote.service (at peer_key tags)) ++ (own_rows (own_of span) ++ filter (λ tag. is_free_tag tag.0) tags))
     (All-append P (row peer_key (peer_of span.remote.service (at peer_key tags))) _ (peer_all P peer_key span.remote.service (at peer_key tags) h.service h.tag)
-    (All-append P (own_rows (own_of span)) _
-    (All-append P (row debug_key (truth_given span.debug)) _ (truth_all P debug_key span.debug h.debug)
-    (All-append P (row local_ipv4_key (text_given span.local.ipv4)) _ (some_all P local_ipv4_key span.local.ipv4 h.local_ipv4)
-    (All-append P (row local_ipv6_key (text_given span.local.ipv6)) _ (some_all P local_ipv6_key span.local.ipv6 h.local_ipv6)
-    (All-append P (row local_port_key (count_text span.local.port)) _ (count_all P local_port_key span.local.port h.local_port)
-    (All-append P (row remote_ipv4_key (text_given span.remote.ipv4)) _ (some_all P remote_ipv4_key span.remote.ipv4 h.remote_ipv4)
-    (All-append P (row remote_ipv6_key (text_given span.remote.ipv6)) _ (some_all P remote_ipv6_key span.remote.ipv6 h.remote_ipv6)
-    (All-append P (row remote_port_key (count_text span.remote.port)) _ (count_all P remote_port_key span.remote.port h.remote_port)
-    (truth_all P shared_key span.shared h.shared))))))))
-    h.others))
+    (All-append P (own_rows (own_of span)) _ (all_rows own_row P all_own (own_of span) (λ own. value_all P (own_row own).key (own_of span own) (h.own own))) h.others))
 
 -- and of a resource
 pub resource_all : (P : List ℕ × Value → Type 0) (service : List ℕ) (tags : Pairs) → ((x : ℕ) (more : List ℕ) → service ≡ x ∷ more → P (service_key, Text (x ∷ more)))
@@ -100,6 +81,32 @@ pub record IsTextPair (pair : List ℕ × Value) : Type 0 where
 text_pair : (key text : List ℕ) → IsTextPair (key, Text text)
 text_pair key text = record { text = text; is = refl }
 
+-- what a span tells under an own key is a text
+text_of : (text : List ℕ) (value : Value) → text_given text ≡ Some value → (told : List ℕ) × (value ≡ Text told)
+text_of [] value e = absurd (cc)
+text_of (x ∷ more) value e = (x ∷ more, cc)
+
+truth_of : (truth : Bool) (value : Value) → truth_given truth ≡ Some value → (told : List ℕ) × (value ≡ Text told)
+truth_of false value e = absurd (cc)
+truth_of true value e = (codes "true", cc)
+
+count_of : (n : ℕ) (value : Value) → count_text n ≡ Some value → (told : List ℕ) × (value ≡ Text told)
+count_of n value e = by (n == 0) e
+  where
+    by : (b : Bool) → cond b None (Some (Text (decimal n))) ≡ Some value → (told : List ℕ) × (value ≡ Text told)
+    by true e = absurd (cc)
+    by false e = (decimal n, cc)
+
+pub own_text : (span : ZSpan) (own : Own) (value : Value) → own_of span own ≡ Some value → (told : List ℕ) × (value ≡ Text told)
+own_text span owns.Debug value e = truth_of span.debug value e
+own_text span owns.LocalIpv4 value e = text_of span.local.ipv4 value e
+own_text span owns.LocalIpv6 value e = text_of span.local.ipv6 value e
+own_text span owns.LocalPort value e = count_of span.local.port value e
+own_text span owns.RemoteIpv4 value e = text_of span.remote.ipv4 value e
+own_text span owns.RemoteIpv6 value e = text_of span.remote.ipv6 value e
+own_text span owns.RemotePort value e = count_of span.remote.port value e
+own_text span owns.Shared value e = truth_of span.shared value e
+
 tags_texts : (tags : List (List ℕ × List ℕ)) → All IsTextPair (map pair_of tags)
 tags_texts [] = All-nil IsTextPair
 tags_texts (tag ∷ tags) = All-cons IsTextPair (pair_of tag) (map pair_of tags) (text_pair tag.0 tag.1) (tags_texts tags)
@@ -108,14 +115,7 @@ pub attributes_texts : (span : ZSpan) → All IsTextPair (attributes_by span (pa
 attributes_texts span = attributes_all IsTextPair span (pairs_of span) (record {
   service = λ x more e. text_pair peer_key (x ∷ more);
   tag = λ x more e. text_pair peer_key (x ∷ more);
-  debug = text_pair debug_key (codes "true");
-  local_ipv4 = λ x more e. text_pair local_ipv4_key (x ∷ more);
-  local_ipv6 = λ x more e. text_pair local_ipv6_key (x ∷ more);
-  local_port = λ e. text_pair local_port_key (decimal span.local.port);
-  remote_ipv4 = λ x more e. text_pair remote_ipv4_key (x ∷ more);
-  remote_ipv6 = λ x more e. text_pair remote_ipv6_key (x ∷ more);
-  remote_port = λ e. text_pair remote_port_key (decimal span.remote.port);
-  shared = text_pair shared_key (codes "true");
+  own = λ own value e. let is = own_text span own value e in record { text = is.0; is = is.1 };
   others = All-filter (λ tag. is_free_tag tag.0) IsTextPair (pairs_of span) (tags_texts span.tags);
 })
 

@@ -5,8 +5,8 @@ use Rattle.std.specs.Str.{bytes_eq}
 use Rattle.trace_model.specs.Attributes.{placed, attrs, at}
 use Rattle.trace_model.specs.declared.span.Span.{Span}
 use Rattle.trace_model.specs.declared.value.Value.{Value}
-use Rattle.span_tags.specs.AttributeLaws.{same_key, option_or-none, last_at, last_at-append, last_at-rising, attrs_rise, at_attrs, same_pairs}
-use Rattle.span_tags.specs.RowLaws.{last_at-row}
+use Rattle.span_tags.specs.laws.AttributeLaws.{same_key, option_or-none, last_at, last_at-append, last_at-rising, attrs_rise, at_attrs, same_pairs}
+use Rattle.span_tags.specs.laws.RowLaws.{last_at-row}
 use Rattle.span_tags.specs.Runs.{Scoped}
 use Rattle.span_tags.specs.TagKeys.{error_key, scope_name_key, scope_version_key, code_key, state_key}
 use Rattle.span_tags.specs.TagWords.{Pairs, row, text_given, code_given}

@@ -1,14 +1,14 @@
 -- The span of Zipkin of a span in normal form is that of the span.
-use Rattle.std.proofs.Common.{◌≡◌, ℕ, ◌+◌, List, [], ◌∷◌, ◌++◌, map, get_or, All, Option, Some, None, is_some, option_map, refl, sym, ap, ◌∙◌, lit≤, arith}
+use Rattle.std.proofs.Common.{◌≡◌, ℕ, ◌+◌, List, [], ◌∷◌, ◌++◌, map, get_or, All, Option, Some, None, is_some, option_map, refl, sym, ap, ◌∙◌, arith}
 use Rattle.std.specs.List.{flat_map}
 use Rattle.std.proofs.lemmas.List.{get_or_default}
 use Rattle.std.proofs.lemmas.List.Elements.{All-nil, All-head, All-tail, All-map, All-append, All-weaker, at_read}
 use Rattle.span_ids.specs.Times.{floor}
 use Rattle.span_tags.specs.PlacedFaults.{in_span}
-use Rattle.span_tags.specs.RunLaws.{scoped_all}
+use Rattle.span_tags.specs.laws.RunLaws.{scoped_all}
 use Rattle.span_tags.specs.Runs.{spans_of, scoped}
 use Rattle.span_tags.specs.TagKeys.{service_key}
-use Rattle.trace_model.specs.Attributes.{Rise, keys, attrs, at}
+use Rattle.trace_model.specs.Attributes.{Rise, keys, attrs}
 use Rattle.trace_model.specs.Soundness.{IsSoundScope}
 use Rattle.trace_model.specs.declared.fault.Fault.TheVariants.{OwnKey}
 use Rattle.trace_model.specs.declared.span.Code.{Code}
@@ -22,12 +22,16 @@ use Rattle.trace_model.specs.declared.trace.Scope.{Scope}
 use Rattle.trace_model.specs.declared.value.Value.{Value, Text}
 use Rattle.zipkin_json.specs.declared.span.ZSpan.{ZSpan}
 use Rattle.map_zipkin.specs.Faults.{IsOutOfForm, HasOwnKey, IsZipkinSpanFault, HasNoZipkinFault}
-use Rattle.map_zipkin.specs.Keys.{peer_key, debug_key, local_ipv4_key, local_ipv6_key, local_port_key, remote_ipv4_key, remote_ipv6_key, remote_port_key, shared_key}
-use Rattle.map_zipkin.specs.Laws.{IsHeldByZipkin}
+use Rattle.map_zipkin.specs.Keys.{peer_key}
+use Rattle.map_zipkin.specs.OwnColumns.{own_row, own_form, own_in, is_true_text, is_address, is_port_text}
+use Rattle.map_zipkin.specs.StatedLaws.{IsHeldByZipkin}
 use Rattle.map_zipkin.specs.Normal.{normal_pairs, zipkin_normal_kind, message_kept, zipkin_normal_event, zipkin_normal}
 use Rattle.map_zipkin.specs.Regrouped.{RunSpan, run_of, runs_of, in_scope, regrouped}
-use Rattle.map_zipkin.specs.TagColumns.{column_rows, own_in, is_true_text, is_address, is_port_text, text_told, port_told}
+use Rattle.map_zipkin.specs.TagColumns.{column_rows, text_told, port_told}
 use Rattle.map_zipkin.specs.Writing.{error_message, zipkin_columns_of, zipkin_kind, zipkin_tag_of, annotation_of, zipkin_span, spans_of_group}
+use Rattle.map_zipkin.specs.declared.own.Own.{Own}
+use Rattle.map_zipkin.specs.declared.own.Own.TheVariants as owns
+use Rattle.map_zipkin.proofs.ColumnLemmas.{own_no_peer, own_there}
 use Rattle.map_zipkin.proofs.EventFacts.{SameEventText}
 use Rattle.map_zipkin.proofs.NormalPairs.{to_text, text_kept, at_others, resource_same, told_same}
 use Rattle.map_zipkin.proofs.ReadNormal.{normal_run, map_map, map_flat, flat_each, normal_flat}
@@ -74,26 +78,17 @@ AreFormed span = (key : List ℕ) → HasOwnKey span key → ⊥
 
 module _ (span : Span) (up : Rise (keys span.attributes)) (formed : AreFormed span) where
   pub own_same : own_in (normal_pairs peer_key span.attributes) ≡ own_in span.attributes
-  own_same =
-      let l = span.attributes in
-      let debug = at_others peer_key l up debug_key refl ∙ true_leaf (at debug_key l) (λ out. formed debug_key (0, (debug_key, is_true_text), lit≤ tt, refl, (refl, out))) in
-      let local_ipv4 = at_others peer_key l up local_ipv4_key refl ∙ address_leaf (at local_ipv4_key l) (λ out. formed local_ipv4_key (1, (local_ipv4_key, is_address), lit≤ tt, refl, (refl, out))) in
-      let local_ipv6 = at_others peer_key l up local_ipv6_key refl ∙ address_leaf (at local_ipv6_key l) (λ out. formed local_ipv6_key (2, (local_ipv6_key, is_address), lit≤ tt, refl, (refl, out))) in
-      let local_port = at_others peer_key l up local_port_key refl ∙ port_leaf (at local_port_key l) (λ out. formed local_port_key (3, (local_port_key, is_port_text), lit≤ tt, refl, (refl, out))) in
-      let remote_ipv4 = at_others peer_key l up remote_ipv4_key refl ∙ address_leaf (at remote_ipv4_key l) (λ out. formed remote_ipv4_key (4, (remote_ipv4_key, is_address), lit≤ tt, refl, (refl, out))) in
-      let remote_ipv6 = at_others peer_key l up remote_ipv6_key refl ∙ address_leaf (at remote_ipv6_key l) (λ out. formed remote_ipv6_key (5, (remote_ipv6_key, is_address), lit≤ tt, refl, (refl, out))) in
-      let remote_port = at_others peer_key l up remote_port_key refl ∙ port_leaf (at remote_port_key l) (λ out. formed remote_port_key (6, (remote_port_key, is_port_text), lit≤ tt, refl, (refl, out))) in
-      let shared = at_others peer_key l up shared_key refl ∙ true_leaf (at shared_key l) (λ out. formed shared_key (7, (shared_key, is_true_text), lit≤ tt, refl, (refl, out))) in
-      λ i. record {
-        debug = debug i;
-        local_ipv4 = local_ipv4 i;
-        local_ipv6 = local_ipv6 i;
-        local_port = local_port i;
-        remote_ipv4 = remote_ipv4 i;
-        remote_ipv6 = remote_ipv6 i;
-        remote_port = remote_port i;
-        shared = shared i;
-      }
+  own_same = λ i own. (at_others peer_key span.attributes up (own_row own).key (own_no_peer own) ∙ leaf own) i
+    where
+      out : (own : Own) → IsOutOfForm (own_form own) (own_in span.attributes own) → ⊥
+      out own bad = let there = own_there own in formed (own_row own).key (there.0, ((own_row own).key, own_form own), there.1, there.2, (refl, bad))
+
+      leaf : (own : Own) → option_map to_text (own_in span.attributes own) ≡ own_in span.attributes own
+      leaf owns.Debug = true_leaf (own_in span.attributes owns.Debug) (out owns.Debug)
+      leaf owns.LocalPort = port_leaf (own_in span.attributes owns.LocalPort) (out owns.LocalPort)
+      leaf owns.RemotePort = port_leaf (own_in span.attributes owns.RemotePort) (out owns.RemotePort)
+      leaf owns.Shared = true_leaf (own_in span.attributes owns.Shared) (out owns.Shared)
+      leaf other = address_leaf (own_in span.attributes other) (out other)
 
 -- ---- the span
 
@@ -130,19 +125,19 @@ module _ (texts : SameEventText) where
         kind = kind_same s.kind i;
         start = floor_twice s.start i;
         end = floor_twice s.end i;
-        debug = is_some (own i).debug;
-        shared = is_some (own i).shared;
+        debug = is_some (own i owns.Debug);
+        shared = is_some (own i owns.Shared);
         local = record {
           service = local i;
-          ipv4 = text_told (own i).local_ipv4;
-          ipv6 = text_told (own i).local_ipv6;
-          port = port_told (own i).local_port;
+          ipv4 = text_told (own i owns.LocalIpv4);
+          ipv6 = text_told (own i owns.LocalIpv6);
+          port = port_told (own i owns.LocalPort);
         };
         remote = record {
           service = remote i;
-          ipv4 = text_told (own i).remote_ipv4;
-          ipv6 = text_told (own i).remote_ipv6;
-          port = port_told (own i).remote_port;
+          ipv4 = text_told (own i owns.RemoteIpv4);
+          ipv6 = text_told (own i owns.RemoteIpv6);
+          port = port_told (own i owns.RemotePort);
         };
         annotations = annotations i;
         tags = map zipkin_tag_of (attrs (column_rows (record (zipkin_columns_of (in_scope one)) { error = error i }) ++ (resource i ++ told i)));

@@ -1,10 +1,9 @@
 -- A span that was written is read as its normal form, and none of its tags is left out.
-use Rattle.std.proofs.Common.{◌≡◌, ℕ, false, List, [], ◌∷◌, ◌++◌, map, get_or, All, None, is_some, unwrap_or, refl, ap, ◌∙◌, inr, arith}
-use Rattle.std.specs.List.{flat_map, AllByRecursion}
-use Rattle.std.proofs.lemmas.List.{get_or_default}
+use Rattle.std.proofs.Common.{◌≡◌, ℕ, false, List, [], ◌∷◌, ◌++◌, map, get_or, All, None, is_some, unwrap_or, refl, ap, ◌∙◌, inr}
 use Rattle.std.proofs.lemmas.List.Elements.{All-head, All-tail, All-map}
 use Rattle.span_ids.specs.Times.{floor}
-use Rattle.span_tags.specs.AttributeLaws.{at_absent}
+use Rattle.span_tags.specs.laws.AttributeLaws.{at_absent}
+use Rattle.span_tags.specs.laws.ColumnLaws.{none_left}
 use Rattle.span_tags.specs.Runs.{Scoped, scoped}
 use Rattle.span_tags.specs.TagKeys.{error_key, dropped_attributes_key, dropped_events_key, dropped_links_key, library_name_key, library_version_key, code_key, service_key}
 use Rattle.span_tags.specs.TagWords.{Pairs, text_in, code_in, name_in, text_given, code_given, text_or_none, is_idle, if_left}
@@ -16,14 +15,17 @@ use Rattle.trace_model.specs.declared.span.Kind.{Kind}
 use Rattle.trace_model.specs.declared.span.Kind.TheVariants as kinds
 use Rattle.trace_model.specs.declared.span.Span.{Span}
 use Rattle.trace_model.specs.declared.trace.Group.{Group}
-use Rattle.map_zipkin.specs.Faults.{IsOutOfForm, IsToldWrong, HasDoubleIn}
-use Rattle.map_zipkin.specs.Keys.{resource_prefix, peer_key, debug_key, local_ipv4_key, local_ipv6_key, local_port_key, remote_ipv4_key, remote_ipv6_key, remote_port_key, shared_key, own_keys}
-use Rattle.map_zipkin.specs.Laws.{IsHeldByZipkin, SpansReadBack}
+use Rattle.map_zipkin.specs.Faults.{IsToldWrong, HasDoubleIn}
+use Rattle.map_zipkin.specs.Keys.{resource_prefix, peer_key}
+use Rattle.map_zipkin.specs.StatedLaws.{IsHeldByZipkin, SpansReadBack}
 use Rattle.map_zipkin.specs.Normal.{zipkin_normal_kind, message_kept, zipkin_normal_event, normal_one, normal_spans}
 use Rattle.map_zipkin.specs.Reading.{pairs_of, message_of, code_of_error, zipkin_event_of, zipkin_kind_read, span_read_by, run_by, run_span_of}
 use Rattle.map_zipkin.specs.Remarks.{is_idle_message, is_idle_peer, left_out_by, zipkin_left_out}
-use Rattle.map_zipkin.specs.TagColumns.{columns_in, own_forms, is_true_text}
+use Rattle.map_zipkin.specs.OwnColumns.{all_own, own_row, own_form, own_in}
+use Rattle.map_zipkin.specs.TagColumns.{columns_in}
 use Rattle.map_zipkin.specs.Writing.{error_message, zipkin_columns_of, zipkin_kind, annotation_of, zipkin_span, spans_of_group}
+use Rattle.map_zipkin.specs.declared.own.Own.{Own}
+use Rattle.map_zipkin.proofs.ColumnLemmas.{own_apart, own_untold, own_there}
 use Rattle.map_zipkin.proofs.EventsBack.{none_of, ReadsEvents, EventsReadBack, event_back}
 use Rattle.map_zipkin.proofs.HeldSpans.{NoSpanFault, IsHeldSpan, held_spans}
 use Rattle.map_zipkin.proofs.OwnForms.{count_back, count_told}
@@ -82,30 +84,15 @@ code_told statuses.Unset = refl
 code_told statuses.Okay = refl
 code_told statuses.Fail = refl
 
-none_left_of : (l : Pairs) (ks : List (List ℕ)) → AllByRecursion (λ k. at k l ≡ None) ks → flat_map (λ key. if_left key (is_some (at key l))) ks ≡ []
-none_left_of l [] all = refl
-none_left_of l (k ∷ ks) all = ap (λ o. if_left k (is_some o) ++ flat_map (λ key. if_left key (is_some (at key l))) ks) all.0 ∙ none_left_of l ks all.1
-
 -- ---- what no fault says
 
 no_reserved : (span : Span) → NoSpanFault span → HasNoReserved span.attributes
 no_reserved span none k is = at_absent k span.attributes (λ there. none (Reserved k) (record { reserved = is; there = there }))
 
-formed_each : (span : Span) → NoSpanFault span → All (λ own. IsOutOfForm own.1 (at own.0 span.attributes) → ⊥) own_forms
-formed_each span none i d lt bad =
-    none (OwnKey (get_or own_forms i d).0) (i, get_or own_forms i d, lt, get_or_default own_forms i (get_or own_forms i d) d lt, (refl, bad))
-
 pub all_formed : (span : Span) → NoSpanFault span → AreFormed span.attributes
-all_formed span none = record {
-  debug = formed_each span none 0 (debug_key, is_true_text) (omega arith);
-  local_ipv4 = formed_each span none 1 (debug_key, is_true_text) (omega arith);
-  local_ipv6 = formed_each span none 2 (debug_key, is_true_text) (omega arith);
-  local_port = formed_each span none 3 (debug_key, is_true_text) (omega arith);
-  remote_ipv4 = formed_each span none 4 (debug_key, is_true_text) (omega arith);
-  remote_ipv6 = formed_each span none 5 (debug_key, is_true_text) (omega arith);
-  remote_port = formed_each span none 6 (debug_key, is_true_text) (omega arith);
-  shared = formed_each span none 7 (debug_key, is_true_text) (omega arith);
-}
+all_formed span none own bad =
+    let there = own_there own in
+    none (OwnKey (own_row own).key) (there.0, ((own_row own).key, own_form own), there.1, there.2, (refl, bad))
 
 events_right : (span : Span) → NoSpanFault span → All (λ event. IsToldWrong event → ⊥) span.events
 events_right span none = none_of IsToldWrong span.events (λ any. none EventText any)
@@ -128,24 +115,11 @@ module _ (resource : Pairs) (up : Rise (keys resource)) (one : Scoped Span) (kno
 
   -- ---- no tag is left out
 
-  own_none : AllByRecursion (λ k. at k its_tags ≡ None) own_keys
-  own_none =
-      let none : (k : List ℕ) → _ → _ → at k its_tags ≡ None = placed_none resource one up known.sound.attributes.rising free in (
-        none debug_key refl refl,
-        (
-          none local_ipv4_key refl refl,
-          (
-            none local_ipv6_key refl refl,
-            (
-              none local_port_key refl refl,
-              (none remote_ipv4_key refl refl, (none remote_ipv6_key refl refl, (none remote_port_key refl refl, (none shared_key refl refl, tt)))),
-            ),
-          ),
-        ),
-      )
+  own_none : (own : Own) → is_some (own_in its_tags own) ≡ false
+  own_none own = ap is_some (placed_none resource one up known.sound.attributes.rising free (own_row own).key (own_apart own) (own_untold own))
 
-  none_left : left_out_by (zipkin_span resource one).remote.service (zipkin_columns_of one) its_tags ≡ []
-  none_left = λ i. if_left error_key (message_told one.span.status.code one.span.status.message i)
+  none_left_out : left_out_by (zipkin_span resource one).remote.service (zipkin_columns_of one) its_tags ≡ []
+  none_left_out = λ i. if_left error_key (message_told one.span.status.code one.span.status.message i)
       ++ (if_left dropped_attributes_key (count_told one.span.dropped_attributes known.proper.dropped_attributes i)
       ++ (if_left dropped_events_key (count_told one.span.dropped_events known.proper.dropped_events i)
       ++ (if_left dropped_links_key (count_told one.span.dropped_links known.proper.dropped_links i)
@@ -154,13 +128,13 @@ module _ (resource : Pairs) (up : Rise (keys resource)) (one : Scoped Span) (kno
       ++ (if_left (resource_prefix ++ service_key) (is_some (service_none resource one up known.sound.attributes.rising free i))
       ++ (if_left code_key (code_told one.span.status.code i)
       ++ (if_left peer_key (is_idle_peer (text_or_none (at peer_key one.span.attributes)) (text_in (placed_none resource one up known.sound.attributes.rising free peer_key refl refl i)))
-      ++ none_left_of its_tags own_keys own_none i))))))))
+      ++ none_left own_row all_own (own_in its_tags) own_none i))))))))
 
   pub span_plainly : zipkin_left_out (zipkin_span resource one) ≡ []
   span_plainly =
       ap (λ l. left_out_by (zipkin_span resource one).remote.service (columns_in l) l) read_tags
       ∙ ap (λ c. left_out_by (zipkin_span resource one).remote.service c its_tags) read_columns
-      ∙ none_left
+      ∙ none_left_out
 
   -- ---- the span
 

@@ -11,7 +11,8 @@ use Rattle.map_zipkin.specs.Keys.{peer_key}
 use Rattle.map_zipkin.specs.ReadColumns.{IsZipkinToldBy, ArePartedBy}
 use Rattle.map_zipkin.specs.Reading.{pairs_of, zipkin_event_of, zipkin_kind_read, peer_of, is_free_tag, resource_by, run_by, span_read_by, run_span_of}
 use Rattle.map_zipkin.specs.Regrouped.{RunSpan}
-use Rattle.map_zipkin.specs.TagColumns.{own_rows, own_of, columns_in}
+use Rattle.map_zipkin.specs.OwnColumns.{own_rows, own_of}
+use Rattle.map_zipkin.specs.TagColumns.{columns_in}
 use Rattle.map_zipkin.specs.declared.reading.attributes.Parted.{Parted}
 use Rattle.map_zipkin.specs.declared.reading.columns.Told.{Told}
 

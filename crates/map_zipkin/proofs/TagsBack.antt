@@ -9,16 +9,20 @@ use Rattle.trace_model.specs.declared.span.Code.{Code}
 use Rattle.trace_model.specs.declared.span.Code.TheVariants as statuses
 use Rattle.trace_model.specs.declared.span.Span.{Span}
 use Rattle.trace_model.specs.declared.value.Value.{Value}
-use Rattle.span_tags.specs.AttributeLaws.{same_key, option_or-none, last_at, last_at-append, last_at-rising, attrs_rise, at_attrs, same_pairs, at_filter, filter_rise, on_values, at_map, map_rise, map_attrs}
-use Rattle.span_tags.specs.RowLaws.{each_of, last_at-filter}
+use Rattle.span_tags.specs.laws.AttributeLaws.{same_key, option_or-none, last_at, last_at-append, last_at-rising, attrs_rise, at_attrs, same_pairs, at_filter, filter_rise, on_values, at_map, map_rise, map_attrs}
+use Rattle.span_tags.specs.laws.ColumnLaws.{each_key}
+use Rattle.span_tags.specs.laws.RowLaws.{each_of, last_at-filter}
 use Rattle.span_tags.specs.Runs.{Scoped}
 use Rattle.span_tags.specs.TagKeys.{service_key}
 use Rattle.span_tags.specs.TagWords.{Pairs, row, without, text_in, text_given, code_given, text_or_none}
-use Rattle.map_zipkin.specs.Keys.{column_keys, resource_prefix, resource_key, is_zipkin_reserved, is_own, own_keys, peer_key, debug_key, local_ipv4_key, local_ipv6_key, local_port_key, remote_ipv4_key, remote_ipv6_key, remote_port_key, shared_key}
+use Rattle.map_zipkin.specs.Keys.{column_keys, resource_prefix, resource_key, is_zipkin_reserved, peer_key}
 use Rattle.map_zipkin.specs.Normal.{normal_pairs}
 use Rattle.map_zipkin.specs.Reading.{pair_of, resource_tags, resource_by, peer_of, is_free_tag, attributes_by}
-use Rattle.map_zipkin.specs.TagColumns.{column_rows, columns_in, own_rows, own_in, own_of, is_true_text, is_address, is_port_text}
+use Rattle.map_zipkin.specs.OwnColumns.{all_own, own_row, own_form, is_own, own_rows, own_in, own_of}
+use Rattle.map_zipkin.specs.TagColumns.{column_rows, columns_in}
 use Rattle.map_zipkin.specs.Writing.{error_message, zipkin_columns_of, as_texts, prefixed, resource_pairs, is_told, told_pairs, zipkin_tag_of, zipkin_tags_of, zipkin_span}
+use Rattle.map_zipkin.specs.declared.own.Own.{Own}
+use Rattle.map_zipkin.specs.declared.own.Own.TheVariants as owns
 use Rattle.map_zipkin.proofs.ColumnLemmas.{none_in_rows, AreFree, columns_back, textual, texts_of_columns, texts_in_rows, own_at}
 use Rattle.map_zipkin.proofs.OwnForms.{text_leaf, count_leaf, IsFormed, truth_back, address_back, port_back, truth_text_leaf, address_leaf, port_leaf}
 use Rattle.map_zipkin.proofs.ResourceTags.{last_at-resource_tags, last_at-prefixed, none_prefixed}
@@ -111,42 +115,15 @@ abbrev pub HasNoReserved : Pairs → Type 0
 HasNoReserved attributes = (k : List ℕ) → is_zipkin_reserved k ≡ true → at k attributes ≡ None
 
 -- what stands at the own keys is of their forms
-pub record AreFormed (attributes : Pairs) : Type 0 where
-  pub debug : IsFormed is_true_text (at debug_key attributes)
-  pub local_ipv4 : IsFormed is_address (at local_ipv4_key attributes)
-  pub local_ipv6 : IsFormed is_address (at local_ipv6_key attributes)
-  pub local_port : IsFormed is_port_text (at local_port_key attributes)
-  pub remote_ipv4 : IsFormed is_address (at remote_ipv4_key attributes)
-  pub remote_ipv6 : IsFormed is_address (at remote_ipv6_key attributes)
-  pub remote_port : IsFormed is_port_text (at remote_port_key attributes)
-  pub shared : IsFormed is_true_text (at shared_key attributes)
+abbrev pub AreFormed : Pairs → Type 0
+AreFormed attributes = (own : Own) → IsFormed (own_form own) (own_in attributes own)
 
-own_leaves : (attributes : Pairs) → AreFormed attributes → AllByRecursion (λ k. option_map textual (at k attributes) ≡ at k attributes) own_keys
-own_leaves attributes formed = (
-  truth_text_leaf (at debug_key attributes) formed.debug,
-  (
-    address_leaf (at local_ipv4_key attributes) formed.local_ipv4,
-    (
-      address_leaf (at local_ipv6_key attributes) formed.local_ipv6,
-      (
-        port_leaf (at local_port_key attributes) formed.local_port,
-        (
-          address_leaf (at remote_ipv4_key attributes) formed.remote_ipv4,
-          (
-            address_leaf (at remote_ipv6_key attributes) formed.remote_ipv6,
-            (
-              port_leaf (at remote_port_key attributes) formed.remote_port,
-              (
-                truth_text_leaf (at shared_key attributes) formed.shared,
-                tt,
-              ),
-            ),
-          ),
-        ),
-      ),
-    ),
-  ),
-)
+own_leaves : (attributes : Pairs) → AreFormed attributes → (own : Own) → option_map textual (own_in attributes own) ≡ own_in attributes own
+own_leaves attributes formed owns.Debug = truth_text_leaf (own_in attributes owns.Debug) (formed owns.Debug)
+own_leaves attributes formed owns.Shared = truth_text_leaf (own_in attributes owns.Shared) (formed owns.Shared)
+own_leaves attributes formed owns.LocalPort = port_leaf (own_in attributes owns.LocalPort) (formed owns.LocalPort)
+own_leaves attributes formed owns.RemotePort = port_leaf (own_in attributes owns.RemotePort) (formed owns.RemotePort)
+own_leaves attributes formed other = address_leaf (own_in attributes other) (formed other)
 
 module _ (resource : Pairs) (one : Scoped Span) (up_resource : Rise (keys resource)) (up : Rise (keys one.span.attributes))
     (free : HasNoReserved one.span.attributes) where
@@ -266,16 +243,14 @@ module _ (resource : Pairs) (one : Scoped Span) (up_resource : Rise (keys resour
 
   module _ (formed : AreFormed one.span.attributes) where
     own_back : own_of (zipkin_span resource one) ≡ own_in one.span.attributes
-    own_back = λ i. record {
-      debug = truth_back (at debug_key one.span.attributes) formed.debug i;
-      local_ipv4 = address_back (at local_ipv4_key one.span.attributes) formed.local_ipv4 i;
-      local_ipv6 = address_back (at local_ipv6_key one.span.attributes) formed.local_ipv6 i;
-      local_port = port_back (at local_port_key one.span.attributes) formed.local_port i;
-      remote_ipv4 = address_back (at remote_ipv4_key one.span.attributes) formed.remote_ipv4 i;
-      remote_ipv6 = address_back (at remote_ipv6_key one.span.attributes) formed.remote_ipv6 i;
-      remote_port = port_back (at remote_port_key one.span.attributes) formed.remote_port i;
-      shared = truth_back (at shared_key one.span.attributes) formed.shared i;
-    }
+    own_back = λ i own. back own i
+      where
+        back : (own : Own) → own_of (zipkin_span resource one) own ≡ own_in one.span.attributes own
+        back owns.Debug = truth_back (own_in one.span.attributes owns.Debug) (formed owns.Debug)
+        back owns.Shared = truth_back (own_in one.span.attributes owns.Shared) (formed owns.Shared)
+        back owns.LocalPort = port_back (own_in one.span.attributes owns.LocalPort) (formed owns.LocalPort)
+        back owns.RemotePort = port_back (own_in one.span.attributes owns.RemotePort) (formed owns.RemotePort)
+        back other = address_back (own_in one.span.attributes other) (formed other)
 
     read_by : (k : List ℕ) (r o p : Bool) → is_zipkin_reserved k ≡ r → is_own k ≡ o → bytes_eq peer_key k ≡ p
         → option_or (cond (not (r || (o || p))) (at k held) None) (cond o (at k one.span.attributes) None) ≡ option_map textual (cond (not p) (at k one.span.attributes) None)
@@ -283,7 +258,7 @@ module _ (resource : Pairs) (one : Scoped Span) (up_resource : Rise (keys resour
         none_kept o (at k one.span.attributes) (free k is) ∙ sym (none_told (not p) (at k one.span.attributes) (free k is))
     read_by k false true true is own is_peer = absurd (true≢false (sym own ∙ ap is_own (sym (same_key peer_key k is_peer))))
     read_by k false true false is own is_peer =
-        sym (each_of (λ q. option_map textual (at q one.span.attributes) ≡ at q one.span.attributes) own_keys (own_leaves one.span.attributes formed) k own)
+        sym (each_key own_row (λ q. option_map textual (at q one.span.attributes) ≡ at q one.span.attributes) all_own (own_leaves one.span.attributes formed) k own)
     read_by k false false true is own is_peer = refl
     read_by k false false false is own is_peer =
         let free_key : is_told k ≡ true = λ i. not (own i || is_peer i) in

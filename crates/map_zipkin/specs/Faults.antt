@@ -12,7 +12,7 @@ use Rattle.trace_model.specs.declared.span.Span.{Span}
 use Rattle.trace_model.specs.declared.trace.Group.{Group}
 use Rattle.trace_model.specs.declared.value.Value.{Value}
 use Rattle.map_zipkin.specs.Keys.{is_zipkin_reserved}
-use Rattle.map_zipkin.specs.TagColumns.{own_forms}
+use Rattle.map_zipkin.specs.OwnColumns.{own_forms}
 
 -- an attribute of the span has a reserved key
 pub record HasReservedKey (span : Span) (key : List ℕ) : Type 0 where

@@ -1,5 +1,5 @@
 -- The keys of tags to which the OpenTelemetry exporter page for Zipkin gives a meaning of their own, so that no attribute may stand under
--- them; those of Zipkin's own; and that of the service at the other end.
+-- them, and that of the service at the other end.
 use Rattle.std.specs.Prelude.{ℕ, Bool, ◌||◌, if◌then◌else◌, is_some, List, [], ◌∷◌, take, drop, Option, Some, None, codes}
 use Rattle.std.specs.List.{list_any}
 use Rattle.std.specs.Str.{bytes_eq}
@@ -22,38 +22,6 @@ column_keys = error_key ∷ dropped_attributes_key ∷ dropped_events_key ∷ dr
 
 abbrev pub is_zipkin_reserved : List ℕ → Bool
 is_zipkin_reserved key = list_any (bytes_eq key) column_keys || is_some (resource_key key)
-
--- ---- of Zipkin's own: what a span has there and a trace has no place for
-
-abbrev pub debug_key : List ℕ
-debug_key = codes "zipkin.debug"
-
-abbrev pub local_ipv4_key : List ℕ
-local_ipv4_key = codes "zipkin.local.ipv4"
-
-abbrev pub local_ipv6_key : List ℕ
-local_ipv6_key = codes "zipkin.local.ipv6"
-
-abbrev pub local_port_key : List ℕ
-local_port_key = codes "zipkin.local.port"
-
-abbrev pub remote_ipv4_key : List ℕ
-remote_ipv4_key = codes "zipkin.remote.ipv4"
-
-abbrev pub remote_ipv6_key : List ℕ
-remote_ipv6_key = codes "zipkin.remote.ipv6"
-
-abbrev pub remote_port_key : List ℕ
-remote_port_key = codes "zipkin.remote.port"
-
-abbrev pub shared_key : List ℕ
-shared_key = codes "zipkin.shared"
-
-abbrev pub own_keys : List (List ℕ)
-own_keys = debug_key ∷ local_ipv4_key ∷ local_ipv6_key ∷ local_port_key ∷ remote_ipv4_key ∷ remote_ipv6_key ∷ remote_port_key ∷ shared_key ∷ []
-
-abbrev pub is_own : List ℕ → Bool
-is_own key = list_any (bytes_eq key) own_keys
 
 -- ---- the service at the other end
 

@@ -5,7 +5,7 @@ use Rattle.std.specs.Option.{option_or}
 use Rattle.span_io.specs.declared.halt.Halt.{Halt}
 use Rattle.span_io.specs.declared.halt.Halt.TheVariants as halts
 use Rattle.span_tags.specs.FirstFault.{first_of, first_in, first_by}
-use Rattle.span_tags.specs.LeastRows.{if_so}
+use Rattle.span_tags.specs.laws.LeastRows.{if_so}
 use Rattle.span_tags.specs.TagWords.{Pairs}
 use Rattle.trace_model.specs.Attributes.{keys, at}
 use Rattle.trace_model.specs.EventReading.{event_text_read}
@@ -19,7 +19,7 @@ use Rattle.trace_model.specs.declared.trace.Scope.{Scope}
 use Rattle.trace_model.specs.declared.value.Value.{Value}
 use Rattle.map_zipkin.specs.Faults.{HasNoZipkinFault, IsZipkinFaultOf}
 use Rattle.map_zipkin.specs.Keys.{is_zipkin_reserved}
-use Rattle.map_zipkin.specs.TagColumns.{own_forms}
+use Rattle.map_zipkin.specs.OwnColumns.{own_forms}
 
 -- ---- the rows of a span, by their numbers
 

@@ -1,5 +1,6 @@
 pub mod Keys
 pub mod TagColumns
+pub mod OwnColumns
 pub mod Regrouped
 pub mod Reading
 pub mod Writing
@@ -10,7 +11,7 @@ pub mod Remarks
 pub mod NotedGroups
 pub mod Losses
 pub mod LossWalks
-pub mod Laws
+pub mod StatedLaws
 pub mod Unfit
 pub mod WritingSoFar
 pub mod ReadColumns

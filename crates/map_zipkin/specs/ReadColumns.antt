@@ -1,14 +1,13 @@
 -- Parts of the span that a span of Zipkin means, as its reader comes by them.
-use Rattle.std.specs.Prelude.{◌≡◌, ℕ, Bool, List, [], ◌++◌, filter, is_some, unwrap_or}
+use Rattle.std.specs.Prelude.{◌≡◌, ℕ, List, [], ◌++◌, filter, is_some, unwrap_or}
 use Rattle.span_tags.specs.TagKeys.{error_key, dropped_attributes_key, dropped_events_key, dropped_links_key, library_name_key, library_version_key, code_key, service_key}
-use Rattle.span_tags.specs.TagWords.{Pairs, row, text_in, text_given, count_in, code_in, name_in, is_idle, is_idle_library, if_left}
+use Rattle.span_tags.specs.TagWords.{Pairs, text_in, count_in, code_in, name_in, is_idle, is_idle_library, if_left}
 use Rattle.trace_model.specs.Attributes.{attrs, at}
 use Rattle.trace_model.specs.Remarks.{Keys}
-use Rattle.zipkin_json.specs.declared.span.Endpoint.{Endpoint}
-use Rattle.map_zipkin.specs.Keys.{local_ipv4_key, local_ipv6_key, local_port_key, remote_ipv4_key, remote_ipv6_key, remote_port_key, peer_key, resource_prefix}
+use Rattle.map_zipkin.specs.Keys.{peer_key, resource_prefix}
 use Rattle.map_zipkin.specs.Reading.{status_code, message_of, is_free_tag, resource_by}
 use Rattle.map_zipkin.specs.Remarks.{is_idle_message, is_idle_peer}
-use Rattle.map_zipkin.specs.TagColumns.{TagColumns, columns_in, count_text, truth_given, OwnColumns}
+use Rattle.map_zipkin.specs.TagColumns.{TagColumns, columns_in}
 use Rattle.map_zipkin.specs.declared.reading.attributes.Parted.{Parted}
 use Rattle.map_zipkin.specs.declared.reading.columns.Told.{Told}
 
@@ -26,26 +25,6 @@ pub record IsZipkinTold (c : TagColumns) (told : Told) : Type 0 where
 
 abbrev pub IsZipkinToldBy : Pairs → Told → Type 0
 IsZipkinToldBy tags told = IsZipkinTold (columns_in tags) told
-
--- ---- what the endpoints and marks tell
-
-abbrev pub zipkin_own_by : Bool → Bool → Endpoint → Endpoint → OwnColumns
-zipkin_own_by debug shared local remote = record {
-  debug = truth_given debug;
-  local_ipv4 = text_given local.ipv4;
-  local_ipv6 = text_given local.ipv6;
-  local_port = count_text local.port;
-  remote_ipv4 = text_given remote.ipv4;
-  remote_ipv6 = text_given remote.ipv6;
-  remote_port = count_text remote.port;
-  shared = truth_given shared;
-}
-
-abbrev pub local_rows : List ℕ → List ℕ → ℕ → Pairs
-local_rows ipv4 ipv6 port = row local_ipv4_key (text_given ipv4) ++ (row local_ipv6_key (text_given ipv6) ++ row local_port_key (count_text port))
-
-abbrev pub remote_rows : List ℕ → List ℕ → ℕ → Pairs
-remote_rows ipv4 ipv6 port = row remote_ipv4_key (text_given ipv4) ++ (row remote_ipv6_key (text_given ipv6) ++ row remote_port_key (count_text port))
 
 -- ---- the tags in two parts: those of the resource, and attributes
 

@@ -18,9 +18,10 @@ use Rattle.trace_model.specs.declared.value.Value.{Value, Text}
 use Rattle.zipkin_json.specs.declared.span.ZKind.{ZKind}
 use Rattle.zipkin_json.specs.declared.span.ZKind.TheVariants as zkinds
 use Rattle.zipkin_json.specs.declared.span.ZSpan.{ZSpan}
-use Rattle.map_zipkin.specs.Keys.{resource_key, is_zipkin_reserved, is_own, peer_key}
+use Rattle.map_zipkin.specs.Keys.{resource_key, is_zipkin_reserved, peer_key}
+use Rattle.map_zipkin.specs.OwnColumns.{is_own, own_rows, own_of}
 use Rattle.map_zipkin.specs.Regrouped.{RunSpan, regrouped}
-use Rattle.map_zipkin.specs.TagColumns.{TagColumns, columns_in, own_rows, own_of}
+use Rattle.map_zipkin.specs.TagColumns.{TagColumns, columns_in}
 use Rattle.map_zipkin.specs.declared.run.Run.{Run}
 
 -- the tags as pairs with values

@@ -1,7 +1,7 @@
 -- What is remarked on a span of Zipkin: tags that say nothing, or other than what stands in a place of its own, and are left out.
 use Rattle.std.specs.Prelude.{ℕ, Bool, true, false, not, is_some, List, [], ◌∷◌, ◌++◌, Option, Some, None}
-use Rattle.std.specs.List.{flat_map}
 use Rattle.std.specs.Str.{bytes_eq}
+use Rattle.span_tags.specs.Columns.{left_out_by as left_out_of}
 use Rattle.span_tags.specs.TagKeys.{error_key, dropped_attributes_key, dropped_events_key, dropped_links_key, library_name_key, library_version_key, code_key, service_key}
 use Rattle.span_tags.specs.TagWords.{Pairs, text_in, count_in, code_in, is_idle, is_idle_library, if_left}
 use Rattle.trace_model.specs.Attributes.{at}
@@ -12,7 +12,8 @@ use Rattle.trace_model.specs.declared.span.Code.{Code}
 use Rattle.trace_model.specs.declared.span.Code.TheVariants as statuses
 use Rattle.trace_model.specs.declared.value.Value.{Value}
 use Rattle.zipkin_json.specs.declared.span.ZSpan.{ZSpan}
-use Rattle.map_zipkin.specs.Keys.{resource_prefix, own_keys, peer_key}
+use Rattle.map_zipkin.specs.Keys.{resource_prefix, peer_key}
+use Rattle.map_zipkin.specs.OwnColumns.{all_own, own_row, own_in}
 use Rattle.map_zipkin.specs.Reading.{pairs_of}
 use Rattle.map_zipkin.specs.TagColumns.{TagColumns, columns_in}
 
@@ -33,7 +34,7 @@ is_idle_peer service (Some (x ∷ more)) = differs service (x ∷ more)
 
 -- the tags of Zipkin's own keys are never read
 abbrev pub own_left : Pairs → Keys
-own_left tags = flat_map (λ key. if_left key (is_some (at key tags))) own_keys
+own_left tags = left_out_of own_row all_own (own_in tags)
 
 -- in the order of their keys, of a span whose remote service is this
 abbrev pub left_out_by : List ℕ → TagColumns → Pairs → Keys

@@ -2,15 +2,15 @@
 use Rattle.std.specs.Prelude.{Bool, nat_lt, ◌||◌, Option}
 use Rattle.std.specs.List.{list_any}
 use Rattle.span_tags.specs.TagWords.{Pairs}
-use Rattle.trace_model.specs.Attributes.{at}
 use Rattle.trace_model.specs.EventTexts.{holds_double}
 use Rattle.trace_model.specs.declared.span.Event.{Event}
 use Rattle.trace_model.specs.declared.span.Span.{Span}
 use Rattle.trace_model.specs.declared.trace.Group.{Group}
 use Rattle.trace_model.specs.declared.trace.Scope.{Scope}
 use Rattle.trace_model.specs.declared.value.Value.{Value}
-use Rattle.map_zipkin.specs.Keys.{local_port_key, remote_port_key}
+use Rattle.map_zipkin.specs.OwnColumns.{own_in}
 use Rattle.map_zipkin.specs.TagColumns.{port_told}
+use Rattle.map_zipkin.specs.declared.own.Own.TheVariants as owns
 
 abbrev pub event_unfit : Event → Bool
 event_unfit event = holds_double event.attributes
@@ -19,7 +19,7 @@ abbrev pub port_unfit : Option Value → Bool
 port_unfit port = nat_lt 65535 (port_told port)
 
 abbrev pub ports_unfit : Pairs → Bool
-ports_unfit attributes = port_unfit (at local_port_key attributes) || port_unfit (at remote_port_key attributes)
+ports_unfit attributes = port_unfit (own_in attributes owns.LocalPort) || port_unfit (own_in attributes owns.RemotePort)
 
 abbrev pub span_unfit : Span → Bool
 span_unfit span = holds_double span.attributes || (ports_unfit span.attributes || list_any event_unfit span.events)

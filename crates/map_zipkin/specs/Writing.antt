@@ -21,8 +21,10 @@ use Rattle.zipkin_json.specs.declared.span.Endpoint.{Endpoint}
 use Rattle.zipkin_json.specs.declared.span.ZKind.{ZKind}
 use Rattle.zipkin_json.specs.declared.span.ZKind.TheVariants as zkinds
 use Rattle.zipkin_json.specs.declared.span.ZSpan.{ZSpan}
-use Rattle.map_zipkin.specs.Keys.{resource_prefix, is_own, peer_key}
-use Rattle.map_zipkin.specs.TagColumns.{TagColumns, column_rows, count_text, OwnColumns, own_in, text_told, port_told}
+use Rattle.map_zipkin.specs.Keys.{resource_prefix, peer_key}
+use Rattle.map_zipkin.specs.OwnColumns.{OwnColumns, is_own, own_in}
+use Rattle.map_zipkin.specs.TagColumns.{TagColumns, column_rows, count_text, text_told, port_told}
+use Rattle.map_zipkin.specs.declared.own.Own.TheVariants as owns
 
 -- ---- columns
 
@@ -88,17 +90,17 @@ zipkin_tags_of resource one = map zipkin_tag_of (attrs (column_rows (zipkin_colu
 abbrev pub local_endpoint : Pairs → OwnColumns → Endpoint
 local_endpoint resource own = record {
   service = text_or_none (at service_key resource);
-  ipv4 = text_told own.local_ipv4;
-  ipv6 = text_told own.local_ipv6;
-  port = port_told own.local_port;
+  ipv4 = text_told (own owns.LocalIpv4);
+  ipv6 = text_told (own owns.LocalIpv6);
+  port = port_told (own owns.LocalPort);
 }
 
 abbrev pub remote_endpoint : Pairs → OwnColumns → Endpoint
 remote_endpoint attributes own = record {
   service = text_or_none (at peer_key attributes);
-  ipv4 = text_told own.remote_ipv4;
-  ipv6 = text_told own.remote_ipv6;
-  port = port_told own.remote_port;
+  ipv4 = text_told (own owns.RemoteIpv4);
+  ipv6 = text_told (own owns.RemoteIpv6);
+  port = port_told (own owns.RemotePort);
 }
 
 abbrev pub annotation_of : Event → ℕ × List ℕ
@@ -115,8 +117,8 @@ zipkin_span_by own resource one = record {
   kind = zipkin_kind one.span.kind;
   start = floor one.span.start;
   end = floor one.span.end;
-  debug = is_some own.debug;
-  shared = is_some own.shared;
+  debug = is_some (own owns.Debug);
+  shared = is_some (own owns.Shared);
   local = local_endpoint resource own;
   remote = remote_endpoint one.span.attributes own;
   annotations = map annotation_of one.span.events;

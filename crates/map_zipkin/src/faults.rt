@@ -2,7 +2,6 @@
 //! key of the fault.
 ghost use Rattle.std.specs.Prelude.{◌≡◌, is_some, option_map, IfOk};
 ghost use Rattle.std.specs.List.{list_any};
-ghost use Rattle.trace_model.specs.Attributes.{at};
 ghost use Rattle.trace_model.specs.EventReading.{event_text_read};
 ghost use Rattle.trace_model.specs.EventTexts.{holds_double};
 ghost use Rattle.trace_model.specs.Soundness.{IsSoundGroup};
@@ -11,13 +10,14 @@ ghost use Rattle.span_tags.specs.TagWords as tags;
 ghost use Rattle.map_zipkin.specs.Faults.{IsZipkinFaultOf};
 ghost use Rattle.map_zipkin.specs.Keys as keys;
 ghost use Rattle.map_zipkin.specs.LeastZipkinFault as least;
-ghost use Rattle.map_zipkin.specs.TagColumns as columns;
+ghost use Rattle.map_zipkin.specs.OwnColumns as columns;
 
 use crate::keys::is_reserved;
+use crate::own::{OWN_KEYS, Own, own_held};
 use span_io::{Items, OutOfMemory, Text};
 use span_tags::decimal_in;
 use std::alloc::Global;
-use trace_model::{Attrs, Event, Fault, Group, Scope, Span, Value, find, read_event_text};
+use trace_model::{Attrs, Event, Fault, Group, Scope, Span, Value, read_event_text};
 
 // ---- ends
 
@@ -92,63 +92,35 @@ fn is_port_text(value: &Value) -> bool
     }
 }
 
-// Whether the attribute of the key, if there is one, isn't `true`.
-fn is_no_truth(attributes: &Attrs, key: &str) -> bool
-    ensures { result ≡ least.is_out_of_form columns.is_true_text (at key.now attributes.now) }
+// Whether a value is of the form of a key of Zipkin's own.
+fn is_of_form(own: Own, value: &Value) -> bool
+    ensures { result ≡ columns.own_form own value.now }
 {
-    match find(attributes, key) {
-        Some(value) => !is_true_text(value),
-        None => false,
+    match own {
+        Own::Debug | Own::Shared => is_true_text(value),
+        Own::LocalPort | Own::RemotePort => is_port_text(value),
+        Own::LocalIpv4 | Own::LocalIpv6 | Own::RemoteIpv4 | Own::RemoteIpv6 => is_address(value),
     }
 }
 
-// Whether the attribute of the key, if there is one, isn't a text, or is empty.
-fn is_no_address(attributes: &Attrs, key: &str) -> bool
-    ensures { result ≡ least.is_out_of_form columns.is_address (at key.now attributes.now) }
+// Whether the attribute of the key, if there is one, isn't of its form.
+fn is_out_of_form(attributes: &Attrs, own: Own) -> bool
+    ensures { result ≡ least.is_out_of_form (columns.own_form own) (columns.own_in attributes.now own) }
 {
-    match find(attributes, key) {
-        Some(value) => !is_address(value),
-        None => false,
-    }
-}
-
-// Whether the attribute of the key, if there is one, isn't the decimal of a port.
-fn is_no_port(attributes: &Attrs, key: &str) -> bool
-    ensures { result ≡ least.is_out_of_form columns.is_port_text (at key.now attributes.now) }
-{
-    match find(attributes, key) {
-        Some(value) => !is_port_text(value),
+    match own_held(attributes, own) {
+        Some(value) => !is_of_form(own, value),
         None => false,
     }
 }
 
 // The first of these keys of which the attribute isn't of its form.
-fn out_of_form(attributes: &Attrs) -> Option<&'static str>
-    ensures { option_map (λ key. key.now) result ≡ least.out_of_form attributes.now columns.own_forms }
+fn out_of_form(attributes: &Attrs, keys: &[Own]) -> Option<&'static str>
+    ensures { option_map (λ key. key.now) result ≡ least.out_of_form attributes.now (columns.forms_of keys.now) }
 {
-    if is_no_truth(attributes, "zipkin.debug") {
-        return Some("zipkin.debug");
-    }
-    if is_no_address(attributes, "zipkin.local.ipv4") {
-        return Some("zipkin.local.ipv4");
-    }
-    if is_no_address(attributes, "zipkin.local.ipv6") {
-        return Some("zipkin.local.ipv6");
-    }
-    if is_no_port(attributes, "zipkin.local.port") {
-        return Some("zipkin.local.port");
-    }
-    if is_no_address(attributes, "zipkin.remote.ipv4") {
-        return Some("zipkin.remote.ipv4");
-    }
-    if is_no_address(attributes, "zipkin.remote.ipv6") {
-        return Some("zipkin.remote.ipv6");
-    }
-    if is_no_port(attributes, "zipkin.remote.port") {
-        return Some("zipkin.remote.port");
-    }
-    if is_no_truth(attributes, "zipkin.shared") {
-        return Some("zipkin.shared");
+    'keys: for own in keys {
+        if is_out_of_form(attributes, *own) {
+            return Some(own.key());
+        }
     }
     None
 }
@@ -156,7 +128,7 @@ fn out_of_form(attributes: &Attrs) -> Option<&'static str>
 fn own_fault(alloc: Global, span: &Span) -> Result<Option<Fault>, OutOfMemory>
     ensures { IfOk result (λ fault. fault ≡ least.zipkin_own_fault span.now) }
 {
-    match out_of_form(&span.attributes) {
+    match out_of_form(&span.attributes, &OWN_KEYS) {
         Some(key) => Ok(Some(Fault::OwnKey(Text::of(alloc, key)?))),
         None => Ok(None),
     }

@@ -3,8 +3,11 @@ ghost use Rattle.std.specs.Prelude.{◌≡◌, option_map};
 ghost use Rattle.std.specs.List.{list_any};
 ghost use Rattle.std.specs.Str.{bytes_eq};
 ghost use Rattle.map_zipkin.specs.Keys as told;
+ghost use Rattle.map_zipkin.specs.OwnColumns as own;
 ghost use Rattle.map_zipkin.specs.Reading as meant;
 ghost use Rattle.map_zipkin.specs.Writing as written;
+
+use crate::own::{OWN_KEYS, is_key_of};
 
 /// The key of the resource's attribute, behind the prefix.
 pub(crate) fn resource_key(key: &str) -> Option<&str>
@@ -37,16 +40,9 @@ pub(crate) fn is_reserved(key: &str) -> bool
 
 /// Whether it is one of Zipkin's own.
 pub(crate) fn is_own(key: &str) -> bool
-    ensures { result ≡ told.is_own key.now }
+    ensures { result ≡ own.is_own key.now }
 {
-    key == "zipkin.debug"
-        || key == "zipkin.local.ipv4"
-        || key == "zipkin.local.ipv6"
-        || key == "zipkin.local.port"
-        || key == "zipkin.remote.ipv4"
-        || key == "zipkin.remote.ipv6"
-        || key == "zipkin.remote.port"
-        || key == "zipkin.shared"
+    is_key_of(key, &OWN_KEYS)
 }
 
 /// Whether an attribute of the key is written as a tag.

@@ -1,5 +1,5 @@
 //! Laws of the table, as contracts of functions that do nothing.
-ghost use Rattle.map_zipkin.specs.Laws.{GroupsNoted, NothingLost, Regroupings, SpansReadBack, WrittenIsWritable, ReadIsHeld, ReadIsZipkinNormal, ZipkinNormalForms, ZipkinFaultsFound};
+ghost use Rattle.map_zipkin.specs.StatedLaws.{GroupsNoted, NothingLost, Regroupings, SpansReadBack, WrittenIsWritable, ReadIsHeld, ReadIsZipkinNormal, ZipkinNormalForms, ZipkinFaultsFound};
 
 /// Spans that are regrouped are the same spans, in order, in plain groups; and they are regrouped as
 /// before.

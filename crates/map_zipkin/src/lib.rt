@@ -7,6 +7,7 @@ mod groups;
 mod keys;
 pub mod laws;
 mod losing;
+mod own;
 mod reading;
 mod run;
 mod writing;

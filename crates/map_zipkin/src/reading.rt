@@ -16,8 +16,9 @@ use attributes::{ends_of, parted_by};
 use columns::told_by;
 use events::events_of;
 use remarks::remarks_of;
-use span_io::{Items, OutOfMemory};
+use span_io::{Items, OutOfMemory, Text};
 use std::alloc::Global;
+use std::mem;
 use tags::pairs_of;
 use trace_model::{Kind, Remark, Span, find};
 use zipkin_json::{ZKind, ZSpan};
@@ -43,14 +44,19 @@ pub fn triple_of_span(alloc: Global, span: ZSpan) -> Result<(Run, Span, Items<Re
 {
     trace_model::laws::event_texts_exact();
     trace_model::laws::event_texts_once();
-    let tags = pairs_of(alloc, span.tags)?;
+    let mut span = span;
+    let own_tags = mem::replace(&mut span.tags, Items::new(alloc));
+    let annotations = mem::replace(&mut span.annotations, Items::new(alloc));
+    let tags = pairs_of(alloc, own_tags)?;
     let remarks = remarks_of(alloc, &span.remote.service, &tags)?;
     let told = told_by(alloc, &tags)?;
-    let events = events_of(alloc, span.annotations)?;
+    let events = events_of(alloc, annotations)?;
     let tag = find(&tags, "peer.service");
-    let marks = (span.debug, span.shared);
-    let ends = ends_of(alloc, marks, span.local, span.remote, tag)?;
-    let parted = parted_by(alloc, ends.service, ends.pairs, tags)?;
+    let peer = mem::replace(&mut span.remote.service, Text::new(alloc));
+    let ends = ends_of(alloc, &span, peer, tag)?;
+    let service = mem::replace(&mut span.local.service, Text::new(alloc));
+    let parted = parted_by(alloc, service, ends, tags)?;
+    let links = Items::new(alloc);
     let run = Run {
         resource: parted.resource,
         name: told.name,
@@ -69,7 +75,7 @@ pub fn triple_of_span(alloc: Global, span: ZSpan) -> Result<(Run, Span, Items<Re
         dropped_attributes: told.dropped_attributes,
         events,
         dropped_events: told.dropped_events,
-        links: Items::new(alloc),
+        links,
         dropped_links: told.dropped_links,
         status: told.status,
         flags: 0,

@@ -18,12 +18,12 @@ mod shared;
 mod tags;
 
 use crate::faults::fault_of_group;
+use crate::own::{Own, has_own};
 use columns::rows_of_span;
 use endpoints::endpoints_of;
 use shared::rows_of_scope;
 use span_ids::Nanos;
 use span_io::{Halt, Items, OutOfMemory, Text};
-use span_tags::is_there;
 use std::alloc::Global;
 use tags::tags_of;
 use trace_model::{Attrs, Event, Fault, Group, Kind, Scope, Span, event_text};
@@ -93,8 +93,8 @@ fn span_of(
     let (local, remote) = endpoints_of(alloc, resource, &span.attributes)?;
     let annotations = annotations_of(alloc, &span.events)?;
     let own = rows_of_span(alloc, &span)?;
-    let debug = is_there(&span.attributes, "zipkin.debug");
-    let shared_with = is_there(&span.attributes, "zipkin.shared");
+    let debug = has_own(&span.attributes, Own::Debug);
+    let shared_with = has_own(&span.attributes, Own::Shared);
     let tags = tags_of(alloc, own, shared.as_slice(), span.attributes)?;
     Ok(ZSpan {
         trace: span.trace,

@@ -10,22 +10,23 @@ use Rattle.trace_model.specs.Attributes.{AreRepeated, StandsTwice}
 use Rattle.trace_model.specs.Remarks.{Keys}
 use Rattle.trace_model.specs.declared.value.Value.{Value}
 use Rattle.trace_model.specs.OtlpParts.{KeyValue, keys_inside, AreNotedAttributes}
-use Rattle.otlp_json.specs.Attributes.{AreJsonPairs, AreJsonAttributes, pairs_faults}
+use Rattle.json_members.specs.Members.{AreHeld}
+use Rattle.otlp_json.specs.Attributes.{AreJsonPairs, AreJsonAttributes, pairs_offend}
 use Rattle.otlp_json.specs.Found.{ArePairsGiven}
-use Rattle.otlp_json.specs.Values.{AreHeld, held_faults, json_key_value_in, json_key_value_offends}
+use Rattle.otlp_json.specs.Values.{held_offends, json_key_value_in, inner_pair_offends}
 
-same_faults : (d : Data) → held_faults 16 (json_key_value_offends 16) d ≡ pairs_faults d
-unfolding json_key_value_offends
-same_faults d = refl
+same_offences : (d : Data) → held_offends 16 (inner_pair_offends 16) d ≡ pairs_offend d
+unfolding inner_pair_offends
+same_offences d = refl
 
-same_optional : (o : Option Data) → optional (held_faults 16 (json_key_value_offends 16)) o ≡ optional pairs_faults o
+same_optional : (o : Option Data) → optional (held_offends 16 (inner_pair_offends 16)) o ≡ optional pairs_offend o
 same_optional None = refl
-same_optional (Some d) = same_faults d
+same_optional (Some d) = same_offences d
 
-pub attributes_clean : (o : Option Data) → NothingOffends (optional (held_faults 16 (json_key_value_offends 16)) o) → NothingOffends (optional pairs_faults o)
+pub attributes_clean : (o : Option Data) → NothingOffends (optional (held_offends 16 (inner_pair_offends 16)) o) → NothingOffends (optional pairs_offend o)
 attributes_clean o h = subst NothingOffends (same_optional o) h
 
-pub attributes_halt : (halt : Halt Cause) (o : Option Data) → Halts halt (optional (held_faults 16 (json_key_value_offends 16)) o) → Halts halt (optional pairs_faults o)
+pub attributes_halt : (halt : Halt Cause) (o : Option Data) → Halts halt (optional (held_offends 16 (inner_pair_offends 16)) o) → Halts halt (optional pairs_offend o)
 attributes_halt halt o h = subst (Halts halt) (same_optional o) h
 
 given_pairs : (pairs : List KeyValue) (o : Option Data) → Given (AreHeld (json_key_value_in 16)) (λ ps. ps ≡ []) pairs o → Given AreJsonPairs (λ ps. ps ≡ []) pairs o

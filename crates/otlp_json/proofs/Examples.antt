@@ -15,8 +15,8 @@ use Rattle.trace_model.specs.declared.value.Value.{Text, Number}
 use Rattle.json_members.specs.Members.{member as member_in}
 use Rattle.otlp_json.specs.Canonical.{json_group_text, json_groups_text}
 use Rattle.otlp_json.specs.Numbers.{unsigned_in, signed_in}
-use Rattle.otlp_json.specs.Values.{json_value_faults, json_list_faults, many_members, standing_members}
-use Rattle.otlp_json.specs.Span.{json_span_members, otlp_span_faults}
+use Rattle.otlp_json.specs.Values.{json_value_offends, json_list_offends, many_members, standing_members}
+use Rattle.otlp_json.specs.Span.{json_span_members, otlp_span_offends}
 
 -- ---- texts
 
@@ -94,22 +94,22 @@ too_large = refl
 
 -- ---- refusals: a double, two members, a list below the last level, a kind outside its table, and no trace identifier
 
-double : json_value_faults 15 (object (member (codes "doubleValue") (number (unsigned 1)) no_members)) (3 ∷ []) 15
+double : json_value_offends 15 (object (member (codes "doubleValue") (number (unsigned 1)) no_members)) (3 ∷ []) 15
 unfolding standing_members member_in ◌▹◌
 double = refl
 
-two_members : json_value_faults 15 (object (member (codes "boolValue") (boolean true) (member (codes "stringValue") (string []) no_members))) [] 11
+two_members : json_value_offends 15 (object (member (codes "boolValue") (boolean true) (member (codes "stringValue") (string []) no_members))) [] 11
 unfolding standing_members member_in
 two_members = refl
 
-too_deep : json_list_faults 0 (object (member (codes "values") (array (item (object no_members) no_items)) no_members)) (0 ∷ []) 5
+too_deep : json_list_offends 0 (object (member (codes "values") (array (item (object no_members) no_items)) no_members)) (0 ∷ []) 5
 unfolding many_members member_in ◌▹◌
 too_deep = refl
 
-kind_of_six : otlp_span_faults (object (member (codes "kind") (number (unsigned 6)) no_members)) (5 ∷ []) 13
+kind_of_six : otlp_span_offends (object (member (codes "kind") (number (unsigned 6)) no_members)) (5 ∷ []) 13
 unfolding json_span_members member_in ◌▹◌
 kind_of_six = (refl, omega arith)
 
-no_trace : otlp_span_faults (object (member (codes "kind") null no_members)) (0 ∷ []) 12
+no_trace : otlp_span_offends (object (member (codes "kind") null no_members)) (0 ∷ []) 12
 unfolding json_span_members member_in ◌▹◌
 no_trace = refl

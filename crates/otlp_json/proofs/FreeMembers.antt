@@ -6,20 +6,21 @@ use Rattle.trace_model.specs.declared.span.Code.TheVariants as statuses
 use Rattle.trace_model.specs.declared.span.Kind.TheVariants as kinds
 use Rattle.trace_model.specs.OtlpParts.{no_status, no_instrumentation_scope, no_resource}
 use Rattle.json_members.specs.Agreement.{objects_agree, arrays_agree}
-use Rattle.json_members.specs.AgreementLaws.{AgreesBothWays, same_turns, objects_turn, arrays_turn, MeanAlike, given_alike, given_same, array_alike, FaultsAlike, nothing_alike, parts_alike, same_alike, optional_alike, array_faults_alike, object_faults_alike}
-use Rattle.json_members.specs.Members.{IsText, text_faults, Spelled}
-use Rattle.otlp_json.specs.Group.{IsJsonInstrumentationScope, instrumentation_scope_members, instrumentation_scope_faults, AreJsonSpans, otlp_spans_faults, IsJsonScope, scope_members, scope_faults, IsJsonResource, resource_members, resource_faults, AreJsonScopes, scopes_faults, IsJsonGroup, group_members, group_faults, IsRemarkedGroup, AreRemarkedGroups, groups_faults, AreJsonGroups, json_groups_faults}
-use Rattle.otlp_json.specs.Identifiers.{SpellsJsonTrace, SpellsJsonSpan, SpellsTraceOrNone, SpellsSpanOrNone, json_trace_faults, json_span_faults, trace_or_none_faults, span_or_none_faults, identified}
+use Rattle.json_members.specs.laws.AgreementLaws.{AgreesBothWays, same_turns, objects_turn, arrays_turn, MeanAlike, given_same, OffencesAlike, no_parts_alike, parts_alike, same_alike, object_offends_alike, by_parts_alike, object_alike, list_alike, object_offence_alike, list_offence_alike}
+use Rattle.json_members.specs.laws.DecisionLaws.{◌&◌}
+use Rattle.json_members.specs.Members.{IsText, text_offends, Spelled}
+use Rattle.otlp_json.specs.Group.{IsJsonInstrumentationScope, instrumentation_scope_members, instrumentation_scope_offends, IsJsonScope, scope_members, scope_offends, IsJsonResource, resource_members, resource_offends, IsJsonGroup, group_members, group_offends, IsRemarkedGroup, AreJsonGroups, json_groups_offend}
+use Rattle.otlp_json.specs.Identifiers.{SpellsJsonTrace, SpellsJsonSpan, SpellsTraceOrNone, SpellsSpanOrNone, json_trace_offends, json_span_offends, trace_or_none_offends, span_or_none_offends, identified}
 use Rattle.otlp_json.specs.Known.{status_known, event_known, link_known, otlp_span_known, instrumentation_scope_known, scope_known, resource_known, group_known, groups_agree}
-use Rattle.otlp_json.specs.Laws.{FreeGroupMembers}
-use Rattle.otlp_json.specs.Numbers.{IsJsonCount, json_count_faults, IsJsonTime, json_time_faults, enum_faults, IsJsonKind, IsJsonCode}
-use Rattle.otlp_json.specs.Span.{IsJsonStatus, status_members, status_faults, IsJsonEvent, event_members, event_faults, IsJsonLink, link_members, link_faults, AreJsonEvents, events_faults, AreJsonLinks, links_faults, IsJsonSpan, json_span_members, otlp_span_faults}
-use Rattle.otlp_json.proofs.FreeValues.{attributes_turn, attributes_alike, attributes_offend}
+use Rattle.otlp_json.specs.StatedLaws.{FreeGroupMembers}
+use Rattle.otlp_json.specs.Numbers.{IsJsonCount, json_count_offends, IsJsonTime, json_time_offends, enum_offends, IsJsonKind, IsJsonCode}
+use Rattle.otlp_json.specs.Span.{IsJsonStatus, status_members, status_offends, IsJsonEvent, event_members, event_offends, IsJsonLink, link_members, link_offends, IsJsonSpan, json_span_members, otlp_span_offends}
+use Rattle.otlp_json.proofs.FreeValues.{attributes_turn, attributes_alike, attributes_offend_alike}
 
 -- ---- `Status`
 
 status_turns : AgreesBothWays (objects_agree status_known)
-status_turns = objects_turn status_known (same_turns, (same_turns, tt))
+status_turns = objects_turn status_known (same_turns & same_turns & tt)
 
 status_alike : MeanAlike IsJsonStatus (objects_agree status_known)
 status_alike v w h s is =
@@ -30,18 +31,18 @@ status_alike v w h s is =
       code = given_same IsJsonCode (λ code. code ≡ statuses.Unset) _ _ m.1.0 s.code is.code;
     }
 
-status_offends : FaultsAlike status_faults (objects_agree status_known)
+status_offends_alike : OffencesAlike status_offends (objects_agree status_known)
 unfolding status_members
-status_offends v w h =
+status_offends_alike v w h =
     let m = h.1 in
-    object_faults_alike (status_members v) (status_members w) (as_object v) (as_object w) h.0
-    (parts_alike (same_alike (optional text_faults) _ _ m.0)
-    (parts_alike (same_alike (optional (enum_faults 2)) _ _ m.1.0) nothing_alike))
+    by_parts_alike status_members v w h.0
+    (parts_alike (same_alike (optional text_offends) _ _ m.0)
+    (parts_alike (same_alike (optional (enum_offends 2)) _ _ m.1.0) no_parts_alike))
 
 -- ---- `Event`
 
 event_turns : AgreesBothWays (objects_agree event_known)
-event_turns = objects_turn event_known (same_turns, (same_turns, (attributes_turn, (same_turns, tt))))
+event_turns = objects_turn event_known (same_turns & same_turns & attributes_turn & same_turns & tt)
 
 event_alike : MeanAlike IsJsonEvent (objects_agree event_known)
 event_alike v w h e is =
@@ -54,20 +55,20 @@ event_alike v w h e is =
       dropped = given_same IsJsonCount (λ n. n ≡ 0) _ _ m.1.1.1.0 e.means.dropped is.dropped;
     }
 
-event_offends : FaultsAlike event_faults (objects_agree event_known)
+event_offends_alike : OffencesAlike event_offends (objects_agree event_known)
 unfolding event_members
-event_offends v w h =
+event_offends_alike v w h =
     let m = h.1 in
-    object_faults_alike (event_members v) (event_members w) (as_object v) (as_object w) h.0
-    (parts_alike (same_alike (optional json_time_faults) _ _ m.0)
-    (parts_alike (same_alike (optional text_faults) _ _ m.1.0)
-    (parts_alike (attributes_offend _ _ m.1.1.0)
-    (parts_alike (same_alike (optional json_count_faults) _ _ m.1.1.1.0) nothing_alike))))
+    by_parts_alike event_members v w h.0
+    (parts_alike (same_alike (optional json_time_offends) _ _ m.0)
+    (parts_alike (same_alike (optional text_offends) _ _ m.1.0)
+    (parts_alike (attributes_offend_alike _ _ m.1.1.0)
+    (parts_alike (same_alike (optional json_count_offends) _ _ m.1.1.1.0) no_parts_alike))))
 
 -- ---- `Link`
 
 link_turns : AgreesBothWays (objects_agree link_known)
-link_turns = objects_turn link_known (same_turns, (same_turns, (same_turns, (attributes_turn, (same_turns, (same_turns, tt))))))
+link_turns = objects_turn link_known (same_turns & same_turns & same_turns & attributes_turn & same_turns & same_turns & tt)
 
 link_alike : MeanAlike IsJsonLink (objects_agree link_known)
 link_alike v w h l is =
@@ -86,22 +87,26 @@ link_alike v w h l is =
       flags = given_same IsJsonCount (λ n. n ≡ 0) _ _ m.1.1.1.1.1.0 is.parts.flags is.flags;
     }
 
-link_offends : FaultsAlike link_faults (objects_agree link_known)
+link_offends_alike : OffencesAlike link_offends (objects_agree link_known)
 unfolding link_members
-link_offends v w h =
+link_offends_alike v w h =
     let m = h.1 in
-    object_faults_alike (link_members v) (link_members w) (as_object v) (as_object w) h.0
-    (parts_alike (same_alike (optional trace_or_none_faults) _ _ m.0)
-    (parts_alike (same_alike (optional span_or_none_faults) _ _ m.1.0)
-    (parts_alike (same_alike (optional text_faults) _ _ m.1.1.0)
-    (parts_alike (attributes_offend _ _ m.1.1.1.0)
-    (parts_alike (same_alike (optional json_count_faults) _ _ m.1.1.1.1.0)
-    (parts_alike (same_alike (optional json_count_faults) _ _ m.1.1.1.1.1.0) nothing_alike))))))
+    by_parts_alike link_members v w h.0
+    (parts_alike (same_alike (optional trace_or_none_offends) _ _ m.0)
+    (parts_alike (same_alike (optional span_or_none_offends) _ _ m.1.0)
+    (parts_alike (same_alike (optional text_offends) _ _ m.1.1.0)
+    (parts_alike (attributes_offend_alike _ _ m.1.1.1.0)
+    (parts_alike (same_alike (optional json_count_offends) _ _ m.1.1.1.1.0)
+    (parts_alike (same_alike (optional json_count_offends) _ _ m.1.1.1.1.1.0) no_parts_alike))))))
 
 -- ---- `Span`
 
 span_turns : AgreesBothWays (objects_agree otlp_span_known)
-span_turns = objects_turn otlp_span_known (same_turns, (same_turns, (same_turns, (same_turns, (same_turns, (same_turns, (same_turns, (same_turns, (attributes_turn, (same_turns, (arrays_turn (objects_agree event_known) event_turns, (same_turns, (arrays_turn (objects_agree link_known) link_turns, (same_turns, (status_turns, (same_turns, tt))))))))))))))))
+span_turns =
+    objects_turn otlp_span_known (
+    same_turns & same_turns & same_turns & same_turns & same_turns & same_turns & same_turns & same_turns & attributes_turn & same_turns
+    & arrays_turn (objects_agree event_known) event_turns & same_turns & arrays_turn (objects_agree link_known) link_turns & same_turns
+    & status_turns & same_turns & tt)
 
 span_alike : MeanAlike IsJsonSpan (objects_agree otlp_span_known)
 span_alike v w h s is =
@@ -122,40 +127,40 @@ span_alike v w h s is =
       end = given_same IsJsonTime (λ n. n ≡ 0) _ _ m.1.1.1.1.1.1.1.0 s.means.end is.end;
       attributes = attributes_alike s.means.attributes s.notes.keys _ _ m.1.1.1.1.1.1.1.1.0 is.attributes;
       dropped_attributes = given_same IsJsonCount (λ n. n ≡ 0) _ _ m.1.1.1.1.1.1.1.1.1.0 s.means.dropped_attributes is.dropped_attributes;
-      each_event = given_alike AreJsonEvents (λ xs. xs ≡ []) (arrays_agree (objects_agree event_known)) (array_alike IsJsonEvent (objects_agree event_known) event_alike) _ _ m.1.1.1.1.1.1.1.1.1.1.0 is.events is.each_event;
+      each_event = list_alike IsJsonEvent event_known event_alike _ _ m.1.1.1.1.1.1.1.1.1.1.0 is.events is.each_event;
       dropped_events = given_same IsJsonCount (λ n. n ≡ 0) _ _ m.1.1.1.1.1.1.1.1.1.1.1.0 s.means.dropped_events is.dropped_events;
-      each_link = given_alike AreJsonLinks (λ xs. xs ≡ []) (arrays_agree (objects_agree link_known)) (array_alike IsJsonLink (objects_agree link_known) link_alike) _ _ m.1.1.1.1.1.1.1.1.1.1.1.1.0 is.links is.each_link;
+      each_link = list_alike IsJsonLink link_known link_alike _ _ m.1.1.1.1.1.1.1.1.1.1.1.1.0 is.links is.each_link;
       dropped_links = given_same IsJsonCount (λ n. n ≡ 0) _ _ m.1.1.1.1.1.1.1.1.1.1.1.1.1.0 s.means.dropped_links is.dropped_links;
-      status = given_alike IsJsonStatus (λ status. status ≡ no_status) (objects_agree status_known) status_alike _ _ m.1.1.1.1.1.1.1.1.1.1.1.1.1.1.0 s.means.status is.status;
+      status = object_alike IsJsonStatus status_known status_alike _ _ m.1.1.1.1.1.1.1.1.1.1.1.1.1.1.0 no_status s.means.status is.status;
       flags = given_same IsJsonCount (λ n. n ≡ 0) _ _ m.1.1.1.1.1.1.1.1.1.1.1.1.1.1.1.0 s.means.flags is.flags;
     }
 
-span_offends : FaultsAlike otlp_span_faults (objects_agree otlp_span_known)
+span_offends_alike : OffencesAlike otlp_span_offends (objects_agree otlp_span_known)
 unfolding json_span_members
-span_offends v w h =
+span_offends_alike v w h =
     let m = h.1 in
-    object_faults_alike (json_span_members v) (json_span_members w) (as_object v) (as_object w) h.0
-    (parts_alike (same_alike (identified json_trace_faults) _ _ m.0)
-    (parts_alike (same_alike (identified json_span_faults) _ _ m.1.0)
-    (parts_alike (same_alike (optional text_faults) _ _ m.1.1.0)
-    (parts_alike (same_alike (optional span_or_none_faults) _ _ m.1.1.1.0)
-    (parts_alike (same_alike (optional text_faults) _ _ m.1.1.1.1.0)
-    (parts_alike (same_alike (optional (enum_faults 5)) _ _ m.1.1.1.1.1.0)
-    (parts_alike (same_alike (optional json_time_faults) _ _ m.1.1.1.1.1.1.0)
-    (parts_alike (same_alike (optional json_time_faults) _ _ m.1.1.1.1.1.1.1.0)
-    (parts_alike (attributes_offend _ _ m.1.1.1.1.1.1.1.1.0)
-    (parts_alike (same_alike (optional json_count_faults) _ _ m.1.1.1.1.1.1.1.1.1.0)
-    (parts_alike (optional_alike events_faults (arrays_agree (objects_agree event_known)) (array_faults_alike event_faults (objects_agree event_known) event_offends) _ _ m.1.1.1.1.1.1.1.1.1.1.0)
-    (parts_alike (same_alike (optional json_count_faults) _ _ m.1.1.1.1.1.1.1.1.1.1.1.0)
-    (parts_alike (optional_alike links_faults (arrays_agree (objects_agree link_known)) (array_faults_alike link_faults (objects_agree link_known) link_offends) _ _ m.1.1.1.1.1.1.1.1.1.1.1.1.0)
-    (parts_alike (same_alike (optional json_count_faults) _ _ m.1.1.1.1.1.1.1.1.1.1.1.1.1.0)
-    (parts_alike (optional_alike status_faults (objects_agree status_known) status_offends _ _ m.1.1.1.1.1.1.1.1.1.1.1.1.1.1.0)
-    (parts_alike (same_alike (optional json_count_faults) _ _ m.1.1.1.1.1.1.1.1.1.1.1.1.1.1.1.0) nothing_alike))))))))))))))))
+    by_parts_alike json_span_members v w h.0
+    (parts_alike (same_alike (identified json_trace_offends) _ _ m.0)
+    (parts_alike (same_alike (identified json_span_offends) _ _ m.1.0)
+    (parts_alike (same_alike (optional text_offends) _ _ m.1.1.0)
+    (parts_alike (same_alike (optional span_or_none_offends) _ _ m.1.1.1.0)
+    (parts_alike (same_alike (optional text_offends) _ _ m.1.1.1.1.0)
+    (parts_alike (same_alike (optional (enum_offends 5)) _ _ m.1.1.1.1.1.0)
+    (parts_alike (same_alike (optional json_time_offends) _ _ m.1.1.1.1.1.1.0)
+    (parts_alike (same_alike (optional json_time_offends) _ _ m.1.1.1.1.1.1.1.0)
+    (parts_alike (attributes_offend_alike _ _ m.1.1.1.1.1.1.1.1.0)
+    (parts_alike (same_alike (optional json_count_offends) _ _ m.1.1.1.1.1.1.1.1.1.0)
+    (parts_alike (list_offence_alike event_offends event_known event_offends_alike _ _ m.1.1.1.1.1.1.1.1.1.1.0)
+    (parts_alike (same_alike (optional json_count_offends) _ _ m.1.1.1.1.1.1.1.1.1.1.1.0)
+    (parts_alike (list_offence_alike link_offends link_known link_offends_alike _ _ m.1.1.1.1.1.1.1.1.1.1.1.1.0)
+    (parts_alike (same_alike (optional json_count_offends) _ _ m.1.1.1.1.1.1.1.1.1.1.1.1.1.0)
+    (parts_alike (object_offence_alike status_offends status_known status_offends_alike _ _ m.1.1.1.1.1.1.1.1.1.1.1.1.1.1.0)
+    (parts_alike (same_alike (optional json_count_offends) _ _ m.1.1.1.1.1.1.1.1.1.1.1.1.1.1.1.0) no_parts_alike))))))))))))))))
 
 -- ---- `InstrumentationScope`
 
 instrumentation_turns : AgreesBothWays (objects_agree instrumentation_scope_known)
-instrumentation_turns = objects_turn instrumentation_scope_known (same_turns, (same_turns, (attributes_turn, (same_turns, tt))))
+instrumentation_turns = objects_turn instrumentation_scope_known (same_turns & same_turns & attributes_turn & same_turns & tt)
 
 instrumentation_alike : MeanAlike IsJsonInstrumentationScope (objects_agree instrumentation_scope_known)
 instrumentation_alike v w h s is =
@@ -168,20 +173,21 @@ instrumentation_alike v w h s is =
       dropped = given_same IsJsonCount (λ n. n ≡ 0) _ _ m.1.1.1.0 s.means.dropped is.dropped;
     }
 
-instrumentation_offends : FaultsAlike instrumentation_scope_faults (objects_agree instrumentation_scope_known)
+instrumentation_offends_alike : OffencesAlike instrumentation_scope_offends (objects_agree instrumentation_scope_known)
 unfolding instrumentation_scope_members
-instrumentation_offends v w h =
+instrumentation_offends_alike v w h =
     let m = h.1 in
-    object_faults_alike (instrumentation_scope_members v) (instrumentation_scope_members w) (as_object v) (as_object w) h.0
-    (parts_alike (same_alike (optional text_faults) _ _ m.0)
-    (parts_alike (same_alike (optional text_faults) _ _ m.1.0)
-    (parts_alike (attributes_offend _ _ m.1.1.0)
-    (parts_alike (same_alike (optional json_count_faults) _ _ m.1.1.1.0) nothing_alike))))
+    by_parts_alike instrumentation_scope_members v w h.0
+    (parts_alike (same_alike (optional text_offends) _ _ m.0)
+    (parts_alike (same_alike (optional text_offends) _ _ m.1.0)
+    (parts_alike (attributes_offend_alike _ _ m.1.1.0)
+    (parts_alike (same_alike (optional json_count_offends) _ _ m.1.1.1.0) no_parts_alike))))
 
 -- ---- `ScopeSpans`
 
 scope_turns : AgreesBothWays (objects_agree scope_known)
-scope_turns = objects_turn scope_known (instrumentation_turns, (arrays_turn (objects_agree otlp_span_known) span_turns, (same_turns, tt)))
+scope_turns =
+    objects_turn scope_known (instrumentation_turns & arrays_turn (objects_agree otlp_span_known) span_turns & same_turns & tt)
 
 scope_alike : MeanAlike IsJsonScope (objects_agree scope_known)
 scope_alike v w h s is =
@@ -192,24 +198,26 @@ scope_alike v w h s is =
       spans = is.spans;
       url = is.url;
       scope = is.scope;
-      its_instrumentation = given_alike IsJsonInstrumentationScope (λ i. i ≡ no_instrumentation_scope) (objects_agree instrumentation_scope_known) instrumentation_alike _ _ m.0 is.instrumentation is.its_instrumentation;
-      each_span = given_alike AreJsonSpans (λ xs. xs ≡ []) (arrays_agree (objects_agree otlp_span_known)) (array_alike IsJsonSpan (objects_agree otlp_span_known) span_alike) _ _ m.1.0 is.spans is.each_span;
+      its_instrumentation =
+          object_alike IsJsonInstrumentationScope instrumentation_scope_known instrumentation_alike _ _ m.0
+          no_instrumentation_scope is.instrumentation is.its_instrumentation;
+      each_span = list_alike IsJsonSpan otlp_span_known span_alike _ _ m.1.0 is.spans is.each_span;
       its_url = given_same IsText (λ text. text ≡ []) _ _ m.1.1.0 is.url is.its_url;
     }
 
-scope_offends : FaultsAlike scope_faults (objects_agree scope_known)
+scope_offends_alike : OffencesAlike scope_offends (objects_agree scope_known)
 unfolding scope_members
-scope_offends v w h =
+scope_offends_alike v w h =
     let m = h.1 in
-    object_faults_alike (scope_members v) (scope_members w) (as_object v) (as_object w) h.0
-    (parts_alike (optional_alike instrumentation_scope_faults (objects_agree instrumentation_scope_known) instrumentation_offends _ _ m.0)
-    (parts_alike (optional_alike otlp_spans_faults (arrays_agree (objects_agree otlp_span_known)) (array_faults_alike otlp_span_faults (objects_agree otlp_span_known) span_offends) _ _ m.1.0)
-    (parts_alike (same_alike (optional text_faults) _ _ m.1.1.0) nothing_alike)))
+    by_parts_alike scope_members v w h.0
+    (parts_alike (object_offence_alike instrumentation_scope_offends instrumentation_scope_known instrumentation_offends_alike _ _ m.0)
+    (parts_alike (list_offence_alike otlp_span_offends otlp_span_known span_offends_alike _ _ m.1.0)
+    (parts_alike (same_alike (optional text_offends) _ _ m.1.1.0) no_parts_alike)))
 
 -- ---- `Resource`
 
 resource_turns : AgreesBothWays (objects_agree resource_known)
-resource_turns = objects_turn resource_known (attributes_turn, (same_turns, tt))
+resource_turns = objects_turn resource_known (attributes_turn & same_turns & tt)
 
 resource_alike : MeanAlike IsJsonResource (objects_agree resource_known)
 resource_alike v w h r is =
@@ -220,18 +228,18 @@ resource_alike v w h r is =
       dropped = given_same IsJsonCount (λ n. n ≡ 0) _ _ m.1.0 r.means.dropped is.dropped;
     }
 
-resource_offends : FaultsAlike resource_faults (objects_agree resource_known)
+resource_offends_alike : OffencesAlike resource_offends (objects_agree resource_known)
 unfolding resource_members
-resource_offends v w h =
+resource_offends_alike v w h =
     let m = h.1 in
-    object_faults_alike (resource_members v) (resource_members w) (as_object v) (as_object w) h.0
-    (parts_alike (attributes_offend _ _ m.0)
-    (parts_alike (same_alike (optional json_count_faults) _ _ m.1.0) nothing_alike))
+    by_parts_alike resource_members v w h.0
+    (parts_alike (attributes_offend_alike _ _ m.0)
+    (parts_alike (same_alike (optional json_count_offends) _ _ m.1.0) no_parts_alike))
 
 -- ---- `ResourceSpans`
 
 group_turns : AgreesBothWays (objects_agree group_known)
-group_turns = objects_turn group_known (resource_turns, (arrays_turn (objects_agree scope_known) scope_turns, (same_turns, tt)))
+group_turns = objects_turn group_known (resource_turns & arrays_turn (objects_agree scope_known) scope_turns & same_turns & tt)
 
 group_alike : MeanAlike IsJsonGroup (objects_agree group_known)
 group_alike v w h g is =
@@ -242,19 +250,19 @@ group_alike v w h g is =
       scopes = is.scopes;
       url = is.url;
       group = is.group;
-      its_resource = given_alike IsJsonResource (λ r. r ≡ no_resource) (objects_agree resource_known) resource_alike _ _ m.0 is.resource is.its_resource;
-      each_scope = given_alike AreJsonScopes (λ xs. xs ≡ []) (arrays_agree (objects_agree scope_known)) (array_alike IsJsonScope (objects_agree scope_known) scope_alike) _ _ m.1.0 is.scopes is.each_scope;
+      its_resource = object_alike IsJsonResource resource_known resource_alike _ _ m.0 no_resource is.resource is.its_resource;
+      each_scope = list_alike IsJsonScope scope_known scope_alike _ _ m.1.0 is.scopes is.each_scope;
       its_url = given_same IsText (λ text. text ≡ []) _ _ m.1.1.0 is.url is.its_url;
     }
 
-group_offends : FaultsAlike group_faults (objects_agree group_known)
+group_offends_alike : OffencesAlike group_offends (objects_agree group_known)
 unfolding group_members
-group_offends v w h =
+group_offends_alike v w h =
     let m = h.1 in
-    object_faults_alike (group_members v) (group_members w) (as_object v) (as_object w) h.0
-    (parts_alike (optional_alike resource_faults (objects_agree resource_known) resource_offends _ _ m.0)
-    (parts_alike (optional_alike scopes_faults (arrays_agree (objects_agree scope_known)) (array_faults_alike scope_faults (objects_agree scope_known) scope_offends) _ _ m.1.0)
-    (parts_alike (same_alike (optional text_faults) _ _ m.1.1.0) nothing_alike)))
+    by_parts_alike group_members v w h.0
+    (parts_alike (object_offence_alike resource_offends resource_known resource_offends_alike _ _ m.0)
+    (parts_alike (list_offence_alike scope_offends scope_known scope_offends_alike _ _ m.1.0)
+    (parts_alike (same_alike (optional text_offends) _ _ m.1.1.0) no_parts_alike)))
 
 -- ---- the whole text
 
@@ -263,21 +271,22 @@ remarked_alike v w h g is = group_alike v w h (record { means = g.0; notes = g.1
 
 groups_turn : AgreesBothWays groups_agree
 groups_turn v w h =
-    objects_turn ((codes "resourceSpans", arrays_agree (objects_agree group_known)) ∷ []) (arrays_turn (objects_agree group_known) group_turns, tt) v w h
+    objects_turn ((codes "resourceSpans", arrays_agree (objects_agree group_known)) ∷ [])
+    (arrays_turn (objects_agree group_known) group_turns, tt) v w h
 
 groups_alike : MeanAlike AreJsonGroups groups_agree
 groups_alike v w h groups is = record {
   shape = sym h.0 ∙ is.shape;
-  each = given_alike AreRemarkedGroups (λ xs. xs ≡ []) (arrays_agree (objects_agree group_known)) (array_alike IsRemarkedGroup (objects_agree group_known) remarked_alike) _ _ h.1.0 groups is.each;
+  each = list_alike IsRemarkedGroup group_known remarked_alike _ _ h.1.0 groups is.each;
 }
 
-groups_offend : FaultsAlike json_groups_faults groups_agree
-groups_offend v w h =
-    object_faults_alike _ _ (as_object v) (as_object w) h.0
-    (optional_alike groups_faults (arrays_agree (objects_agree group_known)) (array_faults_alike group_faults (objects_agree group_known) group_offends) _ _ h.1.0)
+groups_offend_alike : OffencesAlike json_groups_offend groups_agree
+groups_offend_alike v w h =
+    object_offends_alike _ _ (as_object v) (as_object w) h.0
+    (list_offence_alike group_offends group_known group_offends_alike _ _ h.1.0)
 
 pub free_members : FreeGroupMembers
 free_members = record {
   means = λ v w h groups. (groups_alike v w h groups, groups_alike w v (groups_turn v w h) groups);
-  offends = λ v w h path number. (groups_offend v w h path number, groups_offend w v (groups_turn v w h) path number);
+  offends = λ v w h path number. (groups_offend_alike v w h path number, groups_offend_alike w v (groups_turn v w h) path number);
 }

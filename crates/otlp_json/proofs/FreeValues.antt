@@ -3,17 +3,17 @@ use Rattle.std.proofs.Common.{◌≡◌, ℕ, zero, suc, List, [], ◌∷◌, �
 use Rattle.std.specs.List.{AllZip}
 use Rattle.serde_json.specs.Data.{Data}
 use Rattle.serde_json.specs.Find.{as_array, as_object}
-use Rattle.span_io.specs.Paths.{Faults, optional}
+use Rattle.span_io.specs.Paths.{Offences, optional}
 use Rattle.trace_model.specs.Remarks.{Keys}
 use Rattle.trace_model.specs.declared.value.Value.{Value}
 use Rattle.trace_model.specs.declared.value.Value.TheVariants as values
 use Rattle.trace_model.specs.OtlpParts.{NotedValue, leaf, KeyValue, levels_below}
 use Rattle.json_members.specs.Agreement.{Agreement, same, both_or_neither, objects_agree, arrays_agree}
-use Rattle.json_members.specs.AgreementLaws.{AgreesBothWays, same_turns, objects_turn, arrays_turn, MeanAlike, given_alike, given_same, array_alike, OffendAlike, FaultsAlike, nothing_alike, parts_alike, same_alike, optional_alike, each_alike, valued_alike, array_faults_alike, object_faults_alike}
-use Rattle.json_members.specs.Members.{elements, IsText, text_faults}
-use Rattle.otlp_json.specs.Attributes.{AreJsonAttributes, AreJsonPairs, pairs_faults}
+use Rattle.json_members.specs.laws.AgreementLaws.{AgreesBothWays, same_turns, objects_turn, arrays_turn, MeanAlike, given_alike, given_same, array_alike, OffendAlike, OffencesAlike, nothing_alike, two_alike, no_parts_alike, parts_alike, same_alike, optional_alike, each_alike, valued_alike, array_offends_alike, object_offends_alike, by_parts_alike}
+use Rattle.json_members.specs.Members.{elements, IsText, text_offends, AreHeld}
+use Rattle.otlp_json.specs.Attributes.{AreJsonAttributes, AreJsonPairs, pairs_offend}
 use Rattle.otlp_json.specs.Known.{many_known, value_known, key_value_known, inner_values_agree, inner_pairs_agree, values_agree, attributes_agree}
-use Rattle.otlp_json.specs.Values.{JsonMember, string_member, bool_member, int_member, double_member, array_member, kvlist_member, bytes_member, standing, standing_members, AreHeld, MeansJsonMember, MeansStanding, IsJsonValue, IsJsonKeyValue, json_value_in, json_key_value_in, json_value_at, json_key_value_at, behind, values_faults, held_faults, many_members, many_faults, json_member_faults, standing_faults, any_value_faults, key_value_members, key_value_faults, json_value_offends, json_key_value_offends, json_value_faults, json_key_value_faults}
+use Rattle.otlp_json.specs.Values.{JsonMember, string_member, bool_member, int_member, double_member, array_member, kvlist_member, bytes_member, standing, standing_members, MeansJsonMember, MeansStanding, IsJsonValue, IsJsonKeyValue, json_value_in, json_key_value_in, json_value_at, json_key_value_at, behind, values_offend, held_offends, many_members, many_offend, json_member_offends, standing_offend, any_value_offends, key_value_members, key_value_offends, inner_value_offends, inner_pair_offends, json_value_offends, json_key_value_offends}
 
 -- ---- both ways round
 
@@ -158,78 +158,78 @@ attributes_alike attributes keys o p h is = record {
 
 -- ---- what offends in them
 
-behind_offends : (before : ℕ) (First Second : Faults) → OffendAlike First Second → OffendAlike (behind before First) (behind before Second)
-behind_offends zero First Second alike = parts_alike alike nothing_alike
-behind_offends (suc before) First Second alike = parts_alike nothing_alike (behind_offends before First Second alike)
+offends_behind_alike : (before : ℕ) (First Second : Offences) → OffendAlike First Second → OffendAlike (behind before First) (behind before Second)
+offends_behind_alike zero First Second alike = two_alike alike nothing_alike
+offends_behind_alike (suc before) First Second alike = two_alike nothing_alike (offends_behind_alike before First Second alike)
 
-values_faults_alike : (left : ℕ) (Offends : Data → Faults) (Agree : Agreement) → FaultsAlike Offends Agree
-    → (ds es : List Data) → AllZip Agree ds es → OffendAlike (values_faults left Offends ds) (values_faults left Offends es)
-values_faults_alike zero Offends Agree alike [] [] h = nothing_alike
-values_faults_alike zero Offends Agree alike [] (e ∷ es) h = absurd h
-values_faults_alike zero Offends Agree alike (d ∷ ds) [] h = absurd h
-values_faults_alike zero Offends Agree alike (d ∷ ds) (e ∷ es) h = λ path number offends. offends
-values_faults_alike (suc left) Offends Agree alike ds es h = each_alike Offends Agree alike ds es h
+values_offend_alike : (left : ℕ) (Offends : Data → Offences) (Agree : Agreement) → OffencesAlike Offends Agree
+    → (ds es : List Data) → AllZip Agree ds es → OffendAlike (values_offend left Offends ds) (values_offend left Offends es)
+values_offend_alike zero Offends Agree alike [] [] h = nothing_alike
+values_offend_alike zero Offends Agree alike [] (e ∷ es) h = absurd h
+values_offend_alike zero Offends Agree alike (d ∷ ds) [] h = absurd h
+values_offend_alike zero Offends Agree alike (d ∷ ds) (e ∷ es) h = λ path number offends. offends
+values_offend_alike (suc left) Offends Agree alike ds es h = each_alike Offends Agree alike ds es h
 
-many_faults_alike : (left : ℕ) (Offends : Data → Faults) (Agree : Agreement) → FaultsAlike Offends Agree → FaultsAlike (many_faults left Offends) (objects_agree (many_known Agree))
+many_offend_alike : (left : ℕ) (Offends : Data → Offences) (Agree : Agreement) → OffencesAlike Offends Agree → OffencesAlike (many_offend left Offends) (objects_agree (many_known Agree))
 unfolding many_members
-many_faults_alike left Offends Agree alike v w h =
-    object_faults_alike (many_members left Offends v) (many_members left Offends w) (as_object v) (as_object w) h.0
-    (parts_alike (optional_alike (held_faults left Offends) (arrays_agree Agree) held _ _ h.1.0) nothing_alike)
+many_offend_alike left Offends Agree alike v w h =
+    by_parts_alike (many_members left Offends) v w h.0
+    (parts_alike (optional_alike (held_offends left Offends) (arrays_agree Agree) held _ _ h.1.0) no_parts_alike)
   where
-    held : FaultsAlike (held_faults left Offends) (arrays_agree Agree)
+    held : OffencesAlike (held_offends left Offends) (arrays_agree Agree)
     held d e k =
-        valued_alike (λ ds. values_faults left Offends (elements ds)) (λ ds es. AllZip Agree (elements ds) (elements es))
-        (λ ds es each. values_faults_alike left Offends Agree alike (elements ds) (elements es) each) (as_array d) (as_array e) k
+        valued_alike (λ ds. values_offend left Offends (elements ds)) (λ ds es. AllZip Agree (elements ds) (elements es))
+        (λ ds es each. values_offend_alike left Offends Agree alike (elements ds) (elements es) each) (as_array d) (as_array e) k
 
-module _ (Lists Maps : Data → Faults) (Inner Pair : Agreement) (lists_alike : FaultsAlike Lists (objects_agree (many_known Inner)))
-    (maps_alike : FaultsAlike Maps (objects_agree (many_known Pair))) where
+module _ (Lists Maps : Data → Offences) (Inner Pair : Agreement) (list_offence_alike : OffencesAlike Lists (objects_agree (many_known Inner)))
+    (maps_alike : OffencesAlike Maps (objects_agree (many_known Pair))) where
   abbrev MemberOffends : MembersAlike
-  MemberOffends m n = OffendAlike (json_member_faults Lists Maps m) (json_member_faults Lists Maps n)
+  MemberOffends m n = OffendAlike (json_member_offends Lists Maps m) (json_member_offends Lists Maps n)
 
-  standing_offends : (ms ns : List JsonMember) → AllZip MemberOffends ms ns → OffendAlike (standing_faults Lists Maps ms) (standing_faults Lists Maps ns)
-  standing_offends [] [] h = nothing_alike
-  standing_offends [] (n ∷ ns) h = absurd h
-  standing_offends (m ∷ []) [] h = absurd h
-  standing_offends (m ∷ []) (n ∷ []) h = h.0
-  standing_offends (m ∷ []) (n ∷ k ∷ ns) h = absurd h.1
-  standing_offends (m ∷ l ∷ ms) [] h = absurd h
-  standing_offends (m ∷ l ∷ ms) (n ∷ []) h = absurd h.1
-  standing_offends (m ∷ l ∷ ms) (n ∷ k ∷ ns) h = λ path number offends. offends
+  standing_offend_alike : (ms ns : List JsonMember) → AllZip MemberOffends ms ns → OffendAlike (standing_offend Lists Maps ms) (standing_offend Lists Maps ns)
+  standing_offend_alike [] [] h = nothing_alike
+  standing_offend_alike [] (n ∷ ns) h = absurd h
+  standing_offend_alike (m ∷ []) [] h = absurd h
+  standing_offend_alike (m ∷ []) (n ∷ []) h = h.0
+  standing_offend_alike (m ∷ []) (n ∷ k ∷ ns) h = absurd h.1
+  standing_offend_alike (m ∷ l ∷ ms) [] h = absurd h
+  standing_offend_alike (m ∷ l ∷ ms) (n ∷ []) h = absurd h.1
+  standing_offend_alike (m ∷ l ∷ ms) (n ∷ k ∷ ns) h = λ path number offends. offends
 
-  any_value_faults_alike : FaultsAlike (any_value_faults Lists Maps) (objects_agree (value_known Inner Pair))
-  any_value_faults_alike v w h =
-      object_faults_alike (standing_faults Lists Maps (standing_members v)) (standing_faults Lists Maps (standing_members w)) (as_object v) (as_object w) h.0
-      (standing_offends (standing_members v) (standing_members w)
+  any_value_offends_alike : OffencesAlike (any_value_offends Lists Maps) (objects_agree (value_known Inner Pair))
+  any_value_offends_alike v w h =
+      object_offends_alike (standing_offend Lists Maps (standing_members v)) (standing_offend Lists Maps (standing_members w)) (as_object v) (as_object w) h.0
+      (standing_offend_alike (standing_members v) (standing_members w)
       (all_alike MemberOffends (λ named d path number offends. offends) Inner Pair
-      (λ d e k. behind_offends 4 (Lists d) (Lists e) (lists_alike d e k)) (λ d e k. behind_offends 5 (Maps d) (Maps e) (maps_alike d e k)) v w h))
+      (λ d e k. offends_behind_alike 4 (Lists d) (Lists e) (list_offence_alike d e k)) (λ d e k. offends_behind_alike 5 (Maps d) (Maps e) (maps_alike d e k)) v w h))
 
-key_value_faults_alike : (Offends : Data → Faults) (Agree : Agreement) → FaultsAlike Offends Agree → FaultsAlike (key_value_faults Offends) (objects_agree (key_value_known Agree))
+key_value_offends_alike : (Offends : Data → Offences) (Agree : Agreement) → OffencesAlike Offends Agree → OffencesAlike (key_value_offends Offends) (objects_agree (key_value_known Agree))
 unfolding key_value_members
-key_value_faults_alike Offends Agree alike v w h =
-    object_faults_alike (key_value_members Offends v) (key_value_members Offends w) (as_object v) (as_object w) h.0
-    (parts_alike (same_alike (optional text_faults) _ _ h.1.0) (parts_alike (optional_alike Offends Agree alike _ _ h.1.1.0) nothing_alike))
+key_value_offends_alike Offends Agree alike v w h =
+    by_parts_alike (key_value_members Offends) v w h.0
+    (parts_alike (same_alike (optional text_offends) _ _ h.1.0) (parts_alike (optional_alike Offends Agree alike _ _ h.1.1.0) no_parts_alike))
 
-values_offend_by : (left : ℕ) → FaultsAlike (json_value_offends left) (inner_values_agree left) → FaultsAlike (json_key_value_offends left) (inner_pairs_agree left)
-    → FaultsAlike (json_value_faults left) (values_agree left)
-values_offend_by left values pairs =
-    any_value_faults_alike (many_faults left (json_value_offends left)) (many_faults left (json_key_value_offends left)) (inner_values_agree left) (inner_pairs_agree left)
-    (many_faults_alike left (json_value_offends left) (inner_values_agree left) values) (many_faults_alike left (json_key_value_offends left) (inner_pairs_agree left) pairs)
+value_offends_by : (left : ℕ) → OffencesAlike (inner_value_offends left) (inner_values_agree left) → OffencesAlike (inner_pair_offends left) (inner_pairs_agree left)
+    → OffencesAlike (json_value_offends left) (values_agree left)
+value_offends_by left values pairs =
+    any_value_offends_alike (many_offend left (inner_value_offends left)) (many_offend left (inner_pair_offends left)) (inner_values_agree left) (inner_pairs_agree left)
+    (many_offend_alike left (inner_value_offends left) (inner_values_agree left) values) (many_offend_alike left (inner_pair_offends left) (inner_pairs_agree left) pairs)
 
 mutual
-  unfolding json_value_offends json_key_value_offends inner_values_agree inner_pairs_agree
+  unfolding inner_value_offends inner_pair_offends inner_values_agree inner_pairs_agree
 
-  inner_values_offend : (left : ℕ) → FaultsAlike (json_value_offends left) (inner_values_agree left)
-  inner_values_offend zero v w h = nothing_alike
-  inner_values_offend (suc left) v w h = values_offend_by left (inner_values_offend left) (inner_pairs_offend left) v w h
+  inner_values_offend_alike : (left : ℕ) → OffencesAlike (inner_value_offends left) (inner_values_agree left)
+  inner_values_offend_alike zero v w h = nothing_alike
+  inner_values_offend_alike (suc left) v w h = value_offends_by left (inner_values_offend_alike left) (inner_pairs_offend_alike left) v w h
 
-  inner_pairs_offend : (left : ℕ) → FaultsAlike (json_key_value_offends left) (inner_pairs_agree left)
-  inner_pairs_offend zero v w h = nothing_alike
-  inner_pairs_offend (suc left) v w h =
-      key_value_faults_alike (json_value_faults left) (values_agree left) (values_offend_by left (inner_values_offend left) (inner_pairs_offend left)) v w h
+  inner_pairs_offend_alike : (left : ℕ) → OffencesAlike (inner_pair_offends left) (inner_pairs_agree left)
+  inner_pairs_offend_alike zero v w h = nothing_alike
+  inner_pairs_offend_alike (suc left) v w h =
+      key_value_offends_alike (json_value_offends left) (values_agree left) (value_offends_by left (inner_values_offend_alike left) (inner_pairs_offend_alike left)) v w h
 
-pub attributes_offend : (o p : Option Data) → both_or_neither attributes_agree o p → OffendAlike (optional pairs_faults o) (optional pairs_faults p)
-attributes_offend o p h =
-    optional_alike pairs_faults attributes_agree
-    (array_faults_alike (json_key_value_faults levels_below) (objects_agree (key_value_known (values_agree levels_below)))
-    (key_value_faults_alike (json_value_faults levels_below) (values_agree levels_below)
-    (values_offend_by levels_below (inner_values_offend levels_below) (inner_pairs_offend levels_below)))) o p h
+pub attributes_offend_alike : (o p : Option Data) → both_or_neither attributes_agree o p → OffendAlike (optional pairs_offend o) (optional pairs_offend p)
+attributes_offend_alike o p h =
+    optional_alike pairs_offend attributes_agree
+    (array_offends_alike (json_key_value_offends levels_below) (objects_agree (key_value_known (values_agree levels_below)))
+    (key_value_offends_alike (json_value_offends levels_below) (values_agree levels_below)
+    (value_offends_by levels_below (inner_values_offend_alike levels_below) (inner_pairs_offend_alike levels_below)))) o p h

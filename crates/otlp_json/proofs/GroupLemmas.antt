@@ -1,7 +1,6 @@
 -- A group, as it is made of its parts.
-use Rattle.std.proofs.Common.{◌≡◌, List, ◌++◌, true, is_some, ap, ◌∙◌}
+use Rattle.std.proofs.Common.{◌≡◌, List, ◌++◌, ap, ◌∙◌}
 use Rattle.serde_json.specs.Data.{Data}
-use Rattle.serde_json.specs.Find.{as_object}
 use Rattle.trace_model.specs.Remarks.{equal_keys}
 use Rattle.trace_model.specs.declared.place.Place.TheVariants as places
 use Rattle.trace_model.specs.declared.remark.Remark.{Remark}
@@ -15,9 +14,9 @@ abbrev group_with : GroupParts → List Scope → Group
 group_with p scopes = record { resource = p.resource.attributes; dropped = p.resource.dropped; schema_url = p.schema_url; scopes = scopes }
 
 pub group_found : (p : GroupParts) (remarks : List Remark) → remarks ≡ equal_keys places.Resource p.resource.keys ++ p.scopes.remarks
-    → (d : Data) → is_some (as_object d) ≡ true → AreGroupParts p d → IsRemarkedGroup (group_with p p.scopes.scopes, remarks) d
-group_found p remarks is d shape h = record {
-  shape = shape;
+    → (d : Data) → AreGroupParts p d → IsRemarkedGroup (group_with p p.scopes.scopes, remarks) d
+group_found p remarks is d h = record {
+  shape = h.shape;
   resource = resource_found p.resource;
   its_resource = h.resource;
   scopes = h.scopes.found;

@@ -11,7 +11,7 @@ use Rattle.serde_json.specs.Data.{Data, Items, no_items, item}
 use Rattle.span_io.specs.Paths.{Given}
 use Rattle.trace_model.specs.Attributes.{Rise, keys}
 use Rattle.trace_model.specs.EventTexts.{holds_double}
-use Rattle.trace_model.specs.Laws.{MembersOfValues, MembersOfProperValues, TextsOfValues}
+use Rattle.trace_model.specs.StatedLaws.{MembersOfValues, MembersOfProperValues, TextsOfValues}
 use Rattle.trace_model.specs.OtlpParts.{levels_below, NotedValue, KeyValue, leaf, entry}
 use Rattle.trace_model.specs.Proper.{IsProperValue, IsProperPair, AreProper}
 use Rattle.trace_model.specs.Remarks.{Keys}
@@ -19,14 +19,14 @@ use Rattle.trace_model.specs.Values.{depth, MapsRise, IsSound, AreSound}
 use Rattle.trace_model.specs.ValueTexts.{has_double}
 use Rattle.trace_model.specs.declared.value.Value.{Value}
 use Rattle.trace_model.specs.declared.value.Value.TheVariants as values
-use Rattle.trace_model.specs.PartLaws.{each_in_range}
-use Rattle.trace_model.specs.PartLaws.{Sound, kept_all}
-use Rattle.json_members.specs.Members.{member, elements}
-use Rattle.json_members.specs.SoundLaws.{member_sound, text_sound, given_text, array_sound, Sound as InUtf8, ItemsSound as AllInUtf8}
-use Rattle.json_members.specs.Utf8Laws.{HoldsOf}
+use Rattle.trace_model.specs.laws.PartLaws.{each_in_range}
+use Rattle.trace_model.specs.laws.PartLaws.{Sound, kept_all}
+use Rattle.json_members.specs.Members.{member, elements, AreHeld}
+use Rattle.json_members.specs.laws.SoundLaws.{member_sound, text_sound, given_text, array_sound, Sound as InUtf8, ItemsSound as AllInUtf8}
+use Rattle.json_members.specs.laws.Utf8Laws.{HoldsOf}
 use Rattle.otlp_json.specs.Attributes.{AreJsonAttributes}
 use Rattle.otlp_json.specs.Numbers.{integer_in, unsigned_below, signed_fitting, unsigned_in, signed_in, IsJsonUnsigned, IsJsonSigned}
-use Rattle.otlp_json.specs.Values.{JsonMember, string_member, bool_member, int_member, double_member, array_member, kvlist_member, bytes_member, standing, standing_members, AreHeld, IsJsonList, IsJsonMap, MeansJsonMember, MeansStanding, IsJsonValue, IsJsonKeyValue, json_value_in, json_key_value_in, json_key_value_at}
+use Rattle.otlp_json.specs.Values.{JsonMember, string_member, bool_member, int_member, double_member, array_member, kvlist_member, bytes_member, standing, standing_members, IsJsonList, IsJsonMap, MeansJsonMember, MeansStanding, IsJsonValue, IsJsonKeyValue, json_value_in, json_key_value_in, json_key_value_at}
 
 -- ---- sound, proper and without doubles
 

@@ -5,6 +5,7 @@ pub mod StandingLemmas
 pub mod SingleMembers
 pub mod AttributeLemmas
 pub mod BareGroups
+pub mod Walks
 pub mod CountedLists
 pub mod Examples
 pub mod ListLemmas

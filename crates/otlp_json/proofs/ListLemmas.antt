@@ -1,48 +1,110 @@
 -- Lists of parts, one more element each, and the remarks on them.
-use Rattle.std.proofs.Common.{◌≡◌, ℕ, ◌+◌, ◌<◌, List, [], ◌∷◌, ◌++◌, length, get_or, take, map, true, Some, None, refl, sym, subst}
+use Rattle.std.proofs.Common.{◌≡◌, ℕ, ◌+◌, ◌≤◌, ◌<◌, ◌^◌, List, [], ◌∷◌, ◌++◌, length, true, Option, Some, None, option_map, refl, sym, subst, arith}
 use Rattle.std.specs.List.{AllZip}
 use Rattle.serde_json.specs.Data.{Data}
 use Rattle.serde_json.specs.Find.{as_array}
-use Rattle.serde_json.specs.View.{view, items_view}
-use Rattle.serde_json.specs.declared.value.Value.{Value}
-use Rattle.trace_model.specs.Remarks.{Keys, equal_keys}
+use Rattle.serde_json.specs.View.{items_of}
+use Rattle.span_io.specs.declared.cause.Cause.{Cause}
+use Rattle.span_io.specs.declared.halt.Halt.{Halt}
+use Rattle.span_io.specs.Paths.{Offences, each, NothingOffends, Halts}
+use Rattle.span_io.specs.laws.PathLaws.{clean_nothing, clean_one_more, halts_at}
+use Rattle.trace_model.specs.Remarks.{equal_keys}
 use Rattle.trace_model.specs.declared.place.Place.TheVariants as places
-use Rattle.trace_model.specs.declared.span.Event.{Event}
-use Rattle.trace_model.specs.declared.span.Link.{Link}
-use Rattle.trace_model.specs.Notes.{Noted}
-use Rattle.trace_model.specs.ToldLaws.{event_added, link_left_out, link_added}
-use Rattle.json_members.specs.ElementLaws.{items_viewed, next_seen, reads_on}
-use Rattle.otlp_json.specs.Found.{AreFound, AreGiven, TellsMore, FindsMore, EventsTold, LinksTold}
+use Rattle.trace_model.specs.laws.ToldLaws.{event_added, link_left_out, link_added}
+use Rattle.json_members.specs.Counted.{values_in, values_in_items}
+use Rattle.json_members.specs.laws.ElementLaws.{items_listed, each_more}
+use Rattle.otlp_json.specs.Found.{event_found, link_found, AreFound, AreGiven, FindsMore, EventsTold, LinksTold}
+use Rattle.otlp_json.specs.Span.{IsJsonEvent, IsJsonLink}
 use Rattle.otlp_json.specs.declared.events.FoundEvents.{FoundEvents}
 use Rattle.otlp_json.specs.declared.links.FoundLinks.{FoundLinks}
+use Rattle.otlp_json.specs.declared.noted.FoundEvent.{FoundEvent}
+use Rattle.otlp_json.specs.declared.noted.FoundLink.{FoundLink}
+use Rattle.otlp_json.proofs.CountedLists.{number_fits, number_on}
+use Rattle.otlp_json.proofs.Walks.{Passed, none_passed, all_passed, stands, passed_on}
+
+-- ---- rows
 
 module _ {X V : Type 0} (Is : X → Data → Type 0) (Told : List X → V → Type 0) where
-  pub found_next : (vs : List Value) (i : ℕ) (v : Value) → i < length vs → v ≡ get_or vs i v → (old new : V) (x : X) → AreFound Is Told (map view (take i vs)) old → Is x (view v) → TellsMore Told x old new
-      → AreFound Is Told (map view (take (i + 1) vs)) new
-  found_next vs i v within here old new x h is more = record { found = h.found ++ x ∷ []; each = reads_on vs i v within here Is h.found x h.each is; told = more h.found h.told }
+  -- one more element, told behind the others
+  finds_more : (d : Data) (old new : V) (x : X) → Is x d → ((found : List X) → Told found old → Told (found ++ x ∷ []) new)
+      → FindsMore Is Told d old new
+  finds_more d old new x is more =
+      λ ds h. record { found = h.found ++ x ∷ []; each = each_more Is ds h.found d x h.each is; told = more h.found h.told }
 
-  -- the same where it is read and told in one
-  pub found_on : (vs : List Value) (i : ℕ) (v : Value) → i < length vs → v ≡ get_or vs i v → (old new : V) → AreFound Is Told (map view (take i vs)) old → FindsMore Is Told (view v) old new → AreFound Is Told (map view (take (i + 1) vs)) new
-  found_on vs i v within here old new h more = subst (λ ds. AreFound Is Told ds new) (sym (next_seen vs i v within here)) (more (map view (take i vs)) h)
-
-  pub found_given : (vs : List Value) (d : Data) (rows : V) → Some (items_view vs) ≡ as_array d → AreFound Is Told (map view vs) rows → AreGiven Is Told (Some d) rows
-  found_given vs d rows is h = record {
+  pub found_given : (ds : List Data) (d : Data) (rows : V) → Some (items_of ds) ≡ as_array d → AreFound Is Told ds rows
+      → AreGiven Is Told (Some d) rows
+  found_given ds d rows is h = record {
     found = h.found;
-    each = record { held = items_view vs; shape = sym is; means = subst (λ ds. AllZip (λ y x. Is x y) ds h.found) (sym (items_viewed vs)) h.each };
+    each = record { held = items_of ds; shape = sym is; means = subst (λ es. AllZip (λ y x. Is x y) es h.found) (sym (items_listed ds)) h.each };
     told = h.told;
   }
 
   pub none_given : (rows : V) → Told [] rows → AreGiven Is Told None rows
   none_given rows h = record { found = []; each = refl; told = h }
 
+-- what is found of the elements that were seen, where `next` is the number that comes next
+pub record RowsSoFar {X V : Type 0} (Is : X → Data → Type 0) (Told : List X → V → Type 0) (Offends : Data → Offences) (first next : ℕ) (rows : V)
+    (seen : List Data) : Type 0 where
+  pub read : AreFound Is Told seen rows
+  pub clean : NothingOffends (each Offends seen)
+  pub number : next ≤ first + values_in_items (items_of seen)
+
+module _ {X V : Type 0} (Is : X → Data → Type 0) (Told : List X → V → Type 0) (Offends : Data → Offences) (first : ℕ) (all : List Data) where
+  abbrev pub RowsPassed : ℕ → V → List Data → Type 0
+  RowsPassed next rows left = Passed (RowsSoFar Is Told Offends first next rows) all left
+
+  pub rows_begin : (next : ℕ) (rows : V) → Told [] rows → next ≤ first → RowsPassed next rows all
+  rows_begin next rows told number =
+      none_passed _ all (record { read = record { found = []; each = tt; told = told }; clean = clean_nothing; number = omega (arith, number) })
+
+  module _ (next : ℕ) (rows : V) (left rest : List Data) (d : Data) (step : left ≡ d ∷ rest) (before : RowsPassed next rows left) where
+    split : all ≡ before.seen ++ d ∷ rest
+    split = stands _ all left rest d step before
+
+    pub row_fits : first + values_in_items (items_of all) < 2 ^ 32 → next + values_in d < 2 ^ 32
+    row_fits counted = number_fits all before.seen rest d split first next before.holds.number counted
+
+    pub row_halts : (halt : Halt Cause) → Halts halt (Offends d) → Halts halt (each Offends all)
+    row_halts halt h =
+        subst (λ ds. Halts halt (each Offends ds)) (sym split) (halts_at Offends halt before.seen d rest before.holds.clean h)
+
+    pub row_added : (later : ℕ) (new : V) → FindsMore Is Told d rows new → later ≤ next + values_in d → NothingOffends (Offends d)
+        → RowsPassed later new rest
+    row_added later new more number clean = passed_on _ all left rest d step before _ (record {
+      read = more before.seen before.holds.read;
+      clean = clean_one_more Offends before.seen d before.holds.clean clean;
+      number = number_on all before.seen rest d split first next before.holds.number later number;
+    })
+
+  pub rows_end : (next : ℕ) (rows : V) (left : List Data) → left ≡ [] → RowsPassed next rows left
+      → RowsSoFar Is Told Offends first next rows all
+  rows_end next rows left none before = all_passed _ all left none before
+
+-- ---- events and links
+
 module _ (span : ℕ) where
-  pub event_more : (old new : FoundEvents) (e : Noted Event Keys) (number : ℕ) → number ≡ 1 + length old.events → new.events ≡ old.events ++ e.means ∷ []
-      → new.remarks ≡ old.remarks ++ equal_keys (places.Event span number) e.notes → TellsMore (EventsTold span) e old new
-  event_more old new e number next events remarks = λ found h. event_added span found old.events new.events old.remarks new.remarks e number next events remarks h
+  pub event_more : (old new : FoundEvents) (read : FoundEvent) (d : Data) (number : ℕ) → number ≡ 1 + length old.events
+      → new.events ≡ old.events ++ read.event ∷ []
+      → new.remarks ≡ old.remarks ++ equal_keys (places.Event span number) read.keys → IsJsonEvent (event_found read) d
+      → FindsMore IsJsonEvent (EventsTold span) d old new
+  event_more old new read d number next events remarks is =
+      finds_more IsJsonEvent (EventsTold span) d old new (event_found read) is
+      (λ found h. event_added span found old.events new.events old.remarks new.remarks (event_found read) number next events remarks h)
 
-  pub link_none : (old new : FoundLinks) → new.links ≡ old.links → new.dropped ≡ true → new.remarks ≡ old.remarks → TellsMore (LinksTold span) None old new
-  link_none old new links dropped remarks = λ found h. link_left_out span found old.links new.links old.dropped new.dropped old.remarks new.remarks links dropped remarks h
+  pub link_none : (old new : FoundLinks) (found : Option FoundLink) (d : Data) → found ≡ None → new.links ≡ old.links
+      → new.dropped ≡ true
+      → new.remarks ≡ old.remarks → IsJsonLink (option_map link_found found) d → FindsMore IsJsonLink (LinksTold span) d old new
+  link_none old new found d none links dropped remarks is =
+      finds_more IsJsonLink (LinksTold span) d old new None
+      (subst (λ (o : Option FoundLink). IsJsonLink (option_map link_found o) d) none is)
+      (λ found h. link_left_out span found old.links new.links old.dropped new.dropped old.remarks new.remarks links dropped remarks h)
 
-  pub link_more : (old new : FoundLinks) (link : Noted Link Keys) (number : ℕ) → number ≡ 1 + length old.links → new.links ≡ old.links ++ link.means ∷ []
-      → new.dropped ≡ old.dropped → new.remarks ≡ old.remarks ++ equal_keys (places.Link span number) link.notes → TellsMore (LinksTold span) (Some link) old new
-  link_more old new link number next links dropped remarks = λ found h. link_added span found old.links new.links old.dropped new.dropped old.remarks new.remarks link number next links dropped remarks h
+  pub link_more : (old new : FoundLinks) (found : Option FoundLink) (read : FoundLink) (d : Data) (number : ℕ) → found ≡ Some read
+      → number ≡ 1 + length old.links
+      → new.links ≡ old.links ++ read.link ∷ [] → new.dropped ≡ old.dropped
+      → new.remarks ≡ old.remarks ++ equal_keys (places.Link span number) read.keys
+      → IsJsonLink (option_map link_found found) d → FindsMore IsJsonLink (LinksTold span) d old new
+  link_more old new found read d number some next links dropped remarks is =
+      finds_more IsJsonLink (LinksTold span) d old new (Some (link_found read))
+      (subst (λ (o : Option FoundLink). IsJsonLink (option_map link_found o) d) some is)
+      (λ found h. link_added span found old.links new.links old.dropped new.dropped old.remarks new.remarks (link_found read) number next links dropped remarks h)

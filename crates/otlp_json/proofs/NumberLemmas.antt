@@ -12,12 +12,12 @@ use Rattle.std.specs.Result.{result_ok}
 use Rattle.std.proofs.lemmas.Str.Parse.{IsNumeralModel, numerals_by_value, tells_all_ascii_digits, parse_signed_minus, parse_signed_plain}
 use Rattle.serde_json.specs.Data.{Num, Data, unsigned, negative, float}
 use Rattle.serde_json.specs.Find.{as_number, as_u64, as_i64}
-use Rattle.json_members.specs.ChoiceLaws.{either_side}
+use Rattle.json_members.specs.laws.ChoiceLaws.{either_side}
 use Rattle.span_io.specs.declared.cause.Cause.TheVariants as causes
 use Rattle.span_io.specs.Causes.{cause_number}
 use Rattle.span_io.specs.Paths.{valued, NothingOffends, Counts}
-use Rattle.span_io.specs.PathLaws.{clean_here, counts_here, counts_only}
-use Rattle.otlp_json.specs.Numbers.{numeral, integer_in_text, integer_in, unsigned_below, signed_fitting, unsigned_in, signed_in, enum_number_faults, enum_faults}
+use Rattle.span_io.specs.laws.PathLaws.{clean_here, counts_here, counts_only}
+use Rattle.otlp_json.specs.Numbers.{numeral, integer_in_text, integer_in, unsigned_below, signed_fitting, unsigned_in, signed_in, enum_number_offends, enum_offends}
 
 -- ---- digits
 
@@ -185,42 +185,42 @@ module _ (d : Data) where
 -- ---- enums
 
 module _ (last : ℕ) where
-  enum_negative_in : (o : Option Num) → None ≡ option_and_then as_u64 o → is_some (option_and_then as_i64 o) ≡ true → Counts (valued (enum_number_faults last) o) (cause_number causes.BadEnum)
+  enum_negative_in : (o : Option Num) → None ≡ option_and_then as_u64 o → is_some (option_and_then as_i64 o) ≡ true → Counts (valued (enum_number_offends last) o) (cause_number causes.BadEnum)
   enum_negative_in None none some = cc
   enum_negative_in (Some (unsigned n)) none some = cc
   enum_negative_in (Some (negative z)) none some = counts_only 13
   enum_negative_in (Some (float x)) none some = cc
 
-  enum_other_in : (o : Option Num) → None ≡ option_and_then as_u64 o → is_some (option_and_then as_i64 o) ≡ false → Counts (valued (enum_number_faults last) o) (cause_number causes.BadShape)
+  enum_other_in : (o : Option Num) → None ≡ option_and_then as_u64 o → is_some (option_and_then as_i64 o) ≡ false → Counts (valued (enum_number_offends last) o) (cause_number causes.BadShape)
   enum_other_in None none some = counts_only 11
   enum_other_in (Some (unsigned n)) none some = cc
   enum_other_in (Some (negative z)) none some = cc
   enum_other_in (Some (float x)) none some = counts_only 11
 
-  enum_beyond_in : (o : Option Num) (n : ℕ) → Some n ≡ option_and_then as_u64 o → last < n → Counts (valued (enum_number_faults last) o) (cause_number causes.BadEnum)
+  enum_beyond_in : (o : Option Num) (n : ℕ) → Some n ≡ option_and_then as_u64 o → last < n → Counts (valued (enum_number_offends last) o) (cause_number causes.BadEnum)
   enum_beyond_in None n is beyond = cc
   enum_beyond_in (Some (unsigned m)) n is beyond =
       let e : n ≡ m = cc in counts_here _ 13 (refl, omega arith) (λ k h. let i = h.0 in omega arith)
   enum_beyond_in (Some (negative z)) n is beyond = cc
   enum_beyond_in (Some (float x)) n is beyond = cc
 
-  enum_clean_in : (o : Option Num) (n : ℕ) → Some n ≡ option_and_then as_u64 o → n ≤ last → NothingOffends (valued (enum_number_faults last) o)
+  enum_clean_in : (o : Option Num) (n : ℕ) → Some n ≡ option_and_then as_u64 o → n ≤ last → NothingOffends (valued (enum_number_offends last) o)
   enum_clean_in None n is within = cc
   enum_clean_in (Some (unsigned m)) n is within =
       let e : n ≡ m = cc in clean_here _ (λ k h. let i = h.1 in omega arith)
   enum_clean_in (Some (negative z)) n is within = cc
   enum_clean_in (Some (float x)) n is within = cc
 
-  pub enum_negative : (d : Data) → None ≡ option_and_then as_u64 (as_number d) → is_some (option_and_then as_i64 (as_number d)) ≡ true → Counts (enum_faults last d) (cause_number causes.BadEnum)
+  pub enum_negative : (d : Data) → None ≡ option_and_then as_u64 (as_number d) → is_some (option_and_then as_i64 (as_number d)) ≡ true → Counts (enum_offends last d) (cause_number causes.BadEnum)
   enum_negative d = enum_negative_in (as_number d)
 
-  pub enum_other : (d : Data) → None ≡ option_and_then as_u64 (as_number d) → is_some (option_and_then as_i64 (as_number d)) ≡ false → Counts (enum_faults last d) (cause_number causes.BadShape)
+  pub enum_other : (d : Data) → None ≡ option_and_then as_u64 (as_number d) → is_some (option_and_then as_i64 (as_number d)) ≡ false → Counts (enum_offends last d) (cause_number causes.BadShape)
   enum_other d = enum_other_in (as_number d)
 
-  pub enum_beyond : (d : Data) (n : ℕ) → Some n ≡ option_and_then as_u64 (as_number d) → last < n → Counts (enum_faults last d) (cause_number causes.BadEnum)
+  pub enum_beyond : (d : Data) (n : ℕ) → Some n ≡ option_and_then as_u64 (as_number d) → last < n → Counts (enum_offends last d) (cause_number causes.BadEnum)
   enum_beyond d = enum_beyond_in (as_number d)
 
-  pub enum_clean : (d : Data) (n : ℕ) → Some n ≡ option_and_then as_u64 (as_number d) → n ≤ last → NothingOffends (enum_faults last d)
+  pub enum_clean : (d : Data) (n : ℕ) → Some n ≡ option_and_then as_u64 (as_number d) → n ≤ last → NothingOffends (enum_offends last d)
   enum_clean d = enum_clean_in (as_number d)
 
 pub ruleset enums = (enum_negative, enum_other, enum_beyond, enum_clean)

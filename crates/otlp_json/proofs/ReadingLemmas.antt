@@ -2,27 +2,27 @@
 use Rattle.std.proofs.Common.{◌≡◌, ℕ, List, None, Result, Ok, Err, subst, IfOk, IsUtf8}
 use Rattle.std.specs.List.{All}
 use Rattle.serde_json.specs.Data.{Data}
-use Rattle.serde_json.specs.Errors.{IsMemory}
 use Rattle.serde_json.specs.Read.{read}
-use Rattle.serde_json.specs.declared.error.Error.{Error}
+use Rattle.json_nodes.specs.declared.unread.Unread.{Unread}
+use Rattle.json_nodes.specs.declared.unread.Unread.TheVariants as whys
 use Rattle.span_io.specs.Causes.{cause_number}
 use Rattle.span_io.specs.Offences.{OnlyReads}
 use Rattle.span_io.specs.Paths.{JudgesInput}
 use Rattle.span_io.specs.declared.halt.Halt.{Halt}
 use Rattle.span_io.specs.declared.halt.Halt.TheVariants as halts
 use Rattle.span_io.specs.declared.refusal.Refusal.{Refusal}
-use Rattle.json_members.specs.ReadingLaws.{same_value, no_value}
+use Rattle.json_members.specs.laws.ReadingLaws.{same_value, no_value}
 use Rattle.json_members.specs.Texts.{IsJsonText, IsUnread}
-use Rattle.otlp_json.specs.Group.{RemarkedGroup, AreJsonGroups, json_groups_faults}
+use Rattle.otlp_json.specs.Group.{RemarkedGroup, AreJsonGroups, json_groups_offend}
 use Rattle.otlp_json.specs.Held.{IsHeldByJson}
-use Rattle.otlp_json.specs.Laws.{OneJsonGroups, ReadsHeldGroups}
+use Rattle.otlp_json.specs.StatedLaws.{OneJsonGroups, ReadsHeldGroups}
 use Rattle.otlp_json.specs.Texts.{AreGroupsText}
 
 abbrev Answer : Type 0
 Answer = Result (List RemarkedGroup) (Halt Refusal)
 
 -- a value that stands for groups gives them alone
-pub only_groups : OneJsonGroups → (d : Data) (answer : Answer) → IfOk answer (λ groups. AreJsonGroups groups d) → JudgesInput answer (json_groups_faults d)
+pub only_groups : OneJsonGroups → (d : Data) (answer : Answer) → IfOk answer (λ groups. AreJsonGroups groups d) → JudgesInput answer (json_groups_offend d)
     → (groups : List RemarkedGroup) → AreJsonGroups groups d → OnlyReads answer groups
 only_groups laws d (Ok found) value judged groups is = laws.once d found groups value is
 only_groups laws d (Err (halts.Why refusal)) value judged groups is = (laws.fine d groups is).none judged.path (cause_number refusal.cause) judged.is_least.offence
@@ -48,9 +48,9 @@ module _ (bytes : List ℕ) (never : (d : Data) → ¬ IsJsonText d bytes) where
   no_groups : (groups : List RemarkedGroup) → ¬ AreGroupsText groups bytes
   no_groups groups h = never h.value h.is_text
 
--- ---- what is answered where `serde_json` gave no value
+-- ---- what is answered where they gave no nodes
 
-module _ (bytes : List ℕ) (error : Error) (none : ¬ IsMemory error → IsUtf8 bytes → read bytes ≡ None) where
-  pub unread_only : (halt : Halt Refusal) → IsUnread error halt → (groups : List RemarkedGroup) → AreGroupsText groups bytes → OnlyReads {T = List RemarkedGroup} {E = Refusal} (Err halt) groups
+module _ (bytes : List ℕ) (why : Unread) (none : why ≡ whys.BadJson → IsUtf8 bytes → read bytes ≡ None) where
+  pub unread_only : (halt : Halt Refusal) → IsUnread why halt → (groups : List RemarkedGroup) → AreGroupsText groups bytes → OnlyReads {T = List RemarkedGroup} {E = Refusal} (Err halt) groups
   unread_only (halts.Why refusal) h groups is = no_groups bytes (no_value bytes (none h.0)) groups is
   unread_only halts.OutOfMemory h groups is = tt

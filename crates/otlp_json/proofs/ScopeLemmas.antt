@@ -1,7 +1,6 @@
 -- A scope, as it is made of its parts, and scopes one after the other.
-use Rattle.std.proofs.Common.{◌≡◌, ℕ, ◌+◌, List, [], ◌∷◌, ◌++◌, length, map, true, is_some, refl, ap, ◌∙◌}
+use Rattle.std.proofs.Common.{◌≡◌, ℕ, ◌+◌, List, [], ◌∷◌, ◌++◌, length, map, refl, ap, ◌∙◌}
 use Rattle.serde_json.specs.Data.{Data}
-use Rattle.serde_json.specs.Find.{as_object}
 use Rattle.trace_model.specs.GroupRemarks.{scopes_remarks}
 use Rattle.trace_model.specs.Notes.{Noted, ScopeNotes}
 use Rattle.trace_model.specs.Remarks.{equal_keys}
@@ -9,8 +8,8 @@ use Rattle.trace_model.specs.declared.place.Place.TheVariants as places
 use Rattle.trace_model.specs.declared.remark.Remark.{Remark}
 use Rattle.trace_model.specs.declared.span.Span.{Span}
 use Rattle.trace_model.specs.declared.trace.Scope.{Scope}
-use Rattle.trace_model.specs.ToldLaws.{spans_all_noted, scope_added}
-use Rattle.json_members.specs.ElementLaws.{each_more}
+use Rattle.trace_model.specs.laws.ToldLaws.{spans_all_noted, scope_added}
+use Rattle.json_members.specs.laws.ElementLaws.{each_more}
 use Rattle.otlp_json.specs.Found.{instrumentation_found, AreScopeParts, IsScopeFound, AreFound, ScopesTold}
 use Rattle.otlp_json.specs.Group.{IsJsonScope}
 use Rattle.otlp_json.specs.declared.noted.FoundScope.{FoundScope}
@@ -28,11 +27,12 @@ scope_with p spans = record {
 }
 
 pub scope_found : (number : ℕ) (p : ScopeParts) (remarks : List Remark) → remarks ≡ equal_keys (places.Scope number) p.instrumentation.keys ++ p.spans.remarks
-    → (first : ℕ) (d : Data) → is_some (as_object d) ≡ true → AreScopeParts first p d → IsScopeFound number first (record { scope = scope_with p p.spans.spans; remarks = remarks }) d
-scope_found number p remarks is first d shape h = record {
+    → (first : ℕ) (d : Data) → AreScopeParts first p d
+    → IsScopeFound number first (record { scope = scope_with p p.spans.spans; remarks = remarks }) d
+scope_found number p remarks is first d h = record {
   notes = record { keys = p.instrumentation.keys; spans = map (λ s. s.notes) h.spans.found };
   is_scope = record {
-    shape = shape;
+    shape = h.shape;
     instrumentation = instrumentation_found p.instrumentation;
     its_instrumentation = h.instrumentation;
     spans = h.spans.found;

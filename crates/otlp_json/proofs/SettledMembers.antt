@@ -1,71 +1,37 @@
--- The members of an object settle what it means and what offends in it. Each settles for itself, and an object is the chain of them.
-use Rattle.std.proofs.Common.{◌≡◌, ℕ, ◌^◌, ◌<◌, ◌≤◌, ◌⊎◌, inl, inr, List, [], Option, Some, None, option_and_then, is_some, true, refl, sym, ap, ◌∙◌, arith}
-use Rattle.std.specs.List.{AllZip}
-use Rattle.serde_json.specs.Data.{Num, Data, unsigned, negative, float, Members}
-use Rattle.serde_json.specs.Find.{as_array, as_number, as_object, as_u64}
+-- The members of an object of OTLP/JSON settle what they mean and what offends in them, each for itself.
+use Rattle.std.proofs.Common.{◌≡◌, ℕ, ◌^◌, ◌<◌, ◌≤◌, ◌⊎◌, inl, inr, List, Option, Some, None, option_and_then, refl, sym, ap, ◌∙◌, arith}
+use Rattle.serde_json.specs.Data.{Num, Data, unsigned, negative, float}
+use Rattle.serde_json.specs.Find.{as_number, as_u64}
 use Rattle.span_io.specs.declared.cause.Cause.TheVariants as causes
-use Rattle.span_io.specs.RowLaws.{EnumLaws}
-use Rattle.span_io.specs.Paths.{Faults, nothing, here, ◌▹◌, optional, each, valued, Given, Never, OfKind, Quiet}
-use Rattle.span_io.specs.PathLaws.{clean_here, counts_here, counts_only, quiet_nothing, quiet_parts}
-use Rattle.span_io.specs.PathDecisions.{IsSettled, one, none, decided_as, also, no_more, decided_optional, decided_each, decided_valued, decided_plain}
+use Rattle.span_io.specs.laws.RowLaws.{EnumLaws}
+use Rattle.span_io.specs.Paths.{here, optional, valued, Given, Never}
+use Rattle.span_io.specs.laws.PathLaws.{clean_here, counts_here, counts_only}
+use Rattle.span_io.specs.laws.PathDecisions.{IsSettled, one, none, decided_optional, decided_plain}
 use Rattle.trace_model.specs.Notes.{Noted}
 use Rattle.trace_model.specs.OtlpParts.{kind_number, code_number}
 use Rattle.trace_model.specs.OtlpEnums.{code_laws, code_numbered, kind_laws, kind_numbered}
 use Rattle.trace_model.specs.declared.span.Code.TheVariants as statuses
 use Rattle.trace_model.specs.declared.span.Kind.TheVariants as kinds
-use Rattle.json_members.specs.Members.{member, elements, IsText, text_faults, Spelled, unspelled}
-use Rattle.json_members.specs.ChoiceLaws.{either_side, SpellsOne}
-use Rattle.json_members.specs.DecisionLaws.{text_decided, spelled_decided}
-use Rattle.otlp_json.specs.Identifiers.{SpellsJsonTrace, SpellsJsonSpan, SpellsTraceOrNone, SpellsSpanOrNone, json_trace_faults, json_span_faults, trace_or_none_faults, span_or_none_faults, identified}
-use Rattle.otlp_json.specs.Numbers.{IsJsonCount, json_count_faults, IsJsonTime, json_time_faults, unsigned_in, enum_number_faults, enum_faults, IsJsonKind, IsJsonCode}
+use Rattle.json_members.specs.Members.{member, Spelled, unspelled}
+use Rattle.json_members.specs.laws.ChoiceLaws.{either_side, SpellsOne}
+use Rattle.json_members.specs.laws.DecisionLaws.{spelled_decided}
+use Rattle.otlp_json.specs.Identifiers.{SpellsJsonTrace, SpellsJsonSpan, SpellsTraceOrNone, SpellsSpanOrNone, json_trace_offends, json_span_offends, trace_or_none_offends, span_or_none_offends, identified}
+use Rattle.otlp_json.specs.Numbers.{IsJsonCount, json_count_offends, IsJsonTime, json_time_offends, unsigned_in, enum_number_offends, enum_offends, IsJsonKind, IsJsonCode}
 use Rattle.otlp_json.proofs.SpelledOnce.{trace_spelled, span_spelled, trace_or_none_spelled, span_or_none_spelled}
-
--- ---- chains of members
-
-pub record Chain {A : Type 0} (Means : A → Type 0) (Offends : Faults) : Type 0 where
-  pub quiet : Quiet Offends
-  pub settled : IsSettled Means Offends
-
-pub last : Chain (λ (u : Unit {0}). Unit {0}) nothing
-last = record { quiet = quiet_nothing; settled = no_more }
-
-module _ {A B : Type 0} {M : A → Type 0} {N : B → Type 0} {First Others : Faults} where
-  pub next : IsSettled M First → Chain N Others → Chain (λ (p : A × B). M p.0 × N p.1) (First ▹ Others)
-  next first others = record { quiet = quiet_parts First Others others.quiet; settled = also others.quiet first (λ x means. others.settled) }
-
--- an object, made of what its members mean
-module _ {A B : Type 0} {M : A → Type 0} {Offends : Faults} where
-  pub object_settled : (d : Data) → IsSettled M Offends → (N : B → Type 0) (f : A → B) → ((x : A) → is_some (as_object d) ≡ true → M x → N (f x))
-      → ((z : B) → N z → (is_some (as_object d) ≡ true) × ((x : A) × M x × (f x ≡ z))) → IsSettled N (valued (λ members. Offends) (as_object d))
-  object_settled d settled N f there back = on (as_object d) there back
-    where
-      on : (o : Option Members) → ((x : A) → is_some o ≡ true → M x → N (f x)) → ((z : B) → N z → (is_some o ≡ true) × ((x : A) × M x × (f x ≡ z))) → IsSettled N (valued (λ members. Offends) o)
-      on None there back = none causes.BadShape (counts_only 11) (λ z h. let shape = (back z h).0 in cc)
-      on (Some held) there back = decided_as N f (λ x h. there x refl h) (λ z h. (back z h).1) settled
 
 -- ---- members by what they hold
 
--- a member that is an array
-pub array_settled : {A : Type 0} (Means : A → Data → Type 0) (Offends : Data → Faults) → ((d : Data) → IsSettled (λ x. Means x d) (Offends d)) → (o : Option Data)
-    → IsSettled (λ xs. Given (λ ys d. OfKind (λ zs ds. AllZip (λ inner x. Means x inner) (elements ds) zs) ys (as_array d)) (λ ys. ys ≡ []) xs o) (optional (λ d. valued (λ ds. each Offends (elements ds)) (as_array d)) o)
-array_settled Means Offends settled o =
-    decided_optional (λ ys d. OfKind (λ zs ds. AllZip (λ inner x. Means x inner) (elements ds) zs) ys (as_array d)) (λ d. valued (λ ds. each Offends (elements ds)) (as_array d))
-    (λ d. decided_valued (λ zs ds. AllZip (λ inner x. Means x inner) (elements ds) zs) (λ ds. each Offends (elements ds)) (λ ds. decided_each Means Offends settled (elements ds)) (as_array d)) [] o
-
 module _ (d : Data) (name : List ℕ) where
-  pub text_settled : IsSettled (λ text. Given IsText (λ t. t ≡ []) text (member name d)) (optional text_faults (member name d))
-  text_settled = decided_optional IsText text_faults text_decided [] (member name d)
+  pub count_settled : IsSettled (λ n. Given IsJsonCount (λ m. m ≡ 0) n (member name d)) (optional json_count_offends (member name d))
+  count_settled = decided_optional IsJsonCount json_count_offends (λ inner. decided_plain (unsigned_in (2 ^ 32) inner)) 0 (member name d)
 
-  pub count_settled : IsSettled (λ n. Given IsJsonCount (λ m. m ≡ 0) n (member name d)) (optional json_count_faults (member name d))
-  count_settled = decided_optional IsJsonCount json_count_faults (λ inner. decided_plain (unsigned_in (2 ^ 32) inner)) 0 (member name d)
-
-  pub time_settled : IsSettled (λ n. Given IsJsonTime (λ m. m ≡ 0) n (member name d)) (optional json_time_faults (member name d))
-  time_settled = decided_optional IsJsonTime json_time_faults (λ inner. decided_plain (unsigned_in (2 ^ 64) inner)) 0 (member name d)
+  pub time_settled : IsSettled (λ n. Given IsJsonTime (λ m. m ≡ 0) n (member name d)) (optional json_time_offends (member name d))
+  time_settled = decided_optional IsJsonTime json_time_offends (λ inner. decided_plain (unsigned_in (2 ^ 64) inner)) 0 (member name d)
 
 -- ---- enums
 
 module _ {E : Type 0} (number_of : E → ℕ) (top : ℕ) (laws : EnumLaws E number_of top) (named : (n : ℕ) → n ≤ top → (e : E) × (n ≡ number_of e)) where
-  number_settled : (o : Option Num) → IsSettled (λ e. option_and_then as_u64 o ≡ Some (number_of e)) (valued (enum_number_faults top) o)
+  number_settled : (o : Option Num) → IsSettled (λ e. option_and_then as_u64 o ≡ Some (number_of e)) (valued (enum_number_offends top) o)
   number_settled None = none causes.BadShape (counts_only 11) (λ e h. cc)
   number_settled (Some (negative z)) = none causes.BadEnum (counts_only 13) (λ e h. cc)
   number_settled (Some (float x)) = none causes.BadShape (counts_only 11) (λ e h. cc)
@@ -81,11 +47,11 @@ module _ {E : Type 0} (number_of : E → ℕ) (top : ℕ) (laws : EnumLaws E num
       on (inr late) =
           none causes.BadEnum (counts_here _ 13 (refl, late) (λ m k. let is = k.0 in omega arith)) (λ e k. laws.within e n (let is = is_number e k in omega arith))
 
-pub kind_settled : (d : Data) (name : List ℕ) → IsSettled (λ kind. Given IsJsonKind (λ k. k ≡ kinds.Unspecified) kind (member name d)) (optional (enum_faults 5) (member name d))
-kind_settled d name = decided_optional IsJsonKind (enum_faults 5) (λ inner. number_settled kind_number 5 kind_laws kind_numbered (as_number inner)) kinds.Unspecified (member name d)
+pub kind_settled : (d : Data) (name : List ℕ) → IsSettled (λ kind. Given IsJsonKind (λ k. k ≡ kinds.Unspecified) kind (member name d)) (optional (enum_offends 5) (member name d))
+kind_settled d name = decided_optional IsJsonKind (enum_offends 5) (λ inner. number_settled kind_number 5 kind_laws kind_numbered (as_number inner)) kinds.Unspecified (member name d)
 
-pub code_settled : (d : Data) (name : List ℕ) → IsSettled (λ code. Given IsJsonCode (λ c. c ≡ statuses.Unset) code (member name d)) (optional (enum_faults 2) (member name d))
-code_settled d name = decided_optional IsJsonCode (enum_faults 2) (λ inner. number_settled code_number 2 code_laws code_numbered (as_number inner)) statuses.Unset (member name d)
+pub code_settled : (d : Data) (name : List ℕ) → IsSettled (λ code. Given IsJsonCode (λ c. c ≡ statuses.Unset) code (member name d)) (optional (enum_offends 2) (member name d))
+code_settled d name = decided_optional IsJsonCode (enum_offends 2) (λ inner. number_settled code_number 2 code_laws code_numbered (as_number inner)) statuses.Unset (member name d)
 
 -- ---- identifiers
 
@@ -95,19 +61,19 @@ identified_settled Spells spelled None = none causes.BadId (counts_only 12) (λ 
 identified_settled Spells spelled (Some d) = spelled_decided Spells causes.BadId spelled d
 
 module _ (d : Data) (name : List ℕ) where
-  pub trace_settled : IsSettled (λ id. Given (Spelled SpellsJsonTrace) Never id (member name d)) (identified json_trace_faults (member name d))
+  pub trace_settled : IsSettled (λ id. Given (Spelled SpellsJsonTrace) Never id (member name d)) (identified json_trace_offends (member name d))
   trace_settled = identified_settled SpellsJsonTrace trace_spelled (member name d)
 
-  pub span_id_settled : IsSettled (λ id. Given (Spelled SpellsJsonSpan) Never id (member name d)) (identified json_span_faults (member name d))
+  pub span_id_settled : IsSettled (λ id. Given (Spelled SpellsJsonSpan) Never id (member name d)) (identified json_span_offends (member name d))
   span_id_settled = identified_settled SpellsJsonSpan span_spelled (member name d)
 
-  pub trace_or_none_settled : IsSettled (λ id. Given (Spelled SpellsTraceOrNone) (λ i. i ≡ None) id (member name d)) (optional trace_or_none_faults (member name d))
+  pub trace_or_none_settled : IsSettled (λ id. Given (Spelled SpellsTraceOrNone) (λ i. i ≡ None) id (member name d)) (optional trace_or_none_offends (member name d))
   trace_or_none_settled =
-      decided_optional (Spelled SpellsTraceOrNone) trace_or_none_faults (spelled_decided SpellsTraceOrNone causes.BadId trace_or_none_spelled) None (member name d)
+      decided_optional (Spelled SpellsTraceOrNone) trace_or_none_offends (spelled_decided SpellsTraceOrNone causes.BadId trace_or_none_spelled) None (member name d)
 
-  pub span_or_none_settled : IsSettled (λ id. Given (Spelled SpellsSpanOrNone) (λ i. i ≡ None) id (member name d)) (optional span_or_none_faults (member name d))
+  pub span_or_none_settled : IsSettled (λ id. Given (Spelled SpellsSpanOrNone) (λ i. i ≡ None) id (member name d)) (optional span_or_none_offends (member name d))
   span_or_none_settled =
-      decided_optional (Spelled SpellsSpanOrNone) span_or_none_faults (spelled_decided SpellsSpanOrNone causes.BadId span_or_none_spelled) None (member name d)
+      decided_optional (Spelled SpellsSpanOrNone) span_or_none_offends (spelled_decided SpellsSpanOrNone causes.BadId span_or_none_spelled) None (member name d)
 
 -- a record of what is meant and what is noted, by its parts
 pub noted_is : {A N : Type 0} (x : Noted A N) (means : A) (notes : N) → x.means ≡ means → x.notes ≡ notes → record { means = means; notes = notes } ≡ x

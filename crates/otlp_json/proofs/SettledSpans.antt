@@ -2,26 +2,27 @@
 use Rattle.std.proofs.Common.{◌≡◌, List, map, Bool, is_none, codes, refl, sym}
 use Rattle.std.specs.List.{list_any}
 use Rattle.serde_json.specs.Data.{Data}
-use Rattle.span_io.specs.PathDecisions.{IsSettled, decided_optional}
-use Rattle.trace_model.specs.Laws.{AttributesOnce, AttributesExist}
+use Rattle.span_io.specs.laws.PathDecisions.{IsSettled, decided_optional}
+use Rattle.trace_model.specs.StatedLaws.{AttributesOnce, AttributesExist}
 use Rattle.trace_model.specs.Notes.{Noted, SpanNotes}
 use Rattle.trace_model.specs.Remarks.{Keys}
 use Rattle.trace_model.specs.declared.span.Event.{Event}
 use Rattle.trace_model.specs.declared.span.Link.{Link}
 use Rattle.trace_model.specs.declared.span.Span.{Span}
 use Rattle.trace_model.specs.OtlpParts.{link_of, kept_links, no_status}
+use Rattle.json_members.specs.laws.DecisionLaws.{◌&◌, next, last, object_settled, text_settled, array_settled}
 use Rattle.json_members.specs.Members.{member}
-use Rattle.otlp_json.specs.Span.{IsJsonStatus, status_members, status_faults, IsJsonEvent, event_members, event_faults, IsJsonLink, link_members, link_faults, IsJsonSpan, json_span_members, otlp_span_faults}
-use Rattle.otlp_json.proofs.SettledMembers.{next, last, object_settled, array_settled, text_settled, count_settled, time_settled, kind_settled, code_settled, trace_settled, span_id_settled, trace_or_none_settled, span_or_none_settled}
+use Rattle.otlp_json.specs.Span.{IsJsonStatus, status_members, status_offends, IsJsonEvent, event_members, event_offends, IsJsonLink, link_members, link_offends, IsJsonSpan, json_span_members, otlp_span_offends}
+use Rattle.otlp_json.proofs.SettledMembers.{count_settled, time_settled, kind_settled, code_settled, trace_settled, span_id_settled, trace_or_none_settled, span_or_none_settled}
 use Rattle.otlp_json.proofs.SettledValues.{attributes_settled}
 
-status_settled : (d : Data) → IsSettled (λ s. IsJsonStatus s d) (status_faults d)
+status_settled : (d : Data) → IsSettled (λ s. IsJsonStatus s d) (status_offends d)
 unfolding status_members
 status_settled d =
     object_settled d (next (text_settled d (codes "message")) (next (code_settled d (codes "code")) last)).settled (λ s. IsJsonStatus s d)
     (λ p. record { message = p.0; code = p.1.0 })
     (λ p shape h. record { shape = shape; message = h.0; code = h.1.0 })
-    (λ z h. (h.shape, ((z.message, (z.code, tt)), (h.message, (h.code, tt)), refl)))
+    (λ z h. (h.shape, (z.message & z.code & tt, h.message & h.code & tt, refl)))
 
 -- a span whose events and links are these
 span_is : (s : Noted Span SpanNotes) (events : List Event) (links : List Link) (notes : List Keys) (dropped : Bool) (linked : List Keys) → s.means.events ≡ events → s.means.links ≡ links
@@ -30,7 +31,7 @@ span_is : (s : Noted Span SpanNotes) (events : List Event) (links : List Link) (
 span_is s events links notes dropped linked e l n d k = rw (sym e, sym l, sym n, sym d, sym k) refl
 
 module _ (once : AttributesOnce) (exist : AttributesExist) where
-  event_settled : (d : Data) → IsSettled (λ e. IsJsonEvent e d) (event_faults d)
+  event_settled : (d : Data) → IsSettled (λ e. IsJsonEvent e d) (event_offends d)
   unfolding event_members
   event_settled d =
       object_settled d
@@ -41,9 +42,12 @@ module _ (once : AttributesOnce) (exist : AttributesExist) where
       (λ e. IsJsonEvent e d)
       (λ p. record { means = record { time = p.0; name = p.1.0; attributes = p.1.1.0.0; dropped = p.1.1.1.0 }; notes = p.1.1.0.1 })
       (λ p shape h. record { shape = shape; time = h.0; name = h.1.0; attributes = h.1.1.0; dropped = h.1.1.1.0 })
-      (λ z h. (h.shape, ((z.means.time, (z.means.name, ((z.means.attributes, z.notes), (z.means.dropped, tt)))), (h.time, (h.name, (h.attributes, (h.dropped, tt)))), refl)))
+      (λ z h. (
+        h.shape,
+        (z.means.time & z.means.name & (z.means.attributes, z.notes) & z.means.dropped & tt, h.time & h.name & h.attributes & h.dropped & tt, refl),
+      ))
 
-  link_settled : (d : Data) → IsSettled (λ l. IsJsonLink l d) (link_faults d)
+  link_settled : (d : Data) → IsSettled (λ l. IsJsonLink l d) (link_offends d)
   unfolding link_members
   link_settled d =
       object_settled d
@@ -71,13 +75,13 @@ module _ (once : AttributesOnce) (exist : AttributesExist) where
       (λ z h. (
         h.shape,
         (
-          (h.trace, (h.span, (h.parts.state, ((h.parts.attributes, h.parts.keys), (h.parts.dropped, (h.parts.flags, tt)))))),
-          (h.trace_id, (h.span_id, (h.state, (h.attributes, (h.dropped, (h.flags, tt)))))),
+          h.trace & h.span & h.parts.state & (h.parts.attributes, h.parts.keys) & h.parts.dropped & h.parts.flags & tt,
+          h.trace_id & h.span_id & h.state & h.attributes & h.dropped & h.flags & tt,
           sym h.link,
         ),
       ))
 
-  pub span_settled : (d : Data) → IsSettled (λ s. IsJsonSpan s d) (otlp_span_faults d)
+  pub span_settled : (d : Data) → IsSettled (λ s. IsJsonSpan s d) (otlp_span_offends d)
   unfolding json_span_members
   span_settled d =
       object_settled d
@@ -91,11 +95,11 @@ module _ (once : AttributesOnce) (exist : AttributesExist) where
       (next (time_settled d (codes "endTimeUnixNano"))
       (next (attributes_settled once exist d (codes "attributes"))
       (next (count_settled d (codes "droppedAttributesCount"))
-      (next (array_settled IsJsonEvent event_faults event_settled (member (codes "events") d))
+      (next (array_settled IsJsonEvent event_offends event_settled (member (codes "events") d))
       (next (count_settled d (codes "droppedEventsCount"))
-      (next (array_settled IsJsonLink link_faults link_settled (member (codes "links") d))
+      (next (array_settled IsJsonLink link_offends link_settled (member (codes "links") d))
       (next (count_settled d (codes "droppedLinksCount"))
-      (next (decided_optional IsJsonStatus status_faults status_settled no_status (member (codes "status") d))
+      (next (decided_optional IsJsonStatus status_offends status_settled no_status (member (codes "status") d))
       (next (count_settled d (codes "flags")) last)))))))))))))))).settled
       (λ s. IsJsonSpan s d)
       (λ p. record {
@@ -150,8 +154,11 @@ module _ (once : AttributesOnce) (exist : AttributesExist) where
       (λ z h. (
         h.shape,
         (
-          (z.means.trace, (z.means.id, (z.means.state, (z.means.parent, (z.means.name, (z.means.kind, (z.means.start, (z.means.end, ((z.means.attributes, z.notes.keys), (z.means.dropped_attributes, (h.events, (z.means.dropped_events, (h.links, (z.means.dropped_links, (z.means.status, (z.means.flags, tt)))))))))))))))),
-          (h.trace, (h.id, (h.state, (h.parent, (h.name, (h.kind, (h.start, (h.end, (h.attributes, (h.dropped_attributes, (h.each_event, (h.dropped_events, (h.each_link, (h.dropped_links, (h.status, (h.flags, tt)))))))))))))))),
+          z.means.trace & z.means.id & z.means.state & z.means.parent & z.means.name & z.means.kind & z.means.start & z.means.end
+              & (z.means.attributes, z.notes.keys) & z.means.dropped_attributes & h.events & z.means.dropped_events
+              & h.links & z.means.dropped_links & z.means.status & z.means.flags & tt,
+          h.trace & h.id & h.state & h.parent & h.name & h.kind & h.start & h.end & h.attributes & h.dropped_attributes
+              & h.each_event & h.dropped_events & h.each_link & h.dropped_links & h.status & h.flags & tt,
           span_is z _ _ _ _ _ h.its_events.kept h.its_links.kept h.its_events.noted h.its_links.any_dropped h.its_links.noted,
         ),
       ))

@@ -1,6 +1,6 @@
 -- An object of one member, as a value that holds this member or none.
-use Rattle.std.proofs.Common.{◌≡◌, ℕ, List, [], ◌∷◌, ◌++◌, length, Option, Some, None, true, is_some, codes, string_bytes, refl, sym, ap, ◌∙◌, arith}
-use Rattle.std.specs.Prelude.{slice_get}
+use Rattle.std.proofs.Common.{◌≡◌, ℕ, List, [], ◌∷◌, ◌++◌, Option, Some, None, true, false, is_some, codes, refl, sym, ap, ◌∙◌}
+use Rattle.std.specs.Option.{MatchOption}
 use Rattle.std.specs.Ordering.{nat_cmp, match_ordering}
 use Rattle.std.specs.declared.cmp.Ordering.{Ordering}
 use Rattle.std.specs.declared.cmp.Ordering.TheVariants.{Less, Equal, Greater}
@@ -8,8 +8,7 @@ use Rattle.std.specs.Cmp.Lexicographic.{slice_cmp}
 use Rattle.std.proofs.lemmas.Map.Lookups.{exact_bytes}
 use Rattle.serde_json.specs.Data.{Data, null, boolean, number, string, array, object, Members, no_members, member as has}
 use Rattle.serde_json.specs.Find.{as_null, as_object}
-use Rattle.serde_json.specs.View.{view, members_view}
-use Rattle.serde_json.proofs.Views.{Entry}
+use Rattle.json_nodes.specs.Nodes.{put_all}
 use Rattle.json_members.specs.Members.{member, unless_null}
 use Rattle.otlp_json.specs.Values.{standing, standing_members, string_member, bool_member, int_member, double_member, array_member, kvlist_member, bytes_member}
 
@@ -103,10 +102,13 @@ of_object (string s) ms e = cc
 of_object (array ds) ms e = cc
 of_object (object os) ms e = cc
 
-alone : (es : List Entry) (x : Entry) → length es ≡ 1 → slice_get es 0 ≡ Some x → members_view es ≡ has (string_bytes x.0) (view x.1) no_members
-alone [] x one first = absurd (omega (arith, one))
-alone (y ∷ []) x one first = let e : y ≡ x = cc in ap (λ (z : Entry). has (string_bytes z.0) (view z.1) no_members) e
-alone (y ∷ z ∷ es) x one first = absurd (omega (arith, one))
+pub at_none : {A : Type 0} (o : Option A) (P : Type 0) (Q : A → Type 0) → is_some o ≡ false → MatchOption o P Q → P
+at_none None P Q none h = h
+at_none (Some x) P Q none h = cc
 
-pub single : (d : Data) (es : List Entry) (x : Entry) → Some (members_view es) ≡ as_object d → length es ≡ 1 → slice_get es 0 ≡ Some x → d ≡ object (has (string_bytes x.0) (view x.1) no_members)
-single d es x is one first = of_object d (members_view es) is ∙ ap object (alone es x one first)
+-- the members of an object put by their names, of which one was seen and none is left
+pub single : (d : Data) (all : List (List ℕ × Data)) (name : List ℕ) (held : Data) (left : List (List ℕ × Data))
+    → Some (put_all all no_members) ≡ as_object d
+    → all ≡ (name, held) ∷ left → left ≡ [] → d ≡ object (has name held no_members)
+single d all name held left is first none =
+    of_object d (put_all all no_members) is ∙ ap (λ ms. object (put_all ms no_members)) (first ∙ ap (λ ms. (name, held) ∷ ms) none)

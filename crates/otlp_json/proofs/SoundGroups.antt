@@ -7,10 +7,10 @@ use Rattle.std.proofs.lemmas.List.Elements.{All-nil, All-cons, All-head, All-tai
 use Rattle.serde_json.specs.Data.{Data}
 use Rattle.span_io.specs.Paths.{Given}
 use Rattle.trace_model.specs.Attributes.{Rise, keys}
-use Rattle.trace_model.specs.Laws.{MembersOfValues}
+use Rattle.trace_model.specs.StatedLaws.{MembersOfValues}
 use Rattle.trace_model.specs.Notes.{Noted, SpanNotes, ScopeNotes}
 use Rattle.trace_model.specs.OtlpParts.{levels_below, NotedValue, KeyValue, leaf, entry, LinkParts, link_of, kept_links, InstrumentationScope, no_instrumentation_scope, Resource, no_resource, NotedGroup}
-use Rattle.trace_model.specs.PartLaws.{Sound, kept_all, each_in_range}
+use Rattle.trace_model.specs.laws.PartLaws.{Sound, kept_all, each_in_range}
 use Rattle.trace_model.specs.Remarks.{Keys}
 use Rattle.trace_model.specs.Soundness.{IsSoundEvent, IsSoundLink, IsSoundSpan, IsSoundScope, IsSoundGroup}
 use Rattle.trace_model.specs.Values.{depth, MapsRise, IsSound, AreSound}
@@ -20,12 +20,12 @@ use Rattle.trace_model.specs.declared.span.Span.{Span}
 use Rattle.trace_model.specs.declared.trace.Scope.{Scope}
 use Rattle.trace_model.specs.declared.value.Value.{Value}
 use Rattle.trace_model.specs.declared.value.Value.TheVariants as values
-use Rattle.json_members.specs.Members.{member, elements}
-use Rattle.json_members.specs.Utf8Laws.{HoldsOf}
+use Rattle.json_members.specs.Members.{member, elements, AreHeld}
+use Rattle.json_members.specs.laws.Utf8Laws.{HoldsOf}
 use Rattle.otlp_json.specs.Attributes.{AreJsonAttributes}
 use Rattle.otlp_json.specs.Group.{IsJsonInstrumentationScope, IsJsonScope, IsJsonResource, IsJsonGroup, RemarkedGroup, IsRemarkedGroup, AreJsonGroups}
 use Rattle.otlp_json.specs.Span.{IsJsonEvent, IsJsonLink, IsJsonSpan}
-use Rattle.otlp_json.specs.Values.{JsonMember, string_member, bool_member, int_member, double_member, array_member, kvlist_member, bytes_member, standing_members, AreHeld, IsJsonList, IsJsonMap, MeansJsonMember, MeansStanding, IsJsonValue, IsJsonKeyValue, json_value_in, json_key_value_in, json_key_value_at}
+use Rattle.otlp_json.specs.Values.{JsonMember, string_member, bool_member, int_member, double_member, array_member, kvlist_member, bytes_member, standing_members, IsJsonList, IsJsonMap, MeansJsonMember, MeansStanding, IsJsonValue, IsJsonKeyValue, json_value_in, json_key_value_in, json_key_value_at}
 
 -- ---- members that may be absent
 

@@ -1,12 +1,11 @@
 -- A span, as it is made of its parts.
-use Rattle.std.proofs.Common.{◌≡◌, ℕ, ◌+◌, List, [], ◌∷◌, ◌++◌, length, map, true, is_some, refl, ap, ◌∙◌}
-use Rattle.trace_model.specs.ToldLaws.{span_added}
-use Rattle.json_members.specs.ElementLaws.{each_more}
+use Rattle.std.proofs.Common.{◌≡◌, ℕ, ◌+◌, List, [], ◌∷◌, ◌++◌, length, map, refl, ap, ◌∙◌}
+use Rattle.trace_model.specs.laws.ToldLaws.{span_added}
+use Rattle.json_members.specs.laws.ElementLaws.{each_more}
 use Rattle.otlp_json.specs.Span.{IsJsonSpan}
 use Rattle.otlp_json.specs.declared.noted.FoundSpan.{FoundSpan}
 use Rattle.otlp_json.specs.declared.spans.FoundSpans.{FoundSpans}
 use Rattle.serde_json.specs.Data.{Data}
-use Rattle.serde_json.specs.Find.{as_object}
 use Rattle.trace_model.specs.Remarks.{equal_keys, link_dropped}
 use Rattle.trace_model.specs.declared.place.Place.TheVariants as places
 use Rattle.trace_model.specs.declared.remark.Remark.{Remark}
@@ -38,11 +37,11 @@ span_with p = record {
 }
 
 pub span_found : (number : ℕ) (p : SpanParts) (remarks : List Remark) → remarks ≡ equal_keys (places.Span number) p.keys ++ (link_dropped (places.Span number) p.links.dropped ++ (p.events.remarks ++ p.links.remarks))
-    → (d : Data) → is_some (as_object d) ≡ true → AreSpanParts number p d → IsSpanFound number (record { span = span_with p; remarks = remarks }) d
-span_found number p remarks is d shape h = record {
+    → (d : Data) → AreSpanParts number p d → IsSpanFound number (record { span = span_with p; remarks = remarks }) d
+span_found number p remarks is d h = record {
   notes = its_notes;
   is_span = record {
-    shape = shape;
+    shape = h.shape;
     trace = h.trace;
     id = h.id;
     state = h.state;

@@ -1,68 +1,79 @@
 -- What is judged of values.
-use Rattle.std.proofs.Common.{◌≡◌, ℕ, zero, suc, ◌+◌, ◌<◌, List, [], ◌∷◌, ◌++◌, length, get_or, take, map, Some, Result, Ok, Err, refl, sym, ap, subst, ◌∙◌, arith}
+use Rattle.std.proofs.Common.{◌≡◌, ℕ, zero, suc, ◌<◌, List, [], ◌∷◌, ◌++◌, Some, Result, Ok, Err, refl, sym, ap, subst, ◌∙◌, arith}
 use Rattle.std.proofs.lemmas.List.Elements.{All-head, All-tail}
 use Rattle.std.specs.Prelude.{All, slice_index}
 use Rattle.std.specs.List.{AllZip}
 use Rattle.serde_json.specs.Data.{Data}
 use Rattle.serde_json.specs.Find.{as_array, as_str}
-use Rattle.serde_json.specs.View.{view, items_view}
-use Rattle.serde_json.specs.declared.value.Value.{Value}
+use Rattle.serde_json.specs.View.{items_of}
 use Rattle.span_io.specs.declared.cause.Cause.{Cause}
 use Rattle.span_io.specs.declared.halt.Halt.{Halt}
-use Rattle.span_io.specs.Paths.{Faults, nothing, here, each, valued, NothingOffends, Counts, Halts, JudgesValue}
-use Rattle.span_io.specs.PathLaws.{clean_nothing, clean_parts, quiet_nothing, halts_first, halts_later, counts_here, counts_only}
+use Rattle.span_io.specs.Paths.{Offences, nothing, here, each, valued, NothingOffends, Counts, Halts, JudgesValue}
+use Rattle.span_io.specs.laws.PathLaws.{clean_nothing, clean_parts, clean_one_more, quiet_nothing, halts_first, halts_later, halts_at, counts_here, counts_only}
 use Rattle.trace_model.specs.Remarks.{Keys}
 use Rattle.trace_model.specs.declared.value.Value.{Value as Val}
 use Rattle.trace_model.specs.OtlpParts.{NotedValue, KeyValue, entry}
-use Rattle.trace_model.specs.ToldLaws.{value_added, pair_added}
+use Rattle.trace_model.specs.laws.ToldLaws.{value_added, pair_added}
 use Rattle.json_members.specs.Members.{elements}
-use Rattle.json_members.specs.ElementLaws.{items_viewed, reads_on, clean_on, halts_here}
+use Rattle.json_members.specs.laws.ElementLaws.{items_listed, each_more}
 use Rattle.otlp_json.specs.Found.{AreValuesFound, ArePairsFound, AreValuesGiven, ArePairsGiven}
-use Rattle.otlp_json.specs.Numbers.{SpellsBytes, base64_faults}
-use Rattle.otlp_json.specs.Values.{behind, values_faults, held_faults, json_value_in, json_key_value_in, json_value_at, json_key_value_at, json_value_offends, json_key_value_offends, json_value_faults, json_key_value_faults}
+use Rattle.otlp_json.specs.Numbers.{SpellsBytes, base64_offends}
+use Rattle.otlp_json.specs.Values.{behind, values_offend, held_offends, json_value_in, json_key_value_in, json_value_at, json_key_value_at, inner_value_offends, inner_pair_offends, json_value_offends, json_key_value_offends}
+use Rattle.otlp_json.proofs.Walks.{Passed, none_passed, stands, passed_on}
 
 -- ---- the only member of a value
 
-clean_behind : (before : ℕ) (Offends : Faults) → NothingOffends Offends → NothingOffends (behind before Offends)
+clean_behind : (before : ℕ) (Offends : Offences) → NothingOffends Offends → NothingOffends (behind before Offends)
 clean_behind zero Offends clean = clean_parts Offends nothing clean clean_nothing
 clean_behind (suc before) Offends clean = clean_parts nothing (behind before Offends) clean_nothing (clean_behind before Offends clean)
 
-pub halts_behind : (before : ℕ) (halt : Halt Cause) (Offends : Faults) → Halts halt Offends → Halts halt (behind before Offends)
+pub halts_behind : (before : ℕ) (halt : Halt Cause) (Offends : Offences) → Halts halt Offends → Halts halt (behind before Offends)
 halts_behind zero halt Offends h = halts_first halt Offends nothing quiet_nothing h
 halts_behind (suc before) halt Offends h = halts_later halt nothing (behind before Offends) clean_nothing (halts_behind before halt Offends h)
 
-pub judged_behind : {T : Type 0} (before : ℕ) (r : Result T (Halt Cause)) (Offends : Faults) → JudgesValue r Offends → JudgesValue r (behind before Offends)
+pub judged_behind : {T : Type 0} (before : ℕ) (r : Result T (Halt Cause)) (Offends : Offences) → JudgesValue r Offends → JudgesValue r (behind before Offends)
 judged_behind before (Ok x) Offends h = clean_behind before Offends h
 judged_behind before (Err halt) Offends h = halts_behind before halt Offends h
 
 -- ---- elements, as a loop goes through them
 
 -- no level is left below a list that holds something
-pub none_below : (Offends : Data → Faults) (vs : List Value) (i left : ℕ) → i < length vs → left ≡ 0 → Counts (values_faults left Offends (map view vs)) 5
-none_below Offends [] i left there none = absurd (omega (arith, there))
-none_below Offends (v ∷ vs) i zero there none = counts_only 5
-none_below Offends (v ∷ vs) i (suc left) there none = absurd (omega (arith, none))
+pub none_below : (Offends : Data → Offences) (all seen rest : List Data) (d : Data) → all ≡ seen ++ d ∷ rest → (left : ℕ) → left ≡ 0
+    → Counts (values_offend left Offends all) 5
+none_below Offends all seen rest d split left none = rw (none, split) (some seen)
+  where
+    some : (before : List Data) → Counts (values_offend 0 Offends (before ++ d ∷ rest)) 5
+    some [] = counts_only 5
+    some (e ∷ before) = counts_only 5
 
-module _ (Offends : Data → Faults) (vs : List Value) (i : ℕ) (v : Value) (within : i < length vs) (here : v ≡ get_or vs i v) (left below : ℕ) (some : left ≡ suc below) where
-  as_each : (ds : List Data) → values_faults left Offends ds ≡ each Offends ds
-  as_each ds = ap (λ (l : ℕ). values_faults l Offends ds) some
+module _ (Offends : Data → Offences) (left below : ℕ) (some : left ≡ suc below) where
+  as_each : (ds : List Data) → values_offend left Offends ds ≡ each Offends ds
+  as_each ds = ap (λ (l : ℕ). values_offend l Offends ds) some
 
-  pub clean_next : NothingOffends (values_faults left Offends (map view (take i vs))) → NothingOffends (Offends (view v)) → NothingOffends (values_faults left Offends (map view (take (i + 1) vs)))
-  clean_next all last = subst NothingOffends (sym (as_each _)) (clean_on vs i v within here Offends (subst NothingOffends (as_each _) all) last)
+  pub clean_next : (seen : List Data) (d : Data) → NothingOffends (values_offend left Offends seen) → NothingOffends (Offends d)
+      → NothingOffends (values_offend left Offends (seen ++ d ∷ []))
+  clean_next seen d all last = subst NothingOffends (sym (as_each _)) (clean_one_more Offends seen d (subst NothingOffends (as_each _) all) last)
 
-  pub halts_next : (halt : Halt Cause) → NothingOffends (values_faults left Offends (map view (take i vs))) → Halts halt (Offends (view v)) → Halts halt (values_faults left Offends (map view vs))
-  halts_next halt all h = subst (Halts halt) (sym (as_each _)) (halts_here vs i v within here Offends halt (subst NothingOffends (as_each _) all) h)
+  pub halts_next : (all seen rest : List Data) (d : Data) → all ≡ seen ++ d ∷ rest → (halt : Halt Cause)
+      → NothingOffends (values_offend left Offends seen) → Halts halt (Offends d) → Halts halt (values_offend left Offends all)
+  halts_next all seen rest d split halt clean h =
+      subst (Halts halt) (sym (as_each all)) (subst (λ ds. Halts halt (each Offends ds)) (sym split)
+      (halts_at Offends halt seen d rest (subst NothingOffends (as_each _) clean) h))
+
+pub none_clean : (left : ℕ) (Offends : Data → Offences) → NothingOffends (values_offend left Offends [])
+none_clean zero Offends = clean_nothing
+none_clean (suc left) Offends = clean_nothing
 
 -- ---- what was judged of the elements, of the array
 
-module _ (left : ℕ) (Offends : Data → Faults) (vs : List Value) (d : Data) (is : Some (items_view vs) ≡ as_array d) where
-  held_is : held_faults left Offends d ≡ values_faults left Offends (map view vs)
-  held_is = ap (λ o. valued (λ ds. values_faults left Offends (elements ds)) o) (sym is) ∙ ap (λ ds. values_faults left Offends ds) (items_viewed vs)
+module _ (left : ℕ) (Offends : Data → Offences) (ds : List Data) (d : Data) (is : Some (items_of ds) ≡ as_array d) where
+  held_is : held_offends left Offends d ≡ values_offend left Offends ds
+  held_is = ap (λ o. valued (λ es. values_offend left Offends (elements es)) o) (sym is) ∙ ap (λ es. values_offend left Offends es) (items_listed ds)
 
-  pub clean_held : NothingOffends (values_faults left Offends (map view vs)) → NothingOffends (held_faults left Offends d)
+  pub clean_held : NothingOffends (values_offend left Offends ds) → NothingOffends (held_offends left Offends d)
   clean_held h = subst NothingOffends (sym held_is) h
 
-  pub halts_held : (halt : Halt Cause) → Halts halt (values_faults left Offends (map view vs)) → Halts halt (held_faults left Offends d)
+  pub halts_held : (halt : Halt Cause) → Halts halt (values_offend left Offends ds) → Halts halt (held_offends left Offends d)
   halts_held halt h = subst (Halts halt) (sym held_is) h
 
 -- ---- a level further down
@@ -76,59 +87,122 @@ module _ (left below : ℕ) (some : left ≡ suc below) (d : Data) where
   unfolding json_key_value_in
   pair_deeper p h = subst (λ (l : ℕ). json_key_value_in l p d) (sym some) h
 
-  pub value_clean_deeper : NothingOffends (json_value_faults below d) → NothingOffends (json_value_offends left d)
-  unfolding json_value_offends
-  value_clean_deeper h = subst (λ (l : ℕ). NothingOffends (json_value_offends l d)) (sym some) h
+  pub value_clean_deeper : NothingOffends (json_value_offends below d) → NothingOffends (inner_value_offends left d)
+  unfolding inner_value_offends
+  value_clean_deeper h = subst (λ (l : ℕ). NothingOffends (inner_value_offends l d)) (sym some) h
 
-  pub value_halts_deeper : (halt : Halt Cause) → Halts halt (json_value_faults below d) → Halts halt (json_value_offends left d)
-  unfolding json_value_offends
-  value_halts_deeper halt h = subst (λ (l : ℕ). Halts halt (json_value_offends l d)) (sym some) h
+  pub value_halts_deeper : (halt : Halt Cause) → Halts halt (json_value_offends below d) → Halts halt (inner_value_offends left d)
+  unfolding inner_value_offends
+  value_halts_deeper halt h = subst (λ (l : ℕ). Halts halt (inner_value_offends l d)) (sym some) h
 
-  pub pair_clean_deeper : NothingOffends (json_key_value_faults below d) → NothingOffends (json_key_value_offends left d)
-  unfolding json_key_value_offends
-  pair_clean_deeper h = subst (λ (l : ℕ). NothingOffends (json_key_value_offends l d)) (sym some) h
+  pub pair_clean_deeper : NothingOffends (json_key_value_offends below d) → NothingOffends (inner_pair_offends left d)
+  unfolding inner_pair_offends
+  pair_clean_deeper h = subst (λ (l : ℕ). NothingOffends (inner_pair_offends l d)) (sym some) h
 
-  pub pair_halts_deeper : (halt : Halt Cause) → Halts halt (json_key_value_faults below d) → Halts halt (json_key_value_offends left d)
-  unfolding json_key_value_offends
-  pair_halts_deeper halt h = subst (λ (l : ℕ). Halts halt (json_key_value_offends l d)) (sym some) h
+  pub pair_halts_deeper : (halt : Halt Cause) → Halts halt (json_key_value_offends below d) → Halts halt (inner_pair_offends left d)
+  unfolding inner_pair_offends
+  pair_halts_deeper halt h = subst (λ (l : ℕ). Halts halt (inner_pair_offends l d)) (sym some) h
 
 -- ---- what was found
 
-module _ (left : ℕ) (vs : List Value) (i : ℕ) (v : Value) (within : i < length vs) (here : v ≡ get_or vs i v) where
-  pub values_next : (list : List Val) (keys : Keys) (r : NotedValue) → AreValuesFound left (map view (take i vs)) list keys → json_value_in left r (view v)
-      → AreValuesFound left (map view (take (i + 1) vs)) (list ++ r.means ∷ []) (keys ++ r.notes)
-  values_next list keys r h last = record {
+module _ (left : ℕ) where
+  pub values_next : (seen : List Data) (d : Data) (list : List Val) (keys : Keys) (r : NotedValue) → AreValuesFound left seen list keys
+      → json_value_in left r d
+      → AreValuesFound left (seen ++ d ∷ []) (list ++ r.means ∷ []) (keys ++ r.notes)
+  values_next seen d list keys r h last = record {
     members = h.members ++ r ∷ [];
-    each = reads_on vs i v within here (json_value_in left) h.members r h.each last;
+    each = each_more (json_value_in left) seen h.members d r h.each last;
     told = value_added h.members list (list ++ r.means ∷ []) keys (keys ++ r.notes) r refl refl h.told;
   }
 
-  pub pairs_next : (list : List (List ℕ × Val)) (keys : Keys) (p : KeyValue) → ArePairsFound left (map view (take i vs)) list keys → json_key_value_in left p (view v)
-      → ArePairsFound left (map view (take (i + 1) vs)) (list ++ entry p ∷ []) (keys ++ p.value.notes)
-  pairs_next list keys p h last = record {
+  pub pairs_next : (seen : List Data) (d : Data) (list : List (List ℕ × Val)) (keys : Keys) (p : KeyValue) → ArePairsFound left seen list keys
+      → json_key_value_in left p d
+      → ArePairsFound left (seen ++ d ∷ []) (list ++ entry p ∷ []) (keys ++ p.value.notes)
+  pairs_next seen d list keys p h last = record {
     pairs = h.pairs ++ p ∷ [];
-    each = reads_on vs i v within here (json_key_value_in left) h.pairs p h.each last;
+    each = each_more (json_key_value_in left) seen h.pairs d p h.each last;
     told = pair_added h.pairs list (list ++ entry p ∷ []) keys (keys ++ p.value.notes) p refl refl h.told;
   }
 
-module _ (left : ℕ) (vs : List Value) (d : Data) (is : Some (items_view vs) ≡ as_array d) where
-  pub values_given : (list : List Val) (keys : Keys) → AreValuesFound left (map view vs) list keys → AreValuesGiven left (Some d) list keys
+module _ (left : ℕ) (ds : List Data) (d : Data) (is : Some (items_of ds) ≡ as_array d) where
+  pub values_given : (list : List Val) (keys : Keys) → AreValuesFound left ds list keys → AreValuesGiven left (Some d) list keys
   values_given list keys h = record {
     members = h.members;
-    each = record { held = items_view vs; shape = sym is; means = subst (λ ds. AllZip (λ x y. json_value_in left y x) ds h.members) (sym (items_viewed vs)) h.each };
+    each = record { held = items_of ds; shape = sym is; means = subst (λ es. AllZip (λ x y. json_value_in left y x) es h.members) (sym (items_listed ds)) h.each };
     told = h.told;
   }
 
-  pub pairs_given : (list : List (List ℕ × Val)) (keys : Keys) → ArePairsFound left (map view vs) list keys → ArePairsGiven left (Some d) list keys
+  pub pairs_given : (list : List (List ℕ × Val)) (keys : Keys) → ArePairsFound left ds list keys → ArePairsGiven left (Some d) list keys
   pairs_given list keys h = record {
     pairs = h.pairs;
-    each = record { held = items_view vs; shape = sym is; means = subst (λ ds. AllZip (λ x y. json_key_value_in left y x) ds h.pairs) (sym (items_viewed vs)) h.each };
+    each = record { held = items_of ds; shape = sym is; means = subst (λ es. AllZip (λ x y. json_key_value_in left y x) es h.pairs) (sym (items_listed ds)) h.each };
     told = h.told;
   }
+
+-- ---- lists and maps, as a loop goes through them
+
+-- what is found of the elements that were seen
+pub record ValuesSoFar (left : ℕ) (list : List Val) (keys : Keys) (seen : List Data) : Type 0 where
+  pub read : AreValuesFound left seen list keys
+  pub clean : NothingOffends (values_offend left (inner_value_offends left) seen)
+
+pub record PairsSoFar (left : ℕ) (list : List (List ℕ × Val)) (keys : Keys) (seen : List Data) : Type 0 where
+  pub read : ArePairsFound left seen list keys
+  pub clean : NothingOffends (values_offend left (inner_pair_offends left) seen)
+
+module _ (left : ℕ) (all : List Data) where
+  pub values_begin : (list : List Val) (keys : Keys) → list ≡ [] → keys ≡ [] → Passed (ValuesSoFar left list keys) all all
+  values_begin list keys list_none keys_none = none_passed _ all (record {
+    read = record { members = []; each = tt; told = record { values = list_none; noted = keys_none } };
+    clean = none_clean left (inner_value_offends left);
+  })
+
+  pub pairs_begin : (list : List (List ℕ × Val)) (keys : Keys) → list ≡ [] → keys ≡ [] → Passed (PairsSoFar left list keys) all all
+  pairs_begin list keys list_none keys_none = none_passed _ all (record {
+    read = record { pairs = []; each = tt; told = record { entries = list_none; noted = keys_none } };
+    clean = none_clean left (inner_pair_offends left);
+  })
+
+  module _ (below : ℕ) (some : left ≡ suc below) (rows rest : List Data) (d : Data) (step : rows ≡ d ∷ rest) where
+    pub value_more : (list new : List Val) (keys noted : Keys) (r : NotedValue) → new ≡ list ++ r.means ∷ [] → noted ≡ keys ++ r.notes
+        → json_value_at below r d → NothingOffends (json_value_offends below d)
+        → Passed (ValuesSoFar left list keys) all rows → Passed (ValuesSoFar left new noted) all rest
+    value_more list new keys noted r list_is keys_is means clean before = passed_on _ all rows rest d step before _ (record {
+      read = rw (list_is, keys_is)
+          (values_next left before.seen d list keys r before.holds.read (value_deeper left below some d r means));
+      clean = clean_next (inner_value_offends left) left below some before.seen d before.holds.clean
+          (value_clean_deeper left below some d clean);
+    })
+
+    pub pair_more : (list new : List (List ℕ × Val)) (keys noted : Keys) (p : KeyValue) → new ≡ list ++ entry p ∷ [] → noted ≡ keys ++ p.value.notes
+        → json_key_value_at below p d → NothingOffends (json_key_value_offends below d)
+        → Passed (PairsSoFar left list keys) all rows → Passed (PairsSoFar left new noted) all rest
+    pair_more list new keys noted p list_is keys_is means clean before = passed_on _ all rows rest d step before _ (record {
+      read = rw (list_is, keys_is)
+          (pairs_next left before.seen d list keys p before.holds.read (pair_deeper left below some d p means));
+      clean = clean_next (inner_pair_offends left) left below some before.seen d before.holds.clean
+          (pair_clean_deeper left below some d clean);
+    })
+
+    pub value_stops : (list : List Val) (keys : Keys) (halt : Halt Cause) → Passed (ValuesSoFar left list keys) all rows
+        → Halts halt (json_value_offends below d) → Halts halt (values_offend left (inner_value_offends left) all)
+    value_stops list keys halt before h =
+        halts_next (inner_value_offends left) left below some all before.seen rest d (stands _ all rows rest d step before) halt
+        before.holds.clean (value_halts_deeper left below some d halt h)
+
+    pub pair_stops : (list : List (List ℕ × Val)) (keys : Keys) (halt : Halt Cause) → Passed (PairsSoFar left list keys) all rows
+        → Halts halt (json_key_value_offends below d) → Halts halt (values_offend left (inner_pair_offends left) all)
+    pair_stops list keys halt before h =
+        halts_next (inner_pair_offends left) left below some all before.seen rest d (stands _ all rows rest d step before) halt
+        before.holds.clean (pair_halts_deeper left below some d halt h)
+
+  module _ (Offends : Data → Offences) {Holds : List Data → Type 0} (rows rest : List Data) (d : Data) (step : rows ≡ d ∷ rest) where
+    pub too_deep : Passed Holds all rows → left ≡ 0 → Counts (values_offend left Offends all) 5
+    too_deep before none = none_below Offends all before.seen rest d (stands _ all rows rest d step before) left none
 
 -- ---- base64
 
-pub no_bytes : (d : Data) (text : List ℕ) → Some text ≡ as_str d → ((held : List ℕ) → ¬ SpellsBytes text held) → Counts (base64_faults d) 11
+pub no_bytes : (d : Data) (text : List ℕ) → Some text ≡ as_str d → ((held : List ℕ) → ¬ SpellsBytes text held) → Counts (base64_offends d) 11
 no_bytes d text is never =
     subst (λ o. Counts (valued (λ t. here (λ n. (n ≡ 11) × ((held : List ℕ) → ¬ SpellsBytes t held))) o) 11) is
     (counts_here _ 11 (refl, never) (λ n h. omega (arith, h.0)))

@@ -1,6 +1,6 @@
 -- The laws of other crates by which canonical texts are read back.
-use Rattle.span_ids.specs.Laws.{IdentifiersReadBack}
-use Rattle.trace_model.specs.Laws.{MembersOfValues, MembersOfProperValues, RisingAttributes, TextsOfValues}
+use Rattle.span_ids.specs.StatedLaws.{IdentifiersReadBack}
+use Rattle.trace_model.specs.StatedLaws.{MembersOfValues, MembersOfProperValues, RisingAttributes, TextsOfValues}
 
 pub record Laws : Type 0 where
   pub ids : IdentifiersReadBack

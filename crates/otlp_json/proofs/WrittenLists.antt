@@ -7,9 +7,8 @@ use Rattle.serde_json.specs.Data.{Data, Items, no_items, item}
 use Rattle.serde_json.specs.Find.{as_object}
 use Rattle.serde_json.specs.View.{items_of}
 use Rattle.span_io.specs.Paths.{Given}
-use Rattle.json_members.specs.Members.{unless_null, member, elements}
+use Rattle.json_members.specs.Members.{unless_null, member, elements, AreHeld}
 use Rattle.otlp_json.specs.Canonical.{list_data, of_values}
-use Rattle.otlp_json.specs.Values.{AreHeld}
 
 module _ {X Y : Type 0} (Is : Y → Data → Type 0) (data_of : X → Data) (quiet : X → Y) where
   -- a part is read back as itself

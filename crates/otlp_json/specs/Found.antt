@@ -1,11 +1,12 @@
 -- What the readers of values answer, as what it means.
-use Rattle.std.specs.Prelude.{◌≡◌, ℕ, List, [], ◌∷◌, ◌++◌, codes, Option, Some, None}
+use Rattle.std.specs.Prelude.{◌≡◌, ℕ, List, [], ◌∷◌, ◌++◌, true, codes, Option, Some, None, is_some}
 use Rattle.std.specs.List.{AllZip}
 use Rattle.serde_json.specs.Data.{Data}
+use Rattle.serde_json.specs.Find.{as_object}
 use Rattle.span_io.specs.Paths.{Given, Never}
 use Rattle.trace_model.specs.Remarks.{Keys}
 use Rattle.trace_model.specs.declared.value.Value.{Value}
-use Rattle.otlp_json.specs.Values.{JsonMember, string_member, bool_member, int_member, double_member, array_member, kvlist_member, bytes_member, AreHeld, json_value_in, json_key_value_in}
+use Rattle.otlp_json.specs.Values.{JsonMember, string_member, bool_member, int_member, double_member, array_member, kvlist_member, bytes_member, json_value_in, json_key_value_in}
 use Rattle.trace_model.specs.declared.span.Event.{Event}
 use Rattle.trace_model.specs.declared.span.Link.{Link}
 use Rattle.otlp_json.specs.declared.events.FoundEvents.{FoundEvents}
@@ -25,7 +26,7 @@ use Rattle.trace_model.specs.GroupRemarks.{span_remarks, scope_remarks}
 use Rattle.trace_model.specs.Notes.{Noted, SpanNotes, ScopeNotes}
 use Rattle.trace_model.specs.OtlpParts.{NotedValue, KeyValue, Resource, no_resource, LinkParts, InstrumentationScope, no_instrumentation_scope, no_status}
 use Rattle.trace_model.specs.OtlpTold.{AreToldValues, AreToldPairs, AreToldEvents, AreToldLinks, AreToldSpans, AreToldScopes}
-use Rattle.json_members.specs.Members.{member, IsText, Spelled}
+use Rattle.json_members.specs.Members.{member, IsText, Spelled, AreHeld}
 use Rattle.otlp_json.specs.Attributes.{AreJsonAttributes}
 use Rattle.otlp_json.specs.Identifiers.{SpellsJsonTrace, SpellsJsonSpan, SpellsSpanOrNone}
 use Rattle.otlp_json.specs.Numbers.{IsJsonCount, IsJsonTime, IsJsonKind}
@@ -118,10 +119,6 @@ pub record AreGiven {X V : Type 0} (Is : X → Data → Type 0) (Told : List X �
   pub each : Given (AreHeld Is) (λ xs. xs ≡ []) found o
   pub told : Told found rows
 
--- what is told of elements is told of them with this one behind them
-abbrev pub TellsMore : {X V : Type 0} → (List X → V → Type 0) → X → V → V → Type 0
-TellsMore {X} Told x old new = (found : List X) → Told found old → Told (found ++ x ∷ []) new
-
 -- what was found of elements is found of them with this one behind them
 abbrev pub FindsMore : {X V : Type 0} → (X → Data → Type 0) → (List X → V → Type 0) → Data → V → V → Type 0
 FindsMore Is Told d old new = (ds : List Data) → AreFound Is Told ds old → AreFound Is Told (ds ++ d ∷ []) new
@@ -137,6 +134,7 @@ LinksTold span found rows = AreToldLinks span found rows.links rows.dropped rows
 
 -- the members of an object are these parts of the span of that number
 pub record AreSpanParts (number : ℕ) (p : SpanParts) (d : Data) : Type 0 where
+  pub shape : is_some (as_object d) ≡ true
   pub trace : Given (Spelled SpellsJsonTrace) Never p.trace (member (codes "traceId") d)
   pub id : Given (Spelled SpellsJsonSpan) Never p.id (member (codes "spanId") d)
   pub state : Given IsText (λ text. text ≡ []) p.state (member (codes "traceState") d)
@@ -168,6 +166,7 @@ SpansTold first found rows = AreToldSpans first found rows.spans rows.remarks
 
 -- the members of an object are these parts of a scope, whose first span has that number
 pub record AreScopeParts (first : ℕ) (p : ScopeParts) (d : Data) : Type 0 where
+  pub shape : is_some (as_object d) ≡ true
   pub instrumentation : Given IsJsonInstrumentationScope (λ i. i ≡ no_instrumentation_scope) (instrumentation_found p.instrumentation) (member (codes "scope") d)
   pub spans : AreGiven IsJsonSpan (SpansTold first) (member (codes "spans") d) p.spans
   pub url : Given IsText (λ text. text ≡ []) p.schema_url (member (codes "schemaUrl") d)
@@ -184,6 +183,7 @@ ScopesTold found rows = AreToldScopes found rows.scopes rows.remarks rows.next_s
 
 -- the members of an object are these parts of a group
 pub record AreGroupParts (p : GroupParts) (d : Data) : Type 0 where
+  pub shape : is_some (as_object d) ≡ true
   pub resource : Given IsJsonResource (λ r. r ≡ no_resource) (resource_found p.resource) (member (codes "resource") d)
   pub scopes : AreGiven IsJsonScope ScopesTold (member (codes "scopeSpans") d) p.scopes
   pub url : Given IsText (λ text. text ≡ []) p.schema_url (member (codes "schemaUrl") d)

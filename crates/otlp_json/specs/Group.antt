@@ -1,10 +1,9 @@
 -- `ScopeSpans` with its `InstrumentationScope`, `ResourceSpans` with its `Resource`, and the whole text, an object whose `resourceSpans`
 -- are the groups, in OTLP/JSON. The path to a group begins with its number: the one member of the whole has none.
-use Rattle.std.specs.Prelude.{◌≡◌, ℕ, List, [], true, codes, is_some}
-use Rattle.std.specs.List.{AllZip}
+use Rattle.std.specs.Prelude.{◌≡◌, ℕ, List, [], ◌∷◌, true, codes, is_some}
 use Rattle.serde_json.specs.Data.{Data}
-use Rattle.serde_json.specs.Find.{as_array, as_object}
-use Rattle.span_io.specs.Paths.{Faults, nothing, ◌▹◌, optional, each, valued, Given, OfKind}
+use Rattle.serde_json.specs.Find.{as_object}
+use Rattle.span_io.specs.Paths.{Offences, optional, valued, Given}
 use Rattle.trace_model.specs.Remarks.{Keys}
 use Rattle.trace_model.specs.declared.remark.Remark.{Remark}
 use Rattle.trace_model.specs.declared.span.Span.{Span}
@@ -12,10 +11,11 @@ use Rattle.trace_model.specs.declared.trace.Group.{Group}
 use Rattle.trace_model.specs.declared.trace.Scope.{Scope}
 use Rattle.trace_model.specs.Notes.{Noted, SpanNotes, ScopeNotes}
 use Rattle.trace_model.specs.OtlpParts.{Resource, no_resource, NotedGroup, IsGroupOfParts, InstrumentationScope, no_instrumentation_scope, IsScopeOfParts}
-use Rattle.json_members.specs.Members.{member, elements, IsText, text_faults}
-use Rattle.otlp_json.specs.Attributes.{AreJsonAttributes, pairs_faults}
-use Rattle.otlp_json.specs.Numbers.{IsJsonCount, json_count_faults}
-use Rattle.otlp_json.specs.Span.{IsJsonSpan, otlp_span_faults}
+use Rattle.json_members.specs.Members.{member, AreHeld, elements_offend, IsText, text_offends}
+use Rattle.json_members.specs.Parts.{object_offends}
+use Rattle.otlp_json.specs.Attributes.{AreJsonAttributes, pairs_offend}
+use Rattle.otlp_json.specs.Numbers.{IsJsonCount, json_count_offends}
+use Rattle.otlp_json.specs.Span.{IsJsonSpan, otlp_span_offends}
 
 -- ---- `InstrumentationScope`
 
@@ -26,20 +26,22 @@ pub record IsJsonInstrumentationScope (s : Noted InstrumentationScope Keys) (d :
   pub attributes : AreJsonAttributes s.means.attributes s.notes (member (codes "attributes") d)
   pub dropped : Given IsJsonCount (λ n. n ≡ 0) s.means.dropped (member (codes "droppedAttributesCount") d)
 
-unfoldable pub instrumentation_scope_members : Data → Faults
-instrumentation_scope_members d = optional text_faults (member (codes "name") d) ▹ optional text_faults (member (codes "version") d)
-    ▹ optional pairs_faults (member (codes "attributes") d) ▹ optional json_count_faults (member (codes "droppedAttributesCount") d) ▹ nothing
+unfoldable pub instrumentation_scope_members : Data → List Offences
+instrumentation_scope_members d =
+    optional text_offends (member (codes "name") d) ∷ optional text_offends (member (codes "version") d)
+    ∷ optional pairs_offend (member (codes "attributes") d) ∷ optional json_count_offends
+    (member (codes "droppedAttributesCount") d) ∷ []
 
-abbrev pub instrumentation_scope_faults : Data → Faults
-instrumentation_scope_faults d = valued (λ members. instrumentation_scope_members d) (as_object d)
+abbrev pub instrumentation_scope_offends : Data → Offences
+instrumentation_scope_offends d = object_offends instrumentation_scope_members d
 
 -- ---- `ScopeSpans`
 
 abbrev pub AreJsonSpans : List (Noted Span SpanNotes) → Data → Type 0
-AreJsonSpans spans d = OfKind (λ xs ds. AllZip (λ inner x. IsJsonSpan x inner) (elements ds) xs) spans (as_array d)
+AreJsonSpans spans d = AreHeld IsJsonSpan spans d
 
-abbrev pub otlp_spans_faults : Data → Faults
-otlp_spans_faults d = valued (λ ds. each otlp_span_faults (elements ds)) (as_array d)
+abbrev pub otlp_spans_offend : Data → Offences
+otlp_spans_offend d = elements_offend otlp_span_offends d
 
 pub record IsJsonScope (s : Noted Scope ScopeNotes) (d : Data) : Type 0 where
   pub shape : is_some (as_object d) ≡ true
@@ -51,12 +53,13 @@ pub record IsJsonScope (s : Noted Scope ScopeNotes) (d : Data) : Type 0 where
   pub its_url : Given IsText (λ text. text ≡ []) url (member (codes "schemaUrl") d)
   pub scope : IsScopeOfParts instrumentation spans url s
 
-unfoldable pub scope_members : Data → Faults
-scope_members d = optional instrumentation_scope_faults (member (codes "scope") d) ▹ optional otlp_spans_faults (member (codes "spans") d)
-    ▹ optional text_faults (member (codes "schemaUrl") d) ▹ nothing
+unfoldable pub scope_members : Data → List Offences
+scope_members d =
+    optional instrumentation_scope_offends (member (codes "scope") d) ∷ optional otlp_spans_offend (member (codes "spans") d)
+    ∷ optional text_offends (member (codes "schemaUrl") d) ∷ []
 
-abbrev pub scope_faults : Data → Faults
-scope_faults d = valued (λ members. scope_members d) (as_object d)
+abbrev pub scope_offends : Data → Offences
+scope_offends d = object_offends scope_members d
 
 -- ---- `Resource`
 
@@ -65,19 +68,21 @@ pub record IsJsonResource (r : Noted Resource Keys) (d : Data) : Type 0 where
   pub attributes : AreJsonAttributes r.means.attributes r.notes (member (codes "attributes") d)
   pub dropped : Given IsJsonCount (λ n. n ≡ 0) r.means.dropped (member (codes "droppedAttributesCount") d)
 
-unfoldable pub resource_members : Data → Faults
-resource_members d = optional pairs_faults (member (codes "attributes") d) ▹ optional json_count_faults (member (codes "droppedAttributesCount") d) ▹ nothing
+unfoldable pub resource_members : Data → List Offences
+resource_members d =
+    optional pairs_offend (member (codes "attributes") d) ∷ optional json_count_offends
+    (member (codes "droppedAttributesCount") d) ∷ []
 
-abbrev pub resource_faults : Data → Faults
-resource_faults d = valued (λ members. resource_members d) (as_object d)
+abbrev pub resource_offends : Data → Offences
+resource_offends d = object_offends resource_members d
 
 -- ---- `ResourceSpans`
 
 abbrev pub AreJsonScopes : List (Noted Scope ScopeNotes) → Data → Type 0
-AreJsonScopes scopes d = OfKind (λ xs ds. AllZip (λ inner x. IsJsonScope x inner) (elements ds) xs) scopes (as_array d)
+AreJsonScopes scopes d = AreHeld IsJsonScope scopes d
 
-abbrev pub scopes_faults : Data → Faults
-scopes_faults d = valued (λ ds. each scope_faults (elements ds)) (as_array d)
+abbrev pub scopes_offend : Data → Offences
+scopes_offend d = elements_offend scope_offends d
 
 -- the members of this group, with the remarks on it
 pub record IsJsonGroup (g : NotedGroup) (d : Data) : Type 0 where
@@ -90,12 +95,12 @@ pub record IsJsonGroup (g : NotedGroup) (d : Data) : Type 0 where
   pub its_url : Given IsText (λ text. text ≡ []) url (member (codes "schemaUrl") d)
   pub group : IsGroupOfParts resource scopes url g
 
-unfoldable pub group_members : Data → Faults
-group_members d = optional resource_faults (member (codes "resource") d) ▹ optional scopes_faults (member (codes "scopeSpans") d)
-    ▹ optional text_faults (member (codes "schemaUrl") d) ▹ nothing
+unfoldable pub group_members : Data → List Offences
+group_members d = optional resource_offends (member (codes "resource") d) ∷ optional scopes_offend (member (codes "scopeSpans") d)
+    ∷ optional text_offends (member (codes "schemaUrl") d) ∷ []
 
-abbrev pub group_faults : Data → Faults
-group_faults d = valued (λ members. group_members d) (as_object d)
+abbrev pub group_offends : Data → Offences
+group_offends d = object_offends group_members d
 
 -- ---- the whole text
 
@@ -107,14 +112,14 @@ abbrev pub IsRemarkedGroup : RemarkedGroup → Data → Type 0
 IsRemarkedGroup g d = IsJsonGroup (record { means = g.0; notes = g.1 }) d
 
 abbrev pub AreRemarkedGroups : List RemarkedGroup → Data → Type 0
-AreRemarkedGroups groups d = OfKind (λ xs ds. AllZip (λ inner x. IsRemarkedGroup x inner) (elements ds) xs) groups (as_array d)
+AreRemarkedGroups groups d = AreHeld IsRemarkedGroup groups d
 
-abbrev pub groups_faults : Data → Faults
-groups_faults d = valued (λ ds. each group_faults (elements ds)) (as_array d)
+abbrev pub groups_offend : Data → Offences
+groups_offend d = elements_offend group_offends d
 
 pub record AreJsonGroups (groups : List RemarkedGroup) (d : Data) : Type 0 where
   pub shape : is_some (as_object d) ≡ true
   pub each : Given AreRemarkedGroups (λ xs. xs ≡ []) groups (member (codes "resourceSpans") d)
 
-abbrev pub json_groups_faults : Data → Faults
-json_groups_faults d = valued (λ members. optional groups_faults (member (codes "resourceSpans") d)) (as_object d)
+abbrev pub json_groups_offend : Data → Offences
+json_groups_offend d = valued (λ members. optional groups_offend (member (codes "resourceSpans") d)) (as_object d)

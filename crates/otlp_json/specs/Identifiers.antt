@@ -4,7 +4,7 @@ use Rattle.std.specs.Prelude.{◌≡◌, ℕ, List, Option, Some, None}
 use Rattle.serde_json.specs.Data.{Data}
 use Rattle.span_ids.specs.HexTexts.{SpellsInHex}
 use Rattle.span_ids.specs.declared.hex_text.IdRule.TheVariants.{Exact}
-use Rattle.span_io.specs.Paths.{Faults, here}
+use Rattle.span_io.specs.Paths.{Offences, here}
 use Rattle.trace_model.specs.OtlpParts.{IsIdentifierOrNone}
 use Rattle.json_members.specs.Members.{unspelled}
 
@@ -22,19 +22,19 @@ abbrev pub SpellsSpanOrNone : List ℕ → Option ℕ → Type 0
 SpellsSpanOrNone text id = IsIdentifierOrNone SpellsJsonSpan 48 16 text id
 
 -- BadId: a text that spells none of these
-abbrev pub json_trace_faults : Data → Faults
-json_trace_faults d = unspelled SpellsJsonTrace 12 d
+abbrev pub json_trace_offends : Data → Offences
+json_trace_offends d = unspelled SpellsJsonTrace 12 d
 
-abbrev pub json_span_faults : Data → Faults
-json_span_faults d = unspelled SpellsJsonSpan 12 d
+abbrev pub json_span_offends : Data → Offences
+json_span_offends d = unspelled SpellsJsonSpan 12 d
 
-abbrev pub trace_or_none_faults : Data → Faults
-trace_or_none_faults d = unspelled SpellsTraceOrNone 12 d
+abbrev pub trace_or_none_offends : Data → Offences
+trace_or_none_offends d = unspelled SpellsTraceOrNone 12 d
 
-abbrev pub span_or_none_faults : Data → Faults
-span_or_none_faults d = unspelled SpellsSpanOrNone 12 d
+abbrev pub span_or_none_offends : Data → Offences
+span_or_none_offends d = unspelled SpellsSpanOrNone 12 d
 
 -- BadId: an identifier that must be there
-abbrev pub identified : (Data → Faults) → Option Data → Faults
+abbrev pub identified : (Data → Offences) → Option Data → Offences
 identified Offends None = here (λ number. number ≡ 12)
 identified Offends (Some d) = Offends d

@@ -11,4 +11,4 @@ pub mod Doubles
 pub mod Held
 pub mod Texts
 pub mod Known
-pub mod Laws
+pub mod StatedLaws

@@ -8,7 +8,7 @@ use Rattle.base64.specs.Engines.{standard}
 use Rattle.base64.specs.GeneralPurpose.{encode_of}
 use Rattle.serde_json.specs.Data.{Num, unsigned, negative, float, Data, null, boolean, number, string, array, object}
 use Rattle.serde_json.specs.Find.{as_number, as_integer}
-use Rattle.span_io.specs.Paths.{Faults, nothing, here, valued}
+use Rattle.span_io.specs.Paths.{Offences, nothing, here, valued}
 use Rattle.trace_model.specs.declared.span.Kind.{Kind}
 use Rattle.trace_model.specs.declared.span.Code.{Code}
 use Rattle.trace_model.specs.OtlpParts.{kind_number, code_number}
@@ -52,38 +52,38 @@ signed_in d = option_and_then signed_fitting (integer_in d)
 abbrev pub IsJsonUnsigned : ℕ → ℕ → Data → Type 0
 IsJsonUnsigned limit n d = unsigned_in limit d ≡ Some n
 
-abbrev pub unsigned_faults : ℕ → Data → Faults
-unsigned_faults limit d = valued (λ n. nothing) (unsigned_in limit d)
+abbrev pub unsigned_offends : ℕ → Data → Offences
+unsigned_offends limit d = valued (λ n. nothing) (unsigned_in limit d)
 
 abbrev pub IsJsonSigned : ℤ → Data → Type 0
 IsJsonSigned z d = signed_in d ≡ Some z
 
-abbrev pub signed_faults : Data → Faults
-signed_faults d = valued (λ z. nothing) (signed_in d)
+abbrev pub signed_offends : Data → Offences
+signed_offends d = valued (λ z. nothing) (signed_in d)
 
 -- counts and flags have 32 bits, times 64
 abbrev pub IsJsonCount : ℕ → Data → Type 0
 IsJsonCount n d = IsJsonUnsigned (2 ^ 32) n d
 
-abbrev pub json_count_faults : Data → Faults
-json_count_faults d = unsigned_faults (2 ^ 32) d
+abbrev pub json_count_offends : Data → Offences
+json_count_offends d = unsigned_offends (2 ^ 32) d
 
 abbrev pub IsJsonTime : ℕ → Data → Type 0
 IsJsonTime n d = IsJsonUnsigned (2 ^ 64) n d
 
-abbrev pub json_time_faults : Data → Faults
-json_time_faults d = unsigned_faults (2 ^ 64) d
+abbrev pub json_time_offends : Data → Offences
+json_time_offends d = unsigned_offends (2 ^ 64) d
 
 -- ---- enums
 
 -- BadEnum: a whole number that stands in no table from 0 to the last, as a negative one; BadShape: another
-abbrev pub enum_number_faults : ℕ → Num → Faults
-enum_number_faults last (unsigned n) = here (λ number. (number ≡ 13) × (last < n))
-enum_number_faults last (negative z) = here (λ number. number ≡ 13)
-enum_number_faults last (float x) = here (λ number. number ≡ 11)
+abbrev pub enum_number_offends : ℕ → Num → Offences
+enum_number_offends last (unsigned n) = here (λ number. (number ≡ 13) × (last < n))
+enum_number_offends last (negative z) = here (λ number. number ≡ 13)
+enum_number_offends last (float x) = here (λ number. number ≡ 11)
 
-abbrev pub enum_faults : ℕ → Data → Faults
-enum_faults last d = valued (enum_number_faults last) (as_number d)
+abbrev pub enum_offends : ℕ → Data → Offences
+enum_offends last d = valued (enum_number_offends last) (as_number d)
 
 abbrev pub IsJsonKind : Kind → Data → Type 0
 IsJsonKind kind d = IsCount (kind_number kind) d
@@ -97,5 +97,5 @@ abbrev pub SpellsBytes : List ℕ → List ℕ → Type 0
 SpellsBytes text held = All (λ b. b < 256) held × (text ≡ encode_of standard held)
 
 -- BadShape: no text, or one that isn't the base64 of any bytes
-abbrev pub base64_faults : Data → Faults
-base64_faults d = unspelled SpellsBytes 11 d
+abbrev pub base64_offends : Data → Offences
+base64_offends d = unspelled SpellsBytes 11 d

@@ -1,10 +1,9 @@
 -- `Span`, `Span.Event`, `Span.Link` and `Status` in OTLP/JSON: what each object means, member by member, and how it offends, its members
 -- in the order in which their offences count, which is that of their field numbers. Members that the tables don't have are passed over.
-use Rattle.std.specs.Prelude.{◌≡◌, ℕ, List, [], true, Option, None, is_some, codes}
-use Rattle.std.specs.List.{AllZip}
+use Rattle.std.specs.Prelude.{◌≡◌, ℕ, List, [], ◌∷◌, true, Option, None, is_some, codes}
 use Rattle.serde_json.specs.Data.{Data}
-use Rattle.serde_json.specs.Find.{as_array, as_object}
-use Rattle.span_io.specs.Paths.{Faults, nothing, ◌▹◌, optional, each, valued, Given, Never, OfKind}
+use Rattle.serde_json.specs.Find.{as_object}
+use Rattle.span_io.specs.Paths.{Offences, optional, Given, Never}
 use Rattle.trace_model.specs.Remarks.{Keys}
 use Rattle.trace_model.specs.declared.span.Code.TheVariants as statuses
 use Rattle.trace_model.specs.declared.span.Event.{Event}
@@ -14,10 +13,11 @@ use Rattle.trace_model.specs.declared.span.Span.{Span}
 use Rattle.trace_model.specs.declared.span.Status.{Status}
 use Rattle.trace_model.specs.Notes.{Noted, SpanNotes}
 use Rattle.trace_model.specs.OtlpParts.{LinkParts, link_of, no_status, AreEventsOf, AreLinksOf}
-use Rattle.json_members.specs.Members.{member, elements, IsText, text_faults, Spelled}
-use Rattle.otlp_json.specs.Attributes.{AreJsonAttributes, pairs_faults}
-use Rattle.otlp_json.specs.Identifiers.{SpellsJsonTrace, SpellsJsonSpan, SpellsTraceOrNone, SpellsSpanOrNone, json_trace_faults, json_span_faults, trace_or_none_faults, span_or_none_faults, identified}
-use Rattle.otlp_json.specs.Numbers.{IsJsonCount, json_count_faults, IsJsonTime, json_time_faults, enum_faults, IsJsonKind, IsJsonCode}
+use Rattle.json_members.specs.Members.{member, AreHeld, elements_offend, IsText, text_offends, Spelled}
+use Rattle.json_members.specs.Parts.{object_offends}
+use Rattle.otlp_json.specs.Attributes.{AreJsonAttributes, pairs_offend}
+use Rattle.otlp_json.specs.Identifiers.{SpellsJsonTrace, SpellsJsonSpan, SpellsTraceOrNone, SpellsSpanOrNone, json_trace_offends, json_span_offends, trace_or_none_offends, span_or_none_offends, identified}
+use Rattle.otlp_json.specs.Numbers.{IsJsonCount, json_count_offends, IsJsonTime, json_time_offends, enum_offends, IsJsonKind, IsJsonCode}
 
 -- ---- `Status`
 
@@ -26,11 +26,11 @@ pub record IsJsonStatus (s : Status) (d : Data) : Type 0 where
   pub message : Given IsText (λ text. text ≡ []) s.message (member (codes "message") d)
   pub code : Given IsJsonCode (λ code. code ≡ statuses.Unset) s.code (member (codes "code") d)
 
-unfoldable pub status_members : Data → Faults
-status_members d = optional text_faults (member (codes "message") d) ▹ optional (enum_faults 2) (member (codes "code") d) ▹ nothing
+unfoldable pub status_members : Data → List Offences
+status_members d = optional text_offends (member (codes "message") d) ∷ optional (enum_offends 2) (member (codes "code") d) ∷ []
 
-abbrev pub status_faults : Data → Faults
-status_faults d = valued (λ members. status_members d) (as_object d)
+abbrev pub status_offends : Data → Offences
+status_offends d = object_offends status_members d
 
 -- ---- `Event`
 
@@ -41,12 +41,13 @@ pub record IsJsonEvent (e : Noted Event Keys) (d : Data) : Type 0 where
   pub attributes : AreJsonAttributes e.means.attributes e.notes (member (codes "attributes") d)
   pub dropped : Given IsJsonCount (λ n. n ≡ 0) e.means.dropped (member (codes "droppedAttributesCount") d)
 
-unfoldable pub event_members : Data → Faults
-event_members d = optional json_time_faults (member (codes "timeUnixNano") d) ▹ optional text_faults (member (codes "name") d)
-    ▹ optional pairs_faults (member (codes "attributes") d) ▹ optional json_count_faults (member (codes "droppedAttributesCount") d) ▹ nothing
+unfoldable pub event_members : Data → List Offences
+event_members d = optional json_time_offends (member (codes "timeUnixNano") d) ∷ optional text_offends (member (codes "name") d)
+    ∷ optional pairs_offend (member (codes "attributes") d) ∷ optional json_count_offends
+    (member (codes "droppedAttributesCount") d) ∷ []
 
-abbrev pub event_faults : Data → Faults
-event_faults d = valued (λ members. event_members d) (as_object d)
+abbrev pub event_offends : Data → Offences
+event_offends d = object_offends event_members d
 
 -- ---- `Link`: one without one of its identifiers is dropped
 
@@ -63,27 +64,29 @@ pub record IsJsonLink (l : Option (Noted Link Keys)) (d : Data) : Type 0 where
   pub flags : Given IsJsonCount (λ n. n ≡ 0) parts.flags (member (codes "flags") d)
   pub link : l ≡ link_of trace span parts
 
-unfoldable pub link_members : Data → Faults
-link_members d = optional trace_or_none_faults (member (codes "traceId") d) ▹ optional span_or_none_faults (member (codes "spanId") d)
-    ▹ optional text_faults (member (codes "traceState") d) ▹ optional pairs_faults (member (codes "attributes") d)
-    ▹ optional json_count_faults (member (codes "droppedAttributesCount") d) ▹ optional json_count_faults (member (codes "flags") d) ▹ nothing
+unfoldable pub link_members : Data → List Offences
+link_members d =
+    optional trace_or_none_offends (member (codes "traceId") d) ∷ optional span_or_none_offends (member (codes "spanId") d)
+    ∷ optional text_offends (member (codes "traceState") d) ∷ optional pairs_offend (member (codes "attributes") d)
+    ∷ optional json_count_offends (member (codes "droppedAttributesCount") d) ∷ optional json_count_offends
+    (member (codes "flags") d) ∷ []
 
-abbrev pub link_faults : Data → Faults
-link_faults d = valued (λ members. link_members d) (as_object d)
+abbrev pub link_offends : Data → Offences
+link_offends d = object_offends link_members d
 
 -- ---- `Span`
 
 abbrev pub AreJsonEvents : List (Noted Event Keys) → Data → Type 0
-AreJsonEvents events d = OfKind (λ xs ds. AllZip (λ inner x. IsJsonEvent x inner) (elements ds) xs) events (as_array d)
+AreJsonEvents events d = AreHeld IsJsonEvent events d
 
-abbrev pub events_faults : Data → Faults
-events_faults d = valued (λ ds. each event_faults (elements ds)) (as_array d)
+abbrev pub events_offend : Data → Offences
+events_offend d = elements_offend event_offends d
 
 abbrev pub AreJsonLinks : List (Option (Noted Link Keys)) → Data → Type 0
-AreJsonLinks links d = OfKind (λ xs ds. AllZip (λ inner x. IsJsonLink x inner) (elements ds) xs) links (as_array d)
+AreJsonLinks links d = AreHeld IsJsonLink links d
 
-abbrev pub links_faults : Data → Faults
-links_faults d = valued (λ ds. each link_faults (elements ds)) (as_array d)
+abbrev pub links_offend : Data → Offences
+links_offend d = elements_offend link_offends d
 
 pub record IsJsonSpan (s : Noted Span SpanNotes) (d : Data) : Type 0 where
   pub shape : is_some (as_object d) ≡ true
@@ -108,15 +111,18 @@ pub record IsJsonSpan (s : Noted Span SpanNotes) (d : Data) : Type 0 where
   pub status : Given IsJsonStatus (λ status. status ≡ no_status) s.means.status (member (codes "status") d)
   pub flags : Given IsJsonCount (λ n. n ≡ 0) s.means.flags (member (codes "flags") d)
 
-unfoldable pub json_span_members : Data → Faults
-json_span_members d = identified json_trace_faults (member (codes "traceId") d) ▹ identified json_span_faults (member (codes "spanId") d)
-    ▹ optional text_faults (member (codes "traceState") d) ▹ optional span_or_none_faults (member (codes "parentSpanId") d)
-    ▹ optional text_faults (member (codes "name") d) ▹ optional (enum_faults 5) (member (codes "kind") d)
-    ▹ optional json_time_faults (member (codes "startTimeUnixNano") d) ▹ optional json_time_faults (member (codes "endTimeUnixNano") d)
-    ▹ optional pairs_faults (member (codes "attributes") d) ▹ optional json_count_faults (member (codes "droppedAttributesCount") d)
-    ▹ optional events_faults (member (codes "events") d) ▹ optional json_count_faults (member (codes "droppedEventsCount") d)
-    ▹ optional links_faults (member (codes "links") d) ▹ optional json_count_faults (member (codes "droppedLinksCount") d)
-    ▹ optional status_faults (member (codes "status") d) ▹ optional json_count_faults (member (codes "flags") d) ▹ nothing
+unfoldable pub json_span_members : Data → List Offences
+json_span_members d =
+    identified json_trace_offends (member (codes "traceId") d) ∷ identified json_span_offends (member (codes "spanId") d)
+    ∷ optional text_offends (member (codes "traceState") d) ∷ optional span_or_none_offends (member (codes "parentSpanId") d)
+    ∷ optional text_offends (member (codes "name") d) ∷ optional (enum_offends 5) (member (codes "kind") d)
+    ∷ optional json_time_offends (member (codes "startTimeUnixNano") d) ∷ optional json_time_offends
+    (member (codes "endTimeUnixNano") d)
+    ∷ optional pairs_offend (member (codes "attributes") d) ∷ optional json_count_offends
+    (member (codes "droppedAttributesCount") d)
+    ∷ optional events_offend (member (codes "events") d) ∷ optional json_count_offends (member (codes "droppedEventsCount") d)
+    ∷ optional links_offend (member (codes "links") d) ∷ optional json_count_offends (member (codes "droppedLinksCount") d)
+    ∷ optional status_offends (member (codes "status") d) ∷ optional json_count_offends (member (codes "flags") d) ∷ []
 
-abbrev pub otlp_span_faults : Data → Faults
-otlp_span_faults d = valued (λ members. json_span_members d) (as_object d)
+abbrev pub otlp_span_offends : Data → Offences
+otlp_span_offends d = object_offends json_span_members d

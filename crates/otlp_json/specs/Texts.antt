@@ -2,18 +2,18 @@
 -- on it.
 use Rattle.std.specs.Prelude.{ℕ, List, [], map}
 use Rattle.serde_json.specs.Data.{Data}
-use Rattle.span_io.specs.Paths.{Faults}
+use Rattle.span_io.specs.Paths.{Offences}
 use Rattle.trace_model.specs.declared.trace.Group.{Group}
-use Rattle.json_members.specs.Texts.{IsJsonText, document_faults}
-use Rattle.otlp_json.specs.Group.{RemarkedGroup, AreJsonGroups, json_groups_faults}
+use Rattle.json_members.specs.Texts.{IsJsonText, document_offends}
+use Rattle.otlp_json.specs.Group.{RemarkedGroup, AreJsonGroups, json_groups_offend}
 
 pub record AreGroupsText (groups : List RemarkedGroup) (bytes : List ℕ) : Type 0 where
   pub value : Data
   pub is_text : IsJsonText value bytes
   pub are_groups : AreJsonGroups groups value
 
-abbrev pub groups_document_faults : List ℕ → Faults
-groups_document_faults bytes = document_faults json_groups_faults bytes
+abbrev pub groups_document_offends : List ℕ → Offences
+groups_document_offends bytes = document_offends json_groups_offend bytes
 
 -- groups without remarks
 abbrev pub unremarked : List Group → List RemarkedGroup

@@ -2,14 +2,14 @@
 -- list are values, those of a map are `KeyValue`s, and a `KeyValue` has a `key`, a text, and a `value`. How deep lists and maps may
 -- stand goes by the levels that are left below one: an attribute's value stands at level 1 of 16, with 15 left.
 use Rattle.std.specs.Prelude.{◌≡◌, ℕ, zero, suc, ℤ, List, [], ◌∷◌, ◌++◌, map, Bool, true, Option, Some, None, codes, is_some}
-use Rattle.std.specs.List.{AllZip}
 use Rattle.serde_json.specs.Data.{Data}
 use Rattle.serde_json.specs.Find.{as_array, as_object}
-use Rattle.span_io.specs.Paths.{Faults, nothing, here, ◌▹◌, optional, each, valued, Given, OfKind}
+use Rattle.span_io.specs.Paths.{Offences, nothing, here, ◌▹◌, optional, each, valued, Given}
 use Rattle.trace_model.specs.declared.value.Value.TheVariants as values
 use Rattle.trace_model.specs.OtlpParts.{NotedValue, leaf, KeyValue, entry, keys_inside, IsNotedList, IsNotedMap}
-use Rattle.json_members.specs.Members.{member, elements, IsText, text_faults, IsTruth, truth_faults, Spelled}
-use Rattle.otlp_json.specs.Numbers.{IsJsonSigned, signed_faults, SpellsBytes, base64_faults}
+use Rattle.json_members.specs.Members.{member, elements, AreHeld, IsText, text_offends, IsTruth, truth_offends, Spelled}
+use Rattle.json_members.specs.Parts.{object_offends}
+use Rattle.otlp_json.specs.Numbers.{IsJsonSigned, signed_offends, SpellsBytes, base64_offends}
 
 -- ---- the members of a value
 
@@ -34,10 +34,6 @@ standing_members d = (((((standing string_member (member (codes "stringValue") d
     ++ standing bytes_member (member (codes "bytesValue") d)
 
 -- ---- what they mean: a value, and the keys that stand more than once in a map inside it
-
--- what the elements of an array mean
-abbrev pub AreHeld : {A : Type 0} → (A → Data → Type 0) → List A → Data → Type 0
-AreHeld Means xs d = OfKind (λ ys ds. AllZip (λ x y. Means y x) (elements ds) ys) xs (as_array d)
 
 -- `ArrayValue`, by what its `values` mean
 pub record IsJsonList (IsValue : NotedValue → Data → Type 0) (r : NotedValue) (d : Data) : Type 0 where
@@ -100,73 +96,73 @@ json_key_value_at left p d = IsJsonKeyValue (json_value_at left) p d
 -- ---- how they offend
 
 -- the only member of its object that offends, behind so many others
-abbrev pub behind : ℕ → Faults → Faults
+abbrev pub behind : ℕ → Offences → Offences
 behind zero Offends = Offends ▹ nothing
 behind (suc before) Offends = nothing ▹ behind before Offends
 
 -- TooDeep: there are `values` with no level left below their list or map
-abbrev pub values_faults : ℕ → (Data → Faults) → List Data → Faults
-values_faults zero Offends [] = nothing
-values_faults zero Offends (d ∷ ds) = here (λ number. number ≡ 5)
-values_faults (suc left) Offends ds = each Offends ds
+abbrev pub values_offend : ℕ → (Data → Offences) → List Data → Offences
+values_offend zero Offends [] = nothing
+values_offend zero Offends (d ∷ ds) = here (λ number. number ≡ 5)
+values_offend (suc left) Offends ds = each Offends ds
 
-abbrev pub held_faults : ℕ → (Data → Faults) → Data → Faults
-held_faults left Offends d = valued (λ ds. values_faults left Offends (elements ds)) (as_array d)
+abbrev pub held_offends : ℕ → (Data → Offences) → Data → Offences
+held_offends left Offends d = valued (λ ds. values_offend left Offends (elements ds)) (as_array d)
 
 -- a list or map below which so many levels are left
-unfoldable pub many_members : ℕ → (Data → Faults) → Data → Faults
-many_members left Offends d = optional (held_faults left Offends) (member (codes "values") d) ▹ nothing
+unfoldable pub many_members : ℕ → (Data → Offences) → Data → List Offences
+many_members left Offends d = optional (held_offends left Offends) (member (codes "values") d) ∷ []
 
-abbrev pub many_faults : ℕ → (Data → Faults) → Data → Faults
-many_faults left Offends d = valued (λ members. many_members left Offends d) (as_object d)
+abbrev pub many_offend : ℕ → (Data → Offences) → Data → Offences
+many_offend left Offends d = object_offends (many_members left Offends) d
 
-module _ (list_faults map_faults : Data → Faults) where
+module _ (list_offends map_offends : Data → Offences) where
   -- DoubleInJson: any `doubleValue`
-  abbrev pub json_member_faults : JsonMember → Faults
-  json_member_faults (string_member d) = behind 0 (text_faults d)
-  json_member_faults (bool_member d) = behind 1 (truth_faults d)
-  json_member_faults (int_member d) = behind 2 (signed_faults d)
-  json_member_faults (double_member d) = behind 3 (here (λ number. number ≡ 15))
-  json_member_faults (array_member d) = behind 4 (list_faults d)
-  json_member_faults (kvlist_member d) = behind 5 (map_faults d)
-  json_member_faults (bytes_member d) = behind 6 (base64_faults d)
+  abbrev pub json_member_offends : JsonMember → Offences
+  json_member_offends (string_member d) = behind 0 (text_offends d)
+  json_member_offends (bool_member d) = behind 1 (truth_offends d)
+  json_member_offends (int_member d) = behind 2 (signed_offends d)
+  json_member_offends (double_member d) = behind 3 (here (λ number. number ≡ 15))
+  json_member_offends (array_member d) = behind 4 (list_offends d)
+  json_member_offends (kvlist_member d) = behind 5 (map_offends d)
+  json_member_offends (bytes_member d) = behind 6 (base64_offends d)
 
   -- BadShape: two members, whatever they hold
-  abbrev pub standing_faults : List JsonMember → Faults
-  standing_faults [] = nothing
-  standing_faults (m ∷ []) = json_member_faults m
-  standing_faults (m ∷ n ∷ ms) = here (λ number. number ≡ 11)
+  abbrev pub standing_offend : List JsonMember → Offences
+  standing_offend [] = nothing
+  standing_offend (m ∷ []) = json_member_offends m
+  standing_offend (m ∷ n ∷ ms) = here (λ number. number ≡ 11)
 
-  abbrev pub any_value_faults : Data → Faults
-  any_value_faults d = valued (λ members. standing_faults (standing_members d)) (as_object d)
+  abbrev pub any_value_offends : Data → Offences
+  any_value_offends d = valued (λ members. standing_offend (standing_members d)) (as_object d)
 
-unfoldable pub key_value_members : (Data → Faults) → Data → Faults
-key_value_members Offends d = optional text_faults (member (codes "key") d) ▹ optional Offends (member (codes "value") d) ▹ nothing
+unfoldable pub key_value_members : (Data → Offences) → Data → List Offences
+key_value_members Offends d = optional text_offends (member (codes "key") d) ∷ optional Offends (member (codes "value") d) ∷ []
 
-abbrev pub key_value_faults : (Data → Faults) → Data → Faults
-key_value_faults Offends d = valued (λ members. key_value_members Offends d) (as_object d)
+abbrev pub key_value_offends : (Data → Offences) → Data → Offences
+key_value_offends Offends d = object_offends (key_value_members Offends) d
 
 unfoldable mutual
   -- how a value offends in a list or map below which so many levels are left
-  pub json_value_offends : ℕ → Data → Faults
-  json_value_offends zero d = nothing
-  json_value_offends (suc left) d = any_value_faults (many_faults left (json_value_offends left)) (many_faults left (json_key_value_offends left)) d
+  pub inner_value_offends : ℕ → Data → Offences
+  inner_value_offends zero d = nothing
+  inner_value_offends (suc left) d = any_value_offends (many_offend left (inner_value_offends left)) (many_offend left (inner_pair_offends left)) d
 
   -- how a `KeyValue` does in such a map
-  pub json_key_value_offends : ℕ → Data → Faults
-  json_key_value_offends zero d = nothing
-  json_key_value_offends (suc left) d =
-      key_value_faults (λ inner. any_value_faults (many_faults left (json_value_offends left)) (many_faults left (json_key_value_offends left)) inner) d
+  pub inner_pair_offends : ℕ → Data → Offences
+  inner_pair_offends zero d = nothing
+  inner_pair_offends (suc left) d =
+      key_value_offends (λ inner. any_value_offends (many_offend left (inner_value_offends left)) (many_offend left (inner_pair_offends left)) inner) d
 
 -- of a list and of a map, of a value and of a `KeyValue` with such a value, below which so many levels are left
-abbrev pub json_list_faults : ℕ → Data → Faults
-json_list_faults left d = many_faults left (json_value_offends left) d
+abbrev pub json_list_offends : ℕ → Data → Offences
+json_list_offends left d = many_offend left (inner_value_offends left) d
 
-abbrev pub json_map_faults : ℕ → Data → Faults
-json_map_faults left d = many_faults left (json_key_value_offends left) d
+abbrev pub json_map_offends : ℕ → Data → Offences
+json_map_offends left d = many_offend left (inner_pair_offends left) d
 
-abbrev pub json_value_faults : ℕ → Data → Faults
-json_value_faults left d = any_value_faults (json_list_faults left) (json_map_faults left) d
+abbrev pub json_value_offends : ℕ → Data → Offences
+json_value_offends left d = any_value_offends (json_list_offends left) (json_map_offends left) d
 
-abbrev pub json_key_value_faults : ℕ → Data → Faults
-json_key_value_faults left d = key_value_faults (json_value_faults left) d
+abbrev pub json_key_value_offends : ℕ → Data → Offences
+json_key_value_offends left d = key_value_offends (json_value_offends left) d

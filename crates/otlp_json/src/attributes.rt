@@ -1,13 +1,13 @@
 //! Attributes.
 ghost use Rattle.std.specs.Prelude.{IfOk};
-ghost use Rattle.serde_json.specs.View.{view};
+ghost use Rattle.json_nodes.specs.Lents.{lent_view as view};
 ghost use Rattle.span_io.specs.Paths.{optional, JudgesValue};
 ghost use Rattle.trace_model.specs.OtlpParts.{AreNotedAttributes};
 ghost use Rattle.json_members.specs.Members.{member};
-ghost use Rattle.otlp_json.specs.Attributes.{AreJsonAttributes, pairs_faults};
+ghost use Rattle.otlp_json.specs.Attributes.{AreJsonAttributes, pairs_offend};
 
 use crate::values::{PairRows, note_keys, pairs_of};
-use serde_json::Value as Json;
+use json_nodes::Lent;
 use span_io::{Cause, Halt, Items, OutOfMemory, Text};
 use std::alloc::Global;
 use trace_model::{Attrs, attrs_of, keys_in_order};
@@ -18,11 +18,11 @@ const LEVELS: u8 = 16;
 // Attributes that may be absent, which are none then, and the keys of which there is a remark.
 pub fn attributes_of(
     alloc: Global,
-    v: &Json,
+    v: &Lent<'_, '_>,
     name: &str,
 ) -> Result<(Attrs, Items<Text>), Halt<Cause>>
     ensures value { IfOk result (λ r. AreJsonAttributes r.0 r.1 (member name.now (view v.now))) }
-    ensures judged { JudgesValue result (optional pairs_faults (member name.now (view v.now))) }
+    ensures judged { JudgesValue result (optional pairs_offend (member name.now (view v.now))) }
 {
     let rows = pairs_of(alloc, LEVELS, v, name)?;
     let read = finish(alloc, rows)?;

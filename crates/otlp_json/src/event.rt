@@ -1,30 +1,36 @@
 //! `Span.Event` (OTLP trace.proto).
 ghost use Rattle.std.specs.Prelude.{IfOk};
-ghost use Rattle.serde_json.specs.View.{view};
+ghost use Rattle.json_nodes.specs.Lents.{lent_view as view};
 ghost use Rattle.span_io.specs.Paths.{JudgesValue};
 ghost use Rattle.otlp_json.specs.Found.{event_found};
-ghost use Rattle.otlp_json.specs.Span.{IsJsonEvent, event_faults};
+ghost use Rattle.otlp_json.specs.Span.{IsJsonEvent, event_members, event_offends};
 
 use crate::attributes::attributes_of;
 use crate::noted::FoundEvent;
 use crate::numbers::{count, time};
-use json_members::text;
-use serde_json::Value;
+use json_members::{Table, bare_member, member, object, text};
+use json_nodes::Lent;
 use span_io::{Cause, Halt};
 use std::alloc::Global;
 use trace_model::Event;
 
-pub fn read_event(alloc: Global, v: &Value) -> Result<FoundEvent, Halt<Cause>>
+// The members of an event.
+struct EventTable;
+
+impl Table for EventTable {
+    ghost parts = { event_members };
+}
+
+#[tactic(auto, using(json_members::specs::laws::PartLaws::reading), unfolding(crate::specs::Span::event_members))]
+pub fn read_event(alloc: Global, v: &Lent<'_, '_>) -> Result<FoundEvent, Halt<Cause>>
     ensures value { IfOk result (λ e. IsJsonEvent (event_found e) (view v.now)) }
-    ensures judged { JudgesValue result (event_faults (view v.now)) }
+    ensures judged { JudgesValue result (event_offends (view v.now)) }
 {
-    if !v.is_object() {
-        return Err(Halt::Why(Cause::BadShape));
-    }
-    let time = time(v, "timeUnixNano")?;
-    let name = text(alloc, v, "name")?;
-    let (attributes, keys) = attributes_of(alloc, v, "attributes")?;
-    let dropped = count(v, "droppedAttributesCount")?;
+    object::<EventTable>(v)?;
+    let time = bare_member::<EventTable, _>(v, 0, time(v, "timeUnixNano"))?;
+    let name = member::<EventTable, _>(v, 1, text(alloc, v, "name"))?;
+    let (attributes, keys) = member::<EventTable, _>(v, 2, attributes_of(alloc, v, "attributes"))?;
+    let dropped = bare_member::<EventTable, _>(v, 3, count(v, "droppedAttributesCount"))?;
     let event = Event {
         time,
         name,

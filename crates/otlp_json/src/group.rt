@@ -1,18 +1,18 @@
 //! `ResourceSpans` (OTLP trace.proto).
-ghost use Rattle.std.specs.Prelude.{◌≡◌, true, is_some, IfOk};
+ghost use Rattle.std.specs.Prelude.{◌≡◌, IfOk};
 ghost use Rattle.serde_json.specs.Data.{Data};
-ghost use Rattle.serde_json.specs.Find.{as_object};
-ghost use Rattle.serde_json.specs.View.{view};
+ghost use Rattle.json_nodes.specs.Lents.{lent_view as view};
 ghost use Rattle.span_io.specs.Paths.{JudgesValue};
 ghost use Rattle.json_members.specs.Counted.{IsCountedValue};
 ghost use Rattle.otlp_json.specs.Found.{AreGroupParts};
-ghost use Rattle.otlp_json.specs.Group.{IsRemarkedGroup, group_members, group_faults};
+ghost use Rattle.otlp_json.specs.Group.{IsRemarkedGroup, group_members, group_offends};
 
+use crate::lists::rows_of;
 use crate::noted::FoundResource;
 use crate::resource::resource_of;
-use crate::scopes::{FoundScopes, scopes_of};
-use json_members::text;
-use serde_json::Value;
+use crate::scopes::FoundScopes;
+use json_members::{Table, member, object, text};
+use json_nodes::Lent;
 use span_io::{Cause, Halt, Items, OutOfMemory, Text};
 use std::alloc::Global;
 use trace_model::{Group, Place, Remark, remark_all, remark_keys};
@@ -25,14 +25,23 @@ struct GroupParts {
     schema_url: Text,
 }
 
-fn read_members(alloc: Global, v: &Value) -> Result<GroupParts, Halt<Cause>>
+// The members of a group.
+struct GroupTable;
+
+impl Table for GroupTable {
+    ghost parts = { group_members };
+}
+
+#[tactic(auto, using(json_members::specs::laws::PartLaws::reading), unfolding(crate::specs::Group::group_members))]
+fn read_members(alloc: Global, v: &Lent<'_, '_>) -> Result<GroupParts, Halt<Cause>>
     requires counted { IsCountedValue (view v.now) }
     ensures value { IfOk result (λ p. AreGroupParts p (view v.now)) }
-    ensures judged { JudgesValue result (group_members (view v.now)) }
+    ensures judged { JudgesValue result (group_offends (view v.now)) }
 {
-    let resource = resource_of(alloc, v, "resource")?;
-    let scopes = scopes_of(alloc, v, "scopeSpans")?;
-    let schema_url = text(alloc, v, "schemaUrl")?;
+    object::<GroupTable>(v)?;
+    let resource = member::<GroupTable, _>(v, 0, resource_of(alloc, v, "resource"))?;
+    let scopes = member::<GroupTable, _>(v, 1, rows_of::<FoundScopes>(alloc, 0, v, "scopeSpans"))?;
+    let schema_url = member::<GroupTable, _>(v, 2, text(alloc, v, "schemaUrl"))?;
     Ok(GroupParts {
         resource,
         scopes,
@@ -42,7 +51,7 @@ fn read_members(alloc: Global, v: &Value) -> Result<GroupParts, Halt<Cause>>
 
 // The group of its parts, and the remarks on it.
 fn group_of(alloc: Global, parts: GroupParts) -> Result<(Group, Items<Remark>), OutOfMemory>
-    ensures { IfOk result (λ g. (d : Data) → is_some (as_object d) ≡ true → AreGroupParts parts d → IsRemarkedGroup g d) }
+    ensures { IfOk result (λ g. (d : Data) → AreGroupParts parts d → IsRemarkedGroup g d) }
 {
     let (resource, scopes) = (parts.resource, parts.scopes);
     let mut remarks = Items::new(alloc);
@@ -58,14 +67,11 @@ fn group_of(alloc: Global, parts: GroupParts) -> Result<(Group, Items<Remark>), 
 }
 
 /// Reads a group, and the remarks on it.
-pub fn read_group(alloc: Global, v: &Value) -> Result<(Group, Items<Remark>), Halt<Cause>>
+pub fn read_group(alloc: Global, v: &Lent<'_, '_>) -> Result<(Group, Items<Remark>), Halt<Cause>>
     requires counted { IsCountedValue (view v.now) }
     ensures value { IfOk result (λ g. IsRemarkedGroup g (view v.now)) }
-    ensures judged { JudgesValue result (group_faults (view v.now)) }
+    ensures judged { JudgesValue result (group_offends (view v.now)) }
 {
-    if !v.is_object() {
-        return Err(Halt::Why(Cause::BadShape));
-    }
     let parts = read_members(alloc, v)?;
     let read = group_of(alloc, parts)?;
     Ok(read)

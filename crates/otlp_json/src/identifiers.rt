@@ -1,16 +1,16 @@
 //! Identifiers, and the bytes of values, which are texts.
 ghost use Rattle.std.specs.Prelude.{◌≡◌, ◌↔◌, ℕ, List, Option, None, IfOk, OnErr, IsTrue};
-ghost use Rattle.serde_json.specs.View.{view};
+ghost use Rattle.json_nodes.specs.Lents.{lent_view as view};
 ghost use Rattle.span_io.specs.Paths.{optional, JudgesValue, JudgesByCause, Given, Never};
 ghost use Rattle.json_members.specs.Members.{member, Spelled};
 ghost use Rattle.trace_model.specs.OtlpParts.{IsNoIdentifier};
-ghost use Rattle.otlp_json.specs.Identifiers.{SpellsJsonTrace, SpellsJsonSpan, SpellsTraceOrNone, SpellsSpanOrNone, json_trace_faults, json_span_faults, trace_or_none_faults, span_or_none_faults, identified};
-ghost use Rattle.otlp_json.specs.Numbers.{SpellsBytes, base64_faults};
+ghost use Rattle.otlp_json.specs.Identifiers.{SpellsJsonTrace, SpellsJsonSpan, SpellsTraceOrNone, SpellsSpanOrNone, json_trace_offends, json_span_offends, trace_or_none_offends, span_or_none_offends, identified};
+ghost use Rattle.otlp_json.specs.Numbers.{SpellsBytes, base64_offends};
 
 use base64::DecodeAllocError;
 use base64::engine::general_purpose::STANDARD;
 use json_members::member_of;
-use serde_json::Value;
+use json_nodes::Lent;
 use span_ids::{BadId, IdRule, SpanId, TraceId};
 use span_io::{Bytes, Cause, Halt};
 use std::alloc::Global;
@@ -66,9 +66,9 @@ fn span_or_none(text: &str) -> Result<Option<SpanId>, BadId>
     }
 }
 
-fn trace_in(v: &Value) -> Result<TraceId, Cause>
+fn trace_in(v: &Lent<'_, '_>) -> Result<TraceId, Cause>
     ensures value { IfOk result (λ id. Spelled SpellsJsonTrace id (view v.now)) }
-    ensures judged { JudgesByCause result (json_trace_faults (view v.now)) }
+    ensures judged { JudgesByCause result (json_trace_offends (view v.now)) }
 {
     let Some(text) = v.as_str() else {
         return Err(Cause::BadShape);
@@ -79,9 +79,9 @@ fn trace_in(v: &Value) -> Result<TraceId, Cause>
     }
 }
 
-fn span_in(v: &Value) -> Result<SpanId, Cause>
+fn span_in(v: &Lent<'_, '_>) -> Result<SpanId, Cause>
     ensures value { IfOk result (λ id. Spelled SpellsJsonSpan id (view v.now)) }
-    ensures judged { JudgesByCause result (json_span_faults (view v.now)) }
+    ensures judged { JudgesByCause result (json_span_offends (view v.now)) }
 {
     let Some(text) = v.as_str() else {
         return Err(Cause::BadShape);
@@ -92,9 +92,9 @@ fn span_in(v: &Value) -> Result<SpanId, Cause>
     }
 }
 
-fn trace_or_none_in(v: &Value) -> Result<Option<TraceId>, Cause>
+fn trace_or_none_in(v: &Lent<'_, '_>) -> Result<Option<TraceId>, Cause>
     ensures value { IfOk result (λ id. Spelled SpellsTraceOrNone id (view v.now)) }
-    ensures judged { JudgesByCause result (trace_or_none_faults (view v.now)) }
+    ensures judged { JudgesByCause result (trace_or_none_offends (view v.now)) }
 {
     let Some(text) = v.as_str() else {
         return Err(Cause::BadShape);
@@ -105,9 +105,9 @@ fn trace_or_none_in(v: &Value) -> Result<Option<TraceId>, Cause>
     }
 }
 
-fn span_or_none_in(v: &Value) -> Result<Option<SpanId>, Cause>
+fn span_or_none_in(v: &Lent<'_, '_>) -> Result<Option<SpanId>, Cause>
     ensures value { IfOk result (λ id. Spelled SpellsSpanOrNone id (view v.now)) }
-    ensures judged { JudgesByCause result (span_or_none_faults (view v.now)) }
+    ensures judged { JudgesByCause result (span_or_none_offends (view v.now)) }
 {
     let Some(text) = v.as_str() else {
         return Err(Cause::BadShape);
@@ -119,59 +119,59 @@ fn span_or_none_in(v: &Value) -> Result<Option<SpanId>, Cause>
 }
 
 // A trace identifier that must be there.
-pub fn identified_trace(v: &Value, name: &str) -> Result<TraceId, Cause>
+pub fn identified_trace(v: &Lent<'_, '_>, name: &str) -> Result<TraceId, Cause>
     ensures value { IfOk result (λ id. Given (Spelled SpellsJsonTrace) Never id
         (member name.now (view v.now))) }
-    ensures judged { JudgesByCause result (identified json_trace_faults (member name.now (view v.now))) }
+    ensures judged { JudgesByCause result (identified json_trace_offends (member name.now (view v.now))) }
 {
     match member_of(v, name) {
         None => Err(Cause::BadId),
-        Some(found) => trace_in(found),
+        Some(found) => trace_in(&found),
     }
 }
 
 // A span identifier that must be there.
-pub fn identified_span(v: &Value, name: &str) -> Result<SpanId, Cause>
+pub fn identified_span(v: &Lent<'_, '_>, name: &str) -> Result<SpanId, Cause>
     ensures value { IfOk result (λ id. Given (Spelled SpellsJsonSpan) Never id
         (member name.now (view v.now))) }
-    ensures judged { JudgesByCause result (identified json_span_faults (member name.now (view v.now))) }
+    ensures judged { JudgesByCause result (identified json_span_offends (member name.now (view v.now))) }
 {
     match member_of(v, name) {
         None => Err(Cause::BadId),
-        Some(found) => span_in(found),
+        Some(found) => span_in(&found),
     }
 }
 
 // A trace identifier that may be absent.
-pub fn optional_trace(v: &Value, name: &str) -> Result<Option<TraceId>, Cause>
+pub fn optional_trace(v: &Lent<'_, '_>, name: &str) -> Result<Option<TraceId>, Cause>
     ensures value { IfOk result (λ id. Given (Spelled SpellsTraceOrNone) (λ i. i ≡ None) id
         (member name.now (view v.now))) }
     ensures judged { JudgesByCause result
-        (optional trace_or_none_faults (member name.now (view v.now))) }
+        (optional trace_or_none_offends (member name.now (view v.now))) }
 {
     match member_of(v, name) {
         None => Ok(None),
-        Some(found) => trace_or_none_in(found),
+        Some(found) => trace_or_none_in(&found),
     }
 }
 
 // A span identifier that may be absent.
-pub fn optional_span(v: &Value, name: &str) -> Result<Option<SpanId>, Cause>
+pub fn optional_span(v: &Lent<'_, '_>, name: &str) -> Result<Option<SpanId>, Cause>
     ensures value { IfOk result (λ id. Given (Spelled SpellsSpanOrNone) (λ i. i ≡ None) id
         (member name.now (view v.now))) }
     ensures judged { JudgesByCause result
-        (optional span_or_none_faults (member name.now (view v.now))) }
+        (optional span_or_none_offends (member name.now (view v.now))) }
 {
     match member_of(v, name) {
         None => Ok(None),
-        Some(found) => span_or_none_in(found),
+        Some(found) => span_or_none_in(&found),
     }
 }
 
 /// The bytes of a base64 text.
-pub fn bytes_in(alloc: Global, v: &Value) -> Result<Bytes, Halt<Cause>>
+pub fn bytes_in(alloc: Global, v: &Lent<'_, '_>) -> Result<Bytes, Halt<Cause>>
     ensures value { IfOk result (λ held. Spelled SpellsBytes held (view v.now)) }
-    ensures judged { JudgesValue result (base64_faults (view v.now)) }
+    ensures judged { JudgesValue result (base64_offends (view v.now)) }
 {
     let Some(text) = v.as_str() else {
         return Err(Halt::Why(Cause::BadShape));

@@ -1,5 +1,5 @@
 //! Laws of what JSON values mean as groups, as contracts of functions that do nothing.
-ghost use Rattle.otlp_json.specs.Laws.{EqualGroupsTexts, FreeGroupMembers, GroupsWrittenAgain, OneJsonGroups, ReadsHeldGroups, SomeJsonGroups};
+ghost use Rattle.otlp_json.specs.StatedLaws.{EqualGroupsTexts, FreeGroupMembers, GroupsWrittenAgain, OneJsonGroups, ReadsHeldGroups, SomeJsonGroups};
 
 /// A value stands for one list of groups at most, and nothing offends in one that stands for a list.
 pub fn one_json_groups()

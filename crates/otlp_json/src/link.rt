@@ -1,36 +1,42 @@
 //! `Span.Link` (OTLP trace.proto).
 ghost use Rattle.std.specs.Prelude.{◌≡◌, IfOk, option_map};
-ghost use Rattle.serde_json.specs.View.{view};
+ghost use Rattle.json_nodes.specs.Lents.{lent_view as view};
 ghost use Rattle.span_io.specs.Paths.{JudgesValue};
 ghost use Rattle.otlp_json.specs.Found.{link_found, parts_found};
-ghost use Rattle.otlp_json.specs.Span.{IsJsonLink, link_faults};
+ghost use Rattle.otlp_json.specs.Span.{IsJsonLink, link_members, link_offends};
 ghost use Rattle.trace_model.specs.OtlpParts.{link_of};
 
 use crate::attributes::attributes_of;
 use crate::identifiers::{optional_span, optional_trace};
 use crate::noted::{FoundLink, FoundParts};
 use crate::numbers::count;
-use json_members::text;
-use serde_json::Value;
+use json_members::{Table, bare_member, member, object, text};
+use json_nodes::Lent;
 use span_ids::{SpanId, TraceId};
 use span_io::{Cause, Halt};
 use std::alloc::Global;
 use trace_model::Link;
 
+// The members of a link.
+struct LinkTable;
+
+impl Table for LinkTable {
+    ghost parts = { link_members };
+}
+
 // A link without one of its identifiers is none.
-pub fn read_link(alloc: Global, v: &Value) -> Result<Option<FoundLink>, Halt<Cause>>
+#[tactic(auto, using(json_members::specs::laws::PartLaws::reading), unfolding(crate::specs::Span::link_members))]
+pub fn read_link(alloc: Global, v: &Lent<'_, '_>) -> Result<Option<FoundLink>, Halt<Cause>>
     ensures value { IfOk result (λ l. IsJsonLink (option_map link_found l) (view v.now)) }
-    ensures judged { JudgesValue result (link_faults (view v.now)) }
+    ensures judged { JudgesValue result (link_offends (view v.now)) }
 {
-    if !v.is_object() {
-        return Err(Halt::Why(Cause::BadShape));
-    }
-    let trace = optional_trace(v, "traceId")?;
-    let span = optional_span(v, "spanId")?;
-    let state = text(alloc, v, "traceState")?;
-    let (attributes, keys) = attributes_of(alloc, v, "attributes")?;
-    let dropped = count(v, "droppedAttributesCount")?;
-    let flags = count(v, "flags")?;
+    object::<LinkTable>(v)?;
+    let trace = bare_member::<LinkTable, _>(v, 0, optional_trace(v, "traceId"))?;
+    let span = bare_member::<LinkTable, _>(v, 1, optional_span(v, "spanId"))?;
+    let state = member::<LinkTable, _>(v, 2, text(alloc, v, "traceState"))?;
+    let (attributes, keys) = member::<LinkTable, _>(v, 3, attributes_of(alloc, v, "attributes"))?;
+    let dropped = bare_member::<LinkTable, _>(v, 4, count(v, "droppedAttributesCount"))?;
+    let flags = bare_member::<LinkTable, _>(v, 5, count(v, "flags"))?;
     let parts = FoundParts {
         state,
         attributes,

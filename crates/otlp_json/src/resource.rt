@@ -1,30 +1,40 @@
 //! `Resource` (OTLP resource.proto).
 ghost use Rattle.std.specs.Prelude.{◌≡◌, IfOk};
-ghost use Rattle.serde_json.specs.View.{view};
+ghost use Rattle.json_nodes.specs.Lents.{lent_view as view};
 ghost use Rattle.span_io.specs.Paths.{optional, Given, JudgesValue};
 ghost use Rattle.json_members.specs.Members.{member};
 ghost use Rattle.otlp_json.specs.Found.{resource_found};
-ghost use Rattle.otlp_json.specs.Group.{IsJsonResource, resource_faults};
+ghost use Rattle.otlp_json.specs.Group.{IsJsonResource, resource_members, resource_offends};
 ghost use Rattle.trace_model.specs.OtlpParts.{no_resource};
 
 use crate::attributes::attributes_of;
 use crate::noted::FoundResource;
 use crate::numbers::count;
-use json_members::member_of;
-use serde_json::Value;
+use json_members::{Table, bare_member, member, member_of, object};
+use json_nodes::Lent;
 use span_io::{Cause, Halt, Items};
 use std::alloc::Global;
 use trace_model::Attrs;
 
-fn read_resource(alloc: Global, v: &Value) -> Result<FoundResource, Halt<Cause>>
+// The members of a resource.
+struct ResourceTable;
+
+impl Table for ResourceTable {
+    ghost parts = { resource_members };
+}
+
+#[tactic(auto, using(json_members::specs::laws::PartLaws::reading), unfolding(crate::specs::Group::resource_members))]
+fn read_resource(alloc: Global, v: &Lent<'_, '_>) -> Result<FoundResource, Halt<Cause>>
     ensures value { IfOk result (λ r. IsJsonResource (resource_found r) (view v.now)) }
-    ensures judged { JudgesValue result (resource_faults (view v.now)) }
+    ensures judged { JudgesValue result (resource_offends (view v.now)) }
 {
-    if !v.is_object() {
-        return Err(Halt::Why(Cause::BadShape));
-    }
-    let (attributes, keys) = attributes_of(alloc, v, "attributes")?;
-    let dropped = count(v, "droppedAttributesCount")?;
+    object::<ResourceTable>(v)?;
+    let (attributes, keys) = member::<ResourceTable, _>(
+        v,
+        0,
+        attributes_of(alloc, v, "attributes"),
+    )?;
+    let dropped = bare_member::<ResourceTable, _>(v, 1, count(v, "droppedAttributesCount"))?;
     Ok(FoundResource {
         attributes,
         dropped,
@@ -44,13 +54,17 @@ fn empty_resource(alloc: Global) -> FoundResource
 }
 
 // A resource that may be absent.
-pub fn resource_of(alloc: Global, v: &Value, name: &str) -> Result<FoundResource, Halt<Cause>>
+pub fn resource_of(
+    alloc: Global,
+    v: &Lent<'_, '_>,
+    name: &str,
+) -> Result<FoundResource, Halt<Cause>>
     ensures value { IfOk result (λ r. Given IsJsonResource (λ x. x ≡ no_resource) (resource_found r)
         (member name.now (view v.now))) }
-    ensures judged { JudgesValue result (optional resource_faults (member name.now (view v.now))) }
+    ensures judged { JudgesValue result (optional resource_offends (member name.now (view v.now))) }
 {
     match member_of(v, name) {
         None => Ok(empty_resource(alloc)),
-        Some(found) => read_resource(alloc, found),
+        Some(found) => read_resource(alloc, &found),
     }
 }

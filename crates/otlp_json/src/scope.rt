@@ -1,18 +1,18 @@
 //! `ScopeSpans` (OTLP trace.proto).
-ghost use Rattle.std.specs.Prelude.{◌≡◌, ◌+◌, ◌<◌, ◌^◌, ℕ, true, is_some, IfOk};
+ghost use Rattle.std.specs.Prelude.{◌≡◌, ◌+◌, ◌<◌, ◌^◌, ℕ, IfOk};
 ghost use Rattle.serde_json.specs.Data.{Data};
-ghost use Rattle.serde_json.specs.Find.{as_object};
-ghost use Rattle.serde_json.specs.View.{view};
+ghost use Rattle.json_nodes.specs.Lents.{lent_view as view};
 ghost use Rattle.span_io.specs.Paths.{JudgesValue};
 ghost use Rattle.json_members.specs.Counted.{values_in};
 ghost use Rattle.otlp_json.specs.Found.{AreScopeParts, IsScopeFound};
-ghost use Rattle.otlp_json.specs.Group.{scope_members, scope_faults};
+ghost use Rattle.otlp_json.specs.Group.{scope_members, scope_offends};
 
 use crate::instrumentation_scope::instrumentation_of;
+use crate::lists::rows_of;
 use crate::noted::{FoundInstrumentation, FoundScope};
-use crate::spans::{FoundSpans, spans_of};
-use json_members::text;
-use serde_json::Value;
+use crate::spans::FoundSpans;
+use json_members::{Table, member, object, text};
+use json_nodes::Lent;
 use span_io::{Cause, Halt, Items, OutOfMemory, Text};
 use std::alloc::Global;
 use trace_model::{Place, Scope, remark_all, remark_keys};
@@ -25,15 +25,24 @@ struct ScopeParts {
     schema_url: Text,
 }
 
+// The members of a scope.
+struct ScopeTable;
+
+impl Table for ScopeTable {
+    ghost parts = { scope_members };
+}
+
 // The members of a scope, whose first span has this number in its group.
-fn read_members(alloc: Global, first: u32, v: &Value) -> Result<ScopeParts, Halt<Cause>>
+#[tactic(auto, using(json_members::specs::laws::PartLaws::reading), unfolding(crate::specs::Group::scope_members))]
+fn read_members(alloc: Global, first: u32, v: &Lent<'_, '_>) -> Result<ScopeParts, Halt<Cause>>
     requires counted { first + values_in (view v.now) < 2 ^ 32 }
     ensures value { IfOk result (λ p. AreScopeParts first p (view v.now)) }
-    ensures judged { JudgesValue result (scope_members (view v.now)) }
+    ensures judged { JudgesValue result (scope_offends (view v.now)) }
 {
-    let instrumentation = instrumentation_of(alloc, v, "scope")?;
-    let spans = spans_of(alloc, first, v, "spans")?;
-    let schema_url = text(alloc, v, "schemaUrl")?;
+    object::<ScopeTable>(v)?;
+    let instrumentation = member::<ScopeTable, _>(v, 0, instrumentation_of(alloc, v, "scope"))?;
+    let spans = member::<ScopeTable, _>(v, 1, rows_of::<FoundSpans>(alloc, first, v, "spans"))?;
+    let schema_url = member::<ScopeTable, _>(v, 2, text(alloc, v, "schemaUrl"))?;
     Ok(ScopeParts {
         instrumentation,
         spans,
@@ -43,7 +52,7 @@ fn read_members(alloc: Global, first: u32, v: &Value) -> Result<ScopeParts, Halt
 
 // The scope of its parts, which has this number in its group.
 fn scope_of(alloc: Global, number: u32, parts: ScopeParts) -> Result<FoundScope, OutOfMemory>
-    ensures { IfOk result (λ r. (first : ℕ) (d : Data) → is_some (as_object d) ≡ true → AreScopeParts first parts d
+    ensures { IfOk result (λ r. (first : ℕ) (d : Data) → AreScopeParts first parts d
         → IsScopeFound number first r d) }
 {
     let (instrumentation, spans) = (parts.instrumentation, parts.spans);
@@ -66,15 +75,12 @@ pub fn read_scope(
     alloc: Global,
     number: u32,
     first: u32,
-    v: &Value,
+    v: &Lent<'_, '_>,
 ) -> Result<FoundScope, Halt<Cause>>
     requires counted { first + values_in (view v.now) < 2 ^ 32 }
     ensures value { IfOk result (λ r. IsScopeFound number first r (view v.now)) }
-    ensures judged { JudgesValue result (scope_faults (view v.now)) }
+    ensures judged { JudgesValue result (scope_offends (view v.now)) }
 {
-    if !v.is_object() {
-        return Err(Halt::Why(Cause::BadShape));
-    }
     let parts = read_members(alloc, first, v)?;
     let found = scope_of(alloc, number, parts)?;
     Ok(found)

@@ -1,24 +1,24 @@
 //! `Span` (OTLP trace.proto).
-ghost use Rattle.std.specs.Prelude.{◌≡◌, ◌++◌, true, is_some, IfOk};
+ghost use Rattle.std.specs.Prelude.{◌≡◌, ◌++◌, IfOk};
 ghost use Rattle.serde_json.specs.Data.{Data};
-ghost use Rattle.serde_json.specs.Find.{as_object};
-ghost use Rattle.serde_json.specs.View.{view};
+ghost use Rattle.json_nodes.specs.Lents.{lent_view as view};
 ghost use Rattle.span_io.specs.Paths.{JudgesValue};
 ghost use Rattle.json_members.specs.Counted.{IsCountedValue};
 ghost use Rattle.trace_model.specs.Remarks.{equal_keys, link_dropped};
 ghost use Rattle.trace_model.specs.declared.place.Place.TheVariants as places;
 ghost use Rattle.otlp_json.specs.Found.{AreSpanParts, IsSpanFound};
-ghost use Rattle.otlp_json.specs.Span.{json_span_members, otlp_span_faults};
+ghost use Rattle.otlp_json.specs.Span.{json_span_members, otlp_span_offends};
 
 use crate::attributes::attributes_of;
-use crate::events::{FoundEvents, events_of};
+use crate::events::FoundEvents;
 use crate::identifiers::{identified_span, identified_trace, optional_span};
-use crate::links::{FoundLinks, links_of};
+use crate::links::FoundLinks;
+use crate::lists::rows_of;
 use crate::noted::FoundSpan;
 use crate::numbers::{count, kind, time};
 use crate::status::status_of;
-use json_members::text;
-use serde_json::Value;
+use json_members::{Table, bare_member, member, object, text};
+use json_nodes::Lent;
 use span_ids::{Nanos, SpanId, TraceId};
 use span_io::{Cause, Halt, Items, OutOfMemory, Text};
 use std::alloc::Global;
@@ -48,28 +48,37 @@ struct SpanParts {
     flags: u32,
 }
 
+// The members of a span.
+struct SpanTable;
+
+impl Table for SpanTable {
+    ghost parts = { json_span_members };
+}
+
 // The members of the span of this number.
-fn read_members(alloc: Global, number: u32, v: &Value) -> Result<SpanParts, Halt<Cause>>
+#[tactic(auto, using(json_members::specs::laws::PartLaws::reading), unfolding(crate::specs::Span::json_span_members))]
+fn read_members(alloc: Global, number: u32, v: &Lent<'_, '_>) -> Result<SpanParts, Halt<Cause>>
     requires counted { IsCountedValue (view v.now) }
     ensures value { IfOk result (λ p. AreSpanParts number p (view v.now)) }
-    ensures judged { JudgesValue result (json_span_members (view v.now)) }
+    ensures judged { JudgesValue result (otlp_span_offends (view v.now)) }
 {
-    let trace = identified_trace(v, "traceId")?;
-    let id = identified_span(v, "spanId")?;
-    let state = text(alloc, v, "traceState")?;
-    let parent = optional_span(v, "parentSpanId")?;
-    let name = text(alloc, v, "name")?;
-    let kind = kind(v, "kind")?;
-    let start = time(v, "startTimeUnixNano")?;
-    let end = time(v, "endTimeUnixNano")?;
-    let (attributes, keys) = attributes_of(alloc, v, "attributes")?;
-    let dropped_attributes = count(v, "droppedAttributesCount")?;
-    let events = events_of(alloc, number, v, "events")?;
-    let dropped_events = count(v, "droppedEventsCount")?;
-    let links = links_of(alloc, number, v, "links")?;
-    let dropped_links = count(v, "droppedLinksCount")?;
-    let status = status_of(alloc, v, "status")?;
-    let flags = count(v, "flags")?;
+    object::<SpanTable>(v)?;
+    let trace = bare_member::<SpanTable, _>(v, 0, identified_trace(v, "traceId"))?;
+    let id = bare_member::<SpanTable, _>(v, 1, identified_span(v, "spanId"))?;
+    let state = member::<SpanTable, _>(v, 2, text(alloc, v, "traceState"))?;
+    let parent = bare_member::<SpanTable, _>(v, 3, optional_span(v, "parentSpanId"))?;
+    let name = member::<SpanTable, _>(v, 4, text(alloc, v, "name"))?;
+    let kind = bare_member::<SpanTable, _>(v, 5, kind(v, "kind"))?;
+    let start = bare_member::<SpanTable, _>(v, 6, time(v, "startTimeUnixNano"))?;
+    let end = bare_member::<SpanTable, _>(v, 7, time(v, "endTimeUnixNano"))?;
+    let (attributes, keys) = member::<SpanTable, _>(v, 8, attributes_of(alloc, v, "attributes"))?;
+    let dropped_attributes = bare_member::<SpanTable, _>(v, 9, count(v, "droppedAttributesCount"))?;
+    let events = member::<SpanTable, _>(v, 10, rows_of::<FoundEvents>(alloc, number, v, "events"))?;
+    let dropped_events = bare_member::<SpanTable, _>(v, 11, count(v, "droppedEventsCount"))?;
+    let links = member::<SpanTable, _>(v, 12, rows_of::<FoundLinks>(alloc, number, v, "links"))?;
+    let dropped_links = bare_member::<SpanTable, _>(v, 13, count(v, "droppedLinksCount"))?;
+    let status = member::<SpanTable, _>(v, 14, status_of(alloc, v, "status"))?;
+    let flags = bare_member::<SpanTable, _>(v, 15, count(v, "flags"))?;
     Ok(SpanParts {
         trace,
         id,
@@ -113,7 +122,7 @@ fn remarks_of(
 
 // The span of its parts.
 fn span_of(alloc: Global, number: u32, parts: SpanParts) -> Result<FoundSpan, OutOfMemory>
-    ensures { IfOk result (λ r. (d : Data) → is_some (as_object d) ≡ true → AreSpanParts number parts d
+    ensures { IfOk result (λ r. (d : Data) → AreSpanParts number parts d
         → IsSpanFound number r d) }
 {
     let (events, links) = (parts.events, parts.links);
@@ -147,14 +156,11 @@ fn span_of(alloc: Global, number: u32, parts: SpanParts) -> Result<FoundSpan, Ou
 }
 
 /// Reads the span of this number in its group.
-pub fn read_span(alloc: Global, number: u32, v: &Value) -> Result<FoundSpan, Halt<Cause>>
+pub fn read_span(alloc: Global, number: u32, v: &Lent<'_, '_>) -> Result<FoundSpan, Halt<Cause>>
     requires counted { IsCountedValue (view v.now) }
     ensures value { IfOk result (λ r. IsSpanFound number r (view v.now)) }
-    ensures judged { JudgesValue result (otlp_span_faults (view v.now)) }
+    ensures judged { JudgesValue result (otlp_span_offends (view v.now)) }
 {
-    if !v.is_object() {
-        return Err(Halt::Why(Cause::BadShape));
-    }
     let parts = read_members(alloc, number, v)?;
     let found = span_of(alloc, number, parts)?;
     Ok(found)

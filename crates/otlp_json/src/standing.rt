@@ -1,14 +1,14 @@
 //! The members of a value, of which one at most may stand.
-ghost use Rattle.std.specs.Prelude.{◌≡◌, ◌++◌, [], ◌∷◌, List, Option, Some, None, IfOk, IfSome, OnErr, option_map, string_bytes};
+ghost use Rattle.std.specs.Prelude.{◌≡◌, ◌++◌, [], ◌∷◌, List, Option, Some, None, IfOk, IfSome, OnErr, option_map};
 ghost use Rattle.serde_json.specs.Data.{Data, object, no_members, member as has};
 ghost use Rattle.serde_json.specs.Find.{as_null};
-ghost use Rattle.serde_json.specs.View.{view};
+ghost use Rattle.json_nodes.specs.Lents.{lent_view as view};
 ghost use Rattle.json_members.specs.Members.{member};
 ghost use Rattle.otlp_json.specs.Found.{part_member, told_members, AreSeveral};
 ghost use Rattle.otlp_json.specs.Values.{standing, standing_members, array_member, string_member, bool_member, int_member, double_member, kvlist_member, bytes_member};
 
 use json_members::member_of;
-use serde_json::Value;
+use json_nodes::Lent;
 
 /// What a member of a value holds.
 #[derive(Clone, Copy, Debug, PartialEq, Eq)]
@@ -27,37 +27,37 @@ pub enum Part {
 pub struct Several;
 
 /// The only one of the members that stand in a value, if there is one.
-pub fn only_member<'v>(v: &'v Value) -> Result<Option<(Part, &'v Value)>, Several>
+pub fn only_member<'v, 'a>(v: &Lent<'v, 'a>) -> Result<Option<(Part, Lent<'v, 'a>)>, Several>
     ensures only { IfOk result (λ o. standing_members (view v.now)
-        ≡ told_members (option_map (λ m. (m.0, view m.1.now)) o)) }
+        ≡ told_members (option_map (λ m. (m.0, view m.1)) o)) }
     ensures several { OnErr result (AreSeveral (standing_members (view v.now))) }
 {
     match single_member(v) {
-        Some((name, held)) => Ok(named_member(name.as_str(), held)),
+        Some((name, held)) => Ok(named_member(name, held)),
         None => only_of_all(v),
     }
 }
 
 // The member of an object that has no other.
-fn single_member<'v>(v: &'v Value) -> Option<(&'v String, &'v Value)>
-    ensures { IfSome result (λ m. view v.now ≡ object (has (string_bytes m.0.now) (view m.1.now) no_members)) }
+fn single_member<'v, 'a>(v: &Lent<'v, 'a>) -> Option<(&'a str, Lent<'v, 'a>)>
+    ensures { IfSome result (λ m. view v.now ≡ object (has m.0.now (view m.1) no_members)) }
 {
-    let Some(members) = v.as_object() else {
+    let Some(mut members) = v.members() else {
         return None;
     };
-    if members.len() != 1 {
+    let Some((name, held)) = members.next() else {
+        return None;
+    };
+    if members.next().is_some() {
         return None;
     }
-    let Some((name, held)) = members.first_key_value() else {
-        return None;
-    };
     Some((name, held))
 }
 
 // What a member of this name tells of an object that has no other.
-fn named_member<'v>(name: &str, held: &'v Value) -> Option<(Part, &'v Value)>
-    ensures { standing_members (object (has name.now (view held.now) no_members))
-        ≡ told_members (option_map (λ m. (m.0, view m.1.now)) result) }
+fn named_member<'v, 'a>(name: &str, held: Lent<'v, 'a>) -> Option<(Part, Lent<'v, 'a>)>
+    ensures { standing_members (object (has name.now (view held.entry) no_members))
+        ≡ told_members (option_map (λ m. (m.0, view m.1)) result) }
 {
     if held.is_null() {
         return None;
@@ -86,9 +86,9 @@ fn part_named(name: &str) -> Option<Part>
 }
 
 // The only one of the members that stand, each looked up.
-fn only_of_all<'v>(v: &'v Value) -> Result<Option<(Part, &'v Value)>, Several>
+fn only_of_all<'v, 'a>(v: &Lent<'v, 'a>) -> Result<Option<(Part, Lent<'v, 'a>)>, Several>
     ensures only { IfOk result (λ o. standing_members (view v.now)
-        ≡ told_members (option_map (λ m. (m.0, view m.1.now)) o)) }
+        ≡ told_members (option_map (λ m. (m.0, view m.1)) o)) }
     ensures several { OnErr result (AreSeveral (standing_members (view v.now))) }
 {
     let text = part_of(v, "stringValue", Part::Text);
@@ -107,8 +107,8 @@ fn only_of_all<'v>(v: &'v Value) -> Result<Option<(Part, &'v Value)>, Several>
 }
 
 // A member, if it stands.
-fn part_of<'v>(v: &'v Value, name: &str, part: Part) -> Option<(Part, &'v Value)>
-    ensures { told_members (option_map (λ m. (m.0, view m.1.now)) result)
+fn part_of<'v, 'a>(v: &Lent<'v, 'a>, name: &str, part: Part) -> Option<(Part, Lent<'v, 'a>)>
+    ensures { told_members (option_map (λ m. (m.0, view m.1)) result)
         ≡ standing (part_member part) (member name.now (view v.now)) }
 {
     match member_of(v, name) {
@@ -118,15 +118,15 @@ fn part_of<'v>(v: &'v Value, name: &str, part: Part) -> Option<(Part, &'v Value)
 }
 
 // Which of the two stands, unless both do.
-fn either<'v>(
-    first: Option<(Part, &'v Value)>,
-    second: Option<(Part, &'v Value)>,
-) -> Result<Option<(Part, &'v Value)>, Several>
-    ensures only { IfOk result (λ o. told_members (option_map (λ m. (m.0, view m.1.now)) first.entry)
-        ++ told_members (option_map (λ m. (m.0, view m.1.now)) second.entry)
-        ≡ told_members (option_map (λ m. (m.0, view m.1.now)) o)) }
-    ensures several { OnErr result (AreSeveral (told_members (option_map (λ m. (m.0, view m.1.now)) first.entry)
-        ++ told_members (option_map (λ m. (m.0, view m.1.now)) second.entry))) }
+fn either<'v, 'a>(
+    first: Option<(Part, Lent<'v, 'a>)>,
+    second: Option<(Part, Lent<'v, 'a>)>,
+) -> Result<Option<(Part, Lent<'v, 'a>)>, Several>
+    ensures only { IfOk result (λ o. told_members (option_map (λ m. (m.0, view m.1)) first.entry)
+        ++ told_members (option_map (λ m. (m.0, view m.1)) second.entry)
+        ≡ told_members (option_map (λ m. (m.0, view m.1)) o)) }
+    ensures several { OnErr result (AreSeveral (told_members (option_map (λ m. (m.0, view m.1)) first.entry)
+        ++ told_members (option_map (λ m. (m.0, view m.1)) second.entry))) }
 {
     if first.is_none() {
         return Ok(second);

@@ -1,21 +1,22 @@
 //! Reading values: `AnyValue`, `ArrayValue`, `KeyValueList` and `KeyValue` (OTLP common.proto).
-ghost use Rattle.std.specs.Prelude.{◌≡◌, ◌++◌, ◌∷◌, [], ℕ, List, map, IfOk, OnOk, Some, Bool, ℤ};
-ghost use Rattle.serde_json.specs.View.{view};
+ghost use Rattle.std.specs.Prelude.{◌≡◌, ◌++◌, ◌∷◌, [], ℕ, List, IfOk, OnOk, Some, Bool, ℤ};
+ghost use Rattle.json_nodes.specs.Lents.{lent_view as view, elements_left};
 ghost use Rattle.span_io.specs.Causes.{cause_number};
 ghost use Rattle.span_io.specs.Paths.{here, optional, Counts, Given, JudgesValue};
 ghost use Rattle.trace_model.specs.OtlpParts.{leaf, entry, IsNotedMap};
-ghost use Rattle.json_members.specs.Members.{member, IsText, text_faults, IsTruth, truth_faults, Spelled};
+ghost use Rattle.json_members.specs.Members.{member, IsText, text_offends, IsTruth, truth_offends, Spelled};
 ghost use Rattle.otlp_json.specs.Found.{value_found, pair_found, part_member, AreValuesFound, ArePairsFound, AreValuesGiven, ArePairsGiven};
-ghost use Rattle.otlp_json.specs.Numbers.{IsJsonSigned, signed_faults, SpellsBytes, base64_faults};
-ghost use Rattle.otlp_json.specs.Values.{MeansJsonMember, IsJsonList, IsJsonMap, json_value_in, json_key_value_in, json_value_at, json_key_value_at, values_faults, held_faults, json_value_offends, json_key_value_offends, json_member_faults, json_list_faults, json_map_faults, json_value_faults, json_key_value_faults};
+ghost use Rattle.otlp_json.specs.Numbers.{IsJsonSigned, signed_offends, SpellsBytes, base64_offends};
+ghost use Rattle.otlp_json.specs.Values.{MeansJsonMember, IsJsonList, IsJsonMap, json_value_in, json_key_value_in, json_value_at, json_key_value_at, values_offend, held_offends, inner_value_offends, inner_pair_offends, json_member_offends, json_list_offends, json_map_offends, json_value_offends, json_key_value_offends};
 ghost use Rattle.trace_model.specs.declared.value.Value.TheVariants as values;
 
 use crate::identifiers::bytes_in;
+use crate::lists::room_for;
 use crate::noted::{FoundPair, FoundValue};
 use crate::numbers::signed_of;
 use crate::standing::{Part, only_member};
 use json_members::{member_of, text, text_of, truth_of};
-use serde_json::Value as Json;
+use json_nodes::{Elements, Lent};
 use span_io::{Cause, Halt, Items, OutOfMemory, Text};
 use std::alloc::Global;
 use trace_model::{Value, attrs_of};
@@ -37,37 +38,37 @@ fn leaf_of(alloc: Global, value: Value) -> FoundValue
     }
 }
 
-fn text_value(alloc: Global, v: &Json) -> Result<FoundValue, Halt<Cause>>
+fn text_value(alloc: Global, v: &Lent<'_, '_>) -> Result<FoundValue, Halt<Cause>>
     ensures value { IfOk result (λ r. (text : List ℕ) × IsText text (view v.now)
         × (value_found r ≡ leaf (values.Text text))) }
-    ensures judged { JudgesValue result (text_faults (view v.now)) }
+    ensures judged { JudgesValue result (text_offends (view v.now)) }
 {
     let text = text_of(alloc, v)?;
     Ok(leaf_of(alloc, Value::Text(text)))
 }
 
-fn truth_value(alloc: Global, v: &Json) -> Result<FoundValue, Halt<Cause>>
+fn truth_value(alloc: Global, v: &Lent<'_, '_>) -> Result<FoundValue, Halt<Cause>>
     ensures value { IfOk result (λ r. (truth : Bool) × IsTruth truth (view v.now)
         × (value_found r ≡ leaf (values.Truth truth))) }
-    ensures judged { JudgesValue result (truth_faults (view v.now)) }
+    ensures judged { JudgesValue result (truth_offends (view v.now)) }
 {
     let truth = truth_of(v)?;
     Ok(leaf_of(alloc, Value::Truth(truth)))
 }
 
-fn number_value(alloc: Global, v: &Json) -> Result<FoundValue, Halt<Cause>>
+fn number_value(alloc: Global, v: &Lent<'_, '_>) -> Result<FoundValue, Halt<Cause>>
     ensures value { IfOk result (λ r. (z : ℤ) × IsJsonSigned z (view v.now)
         × (value_found r ≡ leaf (values.Number z))) }
-    ensures judged { JudgesValue result (signed_faults (view v.now)) }
+    ensures judged { JudgesValue result (signed_offends (view v.now)) }
 {
     let number = signed_of(v)?;
     Ok(leaf_of(alloc, Value::Number(number)))
 }
 
-fn bytes_value(alloc: Global, v: &Json) -> Result<FoundValue, Halt<Cause>>
+fn bytes_value(alloc: Global, v: &Lent<'_, '_>) -> Result<FoundValue, Halt<Cause>>
     ensures value { IfOk result (λ r. (held : List ℕ) × Spelled SpellsBytes held (view v.now)
         × (value_found r ≡ leaf (values.Bytes held))) }
-    ensures judged { JudgesValue result (base64_faults (view v.now)) }
+    ensures judged { JudgesValue result (base64_offends (view v.now)) }
 {
     let bytes = bytes_in(alloc, v)?;
     Ok(leaf_of(alloc, Value::Bytes(bytes)))
@@ -95,9 +96,9 @@ pub fn note_keys(noted: &mut Items<Text>, more: Items<Text>) -> Result<(), OutOf
 
 /// Reads a value below which so many levels are left.
 #[cycle(values)]
-pub fn read_value(alloc: Global, left: u8, v: &Json) -> Result<FoundValue, Halt<Cause>>
+pub fn read_value(alloc: Global, left: u8, v: &Lent<'_, '_>) -> Result<FoundValue, Halt<Cause>>
     ensures value { IfOk result (λ r. json_value_at left (value_found r) (view v.now)) }
-    ensures judged { JudgesValue result (json_value_faults left (view v.now)) }
+    ensures judged { JudgesValue result (json_value_offends left (view v.now)) }
 {
     if !v.is_object() {
         return Err(Halt::Why(Cause::BadShape));
@@ -108,16 +109,21 @@ pub fn read_value(alloc: Global, left: u8, v: &Json) -> Result<FoundValue, Halt<
     let Some((part, held)) = only else {
         return Ok(leaf_of(alloc, Value::Nothing));
     };
-    read_part(alloc, left, part, held)
+    read_part(alloc, left, part, &held)
 }
 
 // Reads the member of this part.
 #[cycle(values)]
 #[tactic(auto, using(crate::proofs::ValueLemmas::judged_behind))]
-fn read_part(alloc: Global, left: u8, part: Part, v: &Json) -> Result<FoundValue, Halt<Cause>>
+fn read_part(
+    alloc: Global,
+    left: u8,
+    part: Part,
+    v: &Lent<'_, '_>,
+) -> Result<FoundValue, Halt<Cause>>
     ensures value { IfOk result (λ r. MeansJsonMember (json_value_in left) (json_key_value_in left)
         (part_member part (view v.now)) (value_found r)) }
-    ensures judged { JudgesValue result (json_member_faults (json_list_faults left) (json_map_faults left)
+    ensures judged { JudgesValue result (json_member_offends (json_list_offends left) (json_map_offends left)
         (part_member part (view v.now))) }
 {
     match part {
@@ -133,9 +139,9 @@ fn read_part(alloc: Global, left: u8, part: Part, v: &Json) -> Result<FoundValue
 
 // Reads a list below which so many levels are left.
 #[cycle(values)]
-fn read_list(alloc: Global, left: u8, v: &Json) -> Result<FoundValue, Halt<Cause>>
+fn read_list(alloc: Global, left: u8, v: &Lent<'_, '_>) -> Result<FoundValue, Halt<Cause>>
     ensures value { IfOk result (λ r. IsJsonList (json_value_in left) (value_found r) (view v.now)) }
-    ensures judged { JudgesValue result (json_list_faults left (view v.now)) }
+    ensures judged { JudgesValue result (json_list_offends left (view v.now)) }
 {
     if !v.is_object() {
         return Err(Halt::Why(Cause::BadShape));
@@ -152,25 +158,29 @@ fn read_list(alloc: Global, left: u8, v: &Json) -> Result<FoundValue, Halt<Cause
 fn values_of(
     alloc: Global,
     left: u8,
-    v: &Json,
+    v: &Lent<'_, '_>,
     name: &str,
 ) -> Result<(Items<Value>, Items<Text>), Halt<Cause>>
     ensures value { IfOk result (λ r. AreValuesGiven left (member name.now (view v.now)) r.0 r.1) }
     ensures judged { JudgesValue result
-        (optional (held_faults left (json_value_offends left)) (member name.now (view v.now))) }
+        (optional (held_offends left (inner_value_offends left)) (member name.now (view v.now))) }
 {
     match member_of(v, name) {
         None => Ok((Items::new(alloc), Items::new(alloc))),
-        Some(found) => values_in(alloc, left, found),
+        Some(found) => values_in(alloc, left, &found),
     }
 }
 
 #[cycle(values)]
-fn values_in(alloc: Global, left: u8, v: &Json) -> Result<(Items<Value>, Items<Text>), Halt<Cause>>
+fn values_in(
+    alloc: Global,
+    left: u8,
+    v: &Lent<'_, '_>,
+) -> Result<(Items<Value>, Items<Text>), Halt<Cause>>
     ensures value { IfOk result (λ r. AreValuesGiven left (Some (view v.now)) r.0 r.1) }
-    ensures judged { JudgesValue result (held_faults left (json_value_offends left) (view v.now)) }
+    ensures judged { JudgesValue result (held_offends left (inner_value_offends left) (view v.now)) }
 {
-    let Some(elements) = v.as_array() else {
+    let Some(elements) = v.elements() else {
         return Err(Halt::Why(Cause::BadShape));
     };
     let read = read_elements(alloc, left, elements)?;
@@ -181,19 +191,20 @@ fn values_in(alloc: Global, left: u8, v: &Json) -> Result<(Items<Value>, Items<T
 fn read_elements(
     alloc: Global,
     left: u8,
-    elements: &Vec<Json>,
+    elements: Elements<'_, '_>,
 ) -> Result<(Items<Value>, Items<Text>), Halt<Cause>>
-    ensures value { IfOk result (λ r. AreValuesFound left (map view elements.now.items) r.0 r.1) }
+    ensures value { IfOk result (λ r. AreValuesFound left (elements_left elements.entry) r.0 r.1) }
     ensures judged { JudgesValue result
-        (values_faults left (json_value_offends left) (map view elements.now.items)) }
+        (values_offend left (inner_value_offends left) (elements_left elements.entry)) }
 {
-    let mut values = Items::with_room(alloc, elements.len())?;
+    let mut values = Items::with_room(alloc, room_for(elements))?;
     let mut noted = Items::new(alloc);
-    'elements: for element in elements {
+    let mut rest = elements;
+    'elements: while let Some(element) = rest.next() {
         let Some(below) = left.checked_sub(1) else {
             return Err(Halt::Why(Cause::TooDeep));
         };
-        let read = read_value(alloc, below, element)?;
+        let read = read_value(alloc, below, &element)?;
         values.push(read.value)?;
         note_keys(&mut noted, read.keys)?;
     }
@@ -202,9 +213,9 @@ fn read_elements(
 
 // Reads a map below which so many levels are left.
 #[cycle(values)]
-fn read_map(alloc: Global, left: u8, v: &Json) -> Result<FoundValue, Halt<Cause>>
+fn read_map(alloc: Global, left: u8, v: &Lent<'_, '_>) -> Result<FoundValue, Halt<Cause>>
     ensures value { IfOk result (λ r. IsJsonMap (json_key_value_in left) (value_found r) (view v.now)) }
-    ensures judged { JudgesValue result (json_map_faults left (view v.now)) }
+    ensures judged { JudgesValue result (json_map_offends left (view v.now)) }
 {
     if !v.is_object() {
         return Err(Halt::Why(Cause::BadShape));
@@ -216,23 +227,28 @@ fn read_map(alloc: Global, left: u8, v: &Json) -> Result<FoundValue, Halt<Cause>
 
 /// `KeyValue`s that may be absent, which are none then.
 #[cycle(values)]
-pub fn pairs_of(alloc: Global, left: u8, v: &Json, name: &str) -> Result<PairRows, Halt<Cause>>
+pub fn pairs_of(
+    alloc: Global,
+    left: u8,
+    v: &Lent<'_, '_>,
+    name: &str,
+) -> Result<PairRows, Halt<Cause>>
     ensures value { IfOk result (λ r. ArePairsGiven left (member name.now (view v.now)) r.pairs r.noted) }
     ensures judged { JudgesValue result
-        (optional (held_faults left (json_key_value_offends left)) (member name.now (view v.now))) }
+        (optional (held_offends left (inner_pair_offends left)) (member name.now (view v.now))) }
 {
     match member_of(v, name) {
         None => Ok(PairRows::none(alloc)),
-        Some(found) => pairs_in(alloc, left, found),
+        Some(found) => pairs_in(alloc, left, &found),
     }
 }
 
 #[cycle(values)]
-fn pairs_in(alloc: Global, left: u8, v: &Json) -> Result<PairRows, Halt<Cause>>
+fn pairs_in(alloc: Global, left: u8, v: &Lent<'_, '_>) -> Result<PairRows, Halt<Cause>>
     ensures value { IfOk result (λ r. ArePairsGiven left (Some (view v.now)) r.pairs r.noted) }
-    ensures judged { JudgesValue result (held_faults left (json_key_value_offends left) (view v.now)) }
+    ensures judged { JudgesValue result (held_offends left (inner_pair_offends left) (view v.now)) }
 {
-    let Some(elements) = v.as_array() else {
+    let Some(elements) = v.elements() else {
         return Err(Halt::Why(Cause::BadShape));
     };
     let read = read_pairs(alloc, left, elements)?;
@@ -240,17 +256,18 @@ fn pairs_in(alloc: Global, left: u8, v: &Json) -> Result<PairRows, Halt<Cause>>
 }
 
 #[cycle(values)]
-fn read_pairs(alloc: Global, left: u8, elements: &Vec<Json>) -> Result<PairRows, Halt<Cause>>
-    ensures value { IfOk result (λ rows. ArePairsFound left (map view elements.now.items) rows.pairs rows.noted) }
+fn read_pairs(alloc: Global, left: u8, elements: Elements<'_, '_>) -> Result<PairRows, Halt<Cause>>
+    ensures value { IfOk result (λ rows. ArePairsFound left (elements_left elements.entry) rows.pairs rows.noted) }
     ensures judged { JudgesValue result
-        (values_faults left (json_key_value_offends left) (map view elements.now.items)) }
+        (values_offend left (inner_pair_offends left) (elements_left elements.entry)) }
 {
-    let mut rows = PairRows::with_room(alloc, elements.len())?;
-    'elements: for element in elements {
+    let mut rows = PairRows::with_room(alloc, room_for(elements))?;
+    let mut rest = elements;
+    'elements: while let Some(element) = rest.next() {
         let Some(below) = left.checked_sub(1) else {
             return Err(Halt::Why(Cause::TooDeep));
         };
-        let read = read_key_value(alloc, below, element)?;
+        let read = read_key_value(alloc, below, &element)?;
         rows.push(read)?;
     }
     Ok(rows)
@@ -258,9 +275,9 @@ fn read_pairs(alloc: Global, left: u8, elements: &Vec<Json>) -> Result<PairRows,
 
 // Reads a `KeyValue` below whose value so many levels are left.
 #[cycle(values)]
-fn read_key_value(alloc: Global, left: u8, v: &Json) -> Result<FoundPair, Halt<Cause>>
+fn read_key_value(alloc: Global, left: u8, v: &Lent<'_, '_>) -> Result<FoundPair, Halt<Cause>>
     ensures value { IfOk result (λ p. json_key_value_at left (pair_found p) (view v.now)) }
-    ensures judged { JudgesValue result (json_key_value_faults left (view v.now)) }
+    ensures judged { JudgesValue result (json_key_value_offends left (view v.now)) }
 {
     if !v.is_object() {
         return Err(Halt::Why(Cause::BadShape));
@@ -272,15 +289,20 @@ fn read_key_value(alloc: Global, left: u8, v: &Json) -> Result<FoundPair, Halt<C
 
 // A value that may be absent, which is nothing then.
 #[cycle(values)]
-fn value_of(alloc: Global, left: u8, v: &Json, name: &str) -> Result<FoundValue, Halt<Cause>>
+fn value_of(
+    alloc: Global,
+    left: u8,
+    v: &Lent<'_, '_>,
+    name: &str,
+) -> Result<FoundValue, Halt<Cause>>
     ensures value { IfOk result (λ r. Given (json_value_at left) (λ x. x ≡ leaf values.Nothing)
         (value_found r) (member name.now (view v.now))) }
     ensures judged { JudgesValue result
-        (optional (json_value_faults left) (member name.now (view v.now))) }
+        (optional (json_value_offends left) (member name.now (view v.now))) }
 {
     match member_of(v, name) {
         None => Ok(leaf_of(alloc, Value::Nothing)),
-        Some(found) => read_value(alloc, left, found),
+        Some(found) => read_value(alloc, left, &found),
     }
 }
 

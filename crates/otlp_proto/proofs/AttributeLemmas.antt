@@ -6,10 +6,10 @@ use Rattle.trace_model.specs.Attributes.{AreAttributes, AreRepeated, Rise, Stand
 use Rattle.trace_model.specs.declared.value.Value.{Value}
 use Rattle.otlp_proto.specs.declared.attributes.AttributeRows.{AttributeRows}
 use Rattle.trace_model.specs.OtlpParts.{KeyValue, entry, keys_inside}
-use Rattle.trace_model.specs.ToldLaws.{pair_added}
+use Rattle.trace_model.specs.laws.ToldLaws.{pair_added}
 use Rattle.otlp_proto.specs.Attributes.{attribute_at, AttributesOf}
 use Rattle.otlp_proto.specs.AttributesSoFar.{GatheredAttributes}
-use Rattle.span_io.specs.RowLaws.{all_zip_push}
+use Rattle.span_io.specs.laws.RowLaws.{all_zip_push}
 
 pub attribute_push : (earlier : List (List ℕ)) (held : List ℕ) (old new : AttributeRows) (p : KeyValue) → attribute_at held p → new.pairs ≡ old.pairs ++ entry p ∷ [] → new.noted ≡ old.noted ++ p.value.notes
     → GatheredAttributes earlier old → GatheredAttributes (earlier ++ held ∷ []) new

@@ -6,7 +6,7 @@ use Rattle.trace_model.specs.Proper.{AreProper, IsProperEvent}
 use Rattle.trace_model.specs.Soundness.{IsSoundEvent}
 use Rattle.trace_model.specs.declared.span.Event.{Event}
 use Rattle.trace_model.specs.declared.value.Value.{Value}
-use Rattle.otlp_proto.specs.Laws.{ReadingLaws}
+use Rattle.otlp_proto.specs.StatedLaws.{ReadingLaws}
 use Rattle.otlp_proto.specs.Attributes.{AttributesOf}
 use Rattle.otlp_proto.specs.Event.{IsEvent, event_table, event_padded}
 use Rattle.trace_model.specs.Remarks.{Keys}
@@ -18,7 +18,7 @@ use Rattle.otlp_proto.proofs.CanonicalLaws.{Laws}
 use Rattle.otlp_proto.proofs.FieldLemmas.{Fits}
 use Rattle.otlp_proto.proofs.MessageProofs.{MessageProof, never_ends, proved}
 use Rattle.otlp_proto.proofs.ProperLemmas.{text_proper, number_proper, count_proper}
-use Rattle.trace_model.specs.RemarkLaws.{quiet}
+use Rattle.trace_model.specs.laws.RemarkLaws.{quiet}
 use Rattle.otlp_proto.proofs.Ranges.{AreBytes, AllInRange, wire_in_range, all_bytes, all_times}
 use Rattle.otlp_proto.proofs.RowProofs.{TableProof, text_proof, time_proof, count_proof, attributes_proof}
 use Rattle.otlp_proto.proofs.WrittenAttributes.{attributes_written}

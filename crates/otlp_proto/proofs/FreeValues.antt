@@ -2,11 +2,11 @@
 use Rattle.std.proofs.Common.{◌≡◌, ℕ, List, [], ◌∷◌, ◌++◌, sym, ap, subst, ◌∙◌}
 use Rattle.std.specs.List.{AllZip}
 use Rattle.span_io.specs.Tables.{Row, Singular, givens, MeansText}
-use Rattle.span_io.specs.TableLaws.{givens_without}
+use Rattle.span_io.specs.laws.TableLaws.{givens_without}
 use Rattle.proto_wire.specs.Records.{Record}
 use Rattle.proto_wire.specs.Wire.{Wire}
 use Rattle.trace_model.specs.declared.value.Value.TheVariants as values
-use Rattle.otlp_proto.specs.Laws.{WireFacts, PassesFreeIn}
+use Rattle.otlp_proto.specs.StatedLaws.{WireFacts, PassesFreeIn}
 use Rattle.otlp_proto.specs.Rows.{bytes_of}
 use Rattle.otlp_proto.specs.Values.{members_of, IsListText, IsMapText, MeansMember, value_in, key_value_in, value_at, key_value_at, value_offends, key_value_offends, many_table, table_of_value, table_of_key_value}
 use Rattle.trace_model.specs.OtlpParts.{NotedValue, KeyValue, leaf}

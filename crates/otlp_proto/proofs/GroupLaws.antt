@@ -4,14 +4,14 @@ use Rattle.std.specs.Prelude.{◌↔◌}
 use Rattle.span_io.specs.Causes.{cause_number}
 use Rattle.span_io.specs.declared.cause.Cause.{Cause}
 use Rattle.span_io.specs.FreeItems.{SameOffence}
-use Rattle.span_io.specs.OffenceLaws.{one_cause}
+use Rattle.span_io.specs.laws.OffenceLaws.{one_cause}
 use Rattle.span_io.specs.Offences.{Offence, Least}
 use Rattle.proto_wire.specs.Messages.{messages}
 use Rattle.trace_model.specs.declared.remark.Remark.{Remark}
 use Rattle.trace_model.specs.declared.trace.Group.{Group}
 use Rattle.otlp_proto.specs.Group.{IsGroup, IsGroupText, group_rules, GroupPadded}
 use Rattle.trace_model.specs.OtlpParts.{NotedGroup}
-use Rattle.otlp_proto.specs.Laws.{ReadingLaws, MessageRules, SomeGroup, FreeAnywhere}
+use Rattle.otlp_proto.specs.StatedLaws.{ReadingLaws, MessageRules, SomeGroup, FreeAnywhere}
 use Rattle.otlp_proto.specs.Rows.{MeansMessage}
 use Rattle.otlp_proto.proofs.EventMessage.{event_proof}
 use Rattle.otlp_proto.proofs.GroupMessages.{resource_proof, group_proof}

@@ -18,10 +18,10 @@ use Rattle.trace_model.specs.Remarks.{equal_keys}
 use Rattle.trace_model.specs.GroupRemarks.{scopes_remarks}
 use Rattle.trace_model.specs.Notes.{Noted, ScopeNotes}
 use Rattle.trace_model.specs.OtlpParts.{no_resource}
-use Rattle.trace_model.specs.ToldLaws.{spans_all_noted, scope_added}
+use Rattle.trace_model.specs.laws.ToldLaws.{spans_all_noted, scope_added}
 use Rattle.otlp_proto.specs.Rows.{bytes_of, MeansMessage}
 use Rattle.otlp_proto.specs.Scope.{IsScope}
-use Rattle.span_io.specs.RowLaws.{all_zip_push, singular_or, singular_read}
+use Rattle.span_io.specs.laws.RowLaws.{all_zip_push, singular_or, singular_read}
 
 -- ---- scopes
 

@@ -9,7 +9,7 @@ use Rattle.trace_model.specs.declared.remark.Remark.{Remark}
 use Rattle.trace_model.specs.declared.trace.Group.{Group}
 use Rattle.trace_model.specs.declared.trace.Scope.{Scope}
 use Rattle.trace_model.specs.declared.value.Value.{Value}
-use Rattle.otlp_proto.specs.Laws.{ReadingLaws}
+use Rattle.otlp_proto.specs.StatedLaws.{ReadingLaws}
 use Rattle.otlp_proto.specs.Attributes.{AttributesOf}
 use Rattle.otlp_proto.specs.Group.{IsResource, resource_table, resource_padded, IsGroup, IsGroupText, group_table, group_padded}
 use Rattle.trace_model.specs.Remarks.{Keys}
@@ -25,8 +25,8 @@ use Rattle.otlp_proto.proofs.FieldLemmas.{Fits}
 use Rattle.otlp_proto.proofs.Fronts.{front_none, rest_none, no_count, no_list}
 use Rattle.otlp_proto.proofs.MessageProofs.{MessageProof, message_proof, messages_proof, never_ends, proved}
 use Rattle.otlp_proto.proofs.ProperLemmas.{singular_in_range, text_proper, count_proper}
-use Rattle.trace_model.specs.PartLaws.{each_in_range}
-use Rattle.trace_model.specs.RemarkLaws.{quiet, quiet_scope, quiet_scopes, mapped, all_back}
+use Rattle.trace_model.specs.laws.PartLaws.{each_in_range}
+use Rattle.trace_model.specs.laws.RemarkLaws.{quiet, quiet_scope, quiet_scopes, mapped, all_back}
 use Rattle.otlp_proto.proofs.Ranges.{AreBytes, AllInRange, wire_in_range, all_bytes}
 use Rattle.otlp_proto.proofs.RowProofs.{TableProof, text_proof, count_proof, attributes_proof}
 use Rattle.otlp_proto.proofs.ScopeMessages.{scope_proof, scope_again, scope_proper}

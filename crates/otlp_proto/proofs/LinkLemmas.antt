@@ -14,7 +14,7 @@ use Rattle.trace_model.specs.Remarks.{Keys}
 use Rattle.trace_model.specs.Notes.{Noted}
 use Rattle.trace_model.specs.OtlpParts.{LinkParts, link_of}
 use Rattle.otlp_proto.specs.Rows.{bytes_of, varints_of, fixed32s_of, MeansNumber, MeansCount}
-use Rattle.span_io.specs.RowLaws.{gave_or}
+use Rattle.span_io.specs.laws.RowLaws.{gave_or}
 
 -- what stands in the link of these rows beside its identifiers
 abbrev pub parts_of : LinkRows → List (List ℕ × Value) → Keys → LinkParts

@@ -9,7 +9,7 @@ use Rattle.trace_model.specs.Proper.{AreProper, IsProperLink}
 use Rattle.trace_model.specs.Soundness.{IsSoundLink}
 use Rattle.trace_model.specs.declared.span.Link.{Link}
 use Rattle.trace_model.specs.declared.value.Value.{Value}
-use Rattle.otlp_proto.specs.Laws.{ReadingLaws}
+use Rattle.otlp_proto.specs.StatedLaws.{ReadingLaws}
 use Rattle.otlp_proto.specs.Attributes.{AttributesOf}
 use Rattle.otlp_proto.specs.Link.{IsLink, link_table, link_padded}
 use Rattle.trace_model.specs.Remarks.{Keys}
@@ -22,8 +22,8 @@ use Rattle.otlp_proto.proofs.CanonicalLaws.{Laws}
 use Rattle.otlp_proto.proofs.FieldLemmas.{Fits}
 use Rattle.otlp_proto.proofs.MessageProofs.{MessageProof, never_ends, proved}
 use Rattle.otlp_proto.proofs.ProperLemmas.{text_proper, number_proper, count_proper, trace_proper, span_id_proper}
-use Rattle.trace_model.specs.PartLaws.{ProperTrace}
-use Rattle.trace_model.specs.RemarkLaws.{quiet_link}
+use Rattle.trace_model.specs.laws.PartLaws.{ProperTrace}
+use Rattle.trace_model.specs.laws.RemarkLaws.{quiet_link}
 use Rattle.otlp_proto.proofs.Ranges.{AreBytes, AllInRange, wire_in_range, all_bytes, all_flags}
 use Rattle.otlp_proto.proofs.RowProofs.{TableProof, text_proof, flags_proof, count_proof, trace_id_proof, span_id_proof, attributes_proof}
 use Rattle.otlp_proto.proofs.WrittenAttributes.{attributes_written}

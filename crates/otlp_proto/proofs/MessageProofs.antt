@@ -2,16 +2,16 @@
 -- message at most, they mean one or an offence counts, and free records added anywhere in it change nothing.
 use Rattle.std.proofs.Common.{◌≡◌, ◌≤◌, ℕ, inl, inr, true, List, sym, subst, ⊎_elim, arith}
 use Rattle.std.specs.Prelude.{◌↔◌}
-use Rattle.span_io.specs.FreeItemLaws.{means_padded, items_given, padded_whole, same_offence, text_self}
+use Rattle.span_io.specs.laws.FreeItemLaws.{means_padded, items_given, padded_whole, same_offence, text_self}
 use Rattle.span_io.specs.FreeItems.{Paddings, GivenPadded, TextPadded}
-use Rattle.span_io.specs.OffenceLaws.{RulesLaws}
+use Rattle.span_io.specs.laws.OffenceLaws.{RulesLaws}
 use Rattle.span_io.specs.Offences.{Offence}
-use Rattle.span_io.specs.TableDecisions.{DecidedHere, decide_message}
-use Rattle.span_io.specs.TableLaws.{table_rules, message_within, message_late}
+use Rattle.span_io.specs.laws.TableDecisions.{DecidedHere, decide_message}
+use Rattle.span_io.specs.laws.TableLaws.{table_rules, message_within, message_late}
 use Rattle.span_io.specs.Tables.{Row, rules_by, no_ends}
 use Rattle.proto_wire.specs.Messages.{messages}
 use Rattle.proto_wire.specs.Records.{Record}
-use Rattle.otlp_proto.specs.Laws.{ReadingLaws}
+use Rattle.otlp_proto.specs.StatedLaws.{ReadingLaws}
 use Rattle.otlp_proto.specs.Rows.{message, messages_of, MeansMessage}
 use Rattle.otlp_proto.proofs.Bridges.{Bridge, once_of, fine_of}
 use Rattle.otlp_proto.proofs.RowDecisions.{Chosen, message_decides, messages_decides}

@@ -2,14 +2,14 @@
 use Rattle.std.proofs.Common.{◌≡◌, ℕ, zero, suc, ◌⊎◌, inl, inr, List, refl, sym, subst}
 use Rattle.std.specs.Prelude.{◌↔◌}
 use Rattle.std.specs.List.{AllZip}
-use Rattle.span_io.specs.FreeItemLaws.{equal_padding, text_self}
+use Rattle.span_io.specs.laws.FreeItemLaws.{equal_padding, text_self}
 use Rattle.span_io.specs.FreeItems.{SameOffence, RowPadding, TablePadding}
 use Rattle.span_io.specs.Offences.{Offence}
-use Rattle.span_io.specs.TableDecisions.{Next}
+use Rattle.span_io.specs.laws.TableDecisions.{Next}
 use Rattle.proto_wire.specs.Messages.{messages}
-use Rattle.trace_model.specs.Laws.{AttributesOnce, AttributesExist}
+use Rattle.trace_model.specs.StatedLaws.{AttributesOnce, AttributesExist}
 use Rattle.trace_model.specs.declared.value.Value.TheVariants as values
-use Rattle.otlp_proto.specs.Laws.{WireFacts}
+use Rattle.otlp_proto.specs.StatedLaws.{WireFacts}
 use Rattle.otlp_proto.specs.Attributes.{attribute_at, attribute_rules, attributes}
 use Rattle.otlp_proto.specs.PaddedValues.{MemberPadded, table_of_list, table_of_map, value_padded, key_value_padded, ListPadded, MapPadded, ValuePadded, KeyValuePadded, value_paddings, key_value_paddings, AttributePadded}
 use Rattle.otlp_proto.specs.Rows.{text}
@@ -18,7 +18,7 @@ use Rattle.otlp_proto.specs.Values.{Member, string_value, bool_value, int_value,
 use Rattle.trace_model.specs.OtlpParts.{levels_below, NotedValue, KeyValue, leaf}
 use Rattle.otlp_proto.proofs.RowDecisions.{text_decides}
 use Rattle.otlp_proto.proofs.RowPaddings.{Keeps, message_padding, moved, endless_same}
-use Rattle.span_io.specs.RowLaws.{same_twice, singular_moves, all_zip_moves}
+use Rattle.span_io.specs.laws.RowLaws.{same_twice, singular_moves, all_zip_moves}
 use Rattle.otlp_proto.proofs.ValueDecisions.{list_table_decides, map_table_decides, value_table_decides, key_value_table_decides}
 
 -- ---- members of a value

@@ -1,9 +1,9 @@
 -- A walk over the records of a message that comes to its end.
 use Rattle.std.proofs.Common.{◌≡◌, List, [], ℕ, subst}
 use Rattle.span_io.specs.Gathering.{GatheredAll}
-use Rattle.span_io.specs.GatheringLaws.{Seen, seen_end}
+use Rattle.span_io.specs.laws.GatheringLaws.{Seen, seen_end}
 use Rattle.span_io.specs.Offences.{Rules, Cut}
-use Rattle.proto_wire.specs.Laws.{MessageCuts}
+use Rattle.proto_wire.specs.StatedLaws.{MessageCuts}
 use Rattle.proto_wire.specs.Messages.{messages}
 use Rattle.proto_wire.specs.Records.{Record}
 use Rattle.proto_wire.specs.Wire.{Wire}

@@ -1,16 +1,16 @@
 -- What is added in the messages that a row's records hold changes no meaning of the row, where it changes none of them.
 use Rattle.std.proofs.Common.{◌≡◌, ℕ, List, inl, subst}
-use Rattle.span_io.specs.FreeItemLaws.{means_padded, items_given, padded_whole, same_offence}
+use Rattle.span_io.specs.laws.FreeItemLaws.{means_padded, items_given, padded_whole, same_offence}
 use Rattle.span_io.specs.FreeItems.{Paddings, TextPadded, SameOffence, RowPadding, TablePadding}
-use Rattle.span_io.specs.OffenceLaws.{RulesLaws}
+use Rattle.span_io.specs.laws.OffenceLaws.{RulesLaws}
 use Rattle.span_io.specs.Offences.{Offence}
-use Rattle.span_io.specs.RowLaws.{same_twice, singular_moves, all_zip_moves}
-use Rattle.span_io.specs.TableDecisions.{TableDecides}
+use Rattle.span_io.specs.laws.RowLaws.{same_twice, singular_moves, all_zip_moves}
+use Rattle.span_io.specs.laws.TableDecisions.{TableDecides}
 use Rattle.span_io.specs.Tables.{Row, Values, Mean, givens, rules_by, no_ends}
 use Rattle.proto_wire.specs.Messages.{messages}
 use Rattle.proto_wire.specs.Records.{Record}
 use Rattle.proto_wire.specs.Wire.{Wire}
-use Rattle.otlp_proto.specs.Laws.{WireFacts}
+use Rattle.otlp_proto.specs.StatedLaws.{WireFacts}
 use Rattle.otlp_proto.specs.Rows.{message, messages_of}
 use Rattle.otlp_proto.proofs.ValueDecisions.{whole_wire}
 use Rattle.otlp_proto.proofs.ValueReadings.{wire_whole}

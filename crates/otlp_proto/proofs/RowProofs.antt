@@ -1,16 +1,16 @@
 -- What is proved of a row of OTLP's tables: where what stands inside it offends, that it has one meaning, that it is decided, and that free
 -- records inside it change nothing. A message has one list of these beside its table.
 use Rattle.std.proofs.Common.{◌≡◌, ◌≤◌, ℕ, ◌==◌, true, false, List, [], ◌∷◌, ap, ◌∙◌}
-use Rattle.span_io.specs.FreeItemLaws.{equal_padding}
+use Rattle.span_io.specs.laws.FreeItemLaws.{equal_padding}
 use Rattle.span_io.specs.FreeItems.{Paddings, Same, RowPadding, TablePadding}
-use Rattle.span_io.specs.RowLaws.{EnumLaws}
-use Rattle.span_io.specs.TableDecisions.{RowDecides, TableDecides, Apart}
-use Rattle.span_io.specs.TableLaws.{RowShape, TableShape, RowMeaning, TableMeaning}
+use Rattle.span_io.specs.laws.RowLaws.{EnumLaws}
+use Rattle.span_io.specs.laws.TableDecisions.{RowDecides, TableDecides, Apart}
+use Rattle.span_io.specs.laws.TableLaws.{RowShape, TableShape, RowMeaning, TableMeaning}
 use Rattle.span_io.specs.Tables.{Row, IsFree}
 use Rattle.proto_wire.specs.Messages.{messages}
 use Rattle.proto_wire.specs.Records.{Record}
 use Rattle.otlp_proto.specs.Attributes.{attributes}
-use Rattle.otlp_proto.specs.Laws.{ReadingLaws}
+use Rattle.otlp_proto.specs.StatedLaws.{ReadingLaws}
 use Rattle.otlp_proto.specs.PaddedValues.{AttributePadded}
 use Rattle.otlp_proto.specs.Rows.{bytes_in, varint_in, fixed64_in, fixed32_in, text, time, flags, count, enum, trace_id, span_id}
 use Rattle.otlp_proto.proofs.PaddedValues.{attributes_padding}

@@ -18,10 +18,10 @@ use Rattle.otlp_proto.specs.Rows.{bytes_of, MeansMessage}
 use Rattle.otlp_proto.specs.Scope.{IsInstrumentationScope, scope_table}
 use Rattle.trace_model.specs.Notes.{Noted, SpanNotes}
 use Rattle.trace_model.specs.OtlpParts.{no_instrumentation_scope}
-use Rattle.trace_model.specs.ToldLaws.{span_added}
+use Rattle.trace_model.specs.laws.ToldLaws.{span_added}
 use Rattle.otlp_proto.specs.ScopeSoFar.{GatheredSpans, GatheredScope}
 use Rattle.otlp_proto.specs.Span.{IsSpan}
-use Rattle.span_io.specs.RowLaws.{all_zip_push, singular_or, singular_read}
+use Rattle.span_io.specs.laws.RowLaws.{all_zip_push, singular_or, singular_read}
 
 -- ---- spans
 

@@ -15,10 +15,10 @@ use Rattle.trace_model.specs.Remarks.{Keys, equal_keys, link_dropped, numbered}
 use Rattle.otlp_proto.specs.ReadParts.{IsReadSpan}
 use Rattle.trace_model.specs.GroupRemarks.{event_remarks, link_remarks, span_remarks}
 use Rattle.trace_model.specs.Notes.{Noted, SpanNotes}
-use Rattle.trace_model.specs.ToldLaws.{event_added, link_left_out, link_added}
+use Rattle.trace_model.specs.laws.ToldLaws.{event_added, link_left_out, link_added}
 use Rattle.otlp_proto.specs.SpanSoFar.{GatheredEvents, GatheredLinks, ReadsSpan}
 use Rattle.otlp_proto.specs.Rows.{MeansMessage}
-use Rattle.span_io.specs.RowLaws.{all_zip_push}
+use Rattle.span_io.specs.laws.RowLaws.{all_zip_push}
 
 -- the records are those of the bytes
 pub span_read : (number : ℕ) (read : ReadSpan) (records : List Record) (text : List ℕ) → Wire records text → ReadsSpan number read records → IsReadSpan number read text

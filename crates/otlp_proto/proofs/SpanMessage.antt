@@ -4,7 +4,7 @@ use Rattle.std.specs.List.{AllByRecursion, list_any}
 use Rattle.std.specs.Prelude.{is_none}
 use Rattle.std.proofs.lemmas.Str.{IsUtf8-nil}
 use Rattle.span_io.specs.Tables.{Singular, Values}
-use Rattle.span_ids.specs.Laws.{IdentifiersReadBack}
+use Rattle.span_ids.specs.StatedLaws.{IdentifiersReadBack}
 use Rattle.proto_wire.specs.Records.{Record}
 use Rattle.trace_model.specs.Proper.{AreProper, IsProperStatus, IsProperEvent, IsProperLink, IsProperSpan}
 use Rattle.trace_model.specs.Soundness.{IsSoundSpan}
@@ -14,7 +14,7 @@ use Rattle.trace_model.specs.declared.span.Kind.{Kind}
 use Rattle.trace_model.specs.declared.span.Link.{Link}
 use Rattle.trace_model.specs.declared.span.Span.{Span}
 use Rattle.trace_model.specs.declared.value.Value.{Value}
-use Rattle.otlp_proto.specs.Laws.{ReadingLaws}
+use Rattle.otlp_proto.specs.StatedLaws.{ReadingLaws}
 use Rattle.otlp_proto.specs.Attributes.{AttributesOf}
 use Rattle.otlp_proto.specs.Event.{IsEvent}
 use Rattle.otlp_proto.specs.Identifiers.{MeansTraceId, MeansSpanId}
@@ -34,8 +34,8 @@ use Rattle.otlp_proto.proofs.FieldLemmas.{Fits}
 use Rattle.otlp_proto.proofs.LinkMessage.{link_proof, link_again, links_proper}
 use Rattle.otlp_proto.proofs.MessageProofs.{MessageProof, message_proof, messages_proof, proved}
 use Rattle.otlp_proto.proofs.ProperLemmas.{singular_in_range, text_proper, number_proper, count_proper, trace_proper, span_id_proper}
-use Rattle.trace_model.specs.PartLaws.{each_in_range}
-use Rattle.trace_model.specs.RemarkLaws.{quiet, quiet_link, quiet_span, mapped, all_back, links_back, links_noted, none_dropped}
+use Rattle.trace_model.specs.laws.PartLaws.{each_in_range}
+use Rattle.trace_model.specs.laws.RemarkLaws.{quiet, quiet_link, quiet_span, mapped, all_back, links_back, links_noted, none_dropped}
 use Rattle.otlp_proto.proofs.Ranges.{AreBytes, AllInRange, wire_in_range, all_bytes, all_times, all_flags}
 use Rattle.otlp_proto.proofs.RowProofs.{TableProof, text_proof, time_proof, flags_proof, count_proof, enum_proof, trace_id_proof, span_id_proof, attributes_proof}
 use Rattle.otlp_proto.proofs.SpanEnds.{span_end, known, known_trace, known_span, ends_moved, span_ends_well}

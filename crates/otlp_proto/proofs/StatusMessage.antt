@@ -6,7 +6,7 @@ use Rattle.trace_model.specs.Proper.{IsProperStatus}
 use Rattle.trace_model.specs.declared.span.Code.TheVariants as codes
 use Rattle.trace_model.specs.declared.span.Code.{Code}
 use Rattle.trace_model.specs.declared.span.Status.{Status}
-use Rattle.otlp_proto.specs.Laws.{ReadingLaws}
+use Rattle.otlp_proto.specs.StatedLaws.{ReadingLaws}
 use Rattle.otlp_proto.specs.Rows.{bytes_of, MeansMessage}
 use Rattle.otlp_proto.specs.Status.{IsStatus, status_table, status_padded}
 use Rattle.otlp_proto.specs.Texts.{filled_field, count_field, status_text}

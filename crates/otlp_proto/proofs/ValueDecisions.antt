@@ -9,18 +9,18 @@ use Rattle.span_io.specs.Causes.{cause_number}
 use Rattle.span_io.specs.declared.cause.Cause.{Cause}
 use Rattle.span_io.specs.declared.cause.Cause.TheVariants as causes
 use Rattle.span_io.specs.Offences.{Offence, Least}
-use Rattle.span_io.specs.OffenceLaws.{RulesLaws}
+use Rattle.span_io.specs.laws.OffenceLaws.{RulesLaws}
 use Rattle.span_io.specs.Tables.{Row, Singular, Twice, rules_by, no_ends}
-use Rattle.span_io.specs.TableLaws.{TableShape, Whole}
-use Rattle.span_io.specs.TableDecisions.{Decided, DecidedHere, Clean, RowDecides, TableDecides, Apart, Next, Means, decide_message}
+use Rattle.span_io.specs.laws.TableLaws.{TableShape, Whole}
+use Rattle.span_io.specs.laws.TableDecisions.{Decided, DecidedHere, Clean, RowDecides, TableDecides, Apart, Next, Means, decide_message}
 use Rattle.proto_wire.specs.Messages.{messages}
 use Rattle.proto_wire.specs.Records.{Held, varint, fixed64, bytes, fixed32, Record}
 use Rattle.proto_wire.specs.Wire.{Wire}
 use Rattle.trace_model.specs.Attributes.{AreRepeated, StandsTwice}
-use Rattle.trace_model.specs.Laws.{AttributesOnce, AttributesExist}
+use Rattle.trace_model.specs.StatedLaws.{AttributesOnce, AttributesExist}
 use Rattle.trace_model.specs.declared.value.Value.{Value}
 use Rattle.trace_model.specs.declared.value.Value.TheVariants as values
-use Rattle.otlp_proto.specs.Laws.{WireFacts}
+use Rattle.otlp_proto.specs.StatedLaws.{WireFacts}
 use Rattle.otlp_proto.specs.Attributes.{attribute_at, attribute_rules, AttributesOf, attributes}
 use Rattle.trace_model.specs.Remarks.{Keys}
 use Rattle.otlp_proto.specs.Rows.{bytes_in, varint_in, fixed64_in, fixed32_in, bytes_of, bytes_row}
@@ -29,7 +29,7 @@ use Rattle.otlp_proto.specs.Values.{Member, string_value, bool_value, int_value,
 use Rattle.trace_model.specs.Notes.{Noted}
 use Rattle.trace_model.specs.OtlpParts.{NotedValue, KeyValue, leaf, entry, keys_inside}
 use Rattle.otlp_proto.proofs.RowDecisions.{Chosen, chosen_decided, text_decides, message_decides, all_of}
-use Rattle.span_io.specs.RowLaws.{twice_or, one_number, not_text, utf8_or, singular_exists}
+use Rattle.span_io.specs.laws.RowLaws.{twice_or, one_number, not_text, utf8_or, singular_exists}
 use Rattle.otlp_proto.proofs.ValueReadings.{list_reads, map_reads, value_at_reads, key_value_at_reads, attribute_reads}
 
 -- a message's records, to its end

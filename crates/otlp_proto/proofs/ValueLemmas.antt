@@ -6,7 +6,7 @@ use Rattle.std.specs.List.{AllZip}
 use Rattle.span_io.specs.declared.cause.Cause.{Cause}
 use Rattle.span_io.specs.declared.halt.Halt.{Halt}
 use Rattle.span_io.specs.Offences.{Rules, Offence, HereOrInside, ItemOffends, Judges}
-use Rattle.span_io.specs.OffenceLaws.{judged_inside}
+use Rattle.span_io.specs.laws.OffenceLaws.{judged_inside}
 use Rattle.span_io.specs.Tables.{Row, Twice, table_here, table_inside}
 use Rattle.proto_wire.specs.Messages.{messages}
 use Rattle.proto_wire.specs.Records.{bytes, Record}
@@ -18,10 +18,10 @@ use Rattle.otlp_proto.specs.Rows.{bytes_in, bytes_of}
 use Rattle.span_io.specs.RowsSoFar.{Gave}
 use Rattle.otlp_proto.specs.Values.{Member, MeansMember, value_in, key_value_in, value_at, key_value_at, value_offends, key_value_offends, value_rules, key_value_rules}
 use Rattle.trace_model.specs.OtlpParts.{NotedValue, KeyValue, entry}
-use Rattle.trace_model.specs.ToldLaws.{value_added, pair_added}
+use Rattle.trace_model.specs.laws.ToldLaws.{value_added, pair_added}
 use Rattle.otlp_proto.specs.ValuesSoFar.{GatheredMembers, GatheredField, GatheredList, GatheredMap}
-use Rattle.span_io.specs.RowLaws.{all_zip_push}
-use Rattle.span_io.specs.TableLaws.{flat_more}
+use Rattle.span_io.specs.laws.RowLaws.{all_zip_push}
+use Rattle.span_io.specs.laws.TableLaws.{flat_more}
 
 -- nothing was given to a row that is not set
 first_given : {A B : Type 0} (Means : A → B → Type 0) (earlier : List A) (row : Option B) → row ≡ None → Gave Means earlier row → (n : ℕ) → Twice earlier n → ⊥

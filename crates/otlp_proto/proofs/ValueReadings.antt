@@ -4,14 +4,14 @@ use Rattle.std.specs.Prelude.{◌↔◌, IsTrue}
 use Rattle.std.specs.List.{AllZip, flat_map}
 use Rattle.span_io.specs.Offences.{Offence}
 use Rattle.span_io.specs.Tables.{Singular, Twice, no_ends, MeansText}
-use Rattle.span_io.specs.TableLaws.{RowMeaning, TableShape, TableMeaning, Whole, table_fine}
+use Rattle.span_io.specs.laws.TableLaws.{RowMeaning, TableShape, TableMeaning, Whole, table_fine}
 use Rattle.proto_wire.specs.Messages.{messages}
 use Rattle.proto_wire.specs.Records.{Record}
 use Rattle.proto_wire.specs.Wire.{Wire}
-use Rattle.trace_model.specs.Laws.{AttributesOnce}
+use Rattle.trace_model.specs.StatedLaws.{AttributesOnce}
 use Rattle.trace_model.specs.declared.value.Value.{Value}
 use Rattle.trace_model.specs.declared.value.Value.TheVariants as values
-use Rattle.otlp_proto.specs.Laws.{WireFacts}
+use Rattle.otlp_proto.specs.StatedLaws.{WireFacts}
 use Rattle.otlp_proto.specs.Attributes.{attribute_at, attribute_rules, AttributesOf, attributes}
 use Rattle.trace_model.specs.Remarks.{Keys}
 use Rattle.otlp_proto.specs.Rows.{bytes_of}
@@ -19,7 +19,7 @@ use Rattle.otlp_proto.proofs.Shapes.{shape_of_value, shape_of_key_value, many_sh
 use Rattle.otlp_proto.specs.Values.{Member, string_value, bool_value, int_value, double_value, array_value, kvlist_value, bytes_value, members_of, IsListText, IsMapText, MeansMember, value_in, key_value_in, value_at, key_value_at, BadMember, InMember, value_table, many_table, many_rules, value_offends, key_value_offends, table_of_value, value_rules, table_of_key_value, key_value_rules, list_rules, map_rules}
 use Rattle.trace_model.specs.Notes.{Noted}
 use Rattle.trace_model.specs.OtlpParts.{NotedValue, KeyValue, leaf, entry, keys_inside, IsNotedMap, AreNotedAttributes}
-use Rattle.span_io.specs.RowLaws.{all_zip_split, all_zip_once, singular_split, singular_once}
+use Rattle.span_io.specs.laws.RowLaws.{all_zip_split, all_zip_once, singular_split, singular_once}
 use Rattle.otlp_proto.proofs.RowMeanings.{Reads, text_meaning, message_meaning, repeated_meaning}
 
 -- a message's records, to its end

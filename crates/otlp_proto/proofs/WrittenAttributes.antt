@@ -7,7 +7,7 @@ use Rattle.otlp_proto.specs.Attributes.{attributes}
 use Rattle.otlp_proto.specs.Texts.{attributes_text, key_value_text}
 use Rattle.otlp_proto.proofs.CanonicalLaws.{Laws}
 use Rattle.otlp_proto.proofs.FieldLemmas.{IsSmall, list_wire}
-use Rattle.trace_model.specs.RemarkLaws.{quiet}
+use Rattle.trace_model.specs.laws.RemarkLaws.{quiet}
 use Rattle.otlp_proto.proofs.ValueAgain.{attributes_again}
 use Rattle.otlp_proto.proofs.WrittenRows.{Written, of_bytes}
 

@@ -6,7 +6,7 @@ use Rattle.std.proofs.Math.Nat.{mod-eq_of_lt}
 use Rattle.std.proofs.lemmas.Bool.{cases_lt, eqb-true}
 use Rattle.std.specs.List.{AllZip}
 use Rattle.span_io.specs.Tables.{Singular, MeansText}
-use Rattle.span_ids.specs.Laws.{IdentifiersReadBack}
+use Rattle.span_ids.specs.StatedLaws.{IdentifiersReadBack}
 use Rattle.proto_wire.specs.Records.{varint, fixed64, fixed32, Record, IsProper}
 use Rattle.proto_wire.specs.Wire.{SpellsRecord, record_text}
 use Rattle.span_ids.specs.Proper.{IsProperTraceId, IsProperParent}
@@ -14,7 +14,7 @@ use Rattle.otlp_proto.specs.Identifiers.{MeansSpanId}
 use Rattle.otlp_proto.specs.Rows.{varint_in, fixed64_in, fixed32_in, MeansNumber, MeansCount, text, time, flags, count, enum, trace_id, span_id, message, messages_of}
 use Rattle.otlp_proto.specs.Texts.{filled_field, count_field, time_field, flags_field, trace_field, parent_field, list_text}
 use Rattle.otlp_proto.proofs.FieldLemmas.{Fits, filled_fits, list_fits, present, unless_zero, some, parent_held, IsSmall, field_number, held_wire, filled_wire, list_wire, parent_wire, number_wire}
-use Rattle.span_io.specs.RowLaws.{EnumLaws}
+use Rattle.span_io.specs.laws.RowLaws.{EnumLaws}
 use Rattle.otlp_proto.proofs.WrittenRows.{Written, of_bytes, of_numbers, finds_varint, finds_fixed64, finds_fixed32}
 
 -- ---- what a row that may be left out means

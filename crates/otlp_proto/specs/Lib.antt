@@ -5,7 +5,7 @@ pub mod EventSoFar
 pub mod Group
 pub mod GroupSoFar
 pub mod Identifiers
-pub mod Laws
+pub mod StatedLaws
 pub mod Link
 pub mod LinkSoFar
 pub mod Numbering

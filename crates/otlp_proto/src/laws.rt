@@ -5,7 +5,7 @@ ghost use Rattle.trace_model.specs.Soundness.{IsSoundGroup};
 ghost use Rattle.trace_model.specs.declared.remark.Remark.{Remark};
 ghost use Rattle.trace_model.specs.declared.trace.Group.{Group};
 ghost use Rattle.otlp_proto.specs.Group.{IsGroupText};
-ghost use Rattle.otlp_proto.specs.Laws.{ReadingLaws, MessageRules, OneGroup, SomeGroup, FreeRecords, FreeAnywhere};
+ghost use Rattle.otlp_proto.specs.StatedLaws.{ReadingLaws, MessageRules, OneGroup, SomeGroup, FreeRecords, FreeAnywhere};
 ghost use Rattle.otlp_proto.specs.Texts.{bytes_field, list_text, value_text, attributes_text, group_text, group_record};
 
 use trace_model::Value;

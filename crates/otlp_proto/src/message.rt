@@ -1,7 +1,7 @@
 //! The walk over the records of a message.
 ghost use Rattle.std.specs.Prelude.{◌≡◌, ◌++◌, ◌∷◌, [], ℕ, List, length, IfOk, OnOk};
 ghost use Rattle.span_io.specs.Offences.{Offence, OnHalt};
-ghost use Rattle.span_io.specs.OffenceLaws.{RulesLaws};
+ghost use Rattle.span_io.specs.laws.OffenceLaws.{RulesLaws};
 ghost use Rattle.span_io.specs.Tables.{Row, rules_by};
 ghost use Rattle.proto_wire.specs.Records.{Record, plain_record};
 ghost use Rattle.proto_wire.specs.Messages.{messages};

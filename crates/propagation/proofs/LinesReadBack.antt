@@ -5,7 +5,7 @@ use Rattle.std.specs.Option.{option_to_list}
 use Rattle.std.proofs.lemmas.List.{append-nil, map-append}
 use Rattle.std.proofs.lemmas.List.Elements.{filter-append}
 use Rattle.span_ids.specs.declared.hex_text.IdRule.TheVariants as rules
-use Rattle.span_ids.specs.Laws.{IdentifiersReadBack}
+use Rattle.span_ids.specs.StatedLaws.{IdentifiersReadBack}
 use Rattle.propagation.specs.Digits.{trace_digits, span_digits}
 use Rattle.propagation.specs.Fronts.{BeginsWithout}
 use Rattle.propagation.specs.Blocks.{Header, IsValueByte, HasHeaders}
@@ -15,7 +15,7 @@ use Rattle.propagation.specs.B3.{HoldsB3, b3_text}
 use Rattle.propagation.specs.Uber.{uber_text, told_sampling}
 use Rattle.propagation.specs.Heads.{is_named, header_values, traceparent_name, b3_name, b3_trace_name, b3_span_name, b3_parent_name, b3_sampled_name, b3_flags_name, Misses, MissesMulti, IsFirstForm, StandsOnce, StandsAtMostOnce, TellsState, TellsMultiIds, TellsMultiSampling, TellsMulti, TellsContext, Head}
 use Rattle.propagation.specs.NormalContexts.{IsSoundContext, CannotTell, context_lines, normal_context}
-use Rattle.propagation.specs.Laws.{IsProperIds, AreProperIds, HeadersReadBack}
+use Rattle.propagation.specs.StatedLaws.{IsProperIds, AreProperIds, HeadersReadBack}
 use Rattle.propagation.specs.declared.ids.Ids.{Ids}
 use Rattle.propagation.specs.declared.context.Context.{Context}
 use Rattle.propagation.specs.declared.header_form.HeaderForm.{HeaderForm}

@@ -13,7 +13,7 @@ use Rattle.span_ids.specs.declared.hex_text.IdRule.TheVariants as rules
 use Rattle.propagation.specs.B3.{ReadsB3, IsB3End}
 use Rattle.propagation.specs.Blocks.{Header}
 use Rattle.propagation.specs.Heads.{Head, TellsContext, TellsMultiIds}
-use Rattle.propagation.specs.Laws.{AreProperIds}
+use Rattle.propagation.specs.StatedLaws.{AreProperIds}
 use Rattle.propagation.specs.Uber.{IsUberParent}
 use Rattle.propagation.specs.declared.context.Context.{Context}
 use Rattle.propagation.specs.declared.header_form.HeaderForm.{HeaderForm}

@@ -5,7 +5,7 @@ use Rattle.std.proofs.lemmas.Grind.{flat_map-append}
 use Rattle.std.proofs.lemmas.List.{append-nil}
 use Rattle.std.proofs.lemmas.List.Elements.{All-append, All-cons, All-nil}
 use Rattle.span_ids.specs.declared.hex_text.IdRule.TheVariants as rules
-use Rattle.span_ids.specs.Laws.{IdentifiersReadBack}
+use Rattle.span_ids.specs.StatedLaws.{IdentifiersReadBack}
 use Rattle.span_ids.specs.Proper.{IsProperTraceId, IsProperSpanId, IsProperParent}
 use Rattle.propagation.specs.Digits.{trace_digits, span_digits}
 use Rattle.propagation.specs.Fronts.{BeginsWithout}
@@ -16,7 +16,7 @@ use Rattle.propagation.specs.B3.{b3_state, b3_end, b3_text}
 use Rattle.propagation.specs.Uber.{uber_parent, uber_flags, uber_text}
 use Rattle.propagation.specs.Heads.{traceparent_name, tracestate_name, b3_name, uber_name, b3_trace_name, b3_span_name, b3_parent_name, b3_sampled_name, b3_flags_name}
 use Rattle.propagation.specs.NormalContexts.{written_header, state_line, parent_line, multi_ids_lines, multi_sampling_line, traceparent_lines, uber_lines, context_lines}
-use Rattle.propagation.specs.Laws.{IsProperIds, AreProperIds}
+use Rattle.propagation.specs.StatedLaws.{IsProperIds, AreProperIds}
 use Rattle.propagation.specs.declared.ids.Ids.{Ids}
 use Rattle.propagation.specs.declared.context.Context.{Context}
 use Rattle.propagation.specs.declared.header_form.HeaderForm.{HeaderForm}

@@ -9,13 +9,13 @@ use Rattle.std.proofs.lemmas.List.Elements.{All-cons, All-nil}
 use Rattle.span_ids.specs.HexTexts.{IsLowerDigit, SpellsInHex}
 use Rattle.span_ids.specs.declared.hex_text.IdRule.{IdRule}
 use Rattle.span_ids.specs.declared.hex_text.IdRule.TheVariants as rules
-use Rattle.span_ids.specs.Laws.{IdentifiersReadBack}
+use Rattle.span_ids.specs.StatedLaws.{IdentifiersReadBack}
 use Rattle.span_ids.specs.Proper.{IsProperTraceId, IsProperSpanId, IsProperParent}
 use Rattle.propagation.specs.Digits.{dash, trace_digits, span_digits}
 use Rattle.propagation.specs.Traceparent.{TraceparentParts, IsLowerPair, IsVersion, ReadsTraceparent, traceparent_text, traceparent_ids, traceparent_sampling}
 use Rattle.propagation.specs.B3.{ReadsB3, IsB3End, HoldsB3, b3_end, b3_parent, b3_text, b3_ids}
 use Rattle.propagation.specs.Uber.{UberParts, ReadsUber, IsUberParent, IsUberFlags, uber_parent, uber_flags, uber_sampling, uber_text, told_sampling}
-use Rattle.propagation.specs.Laws.{IsProperIds, AreProperIds}
+use Rattle.propagation.specs.StatedLaws.{IsProperIds, AreProperIds}
 use Rattle.propagation.specs.declared.ids.Ids.{Ids}
 use Rattle.propagation.specs.declared.sampling.Sampling.{Sampling}
 use Rattle.propagation.specs.declared.sampling.Sampling.TheVariants.{Absent, No, Yes, Debug}

@@ -8,7 +8,7 @@ pub mod HeaderForms
 pub mod HeaderLines
 pub mod HeadAnswers
 pub mod Heads
-pub mod Laws
+pub mod StatedLaws
 pub mod NormalContexts
 pub mod Traceparent
 pub mod Tracestate

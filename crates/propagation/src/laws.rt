@@ -1,5 +1,5 @@
 //! Laws over all values of headers and all contexts. The functions do little: their contracts are the laws.
-ghost use Rattle.propagation.specs.Laws.{ValuesReadBack, ContextsAreNormal, OneHeaderVerdict, HeadsAreSound, HeadersReadBack};
+ghost use Rattle.propagation.specs.StatedLaws.{ValuesReadBack, ContextsAreNormal, OneHeaderVerdict, HeadsAreSound, HeadersReadBack};
 
 /// A value that is written is of its form, and tells what the form holds of the identifiers and the
 /// sampling.

@@ -8,9 +8,9 @@ use Rattle.span_io.specs.declared.step.Step.{Step}
 use Rattle.span_io.specs.declared.step.Step.TheVariants as steps
 use Rattle.span_io.specs.Varint.{SpellsVarint, SpellsWithin}
 use Rattle.span_io.specs.VarintLaws.{VarintLaws}
-use Rattle.span_io.specs.Cuts.{two_cuts, some_length}
+use Rattle.span_io.specs.laws.Cuts.{two_cuts, some_length}
 use Rattle.span_io.specs.Frames.{BeginsFrame, IsProperFront}
-use Rattle.span_io.specs.FramingLaws.{open_whole, item_first, needs_more}
+use Rattle.span_io.specs.laws.FramingLaws.{open_whole, item_first, needs_more}
 use Rattle.span_io.specs.Pieces.{piece_laws}
 use Rattle.proto_wire.specs.Records.{Held, varint, fixed64, bytes, fixed32, wire_type, IsFieldNumber}
 use Rattle.proto_wire.specs.Wire.{SpellsHeld, IsKeyThenVarint, IsOpenRecord, HoldsLengthPast, records, RefusedBy, FirstIs, NeedsMoreBytes}

@@ -1,4 +1,4 @@
-pub mod Laws
+pub mod StatedLaws
 pub mod Messages
 pub mod Reading
 pub mod Records

@@ -1,7 +1,7 @@
 //! Laws of the wire format, as contracts of functions that do nothing.
 ghost use Rattle.span_io.specs.Framings.{OneFraming, OneStep};
 ghost use Rattle.span_io.specs.Pieces.{PieceLaws};
-ghost use Rattle.proto_wire.specs.Laws.{OneWireReading, ShortestRecord, OpenWireFronts, MessageCuts};
+ghost use Rattle.proto_wire.specs.StatedLaws.{OneWireReading, ShortestRecord, OpenWireFronts, MessageCuts};
 ghost use Rattle.proto_wire.specs.Wire.{records, RefusedBy};
 
 /// No record's text is a proper front of another's, and a text has one reading.

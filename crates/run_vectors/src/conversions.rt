@@ -1,6 +1,6 @@
 //! Conversions by a converter and in one call: limits of their own, long texts, and what stays behind a refusal.
-ghost use Rattle.std.specs.Prelude.{[]};
-ghost use Rattle.span_convert.specs.Converters.{Fed};
+ghost use Rattle.std.specs.Prelude.{◌≢◌, true};
+ghost use Rattle.span_convert.specs.Converters.{has_ended};
 ghost use Rattle.span_io.specs.Limits.{AreLimits};
 
 use span_convert::{Bad, Converter, Stop, Tally, Why, Written, convert_all};
@@ -31,7 +31,7 @@ fn refusal_of(converter: &Converter) -> Option<Refusal> {
 }
 
 fn proto_converter(alloc: Global) -> Converter
-    ensures { Fed result [] }
+    ensures { has_ended result ≢ true }
 {
     Converter::new(alloc, Form::OtlpProto, TO_REQUEST, &Limits::shipped())
 }
@@ -42,7 +42,7 @@ fn converted(
     input: &[u8],
     out: &mut MemSink,
 ) -> Result<Tally, Option<Refusal>>
-    requires { Fed converter [] }
+    requires { has_ended converter ≢ true }
 {
     if converter.feed(input, out).is_err() {
         return Err(refusal_of(&converter));

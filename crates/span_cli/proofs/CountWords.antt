@@ -4,7 +4,7 @@ use Rattle.std.specs.Str.{bytes_eq}
 use Rattle.std.specs.Str.Parse.{digits_value}
 use Rattle.std.proofs.lemmas.Bool.{le-leb}
 use Rattle.std.proofs.lemmas.Fmt.{decimal_is_IsNumeral}
-use Rattle.span_tags.specs.AttributeLaws.{same_key, key_itself}
+use Rattle.span_tags.specs.laws.AttributeLaws.{same_key, key_itself}
 use Rattle.span_tags.specs.TagWords.{at_most, decimal_in}
 use Rattle.span_cli.specs.Commands.{TellsSpans}
 

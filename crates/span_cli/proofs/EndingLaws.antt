@@ -1,15 +1,16 @@
 -- Each way for a run to end, whatever the command.
 use Rattle.std.proofs.Common.{◌≡◌, ◌≢◌, ◌<◌, ◌⊎◌, ℕ, List, [], Option, Some, None, refl, sym, ap, subst, ◌++◌, ◌∙◌, inl, inr, arith, append-nil}
-use Rattle.std.specs.Prelude.{IfSome, IsTrue, codes}
+use Rattle.std.specs.Prelude.{IfSome, IsTrue}
 use Rattle.std.specs.Io.KnownBytes.{Appends, Consumes}
 use Rattle.span_io.specs.Outside.{Inlet, Outlet, Sure, so_many, any_number, less, Gains, GainsFront, Rises, InputFails, NoReadInVain, NoWriteInVain, OutputFails, OutputHolds, FailsWithin}
 use Rattle.span_io.specs.declared.course.ReadCourse.TheVariants as reads
 use Rattle.span_io.specs.declared.course.WriteCourse.TheVariants as writes
+use Rattle.span_convert.specs.Outlooks.{SinkTold}
 use Rattle.span_cli.specs.Inputs.{ReadsInput, IsReadThrough}
 use Rattle.span_cli.specs.Jobs.{Job}
 use Rattle.span_cli.specs.Lines.{Stage, said, input_failed, output_failed, no_memory, IsRunStatus, Notes, status_of, stage_line, stage_of, ending_line}
-use Rattle.span_cli.specs.Outcomes.{Outcome, IsOutcome, OnOutcome, AgreesWith, Writes, line_of, IsJudgedAt}
-use Rattle.span_cli.specs.Runs.{EndsInput, EndsOutput, WritesAllOf, WritesRead, WritesSoFar, EndsRun}
+use Rattle.span_cli.specs.Outcomes.{Outcome, CarriesOut, IsOutcome, OnOutcome, IsJudgedAt}
+use Rattle.span_cli.specs.Runs.{EndsInput, WritesAllOf, WritesRead, WritesSoFar, EndsRun}
 use Rattle.span_cli.specs.declared.ending.Ending.{Ending}
 use Rattle.span_cli.specs.declared.ending.Ending.TheVariants as endings
 
@@ -137,7 +138,7 @@ module _ {K : Type 0} (outlet : K → Outlet) (job : Job) (before now : Inlet) (
   input_left : (status : ℕ) → status ≢ 5 → status ≢ 0 → now.faults ≡ before.faults → RunCourse → EndsInput job status before now
   input_left status other some quiet course = input_quiet status other (λ e. absurd (some e)) quiet course
 
-  output_holds : (status : ℕ) → status ≢ 6 → OutputHolds (outlet old) (outlet new) → EndsOutput status (outlet old) (outlet new)
+  output_holds : (status : ℕ) → status ≢ 6 → OutputHolds (outlet old) (outlet new) → SinkTold (status ≡ 6) (outlet old) (outlet new)
   output_holds status other holds = record { fails = λ e. absurd (other e); holds = λ e. holds }
 
   held_same : new ≡ old → OutputHolds (outlet old) (outlet new)
@@ -148,6 +149,10 @@ module _ {K : Type 0} (outlet : K → Outlet) (job : Job) (before now : Inlet) (
       (λ bytes o is. subst (λ (k : K). GainsFront (outlet old) (outlet k) o.text) (sym same) (front_nothing (outlet old) o.text))
 
   -- ---- each ending
+
+  -- what the ending did of an outcome
+  abbrev pub Carries : Ending → Outcome → Type 0
+  Carries ending = CarriesOut (status_of ending) (outlet old) (outlet new) (λ line. ending_line ending ≡ line)
 
   pub ends_input_failed : RunCourse → InputFails before now → (IsTrue before.steady → ⊥) → OutputHolds (outlet old) (outlet new) → WritesSoFar outlet job before now old new
       → OnOutcome job before.left (λ o. GainsFront (outlet old) (outlet new) o.text) → EndsRun outlet job endings.InputFailed before now old new
@@ -164,9 +169,7 @@ module _ {K : Type 0} (outlet : K → Outlet) (job : Job) (before now : Inlet) (
     so_far = λ e. so_far;
     front = course.front;
     judged = always before.left (λ bytes. IsJudgedAt job input_failed bytes) (λ bytes. tt);
-    agrees = always before.left (λ bytes. (o : Outcome) → IsOutcome job bytes o → AgreesWith input_failed 5 o) (λ bytes o is. tt);
-    written = gains;
-    line = always before.left (λ bytes. (o : Outcome) → IsOutcome job bytes o → codes "input failed\n" ≡ line_of input_failed o) (λ bytes o is. refl);
+    carried = on_outcome job before.left _ (Carries endings.InputFailed) (λ o front. record { agrees = tt; writes = front; notes = refl }) gains;
     whole = λ e. absurd (unlike 5 0 (inr (omega arith)) e);
   }
 
@@ -181,9 +184,7 @@ module _ {K : Type 0} (outlet : K → Outlet) (job : Job) (before now : Inlet) (
     so_far = λ e. absurd (unlike 7 5 (inr (omega arith)) e);
     front = course.front;
     judged = always before.left (λ bytes. IsJudgedAt job no_memory bytes) (λ bytes. tt);
-    agrees = always before.left (λ bytes. (o : Outcome) → IsOutcome job bytes o → AgreesWith no_memory 7 o) (λ bytes o is. tt);
-    written = gains;
-    line = always before.left (λ bytes. (o : Outcome) → IsOutcome job bytes o → codes "out of memory\n" ≡ line_of no_memory o) (λ bytes o is. refl);
+    carried = on_outcome job before.left _ (Carries endings.NoMemory) (λ o front. record { agrees = tt; writes = front; notes = refl }) gains;
     whole = λ e. absurd (unlike 7 0 (inr (omega arith)) e);
   }
 
@@ -200,40 +201,25 @@ module _ {K : Type 0} (outlet : K → Outlet) (job : Job) (before now : Inlet) (
     so_far = λ e. absurd (unlike 6 5 (inr (omega arith)) e);
     front = course.front;
     judged = always before.left (λ bytes. IsJudgedAt job output_failed bytes) (λ bytes. tt);
-    agrees = always before.left (λ bytes. (o : Outcome) → IsOutcome job bytes o → AgreesWith output_failed 6 o) (λ bytes o is. tt);
-    written = within;
-    line = always before.left (λ bytes. (o : Outcome) → IsOutcome job bytes o → codes "output failed\n" ≡ line_of output_failed o) (λ bytes o is. refl);
+    carried = on_outcome job before.left _ (Carries endings.OutputFailed) (λ o fails. record { agrees = tt; writes = fails; notes = refl }) within;
     whole = λ e. absurd (unlike 6 0 (inr (omega arith)) e);
   }
 
-  -- ---- an outcome that was carried out
-
-  -- as this ending says
-  pub record SaidBy (ending : Ending) (outcome : Outcome) : Type 0 where
-    pub agrees : status_of ending ≡ outcome.status
-    pub writes : Gains (outlet old) (outlet new) outcome.text
-    pub line : ending_line ending ≡ outcome.line
-
   pub ends_said : (ending : Ending) → stage_of (status_of ending) ≡ said → status_of ending ≢ 5 → status_of ending ≢ 6 → (status_of ending ≡ 0 → IsReadThrough job before now)
       → (status_of ending ≡ 0 → IfSome before.left (WritesAllOf job (outlet old) (outlet new))) → RunCourse → now.faults ≡ before.faults
-      → OutputHolds (outlet old) (outlet new) → IfSome before.left (IsJudgedAt job said) → OnOutcome job before.left (SaidBy ending) → EndsRun outlet job ending before now old new
+      → OutputHolds (outlet old) (outlet new) → IfSome before.left (IsJudgedAt job said) → OnOutcome job before.left (Carries ending) → EndsRun outlet job ending before now old new
   ends_said ending stage fifth sixth all whole course still holds judged on = record {
     input = input_quiet (status_of ending) fifth all still course;
     output = output_holds (status_of ending) sixth holds;
     so_far = λ e. absurd (fifth e);
     front = course.front;
     judged = subst (λ (s : Stage). IfSome before.left (IsJudgedAt job s)) (sym stage) judged;
-    agrees = subst (λ (s : Stage). OnOutcome job before.left (AgreesWith s (status_of ending))) (sym stage)
-        (on_outcome job before.left (SaidBy ending) (λ o. AgreesWith said (status_of ending) o) (λ o by. by.agrees) on);
-    written = subst (λ (s : Stage). OnOutcome job before.left (λ o. Writes s o.text (outlet old) (outlet new))) (sym stage)
-        (on_outcome job before.left (SaidBy ending) (λ o. Writes said o.text (outlet old) (outlet new)) (λ o by. by.writes) on);
-    line = subst (λ (s : Stage). OnOutcome job before.left (λ o. ending_line ending ≡ line_of s o)) (sym stage)
-        (on_outcome job before.left (SaidBy ending) (λ o. ending_line ending ≡ line_of said o) (λ o by. by.line) on);
+    carried = on;
     whole = whole;
   }
 
 -- whatever the ending, no write was in vain
-pub output_in_vain : {K : Type 0} (outlet : K → Outlet) (ending : Ending) (old new : K) → EndsOutput (status_of ending) (outlet old) (outlet new) → NoWriteInVain (outlet old) (outlet new)
+pub output_in_vain : {K : Type 0} (outlet : K → Outlet) (ending : Ending) (old new : K) → SinkTold (status_of ending ≡ 6) (outlet old) (outlet new) → NoWriteInVain (outlet old) (outlet new)
 output_in_vain outlet endings.Whole old new output = holds_in_vain (outlet old) (outlet new) (output.holds (unlike 0 6 (inl (omega arith))))
 output_in_vain outlet (endings.Refused refusal) old new output = holds_in_vain (outlet old) (outlet new) (output.holds (unlike 3 6 (inl (omega arith))))
 output_in_vain outlet (endings.Faulted noted) old new output = holds_in_vain (outlet old) (outlet new) (output.holds (unlike 4 6 (inl (omega arith))))

@@ -10,7 +10,7 @@ use Rattle.span_cli.specs.Outcomes.{Outcome, OnOutcome, IsJudgedAt, CarriesOut, 
 use Rattle.span_cli.specs.Runs.{EndsRun, EndsGauge, IsGaugeStatus}
 use Rattle.span_cli.specs.declared.ending.Ending.{Ending}
 use Rattle.span_cli.specs.declared.ending.Ending.TheVariants as endings
-use Rattle.span_cli.proofs.EndingLaws.{RunCourse, SaidBy, always, ends_output_failed, ends_said, wants, holds_nothing, front_nothing, unlike, untouched_in_vain}
+use Rattle.span_cli.proofs.EndingLaws.{RunCourse, Carries, always, ends_output_failed, ends_said, wants, holds_nothing, front_nothing, unlike, untouched_in_vain}
 
 -- ---- what a call did to the output
 
@@ -67,7 +67,7 @@ module _ {K : Type 0} (outlet : K → Outlet) (spans : ℕ) (now : Inlet) (old n
       ends_said outlet (Gauge spans) now now old new endings.Whole refl (unlike 0 5 (inl (omega arith))) (unlike 0 6 (inl (omega arith))) (λ e. refl) (λ e. always now.left (λ bytes. Unit {0}) (λ bytes. tt))
       (course (record { front = gauge_lines spans; is_front = ([], sym (append-nil (gauge_lines spans))); gains = ends.written })) refl
       (ends.output.holds (unlike 0 6 (inl (omega arith)))) (judged_lines spans now.left)
-      (on_lines spans now.left (SaidBy outlet (Gauge spans) now now old new endings.Whole) (record { agrees = refl; writes = ends.written; line = refl }))
+      (on_lines spans now.left (Carries outlet (Gauge spans) now now old new endings.Whole) (record { agrees = refl; writes = ends.written; notes = refl }))
   ends_gauge endings.OutputFailed ends =
       ends_output_failed outlet (Gauge spans) now now old new (course ends.written.front) refl (ends.output.fails refl)
       (on_lines spans now.left (λ o. FailsWithin (outlet old) (outlet new) o.text) ends.written)
@@ -96,7 +96,7 @@ module _ {K : Type 0} (outlet : K → Outlet) (spans : ℕ) (old new : K) (befor
   gauge_status endings.NoIds ends = absurd ends.ending_is
 
   pub gauge_carried : (ending : Ending) → EndsGauge outlet spans ending old new → Notes before now (ending_line ending)
-      → CarriesOut (status_of ending) (outlet old) (outlet new) before now (gauge_outcome spans)
+      → CarriesOut (status_of ending) (outlet old) (outlet new) (Notes before now) (gauge_outcome spans)
   gauge_carried endings.Whole ends notes = record { agrees = refl; writes = ends.written; notes = notes }
   gauge_carried endings.OutputFailed ends notes = record { agrees = tt; writes = ends.written; notes = notes }
   gauge_carried endings.NoMemory ends notes = record { agrees = tt; writes = ends.written; notes = notes }

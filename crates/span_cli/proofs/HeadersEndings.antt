@@ -3,7 +3,7 @@ use Rattle.std.proofs.Common.{◌≡◌, ◌+◌, ◌<◌, ◌≤◌, ℕ, Bool,
 use Rattle.std.specs.Prelude.{IfSome}
 use Rattle.std.specs.Io.KnownBytes.{Consumes}
 use Rattle.propagation.specs.Heads.{told, refused}
-use Rattle.propagation.specs.Laws.{OneHeaderVerdict}
+use Rattle.propagation.specs.StatedLaws.{OneHeaderVerdict}
 use Rattle.propagation.specs.NormalContexts.{CannotTell, context_lines}
 use Rattle.propagation.specs.declared.context.Context.{Context}
 use Rattle.propagation.specs.declared.header_cause.HeaderCause.{HeaderCause}
@@ -16,7 +16,7 @@ use Rattle.span_cli.specs.Outcomes.{Outcome, IsHeadersOutcome, too_long, bad, no
 use Rattle.span_cli.specs.Runs.{none, some, EndsRun, TellsLines, HaltsLines}
 use Rattle.span_cli.specs.declared.ending.Ending.{Ending}
 use Rattle.span_cli.specs.declared.ending.Ending.TheVariants as endings
-use Rattle.span_cli.proofs.EndingLaws.{RunCourse, SaidBy, all_told, always, ends_input_unwritten, ends_no_memory, ends_output_failed, ends_said, gains_nothing, holds_nothing, unlike}
+use Rattle.span_cli.proofs.EndingLaws.{RunCourse, Carries, all_told, always, ends_input_unwritten, ends_no_memory, ends_output_failed, ends_said, gains_nothing, holds_nothing, unlike}
 
 -- ---- a block has one outcome
 
@@ -83,9 +83,9 @@ module _ {K : Type 0} (outlet : K → Outlet) (law : OneHeaderVerdict) (form : H
   nothing_whole = always before.left (λ bytes. Unit {0}) (λ bytes. tt)
 
   -- an outcome of which nothing is written
-  says_nothing : (ending : Ending) (found : Outcome) → IfSome before.left (λ bytes. IsHeadersOutcome form bytes found) → SaidBy outlet (HeaderLines form) before now old old ending found
-      → OnOutcome (HeaderLines form) before.left (SaidBy outlet (HeaderLines form) before now old old ending)
-  says_nothing ending found is by = on_told law form before.left found (SaidBy outlet (HeaderLines form) before now old old ending) is by
+  says_nothing : (ending : Ending) (found : Outcome) → IfSome before.left (λ bytes. IsHeadersOutcome form bytes found) → Carries outlet (HeaderLines form) before now old old ending found
+      → OnOutcome (HeaderLines form) before.left (Carries outlet (HeaderLines form) before now old old ending)
+  says_nothing ending found is by = on_told law form before.left found (Carries outlet (HeaderLines form) before now old old ending) is by
 
   ends_too_long : (given : List ℕ) → GaveInput before now given → length given ≤ header_limit + piece → NoReadInVain before now → now.faults ≡ before.faults → header_limit < length given
       → EndsRun outlet (HeaderLines form) endings.TooLong before now old old
@@ -93,7 +93,7 @@ module _ {K : Type 0} (outlet : K → Outlet) (law : OneHeaderVerdict) (form : H
       let is = too_long_told form before.left now.left given gave long in
       ends_said outlet (HeaderLines form) before now old old endings.TooLong refl (unlike 3 5 (inl (omega arith))) (unlike 3 6 (inl (omega arith))) (λ e. absurd (unlike 3 0 (inr (omega arith)) e)) (λ e. nothing_whole)
       (course_unwritten given gave within in_vain) still (holds_nothing (outlet old)) (judged_told form before.left _ is)
-      (says_nothing endings.TooLong _ is (record { agrees = refl; writes = gains_nothing (outlet old); line = refl }))
+      (says_nothing endings.TooLong _ is (record { agrees = refl; writes = gains_nothing (outlet old); notes = refl }))
 
   -- the block wasn't read to its end
   pub ends_block : (ending : Ending) → BlockHalts ending before now → EndsRun outlet (HeaderLines form) ending before now old old
@@ -129,12 +129,12 @@ module _ {K : Type 0} (outlet : K → Outlet) (law : OneHeaderVerdict) (form : H
         let is = whole_told _ (bad cause within halts refl) in
         ends_said outlet (HeaderLines form) before now old old (endings.BadHeaders cause) refl (unlike 3 5 (inl (omega arith))) (unlike 3 6 (inl (omega arith))) (λ e. absurd (unlike 3 0 (inr (omega arith)) e)) (λ e. nothing_whole)
         (course_unwritten block read.gave few read.in_vain) read.quiet (holds_nothing (outlet old)) (judged_told form before.left _ is)
-        (says_nothing (endings.BadHeaders cause) _ is (record { agrees = refl; writes = gains_nothing (outlet old); line = refl }))
+        (says_nothing (endings.BadHeaders cause) _ is (record { agrees = refl; writes = gains_nothing (outlet old); notes = refl }))
     ends_lines endings.NoIds halts =
         let is = whole_told _ (no_ids halts.context halts.dropped within halts.told halts.cannot refl) in
         ends_said outlet (HeaderLines form) before now old old endings.NoIds refl (unlike 4 5 (inl (omega arith))) (unlike 4 6 (inl (omega arith))) (λ e. absurd (unlike 4 0 (inr (omega arith)) e)) (λ e. nothing_whole)
         (course_unwritten block read.gave few read.in_vain) read.quiet (holds_nothing (outlet old)) (judged_told form before.left _ is)
-        (says_nothing endings.NoIds _ is (record { agrees = refl; writes = gains_nothing (outlet old); line = refl }))
+        (says_nothing endings.NoIds _ is (record { agrees = refl; writes = gains_nothing (outlet old); notes = refl }))
 
     -- it tells a context, whose lines were written, or the output failed within them
     module _ (lines : List ℕ) (tells : TellsLines form block lines) (new : K) where
@@ -159,8 +159,8 @@ module _ {K : Type 0} (outlet : K → Outlet) (law : OneHeaderVerdict) (form : H
       ends_written gains holds =
           ends_said outlet (HeaderLines form) before now old new endings.Whole refl (unlike 0 5 (inl (omega arith))) (unlike 0 6 (inl (omega arith))) (λ e. read.all_read) (λ e. nothing_whole)
           (course_written (record { front = lines; is_front = ([], sym (append-nil lines)); gains = gains })) read.quiet holds (judged_told form before.left found found_told)
-          (on_told law form before.left found (SaidBy outlet (HeaderLines form) before now old new endings.Whole) found_told
-          (record { agrees = refl; writes = subst (λ (l : List ℕ). Gains (outlet old) (outlet new) l) tells.are_lines gains; line = refl }))
+          (on_told law form before.left found (Carries outlet (HeaderLines form) before now old new endings.Whole) found_told
+          (record { agrees = refl; writes = subst (λ (l : List ℕ). Gains (outlet old) (outlet new) l) tells.are_lines gains; notes = refl }))
 
       pub ends_failed : OutputFails (outlet old) (outlet new) → FailsWithin (outlet old) (outlet new) lines → EndsRun outlet (HeaderLines form) endings.OutputFailed before now old new
       ends_failed fails inside =

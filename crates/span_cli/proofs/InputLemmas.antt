@@ -7,24 +7,18 @@ use Rattle.std.proofs.lemmas.List.Elements.{All-nil}
 use Rattle.span_io.specs.Courses.{course_of_reads, read_next, is_last}
 use Rattle.span_io.specs.Frames.{AreBytes}
 use Rattle.span_io.specs.Limits.{shipped_limits}
-use Rattle.span_io.specs.Outside.{Inlet, Outlet, GainLaws, NoReadInVain, OutputHolds}
+use Rattle.span_io.specs.Outside.{Inlet, Outlet, Gains, GainLaws, NoReadInVain, OutputHolds}
 use Rattle.span_io.specs.declared.course.ReadCourse.{ReadCourse}
 use Rattle.span_io.specs.declared.course.ReadCourse.TheVariants as reads
 use Rattle.span_io.specs.declared.form.Form.{Form}
-use Rattle.span_io.specs.declared.limits.Limits.{Limits}
-use Rattle.span_convert.specs.Converters.{Fed, HasForms, IsOutlookBy, form_of, what_of}
-use Rattle.span_convert.specs.Outlooks.{IsOutlookAs, ReachesFrom, WritesFrontFrom}
-use Rattle.span_convert.specs.Reports.{WritesFrontAs, written_target}
-use Rattle.span_convert.specs.Targets.{open_target}
-use Rattle.span_convert.specs.Units.{input_form, input_limit, open_form}
-use Rattle.span_convert.specs.Verdicts.{Verdict, good, IsJudgedOn, tally_of}
+use Rattle.span_convert.specs.Converters.{Fed, Feeds}
+use Rattle.span_convert.specs.Reports.{WritesFrontAs}
+use Rattle.span_convert.specs.Units.{input_limit}
 use Rattle.span_convert.specs.declared.converter.Walker.{Walker}
-use Rattle.span_convert.specs.declared.stop.Stop.{Stop}
-use Rattle.span_convert.specs.declared.tally.Tally.{Tally}
 use Rattle.span_convert.specs.declared.written.Written.{Written}
-use Rattle.span_cli.specs.Inputs.{GaveInput, ReadsInput, IsAllRead, IsFed, WritesUnits, piece}
+use Rattle.span_cli.specs.Inputs.{GaveInput, ReadsInput, IsAllRead, IsFed, piece, shipped}
 use Rattle.span_cli.specs.Jobs.{Job, Spans}
-use Rattle.span_cli.proofs.WrittenSoFar.{same_by, front_of_units, units_on}
+use Rattle.span_cli.proofs.WrittenSoFar.{front_of_units, gained, gains_on}
 
 Consumes-nothing : (left : Option (List ℕ)) → Consumes left left []
 Consumes-nothing None = tt
@@ -60,10 +54,6 @@ not_in_vain E before now after result goes is going vain =
 pub reads_nothing : (job : Job) (now : Inlet) → ReadsInput job now now
 reads_nothing job now = record { given = []; gave = Consumes-nothing now.left; within = omega arith }
 
--- a converter was fed no more than the limit of its form
-pub given_within : (c : Walker) (from : Form) (given : List ℕ) → Fed c given → form_of c ≡ from → c.limits ≡ shipped_limits → length given ≤ input_limit from shipped_limits
-given_within c from given fed form limits = subst (λ (f : Form). length given ≤ input_limit f shipped_limits) form (subst (λ (l : Limits). length given ≤ input_limit (form_of c) l) limits fed.within)
-
 -- the source gave these bytes so far without a fault
 pub record Reading (before now : Inlet) (given : List ℕ) : Type 0 where
   pub gave : GaveInput before now given
@@ -93,109 +83,70 @@ Reading-end before now after given reading here ended =
     let all = Consumes-then before.left now.left after.left given [] reading.gave here in
     (subst (λ (l : List ℕ). GaveInput before after l) (append-nil given) all, record { ended = ended; told = told_end before.left after.left (given ++ []) all ended })
 
--- what a call says that feeds a piece to a converter that was fed these bytes, so that it was fed those
-pub record FeedSays (from : Form) (what : Written) (limits : Limits) (fed bytes : List ℕ) (result : Result (Unit {0}) Stop) (kept : Verdict → Type 0) (old new : Outlet) : Type 0 where
-  pub exists : IsJudgedOn (open_form from) (open_target (written_target what)) limits bytes result
-  pub outlook : (said : List ℕ) (tally : Tally) → IsOutlookAs from what limits fed (good said tally)
-      → (outlook : Verdict) → IsOutlookAs from what limits bytes outlook → ReachesFrom said outlook result old new × kept outlook
-  pub front : (said : List ℕ) (tally : Tally) → IsOutlookAs from what limits fed (good said tally)
-      → WritesFrontFrom (input_form from) (written_target what) limits bytes said old new
-
 -- The source gave some bytes so far without a fault, the converter was fed them, and the text of their whole units was written.
 pub record Feeding (from : Form) (what : Written) (input_before input_now : Inlet) (output_before output_now : Outlet) (c : Walker) : Type 0 where
   pub given : List ℕ
+  pub said : List ℕ
   pub are_bytes : AreBytes given
   pub reading : Reading input_before input_now given
-  pub fed : Fed c given
-  pub forms : HasForms c from what
-  pub limits : c.limits ≡ shipped_limits
-  pub writes : WritesUnits from what given output_before output_now
+  pub fed : Fed c (shipped from what) given said
+  pub gains : Gains output_before output_now said
   pub front : WritesFrontAs from what shipped_limits given output_before output_now
   pub holds : OutputHolds output_before output_now
 
-pub Feeding-start : (laws : GainLaws) (now : Inlet) (output : Outlet) (c : Walker) → Fed c [] → c.limits ≡ shipped_limits → IsOutlookBy c [] (good [] (tally_of 0 0))
-    → WritesFrontAs (form_of c) (what_of c) shipped_limits [] output output → Feeding (form_of c) (what_of c) now now output output c
-Feeding-start laws now output c fresh limits outlook front = record {
-  given = [];
-  are_bytes = All-nil (λ (b : ℕ). b < 256);
-  reading = Reading-start now;
-  fed = fresh;
-  forms = (refl, refl);
-  limits = limits;
-  writes = record {
-    said = [];
-    tally = tally_of 0 0;
-    outlook = subst (λ (l : Limits). IsOutlookAs (form_of c) (what_of c) l [] (good [] (tally_of 0 0))) limits outlook;
-    gains = laws.none output;
-  };
-  front = front;
-  holds = laws.still output;
-}
-
 module _ (from : Form) (what : Written) where
+  pub Feeding-start : (laws : GainLaws) (now : Inlet) (output : Outlet) (c : Walker) → Fed c (shipped from what) [] [] → WritesFrontAs from what shipped_limits [] output output → Feeding from what now now output output c
+  Feeding-start laws now output c fresh front = record {
+    given = [];
+    said = [];
+    are_bytes = All-nil (λ (b : ℕ). b < 256);
+    reading = Reading-start now;
+    fed = fresh;
+    gains = laws.none output;
+    front = front;
+    holds = laws.still output;
+  }
+
   -- what was read so far
   pub Feeding-reads : (before now after : Inlet) (a b : Outlet) (c : Walker) (more : List ℕ) (feeding : Feeding from what before now a b c) → Consumes now.left after.left more → length more ≤ piece → ReadsInput (Spans from what) before after
-  Feeding-reads before now after a b c more feeding here small =
-      let bound = given_within c from feeding.given feeding.fed feeding.forms.0 feeding.limits in
-      record {
-        given = feeding.given ++ more;
-        gave = Consumes-then before.left now.left after.left feeding.given more feeding.reading.gave here;
-        within = omega (arith, bound, small, length-append feeding.given more);
-      }
+  Feeding-reads before now after a b c more feeding here small = record {
+    given = feeding.given ++ more;
+    gave = Consumes-then before.left now.left after.left feeding.given more feeding.reading.gave here;
+    within = omega (arith, feeding.fed.within, small, length-append feeding.given more);
+  }
 
-  pub Feeding-end : (before now after : Inlet) (a b : Outlet) (c : Walker) → Feeding from what before now a b c → Consumes now.left after.left [] → after.faults ≡ now.faults → NoReadInVain before after → IsAtEnd after.left → IsFed from what before after a b c
+  pub Feeding-end : (before now after : Inlet) (a b : Outlet) (c : Walker) → Feeding from what before now a b c → Consumes now.left after.left [] → after.faults ≡ now.faults → NoReadInVain before after → IsAtEnd after.left → IsFed (shipped from what) before after a b c
   Feeding-end before now after a b c feeding here quiet in_vain ended =
       let all = Reading-end before now after feeding.given feeding.reading here ended in
       record {
         given = feeding.given;
+        said = feeding.said;
         gave = all.0;
         all_read = all.1;
         quiet = quiet ∙ feeding.reading.quiet;
         in_vain = in_vain;
         fed = feeding.fed;
-        forms = feeding.forms;
-        limits = feeding.limits;
-        writes = feeding.writes;
+        gains = feeding.gains;
         holds = feeding.holds;
       }
 
   -- each piece brings the converter nearer to its limit
-  pub Feeding-smaller : (before now : Inlet) (a b : Outlet) (old new : Walker) (more : List ℕ) (feeding : Feeding from what before now a b old) → 0 < length more
-      → Fed new (feeding.given ++ more) → HasForms new (form_of old) (what_of old) → new.limits ≡ old.limits
+  pub Feeding-smaller : (before now : Inlet) (a b : Outlet) (old new : Walker) (more said : List ℕ) (feeding : Feeding from what before now a b old) → 0 < length more → Fed new (shipped from what) (feeding.given ++ more) said
       → suc (input_limit from shipped_limits) - new.fed < suc (input_limit from shipped_limits) - old.fed
-  Feeding-smaller before now a b old new more feeding some fed forms limits =
-      let bound = given_within new from (feeding.given ++ more) fed (forms.0 ∙ feeding.forms.0) (limits ∙ feeding.limits) in
-      omega (arith, bound, some, fed.size, feeding.fed.size, length-append feeding.given more)
+  Feeding-smaller before now a b old new more said feeding some fed =
+      omega (arith, fed.within, some, fed.size, feeding.fed.size, length-append feeding.given more)
 
-module _ (laws : GainLaws) (from : Form) (what : Written) where
   -- another piece, which the converter took
-  pub Feeding-step : (before now after : Inlet) (a b d : Outlet) (old new : Walker) (more : List ℕ) (kept : Verdict → Type 0) (feeding : Feeding from what before now a b old) → AreBytes (feeding.given ++ more)
+  pub Feeding-step : (laws : GainLaws) (before now after : Inlet) (a b d : Outlet) (old new : Walker) (more : List ℕ) (feeding : Feeding from what before now a b old) → AreBytes (feeding.given ++ more)
       → Consumes now.left after.left more → after.faults ≡ now.faults → after.steady ≡ now.steady → (now.course ≡ Some reads.Going → after.course ≡ Some reads.Going)
-      → Fed new (feeding.given ++ more) → HasForms new (form_of old) (what_of old) → new.limits ≡ old.limits
-      → FeedSays from what shipped_limits feeding.given (feeding.given ++ more) (Ok tt) kept b d → OutputHolds b d → Feeding from what before after a d new
-  Feeding-step before now after a b d old new more kept feeding are_bytes here quiet steady goes fed forms limits says holds =
-      let (outlook, is) = says.exists in
-      let first = feeding.writes in
-      record {
-        given = feeding.given ++ more;
-        are_bytes = are_bytes;
-        reading = Reading-step before now after feeding.given more feeding.reading here quiet steady goes;
-        fed = fed;
-        forms = (forms.0 ∙ feeding.forms.0, forms.1 ∙ feeding.forms.1);
-        limits = limits ∙ feeding.limits;
-        writes = units_on laws first.said a b d first.gains from what (feeding.given ++ more) outlook is (says.outlook first.said first.tally first.outlook outlook is).0;
-        front = front_of_units laws first.said a b d first.gains from what (feeding.given ++ more) (says.front first.said first.tally first.outlook);
-        holds = laws.holding a b d feeding.holds holds;
-      }
-
--- what it says of the converter it says of the form that this reads, of what it writes, and of the limits shipped
-pub says_of : (from : Form) (what : Written) (c : Walker) (fed bytes : List ℕ) (result : Result (Unit {0}) Stop) (kept : Verdict → Type 0) (old new : Outlet) → HasForms c from what → c.limits ≡ shipped_limits
-    → FeedSays (form_of c) (what_of c) c.limits fed bytes result kept old new → FeedSays from what shipped_limits fed bytes result kept old new
-says_of from what c fed bytes result kept old new forms limits =
-    same_by (λ f w l. FeedSays f w l fed bytes result kept old new) (form_of c) from (what_of c) what c.limits shipped_limits forms.0 forms.1 limits
-
--- a converter that was fed an input reads the one form, and writes the other or the report
-pub fed_by : (from : Form) (what : Written) (before now : Inlet) (a b : Outlet) (first c : Walker) → HasForms first from what
-    → IsFed (form_of first) (what_of first) before now a b c → IsFed from what before now a b c
-fed_by from what before now a b first c forms fed =
-    subst (λ (w : Written). IsFed from w before now a b c) forms.1 (subst (λ (f : Form). IsFed f (what_of first) before now a b c) forms.0 fed)
+      → Feeds (shipped from what) new feeding.said (feeding.given ++ more) (Ok tt) b d → OutputHolds b d → Feeding from what before after a d new
+  Feeding-step laws before now after a b d old new more feeding are_bytes here quiet steady goes feeds holds = record {
+    given = feeding.given ++ more;
+    said = feeds.fed.text;
+    are_bytes = are_bytes;
+    reading = Reading-step before now after feeding.given more feeding.reading here quiet steady goes;
+    fed = feeds.fed.is;
+    gains = gained a d feeds.fed.text (gains_on laws feeding.said a b d feeding.gains feeds.fed.text feeds.fed.gains);
+    front = front_of_units laws feeding.said a b d feeding.gains from what (feeding.given ++ more) feeds.front;
+    holds = laws.holding a b d feeding.holds holds;
+  }

@@ -1,13 +1,13 @@
 -- What was written of header lines is read back as the normal form of their context.
 use Rattle.std.proofs.Common.{◌≡◌, ℕ, List, Option, refl, ap, subst, arith}
 use Rattle.std.specs.Prelude.{IfSome}
-use Rattle.propagation.specs.Laws.{ContextsAreNormal, HeadsAreSound, HeadersReadBack}
+use Rattle.propagation.specs.StatedLaws.{ContextsAreNormal, HeadsAreSound, HeadersReadBack}
 use Rattle.propagation.specs.NormalContexts.{context_lines}
 use Rattle.propagation.specs.declared.header_form.HeaderForm.{HeaderForm}
 use Rattle.span_io.specs.Outside.{Outlet, Gains}
 use Rattle.span_cli.specs.Jobs.{HeaderLines}
 use Rattle.span_cli.specs.Lines.{stage_of}
-use Rattle.span_cli.specs.Outcomes.{Outcome, IsHeadersOutcome, too_long, bad, no_ids, written, OnOutcome, IsJudgedAt, AgreesWith, Writes, WritesLinesOf}
+use Rattle.span_cli.specs.Outcomes.{Outcome, IsHeadersOutcome, too_long, bad, no_ids, written, OnOutcome, IsJudgedAt, CarriesOut, WritesLinesOf}
 use Rattle.span_cli.proofs.WholeRuns.{not_zero, whole_run}
 
 module _ (normal : ContextsAreNormal) (sound : HeadsAreSound) (back : HeadersReadBack) (form : HeaderForm) where
@@ -31,7 +31,7 @@ module _ (normal : ContextsAreNormal) (sound : HeadsAreSound) (back : HeadersRea
         };
       }
 
-  pub lines_back : (left : Option (List ℕ)) (status : ℕ) (before now : Outlet) → IfSome left (IsJudgedAt (HeaderLines form) (stage_of status)) → OnOutcome (HeaderLines form) left (AgreesWith (stage_of status) status)
-      → OnOutcome (HeaderLines form) left (λ o. Writes (stage_of status) o.text before now) → status ≡ 0 → IfSome left (WritesLinesOf form before now)
-  lines_back left status before now = whole_run (HeaderLines form) before now (WritesLinesOf form before now)
+  pub lines_back : (left : Option (List ℕ)) (status : ℕ) (before now : Outlet) (Noted : List ℕ → Type 0) → IfSome left (IsJudgedAt (HeaderLines form) (stage_of status))
+      → OnOutcome (HeaderLines form) left (CarriesOut status before now Noted) → status ≡ 0 → IfSome left (WritesLinesOf form before now)
+  lines_back left status before now Noted = whole_run (HeaderLines form) before now Noted (WritesLinesOf form before now)
       (λ bytes outcome is zero gains. lines_of_block bytes outcome before now is zero gains) left status

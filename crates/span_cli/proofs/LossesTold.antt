@@ -13,7 +13,7 @@ use Rattle.span_convert.specs.declared.tally.Tally.{Tally}
 use Rattle.span_convert.specs.declared.written.Written.TheVariants as written
 use Rattle.span_cli.specs.Jobs.{Job, Spans}
 use Rattle.span_cli.specs.Lines.{stage_of}
-use Rattle.span_cli.specs.Outcomes.{Outcome, IsOutcome, OnOutcome, IsJudgedAt, AgreesWith, Writes, WritesLossesOf}
+use Rattle.span_cli.specs.Outcomes.{Outcome, IsOutcome, OnOutcome, IsJudgedAt, CarriesOut, WritesLossesOf}
 use Rattle.span_cli.proofs.WholeRuns.{not_zero, whole_run}
 
 module _ (law : (from to : Form) (limits : Limits) (bytes text : List ℕ) (tally : Tally)
@@ -33,7 +33,7 @@ module _ (law : (from to : Form) (limits : Limits) (bytes text : List ℕ) (tall
   losses_of_bytes bytes outcome before now (refused refusal text, is, e) agrees gains = absurd (not_zero outcome _ 3 agrees e refl (omega arith))
   losses_of_bytes bytes outcome before now (faulted found text, is, e) agrees gains = absurd (not_zero outcome _ 4 agrees e refl (omega arith))
 
-  pub losses_told : (left : Option (List ℕ)) (status : ℕ) (before now : Outlet) → IfSome left (IsJudgedAt losing (stage_of status)) → OnOutcome losing left (AgreesWith (stage_of status) status)
-      → OnOutcome losing left (λ o. Writes (stage_of status) o.text before now) → status ≡ 0 → IfSome left (WritesLossesOf from to before now)
-  losses_told left status before now = whole_run losing before now (WritesLossesOf from to before now)
+  pub losses_told : (left : Option (List ℕ)) (status : ℕ) (before now : Outlet) (Noted : List ℕ → Type 0) → IfSome left (IsJudgedAt losing (stage_of status))
+      → OnOutcome losing left (CarriesOut status before now Noted) → status ≡ 0 → IfSome left (WritesLossesOf from to before now)
+  losses_told left status before now Noted = whole_run losing before now Noted (WritesLossesOf from to before now)
       (λ bytes outcome is zero gains. losses_of_bytes bytes outcome before now is zero gains) left status

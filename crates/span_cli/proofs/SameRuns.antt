@@ -2,7 +2,6 @@
 -- members alone.
 use Rattle.std.proofs.Common.{◌↔◌, ℕ, List, Option, Some, None}
 use Rattle.span_io.specs.Limits.{AreLimits, shipped_limits}
-use Rattle.span_io.specs.Outside.{Outlet}
 use Rattle.span_io.specs.declared.form.Form.{Form}
 use Rattle.span_io.specs.declared.limits.Limits.{Limits}
 use Rattle.span_convert.specs.Reports.{IsVerdictAs}
@@ -11,8 +10,7 @@ use Rattle.span_convert.specs.SameDocuments.{AgreeingDocuments}
 use Rattle.span_convert.specs.Verdicts.{Verdict}
 use Rattle.span_convert.specs.declared.written.Written.{Written}
 use Rattle.span_cli.specs.Jobs.{Job, Spans, HeaderLines, Gauge, IfSpans}
-use Rattle.span_cli.specs.Lines.{Notes, stage_of}
-use Rattle.span_cli.specs.Outcomes.{Outcome, OnOutcome, OnSameBatches, OnAgreeingDocuments, CarriesOut, AgreesWith, Writes, line_of}
+use Rattle.span_cli.specs.Outcomes.{Outcome, OnOutcome, OnSameBatches, OnAgreeingDocuments}
 use Rattle.span_cli.proofs.WrittenSoFar.{shipped_valid}
 
 on_same_batches : ((from other : Form) (what : Written) (limits : Limits) (bytes others : List ℕ) → AreLimits limits → SameBatches limits from bytes other others
@@ -29,39 +27,18 @@ on_agreeing_documents law from what None P h = tt
 on_agreeing_documents law from what (Some bytes) P h = λ others agree outcome (verdict, is, outcome_is).
     h outcome (verdict, (law from what shipped_limits bytes others agree verdict).1 is, outcome_is)
 
--- its status, its output and its note together
-carried_out : (job : Job) (left : Option (List ℕ)) (status : ℕ) (output_before output_now notes_before notes_now : Outlet)
-    → OnOutcome job left (AgreesWith (stage_of status) status)
-    → OnOutcome job left (λ outcome. Writes (stage_of status) outcome.text output_before output_now)
-    → OnOutcome job left (λ outcome. Notes notes_before notes_now (line_of (stage_of status) outcome))
-    → OnOutcome job left (CarriesOut status output_before output_now notes_before notes_now)
-carried_out job None status output_before output_now notes_before notes_now agrees writes notes = tt
-carried_out job (Some bytes) status output_before output_now notes_before notes_now agrees writes notes =
-    λ outcome is. record { agrees = agrees outcome is; writes = writes outcome is; notes = notes outcome is }
-
-module _ (left : Option (List ℕ)) (status : ℕ) (output_before output_now notes_before notes_now : Outlet) where
-  abbrev Carries : Outcome → Type 0
-  Carries = CarriesOut status output_before output_now notes_before notes_now
-
+module _ (left : Option (List ℕ)) (P : Outcome → Type 0) where
   -- so are the outcomes on such other inputs, where spans are read
   pub carried_out_same : ((from other : Form) (what : Written) (limits : Limits) (bytes others : List ℕ) → AreLimits limits → SameBatches limits from bytes other others
       → (verdict : Verdict) → IsVerdictAs from what limits bytes verdict ↔ IsVerdictAs other what limits others verdict)
-      → (job : Job) → OnOutcome job left (AgreesWith (stage_of status) status)
-      → OnOutcome job left (λ outcome. Writes (stage_of status) outcome.text output_before output_now)
-      → OnOutcome job left (λ outcome. Notes notes_before notes_now (line_of (stage_of status) outcome))
-      → IfSpans job (λ from what. OnSameBatches from what left Carries)
-  carried_out_same law (Spans from what) agrees writes notes =
-      on_same_batches law from what left Carries (carried_out (Spans from what) left status output_before output_now notes_before notes_now agrees writes notes)
-  carried_out_same law (HeaderLines form) agrees writes notes = tt
-  carried_out_same law (Gauge spans) agrees writes notes = tt
+      → (job : Job) → OnOutcome job left P → IfSpans job (λ from what. OnSameBatches from what left P)
+  carried_out_same law (Spans from what) carried = on_same_batches law from what left P carried
+  carried_out_same law (HeaderLines form) carried = tt
+  carried_out_same law (Gauge spans) carried = tt
 
   pub carried_out_agreeing : ((from : Form) (what : Written) (limits : Limits) (bytes others : List ℕ) → AgreeingDocuments limits from bytes others
       → (verdict : Verdict) → IsVerdictAs from what limits bytes verdict ↔ IsVerdictAs from what limits others verdict)
-      → (job : Job) → OnOutcome job left (AgreesWith (stage_of status) status)
-      → OnOutcome job left (λ outcome. Writes (stage_of status) outcome.text output_before output_now)
-      → OnOutcome job left (λ outcome. Notes notes_before notes_now (line_of (stage_of status) outcome))
-      → IfSpans job (λ from what. OnAgreeingDocuments from what left Carries)
-  carried_out_agreeing law (Spans from what) agrees writes notes =
-      on_agreeing_documents law from what left Carries (carried_out (Spans from what) left status output_before output_now notes_before notes_now agrees writes notes)
-  carried_out_agreeing law (HeaderLines form) agrees writes notes = tt
-  carried_out_agreeing law (Gauge spans) agrees writes notes = tt
+      → (job : Job) → OnOutcome job left P → IfSpans job (λ from what. OnAgreeingDocuments from what left P)
+  carried_out_agreeing law (Spans from what) carried = on_agreeing_documents law from what left P carried
+  carried_out_agreeing law (HeaderLines form) carried = tt
+  carried_out_agreeing law (Gauge spans) carried = tt

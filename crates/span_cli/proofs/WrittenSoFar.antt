@@ -1,5 +1,5 @@
 -- What was written before a call, and what the call goes on with, is one text. What was known before the end of an input stays so.
-use Rattle.std.proofs.Common.{◌≡◌, ℕ, ◌≤◌, List, ◌++◌, length, ◌⊎◌, Option, Some, None, Ok, Err, refl, sym, subst, inl, inr, arith, length-append, append_assoc, ap, ◌∙◌}
+use Rattle.std.proofs.Common.{◌≡◌, ℕ, ◌≤◌, List, [], ◌++◌, length, Option, Some, None, Err, refl, sym, subst, arith, length-append, append_assoc, ap, ◌∙◌}
 use Rattle.std.specs.Prelude.{IfSome}
 use Rattle.std.specs.Io.KnownBytes.{Consumes}
 use Rattle.span_io.specs.Frames.{AreBytes}
@@ -9,24 +9,17 @@ use Rattle.span_io.specs.declared.form.Form.{Form}
 use Rattle.span_io.specs.declared.form.Form.TheVariants as forms
 use Rattle.span_io.specs.declared.limits.Limits.{Limits}
 use Rattle.span_convert.specs.Converters.{KeepsWhy}
-use Rattle.span_convert.specs.Outlooks.{IfDocument, IsOutlookAs, IsLasting, GainsFrom, GainsFrontFrom, FailsFrom, WritesFrontFrom, StopsFrom, EndsFrom, ReachesFrom}
+use Rattle.span_convert.specs.Outlooks.{IfDocument, IsOutlookAs, IsLasting, GainsFrom, GainsFrontFrom, FailsFrom, WritesFrontFrom, StopsFrom}
 use Rattle.span_convert.specs.Reports.{IsVerdictAs, IsJudgedAs, WritesFrontAs, written_target}
 use Rattle.span_convert.specs.Targets.{open_target}
 use Rattle.span_convert.specs.Units.{input_form, open_form}
-use Rattle.span_convert.specs.Verdicts.{Verdict, good, refused, faulted, IsJudgedOn, Stops, Ends, verdict_text}
+use Rattle.span_convert.specs.Verdicts.{Verdict, good, refused, faulted, IsJudgedOn, verdict_text}
 use Rattle.span_convert.specs.declared.converter.State.{State}
 use Rattle.span_convert.specs.declared.converter.State.TheVariants as states
 use Rattle.span_convert.specs.declared.stop.Stop.{Stop}
 use Rattle.span_convert.specs.declared.stop.Stop.TheVariants as stops
 use Rattle.span_convert.specs.declared.tally.Tally.{Tally}
 use Rattle.span_convert.specs.declared.written.Written.{Written}
-use Rattle.span_cli.specs.Inputs.{WritesUnits}
-
--- the same of equal forms and limits
-pub same_by : (P : Form → Written → Limits → Type 0) (from from' : Form) (what what' : Written) (limits limits' : Limits)
-    → from ≡ from' → what ≡ what' → limits ≡ limits' → P from what limits → P from' what' limits'
-same_by P from from' what what' limits limits' e f l p =
-    subst (λ (x : Limits). P from' what' x) l (subst (λ (x : Written). P from' x limits) f (subst (λ (x : Form). P x what limits) e p))
 
 -- what is said of documents alone
 pub of_documents : (from : Form) (P : Type 0) → P → IfDocument from P
@@ -70,55 +63,39 @@ fails_longer a c text whole (others, parts) fails = record {
     longer : length text ≤ length whole
     longer = subst (λ (l : List ℕ). length text ≤ length l) (sym parts) (omega (arith, length-append text others))
 
+-- what was written behind nothing
+pub gained : (a c : Outlet) (text : List ℕ) → GainsFrom [] a c text → Gains a c text
+gained a c text on = subst (λ (l : List ℕ). Gains a c l) (sym on.parts) on.gains
+
+pub fronted : (a c : Outlet) (text : List ℕ) → GainsFrontFrom [] a c text → GainsFront a c text
+fronted a c text on = subst (λ (l : List ℕ). GainsFront a c l) (sym on.parts) on.gains
+
+pub failed : (a c : Outlet) (text : List ℕ) → FailsFrom [] a c text → FailsWithin a c text
+failed a c text on = subst (λ (l : List ℕ). FailsWithin a c l) (sym on.parts) on.fails
+
 module _ (laws : GainLaws) (said : List ℕ) (a b c : Outlet) (before : Gains a b said) where
-  gains_on : (text : List ℕ) → GainsFrom said b c text → Gains a c text
-  gains_on text on = subst (λ (l : List ℕ). Gains a c l) (sym on.parts) (laws.both a b c said on.added before on.gains)
+  pub gains_on : (text : List ℕ) → GainsFrom said b c text → GainsFrom [] a c text
+  gains_on text on = record { added = said ++ on.added; parts = on.parts; gains = laws.both a b c said on.added before on.gains }
 
-  front_on : (text : List ℕ) → GainsFrontFrom said b c text → GainsFront a c text
-  front_on text on = subst (λ (l : List ℕ). GainsFront a c l) (sym on.parts) (laws.front a b c said on.added before on.gains)
+  front_on : (text : List ℕ) → GainsFrontFrom said b c text → GainsFrontFrom [] a c text
+  front_on text on = record { added = said ++ on.added; parts = on.parts; gains = laws.front a b c said on.added before on.gains }
 
-  fails_on : (text : List ℕ) → FailsFrom said b c text → FailsWithin a c text
-  fails_on text on = subst (λ (l : List ℕ). FailsWithin a c l) (sym on.parts) (laws.fails a b c said on.added before on.fails)
+  fails_on : (text : List ℕ) → FailsFrom said b c text → FailsFrom [] a c text
+  fails_on text on = record { added = said ++ on.added; parts = on.parts; fails = laws.fails a b c said on.added before on.fails }
 
   -- a front of the text of the first units of these bytes
   pub front_of_units : (from : Form) (what : Written) (bytes : List ℕ)
       → WritesFrontFrom (input_form from) (written_target what) shipped_limits bytes said b c → WritesFrontAs from what shipped_limits bytes a c
-  front_of_units from what bytes on = record { text = on.text; so_far = on.so_far; gains = front_on on.text on.gains }
+  front_of_units from what bytes on = record { text = on.text; so_far = on.so_far; gains = fronted a c on.text (front_on on.text on.gains) }
 
-  stops_on : (verdict : Verdict) (stop : Stop) → StopsFrom said verdict stop b c → Stops verdict stop a c
-  stops_on (good text tally) stops.Refused on = on
-  stops_on (good text tally) stops.Faulted on = on
-  stops_on (good text tally) stops.Write on = fails_on text on
-  stops_on (good text tally) stops.OutOfMemory on = front_on text on
-  stops_on (refused why text) stops.Refused on = gains_on text on
-  stops_on (refused why text) stops.Faulted on = on
-  stops_on (refused why text) stops.Write on = fails_on text on
-  stops_on (refused why text) stops.OutOfMemory on = front_on text on
-  stops_on (faulted why text) stops.Refused on = on
-  stops_on (faulted why text) stops.Faulted on = gains_on text on
-  stops_on (faulted why text) stops.Write on = fails_on text on
-  stops_on (faulted why text) stops.OutOfMemory on = front_on text on
+  stops_on : (verdict : Verdict) (stop : Stop) → StopsFrom said verdict stop b c → StopsFrom [] verdict stop a c
+  stops_on verdict stops.Refused on = (on.0, gains_on (verdict_text verdict) on.1)
+  stops_on verdict stops.Faulted on = (on.0, gains_on (verdict_text verdict) on.1)
+  stops_on verdict stops.Write on = fails_on (verdict_text verdict) on
+  stops_on verdict stops.OutOfMemory on = front_on (verdict_text verdict) on
 
-  pub stops_kept : (verdict : Verdict) (stop : Stop) (Kept : Type 0) → StopsFrom said verdict stop b c × Kept → Stops verdict stop a c × Kept
+  pub stops_kept : (verdict : Verdict) (stop : Stop) (Kept : Type 0) → StopsFrom said verdict stop b c × Kept → StopsFrom [] verdict stop a c × Kept
   stops_kept verdict stop Kept (on, kept) = (stops_on verdict stop on, kept)
-
-  -- the same of a feed
-  pub feed_kept : (outlook : Verdict) (stop : Stop) (Kept : Type 0) → ReachesFrom said outlook (Err stop) b c × Kept → Stops outlook stop a c × Kept
-  feed_kept (good text tally) stop Kept (on, kept) = (stops_on (good text tally) stop on, kept)
-  feed_kept (refused why text) stop Kept (on, kept) = (stops_on (refused why text) stop on, kept)
-  feed_kept (faulted why text) stop Kept (on, kept) = (stops_on (faulted why text) stop on, kept)
-
-  pub ends_on : (verdict : Verdict) (counts : Tally) → EndsFrom said verdict counts b c → Ends verdict counts a c
-  ends_on (good text tally) counts on = (on.0, gains_on text on.1)
-  ends_on (refused why text) counts on = on
-  ends_on (faulted why text) counts on = on
-
-  -- a call that went on wrote the text of the whole units so far
-  pub units_on : (from : Form) (what : Written) (bytes : List ℕ) (outlook : Verdict) → IsOutlookAs from what shipped_limits bytes outlook
-      → ReachesFrom said outlook (Ok tt) b c → WritesUnits from what bytes a c
-  units_on from what bytes (good text tally) is on = record { said = text; tally = tally; outlook = is; gains = gains_on text on }
-  units_on from what bytes (refused why text) is on = absurd on
-  units_on from what bytes (faulted why text) is on = absurd on
 
 -- ---- laws of outlooks
 
@@ -157,33 +134,23 @@ told_behind (Some bytes) (Some rest) given P gave holds = subst P (sym gave) (ho
 
 -- ---- a call that stopped, behind which others may come
 
-stops_longer : (text : List ℕ) (tally : Tally) (stop : Stop) (state : State) (v : Verdict) (a c : Outlet) → IsFront text (verdict_text v)
-    → Stops (good text tally) stop a c → Stops v stop a c
-stops_longer text tally stops.Refused state v a c front s = absurd s
-stops_longer text tally stops.Faulted state v a c front s = absurd s
-stops_longer text tally stops.Write state (good whole t) a c front s = fails_longer a c text whole front s
-stops_longer text tally stops.Write state (refused why whole) a c front s = fails_longer a c text whole front s
-stops_longer text tally stops.Write state (faulted why whole) a c front s = fails_longer a c text whole front s
-stops_longer text tally stops.OutOfMemory state (good whole t) a c front s = front_longer a c text whole front s
-stops_longer text tally stops.OutOfMemory state (refused why whole) a c front s = front_longer a c text whole front s
-stops_longer text tally stops.OutOfMemory state (faulted why whole) a c front s = front_longer a c text whole front s
+stops_longer : (text : List ℕ) (tally : Tally) (stop : Stop) (v : Verdict) (a c : Outlet) → IsFront text (verdict_text v)
+    → StopsFrom [] (good text tally) stop a c → StopsFrom [] v stop a c
+stops_longer text tally stops.Refused v a c front ((why, e), on) = absurd (cc)
+stops_longer text tally stops.Faulted v a c front ((why, e), on) = absurd (cc)
+stops_longer text tally stops.Write v a c front s =
+    record { added = verdict_text v; parts = refl; fails = fails_longer a c text (verdict_text v) front (failed a c text s) }
+stops_longer text tally stops.OutOfMemory v a c front s =
+    record { added = verdict_text v; parts = refl; gains = front_longer a c text (verdict_text v) front (fronted a c text s) }
 
 -- a stop that is neither keeps no refusal or fault
 keeps_none : (text : List ℕ) (tally : Tally) (state : State) (v : Verdict) → KeepsWhy (good text tally) state → KeepsWhy v state
-keeps_none text tally (states.Refused refusal) v kept = absurd kept
-keeps_none text tally (states.Faulted found) v kept = absurd kept
-keeps_none text tally states.Open (good whole t) kept = tt
-keeps_none text tally states.Open (refused why whole) kept = tt
-keeps_none text tally states.Open (faulted why whole) kept = tt
-keeps_none text tally states.Ended (good whole t) kept = tt
-keeps_none text tally states.Ended (refused why whole) kept = tt
-keeps_none text tally states.Ended (faulted why whole) kept = tt
-keeps_none text tally states.Write (good whole t) kept = tt
-keeps_none text tally states.Write (refused why whole) kept = tt
-keeps_none text tally states.Write (faulted why whole) kept = tt
-keeps_none text tally states.OutOfMemory (good whole t) kept = tt
-keeps_none text tally states.OutOfMemory (refused why whole) kept = tt
-keeps_none text tally states.OutOfMemory (faulted why whole) kept = tt
+keeps_none text tally (states.Refused refusal) v kept = absurd (cc)
+keeps_none text tally (states.Faulted found) v kept = absurd (cc)
+keeps_none text tally states.Open v kept = tt
+keeps_none text tally states.Ended v kept = tt
+keeps_none text tally states.Write v kept = tt
+keeps_none text tally states.OutOfMemory v kept = tt
 
 module _ (begins : Begins) (lasts : Lasts) (one : OneVerdict) (from : Form) (what : Written) (given rest : List ℕ) where
   -- what is lasting is the verdict on all
@@ -193,25 +160,21 @@ module _ (begins : Begins) (lasts : Lasts) (one : OneVerdict) (from : Form) (wha
 
   -- what a call did by the outlook on the bytes so far it did by the verdict on all
   pub stops_whole : (a c : Outlet) (stop : Stop) (state : State) (outlook v : Verdict) → IsOutlookAs from what shipped_limits given outlook
-      → IsVerdictAs from what shipped_limits (given ++ rest) v → Stops outlook stop a c × KeepsWhy outlook state → Stops v stop a c × KeepsWhy v state
+      → IsVerdictAs from what shipped_limits (given ++ rest) v → StopsFrom [] outlook stop a c × KeepsWhy outlook state → StopsFrom [] v stop a c × KeepsWhy v state
   stops_whole a c stop state (good text tally) v is is_verdict (s, kept) =
-      (stops_longer text tally stop state v a c (begins from what shipped_limits given rest text tally v shipped_valid is is_verdict) s, keeps_none text tally state v kept)
+      (stops_longer text tally stop v a c (begins from what shipped_limits given rest text tally v shipped_valid is is_verdict) s, keeps_none text tally state v kept)
   stops_whole a c stop state (refused why text) v is is_verdict done =
-      subst (λ (w : Verdict). Stops w stop a c × KeepsWhy w state) (same_verdict (refused why text) v tt is is_verdict) done
+      subst (λ (w : Verdict). StopsFrom [] w stop a c × KeepsWhy w state) (same_verdict (refused why text) v tt is is_verdict) done
   stops_whole a c stop state (faulted why text) v is is_verdict done =
-      subst (λ (w : Verdict). Stops w stop a c × KeepsWhy w state) (same_verdict (faulted why text) v tt is is_verdict) done
+      subst (λ (w : Verdict). StopsFrom [] w stop a c × KeepsWhy w state) (same_verdict (faulted why text) v tt is is_verdict) done
 
-  lasting_whole : (a c : Outlet) (stop : Stop) → (stop ≡ stops.Refused) ⊎ (stop ≡ stops.Faulted) → (outlook : Verdict) → IsOutlookAs from what shipped_limits given outlook
-      → Stops outlook stop a c → (v : Verdict) × IsVerdictAs from what shipped_limits (given ++ rest) v
-  lasting_whole a c stop which (refused why text) is s = (refused why text, lasts from what shipped_limits given rest (refused why text) tt is)
-  lasting_whole a c stop which (faulted why text) is s = (faulted why text, lasts from what shipped_limits given rest (faulted why text) tt is)
-  lasting_whole a c stop (inl e) (good text tally) is s = absurd (subst (λ (x : Stop). Stops (good text tally) x a c) e s)
-  lasting_whole a c stop (inr e) (good text tally) is s = absurd (subst (λ (x : Stop). Stops (good text tally) x a c) e s)
+  lasting_whole : (outlook told : Verdict) → IsOutlookAs from what shipped_limits given outlook → outlook ≡ told → IsLasting told → (v : Verdict) × IsVerdictAs from what shipped_limits (given ++ rest) v
+  lasting_whole outlook told is same lasting = (outlook, lasts from what shipped_limits given rest outlook (subst (λ (v : Verdict). IsLasting v) (sym same) lasting) is)
 
   -- where it carried out the outlook, there is a verdict on all
   pub judged_whole : (a c : Outlet) (stop : Stop) → IsJudgedOn {T = Unit {0}} (open_form from) (open_target (written_target what)) shipped_limits given (Err stop)
-      → ((outlook : Verdict) → IsOutlookAs from what shipped_limits given outlook → Stops outlook stop a c) → IsJudgedAs {T = Unit {0}} from what shipped_limits (given ++ rest) (Err stop)
-  judged_whole a c stops.Refused (outlook, is) on = lasting_whole a c stops.Refused (inl refl) outlook is (on outlook is)
-  judged_whole a c stops.Faulted (outlook, is) on = lasting_whole a c stops.Faulted (inr refl) outlook is (on outlook is)
+      → ((outlook : Verdict) → IsOutlookAs from what shipped_limits given outlook → StopsFrom [] outlook stop a c) → IsJudgedAs {T = Unit {0}} from what shipped_limits (given ++ rest) (Err stop)
+  judged_whole a c stops.Refused (outlook, is) on = lasting_whole outlook _ is (on outlook is).0.1 tt
+  judged_whole a c stops.Faulted (outlook, is) on = lasting_whole outlook _ is (on outlook is).0.1 tt
   judged_whole a c stops.Write judged on = tt
   judged_whole a c stops.OutOfMemory judged on = tt

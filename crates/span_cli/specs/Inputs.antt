@@ -4,7 +4,7 @@ use Rattle.std.specs.Io.KnownBytes.{Consumes, IsAtEnd}
 use Rattle.span_io.specs.Limits.{shipped_limits}
 use Rattle.span_io.specs.Outside.{Inlet, Outlet, Gains, InputFails, NoReadInVain, OutputHolds}
 use Rattle.span_io.specs.declared.form.Form.{Form}
-use Rattle.span_convert.specs.Converters.{Fed, HasForms}
+use Rattle.span_convert.specs.Converters.{Fed, Work}
 use Rattle.span_convert.specs.Outlooks.{IsOutlookAs}
 use Rattle.span_convert.specs.Units.{input_limit}
 use Rattle.span_convert.specs.Verdicts.{good}
@@ -57,18 +57,21 @@ pub record WritesUnits (from : Form) (what : Written) (given : List ℕ) (before
   pub outlook : IsOutlookAs from what shipped_limits given (good said tally)
   pub gains : Gains before now said
 
+-- the form that is read and what is written of it, within the limits shipped
+abbrev pub shipped : Form → Written → Work
+shipped from what = record { from = from; what = what; limits = shipped_limits }
+
 -- The source gave all its bytes without a fault and without a read in vain, and what writes this form so was fed them. The text of
 -- their whole units was written without a fault.
-pub record IsFed (from : Form) (what : Written) (input_before input_now : Inlet) (output_before output_now : Outlet) (c : Walker) : Type 0 where
+pub record IsFed (work : Work) (input_before input_now : Inlet) (output_before output_now : Outlet) (c : Walker) : Type 0 where
   pub given : List ℕ
+  pub said : List ℕ
   pub gave : GaveInput input_before input_now given
   pub all_read : IsAllRead input_before input_now
   pub quiet : input_now.faults ≡ input_before.faults
   pub in_vain : NoReadInVain input_before input_now
-  pub fed : Fed c given
-  pub forms : HasForms c from what
-  pub limits : c.limits ≡ shipped_limits
-  pub writes : WritesUnits from what given output_before output_now
+  pub fed : Fed c work given said
+  pub gains : Gains output_before output_now said
   pub holds : OutputHolds output_before output_now
 
 -- the source gave all its bytes without a fault and without a read in vain, and these are they

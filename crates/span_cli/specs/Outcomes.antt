@@ -1,7 +1,7 @@
 -- What a job makes of its input: the status, what is written, and the line that is noted.
 use Rattle.std.specs.Prelude.{◌↔◌, false, ◌≡◌, ◌≤◌, ◌<◌, ◌^◌, ℕ, Bool, List, [], length, Option, IfSome, codes}
 use Rattle.propagation.specs.Heads.{Head, IsHeaderCause}
-use Rattle.propagation.specs.Laws.{AreProperIds}
+use Rattle.propagation.specs.StatedLaws.{AreProperIds}
 use Rattle.propagation.specs.NormalContexts.{IsSoundContext, CannotTell, context_lines, normal_context}
 use Rattle.propagation.specs.declared.context.Context.{Context}
 use Rattle.propagation.specs.declared.header_cause.HeaderCause.{HeaderCause}
@@ -21,7 +21,7 @@ use Rattle.span_convert.specs.declared.written.Written.{Written}
 use Rattle.span_cli.specs.GaugeLines.{gauge_lines}
 use Rattle.span_cli.specs.Inputs.{header_limit}
 use Rattle.span_cli.specs.Jobs.{Job, Spans, HeaderLines, Gauge}
-use Rattle.span_cli.specs.Lines.{Stage, usage, said, input_failed, output_failed, no_memory, stage_of, stage_line, refusal_line, fault_line, header_cause_line, too_long_line, no_ids_line, Notes}
+use Rattle.span_cli.specs.Lines.{Stage, usage, said, input_failed, output_failed, no_memory, stage_of, stage_line, refusal_line, fault_line, header_cause_line, too_long_line, no_ids_line}
 
 -- what a run is to answer, write and note
 pub record Outcome : Type 0 where
@@ -105,20 +105,20 @@ line_of output_failed outcome = stage_line output_failed
 line_of no_memory outcome = stage_line no_memory
 
 -- The run that ended with this status did what the outcome asks for, as far as its stage says: its status tells it, the output
--- gained its text, and the notes its line.
-pub record CarriesOut (status : ℕ) (output_before output_now notes_before notes_now : Outlet) (outcome : Outcome) : Type 0 where
+-- gained its text, and this holds of its line.
+pub record CarriesOut (status : ℕ) (before now : Outlet) (Noted : List ℕ → Type 0) (outcome : Outcome) : Type 0 where
   pub agrees : AgreesWith (stage_of status) status outcome
-  pub writes : Writes (stage_of status) outcome.text output_before output_now
-  pub notes : Notes notes_before notes_now (line_of (stage_of status) outcome)
+  pub writes : Writes (stage_of status) outcome.text before now
+  pub notes : Noted (line_of (stage_of status) outcome)
 
 -- ---- conversions, there and back
 
--- The output gained the text of all units of the bytes. Where it has fewer than 2 ^ 63 bytes, it is read back as the normal form of the
--- trace of these units, which keeps the trace's spans and which the other form leaves as it is, and converts back.
+-- The output gained the text of all units of the bytes. It is read back as the normal form of the trace of these units, which keeps the
+-- trace's spans and which the other form leaves as it is, and where it fits it converts back.
 pub record WritesTextOf (from to : Form) (before now : Outlet) (bytes : List ℕ) : Type 0 where
   pub out : List ℕ
   pub gains : Gains before now out
-  pub back : length out < 2 ^ 63 → ReadsBack from to shipped_limits bytes out
+  pub back : ReadsBack from to shipped_limits bytes out
 
 -- ---- losses
 

@@ -5,14 +5,15 @@ use Rattle.propagation.specs.NormalContexts.{CannotTell, context_lines}
 use Rattle.propagation.specs.declared.context.Context.{Context}
 use Rattle.propagation.specs.declared.header_form.HeaderForm.{HeaderForm}
 use Rattle.span_io.specs.Limits.{shipped_limits}
-use Rattle.span_io.specs.Outside.{Inlet, Outlet, Gains, GainsFront, InputFails, NoReadInVain, OutputFails, OutputHolds}
+use Rattle.span_io.specs.Outside.{Inlet, Outlet, Gains, GainsFront, InputFails, NoReadInVain}
 use Rattle.span_io.specs.declared.form.Form.{Form}
-use Rattle.span_convert.specs.Outlooks.{IfDocument}
+use Rattle.span_convert.specs.Outlooks.{IfDocument, SinkTold}
 use Rattle.span_convert.specs.Reports.{WritesFrontAs, written_target}
 use Rattle.span_convert.specs.Units.{input_form}
 use Rattle.span_convert.specs.Verdicts.{IsGood}
 use Rattle.span_convert.specs.declared.converter.State.{State}
 use Rattle.span_convert.specs.declared.converter.State.TheVariants as states
+use Rattle.span_convert.specs.declared.converter.Walker.{Walker}
 use Rattle.span_convert.specs.declared.stop.Stop.{Stop}
 use Rattle.span_convert.specs.declared.stop.Stop.TheVariants as stops
 use Rattle.span_convert.specs.declared.tally.Tally.{Tally}
@@ -21,8 +22,8 @@ use Rattle.span_convert.specs.declared.written.Written.{Written}
 use Rattle.span_cli.specs.GaugeLines.{gauge_lines}
 use Rattle.span_cli.specs.Inputs.{GaveInput, ReadsInput, IsReadThrough, WritesUnits}
 use Rattle.span_cli.specs.Jobs.{Job, Spans, HeaderLines, Gauge}
-use Rattle.span_cli.specs.Lines.{HasKey, stage_of, status_of, fault_line, noted_line, ending_line}
-use Rattle.span_cli.specs.Outcomes.{OnOutcome, IsJudgedAt, AgreesWith, Writes, CarriesOut, gauge_outcome, line_of}
+use Rattle.span_cli.specs.Lines.{HasKey, Notes, stage_of, status_of, fault_line, noted_line, ending_line}
+use Rattle.span_cli.specs.Outcomes.{OnOutcome, IsJudgedAt, Writes, CarriesOut, gauge_outcome}
 use Rattle.span_cli.specs.declared.ending.Ending.{Ending}
 use Rattle.span_cli.specs.declared.ending.Ending.TheVariants as endings
 use Rattle.span_cli.specs.declared.noted_fault.NotedFault.{NotedFault}
@@ -53,6 +54,9 @@ IsEndingAt endings.InputFailed stop state = ⊥
 IsEndingAt endings.OutputFailed stop state = stop ≡ stops.Write
 IsEndingAt endings.NoMemory stop state = (stop ≡ stops.OutOfMemory) ⊎ IsKeyAt stop state
 
+abbrev pub IsEndingOf : Ending → Stop → Walker → Type 0
+IsEndingOf ending stop c = IsEndingAt ending stop c.state
+
 -- What a run that ends with this status did to its input. The input failed where its count rose, and only there, and no read
 -- was in vain.
 pub record EndsInput (job : Job) (status : ℕ) (before now : Inlet) : Type 0 where
@@ -62,11 +66,6 @@ pub record EndsInput (job : Job) (status : ℕ) (before now : Inlet) : Type 0 wh
   pub in_vain : NoReadInVain before now
   pub reads : ReadsInput job before now
   pub all_read : status ≡ 0 → IsReadThrough job before now
-
--- the same of its output
-pub record EndsOutput (status : ℕ) (before now : Outlet) : Type 0 where
-  pub fails : status ≡ 6 → OutputFails before now
-  pub holds : status ≢ 6 → OutputHolds before now
 
 -- Nothing stops the bytes that the source gave, and the output gained the text of their whole units.
 pub record WritesWholeUnits (from : Form) (what : Written) (input_before input_now : Inlet) (output_before output_now : Outlet) : Type 0 where
@@ -119,15 +118,12 @@ WritesAllOf (Gauge spans) before now bytes = Unit {0}
 pub record EndsRun {K : Type 0} (outlet : K → Outlet) (job : Job) (ending : Ending)
     (input_before input_now : Inlet) (output_before output_now : K) : Type 0 where
   pub input : EndsInput job (status_of ending) input_before input_now
-  pub output : EndsOutput (status_of ending) (outlet output_before) (outlet output_now)
+  pub output : SinkTold (status_of ending ≡ 6) (outlet output_before) (outlet output_now)
   pub so_far : status_of ending ≡ 5 → WritesSoFar outlet job input_before input_now output_before output_now
   pub front : WritesRead job input_before input_now (outlet output_before) (outlet output_now)
   pub judged : IfSome input_before.left (IsJudgedAt job (stage_of (status_of ending)))
-  pub agrees : OnOutcome job input_before.left (AgreesWith (stage_of (status_of ending)) (status_of ending))
-  pub written : OnOutcome job input_before.left
-      (λ outcome. Writes (stage_of (status_of ending)) outcome.text (outlet output_before) (outlet output_now))
-  pub line : OnOutcome job input_before.left
-      (λ outcome. ending_line ending ≡ line_of (stage_of (status_of ending)) outcome)
+  pub carried : OnOutcome job input_before.left
+      (CarriesOut (status_of ending) (outlet output_before) (outlet output_now) (λ line. ending_line ending ≡ line))
   pub whole : status_of ending ≡ 0 → IfSome input_before.left (WritesAllOf job (outlet output_before) (outlet output_now))
 
 -- ---- the sizes of the gauge
@@ -145,14 +141,14 @@ IsGaugeStatus status = (status ≡ 0) ⊎ ((status ≡ 6) ⊎ (status ≡ 7))
 -- The ending is true of an output as it was before and is now, whatever the input is.
 pub record EndsGauge {K : Type 0} (outlet : K → Outlet) (spans : ℕ) (ending : Ending) (before now : K) : Type 0 where
   pub ending_is : IsGaugeEnding ending
-  pub output : EndsOutput (status_of ending) (outlet before) (outlet now)
+  pub output : SinkTold (status_of ending ≡ 6) (outlet before) (outlet now)
   pub written : Writes (stage_of (status_of ending)) (gauge_lines spans) (outlet before) (outlet now)
 
 -- A run of `gauge` reads nothing. It wrote the lines of the gauge, the output failed within them, or memory was wanted.
 pub record EndsGaugeRun {S : Type 0} (spans code : ℕ) (input_before input_now : S) (output_before output_now notes_before notes_now : Outlet) : Type 0 where
   pub unread : input_now ≡ input_before
   pub status : IsGaugeStatus code
-  pub carried : CarriesOut code output_before output_now notes_before notes_now (gauge_outcome spans)
+  pub carried : CarriesOut code output_before output_now (Notes notes_before notes_now) (gauge_outcome spans)
 
 -- ---- early ends
 

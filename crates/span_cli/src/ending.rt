@@ -1,8 +1,8 @@
 //! How a run ends.
 ghost use Rattle.std.specs.Prelude.{◌≡◌, Some};
-ghost use Rattle.span_convert.specs.Converters.{stop_in};
+ghost use Rattle.span_convert.specs.Converters.{stop_of};
 ghost use Rattle.span_cli.specs.Lines.{status_of};
-ghost use Rattle.span_cli.specs.Runs.{IsEndingAt};
+ghost use Rattle.span_cli.specs.Runs.{IsEndingOf};
 
 use crate::noted_fault::NotedFault;
 use propagation::HeaderCause;
@@ -32,8 +32,8 @@ pub enum Ending {
 impl Ending {
     /// How a run ends whose converter or reporter answered this stop.
     pub fn at_stop(alloc: Global, walker: &Walker, stop: Stop) -> Ending
-        requires kept { stop_in walker.now.state ≡ Some stop }
-        ensures { IsEndingAt result stop walker.now.state }
+        requires kept { stop_of walker.now ≡ Some stop }
+        ensures { IsEndingOf result stop walker.now }
     {
         match walker.why() {
             Why::Refusal(refusal) => Ending::Refused(*refusal),

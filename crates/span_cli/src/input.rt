@@ -1,9 +1,7 @@
 //! Feeding an input to what converts or reports it.
 ghost use Rattle.std.specs.Prelude.{◌≡◌, [], length, vec_len, IfOk, OnOk};
-ghost use Rattle.span_io.specs.Limits.{shipped_limits};
-ghost use Rattle.span_convert.specs.Converters.{Fed, IsOutlookBy, form_of, what_of};
-ghost use Rattle.span_convert.specs.Verdicts.{good, tally_of};
-ghost use Rattle.span_cli.specs.Inputs.{IsFed, piece};
+ghost use Rattle.span_convert.specs.Converters.{Fed, work_of};
+ghost use Rattle.span_cli.specs.Inputs.{IsFed, piece, shipped};
 ghost use Rattle.span_cli.specs.Jobs.{Spans};
 ghost use Rattle.span_cli.specs.Runs.{EndsEarly};
 
@@ -27,12 +25,10 @@ pub fn feed_input<S: Source, K: Sink>(
     input: &mut S,
     output: &mut K,
 ) -> Result<(), Ending>
-    requires fresh { Fed walker.old [] }
-    requires limits { walker.old.limits ≡ shipped_limits }
-    requires outlook { IsOutlookBy walker.old [] (good [] (tally_of 0 0)) }
-    ensures fed { OnOk result (IsFed (form_of walker.old) (what_of walker.old) (S.inlet input.old) (S.inlet input.new)
-        (K.outlet output.old) (K.outlet output.new) walker.new) }
-    ensures ended { EndsEarly K.outlet (Spans (form_of walker.old) (what_of walker.old)) result
+    requires fresh { Fed walker.old (shipped (work_of walker.old).from (work_of walker.old).what) [] [] }
+    ensures fed { OnOk result (IsFed (shipped (work_of walker.old).from (work_of walker.old).what)
+        (S.inlet input.old) (S.inlet input.new) (K.outlet output.old) (K.outlet output.new) walker.new) }
+    ensures ended { EndsEarly K.outlet (Spans (work_of walker.old).from (work_of walker.old).what) result
         (S.inlet input.old) (S.inlet input.new) output.old output.new }
 {
     nothing_written();
@@ -58,12 +54,10 @@ fn feed_pieces<S: Source, K: Sink>(
     buffer: &mut [u8],
 ) -> Result<(), Ending>
     requires room { length buffer.old ≡ piece }
-    requires fresh { Fed walker.old [] }
-    requires limits { walker.old.limits ≡ shipped_limits }
-    requires outlook { IsOutlookBy walker.old [] (good [] (tally_of 0 0)) }
-    ensures fed { OnOk result (IsFed (form_of walker.old) (what_of walker.old) (S.inlet input.old) (S.inlet input.new)
-        (K.outlet output.old) (K.outlet output.new) walker.new) }
-    ensures ended { EndsEarly K.outlet (Spans (form_of walker.old) (what_of walker.old)) result
+    requires fresh { Fed walker.old (shipped (work_of walker.old).from (work_of walker.old).what) [] [] }
+    ensures fed { OnOk result (IsFed (shipped (work_of walker.old).from (work_of walker.old).what)
+        (S.inlet input.old) (S.inlet input.new) (K.outlet output.old) (K.outlet output.new) walker.new) }
+    ensures ended { EndsEarly K.outlet (Spans (work_of walker.old).from (work_of walker.old).what) result
         (S.inlet input.old) (S.inlet input.new) output.old output.new }
 {
     nothing_written();

@@ -1,12 +1,13 @@
 //! The top call.
 ghost use Rattle.std.specs.Prelude.{◌≡◌, ◌≢◌, ◌↔◌, IfSome, IsTrue, length};
-ghost use Rattle.span_io.specs.Outside.{InputFails, NoReadInVain, NoWriteInVain, OutputFails, OutputHolds, Takes, any_number};
+ghost use Rattle.span_io.specs.Outside.{InputFails, NoReadInVain, NoWriteInVain, Takes, any_number};
+ghost use Rattle.span_convert.specs.Outlooks.{SinkTold};
 ghost use Rattle.span_cli.specs.Commands.{texts, Spells, OnConversions, OnGauge, OnJob, OnServing, OnSpans, OnLosses, OnHeaders, UnlessServing};
 ghost use Rattle.span_cli.specs.Inputs.{ReadsInput, IsReadThrough};
 ghost use Rattle.span_cli.specs.Jobs.{IfGauge, IsInRange, Spans};
 ghost use Rattle.span_cli.specs.Runs.{EndsGauge, EndsGaugeRun, EndsRun, WritesRead, WritesSoFar};
 ghost use Rattle.span_cli.specs.Lines.{IsRunStatus, Notes, stage_of, stage_line, usage_line};
-ghost use Rattle.span_cli.specs.Outcomes.{OnOutcome, OnSameBatches, OnAgreeingDocuments, CarriesOut, WritesLinesOf, WritesLossesOf, WritesTextOf, IsJudgedAt, AgreesWith, Writes, line_of};
+ghost use Rattle.span_cli.specs.Outcomes.{OnOutcome, OnSameBatches, OnAgreeingDocuments, CarriesOut, WritesLinesOf, WritesLossesOf, WritesTextOf, IsJudgedAt};
 ghost use Rattle.span_cli.specs.Servings.{ServesConnections};
 ghost use Rattle.span_cli.specs.declared.command.Command.{Command};
 
@@ -54,8 +55,7 @@ pub fn run<S: Source, K: Sink, N: Sink, D: Door>(
     ensures input_fails { UnlessServing (texts words.now) (result ≡ 5 → InputFails (S.inlet input.old) (S.inlet input.new)) }
     ensures input_quiet { result ≢ 5 → (S.inlet input.new).faults ≡ (S.inlet input.old).faults }
     ensures input_answers { UnlessServing (texts words.now) (IsTrue (S.inlet input.old).steady → result ≢ 5) }
-    ensures output_fails { result ≡ 6 → OutputFails (K.outlet output.old) (K.outlet output.new) }
-    ensures output_holds { result ≢ 6 → OutputHolds (K.outlet output.old) (K.outlet output.new) }
+    ensures output_told { SinkTold (result ≡ 6) (K.outlet output.old) (K.outlet output.new) }
     ensures output_answers { (K.outlet output.old).sure ≡ any_number → result ≢ 6 }
     ensures door_stays { UnlessServing (texts words.now) (door.new ≡ door.old) }
 
@@ -79,25 +79,21 @@ pub fn run<S: Source, K: Sink, N: Sink, D: Door>(
     // Where the input tells its bytes, the outcome of the command's job on them says the status, the output and the note.
     ensures judged { OnJob (texts words.now)
         (λ job. IfSome (S.inlet input.old).left (IsJudgedAt job (stage_of result))) }
-    ensures verdict { OnJob (texts words.now)
-        (λ job. OnOutcome job (S.inlet input.old).left (AgreesWith (stage_of result) result)) }
-    ensures output { OnJob (texts words.now) (λ job. OnOutcome job (S.inlet input.old).left
-        (λ outcome. Writes (stage_of result) outcome.text (K.outlet output.old) (K.outlet output.new))) }
+    ensures carried { OnJob (texts words.now) (λ job. OnOutcome job (S.inlet input.old).left
+        (CarriesOut result (K.outlet output.old) (K.outlet output.new) (Notes (N.outlet notes.old) (N.outlet notes.new)))) }
     ensures output_takes { OnJob (texts words.now) (λ job. OnOutcome job (S.inlet input.old).left
         (λ outcome. Takes (K.outlet output.old).sure (length outcome.text) → result ≢ 6)) }
-    ensures notes { OnJob (texts words.now) (λ job. OnOutcome job (S.inlet input.old).left
-        (λ outcome. Notes (N.outlet notes.old) (N.outlet notes.new) (line_of (stage_of result) outcome))) }
 
     // So do the outcomes of a conversion or a report on other bytes that hold the same batches of Jaeger, in whichever protocol.
     ensures same { OnSpans (texts words.now) (λ from what. OnSameBatches from what (S.inlet input.old).left
-        (CarriesOut result (K.outlet output.old) (K.outlet output.new) (N.outlet notes.old) (N.outlet notes.new))) }
+        (CarriesOut result (K.outlet output.old) (K.outlet output.new) (Notes (N.outlet notes.old) (N.outlet notes.new)))) }
 
     // So do those on other bytes that differ in members alone that a form in JSON doesn't know.
     ensures free_members { OnSpans (texts words.now) (λ from what. OnAgreeingDocuments from what (S.inlet input.old).left
-        (CarriesOut result (K.outlet output.old) (K.outlet output.new) (N.outlet notes.old) (N.outlet notes.new))) }
+        (CarriesOut result (K.outlet output.old) (K.outlet output.new) (Notes (N.outlet notes.old) (N.outlet notes.new)))) }
 
-    // A converted text that has fewer than 2^63 bytes is read back as the normal form of the trace that was read, which keeps all
-    // its spans. Where it fits it converts back to the form that was read, which leaves that normal form as it is.
+    // A converted text is read back as the normal form of the trace that was read, which keeps all its spans. Where it fits it
+    // converts back to the form that was read, which leaves that normal form as it is.
     ensures there_and_back { OnConversions (texts words.now) (λ from to. result ≡ 0 → IfSome (S.inlet input.old).left
         (WritesTextOf from to (K.outlet output.old) (K.outlet output.new))) }
 

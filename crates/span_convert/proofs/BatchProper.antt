@@ -5,12 +5,12 @@ use Rattle.trace_model.specs.Proper.{IsProperGroup}
 use Rattle.trace_model.specs.declared.span.Span.{Span}
 use Rattle.trace_model.specs.OtlpParts.{NotedGroup}
 use Rattle.trace_model.specs.declared.trace.Scope.{Scope}
-use Rattle.jaeger_model.specs.Laws.{ReadsProper}
+use Rattle.jaeger_model.specs.StatedLaws.{ReadsProper}
 use Rattle.jaeger_model.specs.WrittenAgain.{all_kept, all_counted}
 use Rattle.jaeger_model.specs.declared.batch.Batch.{Batch}
 use Rattle.jaeger_model.specs.declared.span.JSpan.{JSpan}
 use Rattle.span_tags.specs.Runs.{Scoped, runs}
-use Rattle.map_jaeger.specs.Laws.{ReadIsProper}
+use Rattle.map_jaeger.specs.StatedLaws.{ReadIsProper}
 use Rattle.map_jaeger.specs.Reading.{scoped_of, resource_of, group_of}
 use Rattle.span_convert.specs.BatchFiles.{IsBatchUnit}
 use Rattle.span_convert.proofs.SourceLaws.{AreBytes}

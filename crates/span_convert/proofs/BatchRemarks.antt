@@ -1,14 +1,14 @@
 -- Each batch has one list of remarks.
 use Rattle.std.proofs.Common.{◌≡◌, ◌++◌, ◌∷◌, List, [], map, is_some, refl, sym, ◌∙◌}
 use Rattle.std.specs.List.{AllZip, zip}
-use Rattle.span_io.specs.RowLaws.{all_zip_once}
+use Rattle.span_io.specs.laws.RowLaws.{all_zip_once}
 use Rattle.jaeger_model.specs.declared.batch.Batch.{Batch}
 use Rattle.jaeger_model.specs.declared.span.JSpan.{JSpan}
 use Rattle.jaeger_model.specs.declared.span.Log.{Log}
 use Rattle.span_tags.specs.TagKeys.{service_key}
 use Rattle.span_tags.specs.TagWords.{if_left}
 use Rattle.trace_model.specs.Attributes.{at}
-use Rattle.trace_model.specs.Laws.{AttributesOnce, AttributesExist}
+use Rattle.trace_model.specs.StatedLaws.{AttributesOnce, AttributesExist}
 use Rattle.trace_model.specs.Remarks.{Keys, equal_keys, tags_dropped, numbered}
 use Rattle.trace_model.specs.declared.place.Place.TheVariants as places
 use Rattle.trace_model.specs.declared.remark.Remark.{Remark}

@@ -17,10 +17,10 @@ use Rattle.jaeger_model.specs.Batches.{IsBatchText}
 use Rattle.jaeger_model.specs.Writable.{IsWritable}
 use Rattle.jaeger_model.specs.WrittenAgain.{HasAllKept}
 use Rattle.jaeger_model.specs.declared.batch.Batch.{Batch}
-use Rattle.span_tags.specs.RunLaws.{scoped_runs}
+use Rattle.span_tags.specs.laws.RunLaws.{scoped_runs}
 use Rattle.span_tags.specs.Runs.{Scoped, scoped, spans_of, runs}
 use Rattle.map_jaeger.specs.Faults.{HasNoFault}
-use Rattle.map_jaeger.specs.Laws.{IsHeld, NormalForms, IsTimely, ReadIsNormal}
+use Rattle.map_jaeger.specs.StatedLaws.{IsHeld, NormalForms, IsTimely, ReadIsNormal}
 use Rattle.map_jaeger.specs.Normal.{normal, normal_group, normal_scoped}
 use Rattle.map_jaeger.specs.Writing.{jaeger_span, batch_of}
 use Rattle.map_zipkin.specs.NotedGroups.{plain_noted}

@@ -5,7 +5,7 @@ use Rattle.span_ids.specs.Times.{floor, IsWhole}
 use Rattle.jaeger_model.specs.Writable.{IsTimed}
 use Rattle.jaeger_model.specs.declared.span.JSpan.{JSpan}
 use Rattle.jaeger_model.specs.declared.span.Log.{Log}
-use Rattle.map_jaeger.specs.Laws.{IsTimely}
+use Rattle.map_jaeger.specs.StatedLaws.{IsTimely}
 
 abbrev IsFloor : Log → Type 0
 IsFloor log = log.time ≡ floor log.time

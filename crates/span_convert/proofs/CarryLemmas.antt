@@ -100,16 +100,6 @@ OneVerdict from to = (limits : Limits) (bytes : List ℕ) (v w : Verdict) → Ar
 abbrev pub TextsSoFar : InputForm → Target → Type 0
 TextsSoFar from to = (limits : Limits) (bytes text : List ℕ) (v : Verdict) → AreLimits limits → IsTextSoFar from to limits bytes text → IsVerdictOn from to limits bytes v → IsFront text (verdict_text v)
 
-fails_so : (said : List ℕ) (before now : Outlet) (v : Verdict) → FailsFrom said before now (verdict_text v) → StopsFrom said v stops.Write before now × KeepsWhy v states.Write
-fails_so said before now (good text tally) fails = (fails, tt)
-fails_so said before now (refused refusal text) fails = (fails, tt)
-fails_so said before now (faulted found text) fails = (fails, tt)
-
-wants_so : (said : List ℕ) (before now : Outlet) (v : Verdict) → GainsFrontFrom said before now (verdict_text v) → StopsFrom said v stops.OutOfMemory before now × KeepsWhy v states.OutOfMemory
-wants_so said before now (good text tally) front = (front, tt)
-wants_so said before now (refused refusal text) front = (front, tt)
-wants_so said before now (faulted found text) front = (front, tt)
-
 module _ (from : InputForm) (to : Target) (once : OneVerdict from to) (limits : Limits) (whole : List ℕ) (valid : AreLimits limits) where
   -- what is good has one text
   pub one_text : (a b : List ℕ) (tally counts : Tally) → IsVerdictOn from to limits whole (good a tally) → IsVerdictOn from to limits whole (good b counts) → a ≡ b
@@ -119,12 +109,12 @@ module _ (from : InputForm) (to : Target) (once : OneVerdict from to) (limits : 
     pub stops_carried : (stop : WalkStop) → StopsWalk from to limits whole stop said before now → StopsFrom said v (stop_at stop) before now × KeepsWhy v (state_at stop)
     stops_carried (walk_stops.Refused refusal) w =
         let same = once limits whole (refused refusal w.text) v valid w.is_refused is_verdict in
-        subst (λ (x : Verdict). StopsFrom said x stops.Refused before now × KeepsWhy x (states.Refused refusal)) same (w.gains, refl)
+        subst (λ (x : Verdict). StopsFrom said x stops.Refused before now × KeepsWhy x (states.Refused refusal)) same (((refusal, refl), w.gains), refl)
     stops_carried (walk_stops.Faulted found) w =
         let same = once limits whole (faulted found w.text) v valid w.is_faulted is_verdict in
-        subst (λ (x : Verdict). StopsFrom said x stops.Faulted before now × KeepsWhy x (states.Faulted found)) same (w.gains, refl)
-    stops_carried walk_stops.Write w = fails_so said before now v (fails_longer said before now w.text (verdict_text v) (texts limits whole w.text v valid w.so_far is_verdict) w.fails)
-    stops_carried walk_stops.OutOfMemory w = wants_so said before now v (front_longer said before now w.text (verdict_text v) (texts limits whole w.text v valid w.so_far is_verdict) w.gains)
+        subst (λ (x : Verdict). StopsFrom said x stops.Faulted before now × KeepsWhy x (states.Faulted found)) same (((found, refl), w.gains), refl)
+    stops_carried walk_stops.Write w = (fails_longer said before now w.text (verdict_text v) (texts limits whole w.text v valid w.so_far is_verdict) w.fails, tt)
+    stops_carried walk_stops.OutOfMemory w = (front_longer said before now w.text (verdict_text v) (texts limits whole w.text v valid w.so_far is_verdict) w.gains, tt)
 
     pub ends_carried : (tally : Tally) → WritesWhole from to limits whole tally said before now → EndsFrom said v tally before now × KeepsWhy v states.Ended
     ends_carried tally w =
@@ -135,4 +125,4 @@ module _ (from : InputForm) (to : Target) (once : OneVerdict from to) (limits : 
     pub reaches_carried : (text : List ℕ) (tally : Tally) → IsVerdictOn from to limits whole (good text tally) → GainsFrom said before now text → ReachesFrom said v (Ok tt) before now × KeepsWhy v states.Open
     reaches_carried text tally is gains =
         let same = once limits whole (good text tally) v valid is is_verdict in
-        subst (λ (x : Verdict). ReachesFrom said x (Ok tt) before now × KeepsWhy x states.Open) same (gains, tt)
+        subst (λ (x : Verdict). ReachesFrom said x (Ok tt) before now × KeepsWhy x states.Open) same ((tally, (refl, gains)), tt)

@@ -8,7 +8,7 @@ use Rattle.thrift_core.specs.Parts.{Spelling}
 use Rattle.thrift_core.specs.Trees.{Fields, Trees, no_trees, tree_then, outer_levels}
 use Rattle.jaeger_model.specs.Batches.{batch_table, batch_ends, MeansSpans, passed}
 use Rattle.jaeger_model.specs.InnerRows.{structure, structures, BadElement, ElementsOffend}
-use Rattle.jaeger_model.specs.Laws.{BatchOffends}
+use Rattle.jaeger_model.specs.StatedLaws.{BatchOffends}
 use Rattle.jaeger_model.specs.Logs.{MeansTags, log_table, log_ends, log_rules}
 use Rattle.jaeger_model.specs.Processes.{MeansProcess, process_table, process_ends, process_rules}
 use Rattle.jaeger_model.specs.References.{reference_number, reference_table, reference_ends, reference_rules}

@@ -2,18 +2,18 @@
 use Rattle.std.proofs.Common.{◌↔◌, ◌≤◌, ◌++◌, ◌∷◌, ◌⊎◌, inl, inr, ℕ, List, [], length, map, subst, arith}
 use Rattle.serde_json.specs.Data.{Data}
 use Rattle.span_io.specs.Causes.{cause_number}
-use Rattle.span_io.specs.Paths.{Faults}
+use Rattle.span_io.specs.Paths.{Offences}
 use Rattle.span_io.specs.declared.form.Form.{Form}
 use Rattle.span_io.specs.declared.form.Form.TheVariants as forms
 use Rattle.span_io.specs.declared.limits.Limits.{Limits}
 use Rattle.span_io.specs.declared.refusal.Refusal.{Refusal}
 use Rattle.trace_model.specs.OtlpParts.{NotedGroup}
-use Rattle.json_members.specs.ReadingLaws.{same_value}
-use Rattle.json_members.specs.Texts.{IsJsonText, document_faults}
-use Rattle.otlp_json.specs.Group.{RemarkedGroup, AreJsonGroups, json_groups_faults}
-use Rattle.otlp_json.specs.Laws.{FreeGroupMembers}
-use Rattle.zipkin_json.specs.Laws.{FreeMembers}
-use Rattle.zipkin_json.specs.Span.{AreSpans, spans_faults}
+use Rattle.json_members.specs.laws.ReadingLaws.{same_value}
+use Rattle.json_members.specs.Texts.{IsJsonText, document_offends}
+use Rattle.otlp_json.specs.Group.{RemarkedGroup, AreJsonGroups, json_groups_offend}
+use Rattle.otlp_json.specs.StatedLaws.{FreeGroupMembers}
+use Rattle.zipkin_json.specs.StatedLaws.{FreeMembers}
+use Rattle.zipkin_json.specs.Span.{AreSpans, spans_offend}
 use Rattle.zipkin_json.specs.declared.span.ZSpan.{ZSpan}
 use Rattle.span_convert.specs.Documents.{DocumentForm, IsDocument, DocumentBegins, IsTooLongDocument, OffendsInDocument, DocumentRefused}
 use Rattle.span_convert.specs.GroupFiles.{remarked_group, ReadsGroups, group_document}
@@ -71,8 +71,8 @@ module _ (from : DocumentForm) (limits : Limits) (bytes others : List ℕ) (with
 -- ---- texts of values
 
 module _ (value other : Data) (bytes others : List ℕ) (is : IsJsonText value bytes) (also : IsJsonText other others) where
-  text_offends : (Offends : Data → Faults) → ((path : List ℕ) (number : ℕ) → Offends value path number → Offends other path number)
-      → (path : List ℕ) (number : ℕ) → document_faults Offends bytes path number → document_faults Offends others path number
+  text_offends : (Offends : Data → Offences) → ((path : List ℕ) (number : ℕ) → Offends value path number → Offends other path number)
+      → (path : List ℕ) (number : ℕ) → document_offends Offends bytes path number → document_offends Offends others path number
   text_offends Offends f path number (inl bad) = absurd (bad.none value is)
   text_offends Offends f path number (inr h) =
       inr (record { value = other; is_text = also; offends = f path number (subst (λ (d : Data). Offends d path number) (same_value bytes value is h.value h.is_text) h.offends) })
@@ -92,33 +92,33 @@ module _ (value other : Data) (bytes others : List ℕ) (is : IsJsonText value b
 -- ---- two inputs
 
 module _ (limits : Limits) (bytes others : List ℕ) where
-  same_spans : HoldSameDocument AreSpans spans_faults limits bytes others → (to : Target) (verdict : Verdict)
+  same_spans : HoldSameDocument AreSpans spans_offend limits bytes others → (to : Target) (verdict : Verdict)
       → IsVerdictOn (document_input span_document) to limits bytes verdict ↔ IsVerdictOn (document_input span_document) to limits others verdict
   same_spans h to verdict = (
     verdict_also span_document limits bytes others h.within h.other_within (record {
       reads = spans_also h.value h.other bytes others h.text h.other_text (λ spans are. (h.same.means spans).0 are);
-      offends = text_offends h.value h.other bytes others h.text h.other_text spans_faults (λ path number o. (h.same.offends path number).0 o);
-      before = text_offends h.other h.value others bytes h.other_text h.text spans_faults (λ path number o. (h.same.offends path number).1 o);
+      offends = text_offends h.value h.other bytes others h.text h.other_text spans_offend (λ path number o. (h.same.offends path number).0 o);
+      before = text_offends h.other h.value others bytes h.other_text h.text spans_offend (λ path number o. (h.same.offends path number).1 o);
     }) to verdict,
     verdict_also span_document limits others bytes h.other_within h.within (record {
       reads = spans_also h.other h.value others bytes h.other_text h.text (λ spans are. (h.same.means spans).1 are);
-      offends = text_offends h.other h.value others bytes h.other_text h.text spans_faults (λ path number o. (h.same.offends path number).1 o);
-      before = text_offends h.value h.other bytes others h.text h.other_text spans_faults (λ path number o. (h.same.offends path number).0 o);
+      offends = text_offends h.other h.value others bytes h.other_text h.text spans_offend (λ path number o. (h.same.offends path number).1 o);
+      before = text_offends h.value h.other bytes others h.text h.other_text spans_offend (λ path number o. (h.same.offends path number).0 o);
     }) to verdict,
   )
 
-  same_groups : HoldSameDocument AreJsonGroups json_groups_faults limits bytes others → (to : Target) (verdict : Verdict)
+  same_groups : HoldSameDocument AreJsonGroups json_groups_offend limits bytes others → (to : Target) (verdict : Verdict)
       → IsVerdictOn (document_input group_document) to limits bytes verdict ↔ IsVerdictOn (document_input group_document) to limits others verdict
   same_groups h to verdict = (
     verdict_also group_document limits bytes others h.within h.other_within (record {
       reads = groups_also h.value h.other bytes others h.text h.other_text (λ groups are. (h.same.means groups).0 are);
-      offends = text_offends h.value h.other bytes others h.text h.other_text json_groups_faults (λ path number o. (h.same.offends path number).0 o);
-      before = text_offends h.other h.value others bytes h.other_text h.text json_groups_faults (λ path number o. (h.same.offends path number).1 o);
+      offends = text_offends h.value h.other bytes others h.text h.other_text json_groups_offend (λ path number o. (h.same.offends path number).0 o);
+      before = text_offends h.other h.value others bytes h.other_text h.text json_groups_offend (λ path number o. (h.same.offends path number).1 o);
     }) to verdict,
     verdict_also group_document limits others bytes h.other_within h.within (record {
       reads = groups_also h.other h.value others bytes h.other_text h.text (λ groups are. (h.same.means groups).1 are);
-      offends = text_offends h.other h.value others bytes h.other_text h.text json_groups_faults (λ path number o. (h.same.offends path number).1 o);
-      before = text_offends h.value h.other bytes others h.text h.other_text json_groups_faults (λ path number o. (h.same.offends path number).0 o);
+      offends = text_offends h.other h.value others bytes h.other_text h.text json_groups_offend (λ path number o. (h.same.offends path number).1 o);
+      before = text_offends h.value h.other bytes others h.text h.other_text json_groups_offend (λ path number o. (h.same.offends path number).0 o);
     }) to verdict,
   )
 

@@ -95,10 +95,3 @@ whole_reads forms.OtlpJson limits bytes noted h = h.text
 whole_reads forms.JaegerBinary limits bytes noted h = batches_read binary limits bytes noted h
 whole_reads forms.JaegerCompact limits bytes noted h = batches_read compact limits bytes noted h
 whole_reads forms.ZipkinJson limits bytes noted h = h.text
-
-pub fits_sized : (from : Form) (limits : Limits) (bytes : List ℕ) → AreLimits limits → Fits from limits bytes → length bytes < 2 ^ 63
-fits_sized forms.OtlpProto limits bytes valid fits = omega (arith, fits.within, valid.binary.1)
-fits_sized forms.OtlpJson limits bytes valid fits = omega (arith, fits, valid.json.1)
-fits_sized forms.JaegerBinary limits bytes valid fits = omega (arith, fits.within, valid.binary.1)
-fits_sized forms.JaegerCompact limits bytes valid fits = omega (arith, fits.within, valid.binary.1)
-fits_sized forms.ZipkinJson limits bytes valid fits = omega (arith, fits, valid.json.1)

@@ -8,8 +8,8 @@ use Rattle.trace_model.specs.OtlpParts.{NotedGroup}
 use Rattle.trace_model.specs.Proper.{IsProperGroup}
 use Rattle.trace_model.specs.Soundness.{IsSoundGroup}
 use Rattle.trace_model.specs.declared.trace.Group.{Group}
-use Rattle.map_jaeger.specs.Laws.{FaultsFound}
-use Rattle.map_zipkin.specs.Laws.{ZipkinFaultsFound, ZipkinNormalForms}
+use Rattle.map_jaeger.specs.StatedLaws.{FaultsFound}
+use Rattle.map_zipkin.specs.StatedLaws.{ZipkinFaultsFound, ZipkinNormalForms}
 use Rattle.span_convert.specs.Canonical.{IsHeldBy}
 use Rattle.span_convert.specs.Targets.{CanHoldUnits, AreHeldBy, TargetLaws, form_target}
 use Rattle.span_convert.specs.Units.{groups_in, CanHold, IsSizedGroup, partial_text, span_count}

@@ -6,7 +6,7 @@ use Rattle.std.proofs.lemmas.List.Elements.{All-nil, All-cons}
 use Rattle.std.proofs.lemmas.Slice.Zip.{AllZip-long}
 use Rattle.span_io.specs.Causes.{cause_number}
 use Rattle.span_io.specs.Limits.{AreLimits}
-use Rattle.span_io.specs.OffenceLaws.{one_cause}
+use Rattle.span_io.specs.laws.OffenceLaws.{one_cause}
 use Rattle.span_io.specs.Offences.{Least}
 use Rattle.span_io.specs.declared.cause.Cause.{Cause}
 use Rattle.span_io.specs.declared.form.Form.TheVariants as forms
@@ -15,8 +15,8 @@ use Rattle.span_io.specs.declared.refusal.Refusal.{Refusal}
 use Rattle.trace_model.specs.Proper.{IsProperGroup}
 use Rattle.trace_model.specs.Soundness.{IsSoundGroup, IsSoundTrace}
 use Rattle.trace_model.specs.OtlpParts.{NotedGroup}
-use Rattle.otlp_proto.specs.Laws.{SomeGroup}
-use Rattle.map_jaeger.specs.Laws.{ReadIsSound, ReadIsProper}
+use Rattle.otlp_proto.specs.StatedLaws.{SomeGroup}
+use Rattle.map_jaeger.specs.StatedLaws.{ReadIsSound, ReadIsProper}
 use Rattle.span_convert.specs.BatchFiles.{ProtocolWords}
 use Rattle.span_convert.specs.FramedForms.{FramedForm, RestCause, UnitsThen, UnitsBegin, AreAllUnits, UnitOffends, RestStopsBy, UnitsRefusedBy}
 use Rattle.span_convert.specs.InputLaws.{RequestLaws, BatchLaws}

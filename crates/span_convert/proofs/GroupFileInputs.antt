@@ -8,13 +8,13 @@ use Rattle.span_io.specs.declared.cause.Cause.{Cause}
 use Rattle.trace_model.specs.Proper.{IsProperGroup}
 use Rattle.trace_model.specs.Soundness.{IsSoundGroup, IsSoundTrace}
 use Rattle.trace_model.specs.OtlpParts.{NotedGroup}
-use Rattle.trace_model.specs.RemarkLaws.{mapped, all_back}
+use Rattle.trace_model.specs.laws.RemarkLaws.{mapped, all_back}
 use Rattle.trace_model.specs.declared.trace.Group.{Group}
-use Rattle.json_members.specs.ReadingLaws.{same_value}
+use Rattle.json_members.specs.laws.ReadingLaws.{same_value}
 use Rattle.json_members.specs.Texts.{IsJsonText}
-use Rattle.otlp_json.specs.Group.{RemarkedGroup, AreJsonGroups, json_groups_faults}
+use Rattle.otlp_json.specs.Group.{RemarkedGroup, AreJsonGroups, json_groups_offend}
 use Rattle.otlp_json.specs.Held.{IsHeldByJson}
-use Rattle.otlp_json.specs.Texts.{AreGroupsText, groups_document_faults}
+use Rattle.otlp_json.specs.Texts.{AreGroupsText, groups_document_offends}
 use Rattle.map_zipkin.specs.NotedGroups.{noted_group}
 use Rattle.span_convert.specs.GroupFiles.{remarked_group, ReadsGroups, group_document}
 use Rattle.span_convert.specs.InputLaws.{GroupFileLaws}
@@ -44,13 +44,13 @@ module _ (L : GroupFileLaws) where
       ∙ ap (map noted_group) (one_groups bytes (map remarked_group a) (map remarked_group b) h k)
       ∙ all_back noted_group remarked_group (λ unit. refl) b
 
-  fine : (bytes : List ℕ) (noted : List NotedGroup) → ReadsGroups bytes noted → NothingOffends (groups_document_faults bytes)
-  fine bytes noted h = fine_text json_groups_faults bytes h.value h.is_text (L.one.fine h.value (map remarked_group noted) h.are_groups)
+  fine : (bytes : List ℕ) (noted : List NotedGroup) → ReadsGroups bytes noted → NothingOffends (groups_document_offends bytes)
+  fine bytes noted h = fine_text json_groups_offend bytes h.value h.is_text (L.one.fine h.value (map remarked_group noted) h.are_groups)
 
   decided : (bytes : List ℕ) → IsDecidedText group_document bytes
-  decided bytes = of (decided_text json_groups_faults bytes (λ (d : Data). (groups : List RemarkedGroup) × AreJsonGroups groups d) L.some)
+  decided bytes = of (decided_text json_groups_offend bytes (λ (d : Data). (groups : List RemarkedGroup) × AreJsonGroups groups d) L.some)
     where
-      of : ((d : Data) × IsJsonText d bytes × ((groups : List RemarkedGroup) × AreJsonGroups groups d)) ⊎ ((cause : Cause) × Counts (groups_document_faults bytes) (cause_number cause))
+      of : ((d : Data) × IsJsonText d bytes × ((groups : List RemarkedGroup) × AreJsonGroups groups d)) ⊎ ((cause : Cause) × Counts (groups_document_offends bytes) (cause_number cause))
           → IsDecidedText group_document bytes
       of (inl (d, is, (groups, are))) =
           inl (map noted_group groups, beside_remarks bytes groups (record { value = d; is_text = is; are_groups = are }))

@@ -1,5 +1,5 @@
 -- What was taken in of an input so far, and the outlook on it.
-use Rattle.std.proofs.Common.{◌≡◌, ◌≢◌, ℕ, ◌≤◌, ◌^◌, true, List, [], length, None, refl, sym, ap, subst, ◌∙◌, arith}
+use Rattle.std.proofs.Common.{◌≡◌, ◌≢◌, ℕ, ◌≤◌, ◌^◌, true, List, [], length, None, refl, ap, ◌∙◌, arith}
 use Rattle.span_io.specs.Limits.{AreLimits}
 use Rattle.span_io.specs.Outside.{Outlet}
 use Rattle.span_io.specs.declared.form.Form.{Form}
@@ -16,8 +16,7 @@ use Rattle.span_convert.specs.Units.{framed_input, document_input, input_form, i
 use Rattle.span_convert.specs.Documents.{DocumentForm}
 use Rattle.trace_model.specs.OtlpParts.{NotedGroup}
 use Rattle.span_convert.specs.Verdicts.{good, IsTextSoFar, none, first, all, IsGood}
-use Rattle.span_convert.specs.Pens.{written_by}
-use Rattle.span_convert.specs.Walks.{DocumentTaken, FramesTaken, StandsFor}
+use Rattle.span_convert.specs.Walks.{DocumentTaken, FramesTaken}
 use Rattle.span_convert.specs.declared.converter.State.{State}
 use Rattle.span_convert.specs.declared.converter.State.TheVariants as states
 use Rattle.span_convert.specs.declared.intake.Intake.{Intake}
@@ -122,13 +121,3 @@ module _ (to : Target) (limits : Limits) (bytes text : List ℕ) where
 pub front_closed : (to : Target) (limits : Limits) (bytes said : List ℕ) (before now : Outlet) (from : Form) → to.partial_text [] ≡ [] → WritesFrontFrom (open_form from) (open_target to) limits bytes said before now
     → WritesFrontFrom (input_form from) to limits bytes said before now
 front_closed to limits bytes said before now from empty w = record { text = w.text; so_far = so_far_closed to limits bytes w.text from empty w.so_far; gains = w.gains }
-
--- ---- what a converter holds
-
--- what is taken is written as before
-pub taken_same : (intake : Intake) (what other : Written) (limits : Limits) (bytes said held : List ℕ) (progress : Progress) → other ≡ what → Taken intake what limits bytes said held progress → Taken intake other limits bytes said held progress
-taken_same intake what other limits bytes said held progress same taken = subst (λ (x : Written). Taken intake x limits bytes said held progress) (sym same) taken
-
--- a pen that starts, as it writes itself
-pub starts_itself : (what : Written) (progress : Progress) → StandsFor what [] progress → StandsFor (written_by progress.pen) [] progress
-starts_itself what progress done = subst (λ (x : Written). StandsFor x [] progress) (sym done.pen) done

@@ -5,19 +5,19 @@ use Rattle.std.specs.Str.{is_utf8}
 use Rattle.serde_json.specs.Data.{Data}
 use Rattle.serde_json.specs.Read.{read}
 use Rattle.span_io.specs.Causes.{cause_number}
-use Rattle.span_io.specs.Paths.{Faults, IsLeast, Counts, NothingOffends, RefusesInput}
+use Rattle.span_io.specs.Paths.{Offences, IsLeast, Counts, NothingOffends, RefusesInput}
 use Rattle.span_io.specs.declared.cause.Cause.{Cause}
 use Rattle.span_io.specs.declared.cause.Cause.TheVariants as causes
-use Rattle.json_members.specs.ReadingLaws.{in_value, of_value, bad_json}
-use Rattle.json_members.specs.Texts.{IsJsonText, document_faults}
+use Rattle.json_members.specs.laws.ReadingLaws.{in_value, of_value, bad_json}
+use Rattle.json_members.specs.Texts.{IsJsonText, document_offends}
 
-module _ (Inside : Data → Faults) (bytes : List ℕ) where
+module _ (Inside : Data → Offences) (bytes : List ℕ) where
   -- what offends in the value of a text offends in the text, and nothing else does
   module _ (d : Data) (is : IsJsonText d bytes) where
-    pub fine_text : NothingOffends (Inside d) → NothingOffends (document_faults Inside bytes)
+    pub fine_text : NothingOffends (Inside d) → NothingOffends (document_offends Inside bytes)
     fine_text fine = record { none = λ path n h. fine.none path n (in_value Inside bytes d is path n h) }
 
-    least_of_value : (path : List ℕ) (n : ℕ) → IsLeast (Inside d) path n → IsLeast (document_faults Inside bytes) path n
+    least_of_value : (path : List ℕ) (n : ℕ) → IsLeast (Inside d) path n → IsLeast (document_offends Inside bytes) path n
     least_of_value path n h = record {
       offence = of_value Inside bytes d is path n h.offence;
       least = λ p m offends. h.least p m (in_value Inside bytes d is p m offends);
@@ -27,11 +27,11 @@ module _ (Inside : Data → Faults) (bytes : List ℕ) where
 
   module _ (Means : Data → Type 0) (some : (d : Data) → Means d ⊎ ((cause : Cause) × Counts (Inside d) (cause_number cause))) where
     abbrev Decided : Type 0
-    Decided = ((d : Data) × IsJsonText d bytes × Means d) ⊎ ((cause : Cause) × Counts (document_faults Inside bytes) (cause_number cause))
+    Decided = ((d : Data) × IsJsonText d bytes × Means d) ⊎ ((cause : Cause) × Counts (document_offends Inside bytes) (cause_number cause))
 
     no_text : ((d : Data) → ¬ IsJsonText d bytes) → Decided
     no_text never =
-        let refused : RefusesInput (document_faults Inside bytes) (record { unit = 0; cause = causes.BadJson }) = bad_json Inside bytes never in
+        let refused : RefusesInput (document_offends Inside bytes) (record { unit = 0; cause = causes.BadJson }) = bad_json Inside bytes never in
         inr (causes.BadJson, record { path = refused.path; is_least = refused.is_least })
 
     text_of : (d : Data) → IsJsonText d bytes → Means d ⊎ ((cause : Cause) × Counts (Inside d) (cause_number cause)) → Decided

@@ -8,9 +8,9 @@ use Rattle.span_io.specs.declared.limits.Limits.{Limits}
 use Rattle.trace_model.specs.Proper.{IsProperGroup}
 use Rattle.trace_model.specs.Soundness.{IsSoundGroup}
 use Rattle.trace_model.specs.declared.trace.Group.{Group}
-use Rattle.map_jaeger.specs.Laws.{IsHeld, NormalForms}
+use Rattle.map_jaeger.specs.StatedLaws.{IsHeld, NormalForms}
 use Rattle.map_jaeger.specs.Normal.{normal, normal_group}
-use Rattle.map_zipkin.specs.Laws.{IsHeldByZipkin, ZipkinNormalForms}
+use Rattle.map_zipkin.specs.StatedLaws.{IsHeldByZipkin, ZipkinNormalForms}
 use Rattle.map_zipkin.specs.Normal.{zipkin_normal}
 use Rattle.map_zipkin.specs.NotedGroups.{plain_noted}
 use Rattle.span_moves.specs.Keeps.{EachSpan, NoDoubleMade, SpansKept}

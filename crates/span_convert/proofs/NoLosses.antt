@@ -13,11 +13,11 @@ use Rattle.trace_model.specs.declared.place.Place.{Place}
 use Rattle.trace_model.specs.declared.place.Place.TheVariants as places
 use Rattle.trace_model.specs.declared.trace.Group.{Group}
 use Rattle.loss_report.specs.Lines.{loss_count_text, loss_text, lost_text, place_text}
-use Rattle.span_tags.specs.QuietLaws.{Quiet, both, quiet_as, same_parts}
-use Rattle.map_jaeger.specs.Laws.{NoneLost}
+use Rattle.span_tags.specs.laws.QuietLaws.{Quiet, both, quiet_as, same_parts}
+use Rattle.map_jaeger.specs.StatedLaws.{NoneLost}
 use Rattle.map_jaeger.specs.Losses as jaeger
 use Rattle.map_jaeger.specs.Normal.{normal, normal_group}
-use Rattle.map_zipkin.specs.Laws.{NothingLost}
+use Rattle.map_zipkin.specs.StatedLaws.{NothingLost}
 use Rattle.map_zipkin.specs.Losses as zipkin
 use Rattle.map_zipkin.specs.declared.run.Run.{Run}
 use Rattle.span_convert.specs.Reports.{all_losses, losses_end, form_losses, unit_lost, units_lost}

@@ -3,14 +3,14 @@ use Rattle.std.proofs.Common.{◌≡◌, ◌≢◌, ◌-◌, ◌<◌, ◌≤◌,
 use Rattle.std.proofs.Math.ListN.{replicate}
 use Rattle.std.proofs.lemmas.List.{append_assoc, append-nil, length-append, length-replicate, take_all}
 use Rattle.std.proofs.lemmas.List.Elements.{All-nil, All-cons, All-tail}
-use Rattle.span_io.specs.Cuts.{append_empty_right, some_length}
+use Rattle.span_io.specs.laws.Cuts.{append_empty_right, some_length}
 use Rattle.span_io.specs.Frames.{AreBytes, IsDecided, NeedsMore, ItemsThen}
 use Rattle.span_io.specs.Offences.{Rules, Offence, unread, here, inside, at_end, Cut}
 use Rattle.span_io.specs.Varint.{SpellsVarint, SpellsWithin}
 use Rattle.span_io.specs.declared.cause.Cause.TheVariants as causes
 use Rattle.span_io.specs.declared.form.Form.TheVariants as forms
 use Rattle.span_io.specs.declared.limits.Limits.{Limits}
-use Rattle.proto_wire.specs.Laws.{OneWireReading}
+use Rattle.proto_wire.specs.StatedLaws.{OneWireReading}
 use Rattle.proto_wire.specs.Messages.{messages, NoRecord}
 use Rattle.proto_wire.specs.Records.{Record, bytes}
 use Rattle.proto_wire.specs.Wire.{SpellsRecord, BeginsRecord, HoldsLengthPast, IsOpenRecord, records}

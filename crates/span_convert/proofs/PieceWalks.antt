@@ -4,7 +4,7 @@ use Rattle.std.proofs.lemmas.List.{append-nil, take_at}
 use Rattle.std.proofs.Math.Logic.{∥∥₁_elim, ∥∥₁_map}
 use Rattle.std.proofs.Math.Seq.{take-append-add}
 use Rattle.std.specs.Coded.{le_prop}
-use Rattle.span_io.specs.RowLaws.{all_zip_push}
+use Rattle.span_io.specs.laws.RowLaws.{all_zip_push}
 use Rattle.span_io.specs.Causes.{cause_number}
 use Rattle.span_io.specs.Frames.{BeginsFrame, NeedsMore}
 use Rattle.span_io.specs.Limits.{AreLimits}

@@ -5,7 +5,7 @@ use Rattle.std.proofs.lemmas.List.{take_more}
 use Rattle.std.specs.List.{flat_map}
 use Rattle.span_io.specs.Outside.{last_count}
 use Rattle.span_io.specs.declared.form.Form.{Form}
-use Rattle.span_io.specs.TableLaws.{flat_more}
+use Rattle.span_io.specs.laws.TableLaws.{flat_more}
 use Rattle.trace_model.specs.OtlpParts.{NotedGroup}
 use Rattle.trace_model.specs.Proper.{IsProperGroup}
 use Rattle.trace_model.specs.Soundness.{IsSoundGroup}

@@ -12,7 +12,7 @@ use Rattle.span_io.specs.declared.limits.Limits.{Limits}
 use Rattle.span_io.specs.declared.refusal.Refusal.{Refusal}
 use Rattle.thrift_core.specs.Messages.{fields_of}
 use Rattle.trace_model.specs.OtlpParts.{NotedGroup}
-use Rattle.jaeger_model.specs.Laws.{OneTree}
+use Rattle.jaeger_model.specs.StatedLaws.{OneTree}
 use Rattle.span_convert.specs.BatchFiles.{ProtocolWords, binary, compact, batches, HoldsBatches}
 use Rattle.span_convert.specs.FramedForms.{FramedForm, RestCause, UnitsBegin, AreAllUnits, UnitOffends, RestStops, UnitsRefused}
 use Rattle.span_convert.specs.InputLaws.{BatchLaws, InputLaws, TreeLaws}

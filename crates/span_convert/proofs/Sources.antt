@@ -6,8 +6,8 @@ use Rattle.span_io.specs.declared.form.Form.TheVariants as forms
 use Rattle.span_io.specs.declared.limits.Limits.{Limits}
 use Rattle.trace_model.specs.OtlpParts.{NotedGroup}
 use Rattle.trace_model.specs.declared.trace.Group.{Group}
-use Rattle.otlp_proto.specs.Laws.{SomeGroup}
-use Rattle.map_jaeger.specs.Laws.{ReadIsSound, ReadIsProper}
+use Rattle.otlp_proto.specs.StatedLaws.{SomeGroup}
+use Rattle.map_jaeger.specs.StatedLaws.{ReadIsSound, ReadIsProper}
 use Rattle.span_convert.specs.BatchFiles.{binary, compact}
 use Rattle.span_convert.specs.Canonical.{Reads, ReadsNoted}
 use Rattle.span_convert.specs.GroupFiles.{group_document}

@@ -8,11 +8,11 @@ use Rattle.span_io.specs.declared.cause.Cause.{Cause}
 use Rattle.trace_model.specs.Proper.{IsProperGroup}
 use Rattle.trace_model.specs.Soundness.{IsSoundGroup, IsSoundTrace}
 use Rattle.trace_model.specs.OtlpParts.{NotedGroup}
-use Rattle.zipkin_json.specs.Laws.{OneList, ReadsWritable}
+use Rattle.zipkin_json.specs.StatedLaws.{OneList, ReadsWritable}
 use Rattle.zipkin_json.specs.Proper.{IsProperZSpan, IsTimelyZSpan, IsWritableZSpan}
-use Rattle.zipkin_json.specs.Span.{AreSpans, spans_faults}
-use Rattle.json_members.specs.ReadingLaws.{same_value}
-use Rattle.json_members.specs.Texts.{IsJsonText, document_faults}
+use Rattle.zipkin_json.specs.Span.{AreSpans, spans_offend}
+use Rattle.json_members.specs.laws.ReadingLaws.{same_value}
+use Rattle.json_members.specs.Texts.{IsJsonText, document_offends}
 use Rattle.zipkin_json.specs.Texts.{AreSpansText}
 use Rattle.zipkin_json.specs.declared.span.ZSpan.{ZSpan}
 use Rattle.map_zipkin.specs.NotedGroups.{noted_groups_of}
@@ -38,13 +38,13 @@ module _ (L : SpanFileLaws) where
   once : (bytes : List ℕ) (a b : List NotedGroup) → ReadsSpans bytes a → ReadsSpans bytes b → a ≡ b
   once bytes a b h k = h.means ∙ ap noted_groups_of (one_spans L.one bytes h.spans k.spans h.text k.text) ∙ sym k.means
 
-  fine : (bytes : List ℕ) (noted : List NotedGroup) → ReadsSpans bytes noted → NothingOffends (document_faults spans_faults bytes)
-  fine bytes noted h = fine_text spans_faults bytes h.text.value h.text.is_text (L.one.fine h.text.value h.spans h.text.are_spans)
+  fine : (bytes : List ℕ) (noted : List NotedGroup) → ReadsSpans bytes noted → NothingOffends (document_offends spans_offend bytes)
+  fine bytes noted h = fine_text spans_offend bytes h.text.value h.text.is_text (L.one.fine h.text.value h.spans h.text.are_spans)
 
   decided : (bytes : List ℕ) → IsDecidedText span_document bytes
-  decided bytes = of (decided_text spans_faults bytes (λ (d : Data). (spans : List ZSpan) × AreSpans spans d) L.some)
+  decided bytes = of (decided_text spans_offend bytes (λ (d : Data). (spans : List ZSpan) × AreSpans spans d) L.some)
     where
-      of : ((d : Data) × IsJsonText d bytes × ((spans : List ZSpan) × AreSpans spans d)) ⊎ ((cause : Cause) × Counts (document_faults spans_faults bytes) (cause_number cause))
+      of : ((d : Data) × IsJsonText d bytes × ((spans : List ZSpan) × AreSpans spans d)) ⊎ ((cause : Cause) × Counts (document_offends spans_offend bytes) (cause_number cause))
           → IsDecidedText span_document bytes
       of (inl (d, is, (spans, are))) =
           inl (noted_groups_of spans, record { spans = spans; text = record { value = d; is_text = is; are_spans = are }; means = refl })

@@ -19,7 +19,7 @@ use Rattle.zipkin_json.specs.Proper.{IsProperZSpan, IsTimelyZSpan, IsWritableZSp
 use Rattle.zipkin_json.specs.Texts.{AreSpansText}
 use Rattle.zipkin_json.specs.declared.span.ZSpan.{ZSpan}
 use Rattle.map_zipkin.specs.Faults.{HasNoZipkinFault}
-use Rattle.map_zipkin.specs.Laws.{IsHeldByZipkin, ZipkinNormalForms}
+use Rattle.map_zipkin.specs.StatedLaws.{IsHeldByZipkin, ZipkinNormalForms}
 use Rattle.map_zipkin.specs.Normal.{normal_one, normal_spans, zipkin_normal}
 use Rattle.map_zipkin.specs.NotedGroups.{plain_noted}
 use Rattle.map_zipkin.specs.Regrouped.{RunSpan, run_of}

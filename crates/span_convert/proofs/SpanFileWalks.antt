@@ -11,7 +11,7 @@ use Rattle.trace_model.specs.declared.trace.Group.{Group}
 use Rattle.zipkin_json.specs.Canonical.{zspan_text}
 use Rattle.zipkin_json.specs.declared.span.ZSpan.{ZSpan}
 use Rattle.map_zipkin.specs.Faults.{HasNoZipkinFault}
-use Rattle.map_zipkin.specs.Laws.{ZipkinNormalForms}
+use Rattle.map_zipkin.specs.StatedLaws.{ZipkinNormalForms}
 use Rattle.map_zipkin.specs.Writing.{zipkin_span, spans_of_group}
 use Rattle.span_convert.specs.Canonical.{IsHeldBy}
 use Rattle.span_convert.specs.Documents.{pieces_added}

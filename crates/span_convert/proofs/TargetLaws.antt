@@ -13,9 +13,9 @@ use Rattle.trace_model.specs.declared.trace.Group.{Group}
 use Rattle.otlp_json.specs.Doubles.{double_in_group}
 use Rattle.otlp_proto.specs.Texts.{group_record}
 use Rattle.map_jaeger.specs.Faults.{IsResourceFault, IsSpanFault}
-use Rattle.map_jaeger.specs.Laws.{FaultsFound}
+use Rattle.map_jaeger.specs.StatedLaws.{FaultsFound}
 use Rattle.map_zipkin.specs.Faults.{IsZipkinResourceFault, IsZipkinSpanFault}
-use Rattle.map_zipkin.specs.Laws.{ZipkinFaultsFound, ZipkinNormalForms}
+use Rattle.map_zipkin.specs.StatedLaws.{ZipkinFaultsFound, ZipkinNormalForms}
 use Rattle.span_convert.specs.BatchFiles.{binary, compact}
 use Rattle.span_convert.specs.Units.{FaultOf, CanHold, canonical_text, partial_text, closing_text}
 use Rattle.span_convert.specs.Verdicts.{CanHoldTrace}

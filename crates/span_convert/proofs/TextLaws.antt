@@ -8,26 +8,26 @@ use Rattle.span_io.specs.Limits.{AreLimits}
 use Rattle.span_io.specs.declared.form.Form.{Form}
 use Rattle.span_io.specs.declared.form.Form.TheVariants as forms
 use Rattle.span_io.specs.declared.limits.Limits.{Limits}
-use Rattle.span_io.specs.RowLaws.{all_zip_once}
+use Rattle.span_io.specs.laws.RowLaws.{all_zip_once}
 use Rattle.proto_wire.specs.Records.{Record, IsProper, bytes}
 use Rattle.proto_wire.specs.Wire.{SpellsRecord, records, RefusedBy, opening_text}
 use Rattle.trace_model.specs.Proper.{IsProperGroup}
 use Rattle.trace_model.specs.Soundness.{IsSoundGroup, IsSoundTrace}
 use Rattle.trace_model.specs.OtlpParts.{NotedGroup}
-use Rattle.trace_model.specs.RemarkLaws.{all_back}
+use Rattle.trace_model.specs.laws.RemarkLaws.{all_back}
 use Rattle.trace_model.specs.declared.trace.Group.{Group}
 use Rattle.otlp_proto.specs.Texts.{group_text, group_record}
-use Rattle.map_jaeger.specs.Laws.{NormalForms, ReadIsNormal}
+use Rattle.map_jaeger.specs.StatedLaws.{NormalForms, ReadIsNormal}
 use Rattle.map_jaeger.specs.Normal.{normal}
 use Rattle.map_zipkin.specs.NotedGroups.{plain_noted}
 use Rattle.span_convert.specs.BatchFiles.{binary, compact}
-use Rattle.span_convert.specs.Canonical.{Reads, ReadsNoted, ReadsPlainly, IsHeldBy, IsSized, Fits, ConvertsToItself}
+use Rattle.span_convert.specs.Canonical.{Reads, ReadsNoted, ReadsPlainly, IsHeldBy, Fits, ConvertsToItself}
 use Rattle.span_convert.specs.InputLaws.{RequestLaws, SpanFileLaws, InputLaws, TextLaws}
 use Rattle.span_convert.specs.Requests.{AreRequestUnits, IsRequestUnit, request_text, ReadsRequest}
 use Rattle.span_convert.specs.Units.{groups_in, CanHold, normal_form, trace_text, canonical_text, span_count}
 use Rattle.span_convert.specs.Verdicts.{CanHoldTrace, IsProperTrace, IsFaultless, tally_of}
 use Rattle.span_convert.proofs.BatchTexts.{IsNormal, normals, all_itself, normal_held_by, batches_back, batches_spans, batches_faultless, batches_normal}
-use Rattle.span_convert.proofs.FitLaws.{fits_sized, reads_whole}
+use Rattle.span_convert.proofs.FitLaws.{reads_whole}
 use Rattle.span_convert.proofs.FormTargets.{held_units}
 use Rattle.span_convert.proofs.FrameLemmas.{same_items}
 use Rattle.span_convert.proofs.GroupFileTexts.{group_file_faultless, group_file_back}
@@ -125,45 +125,45 @@ module _ (L : TextLaws) where
   unfolding unit_record
   record_spelled g h = L.shortest.spelled (unit_record g) (record_fits g h)
 
-  frames_then : (limit : ℕ) (groups : List Group) → limit < 2 ^ 63 → All (λ g. length (group_record g) ≤ limit) groups → ItemsThen records limit (map group_record groups) [] (request_text groups)
+  -- no record is too long
+  abbrev IsShort : Group → Type 0
+  IsShort g = length (group_record g) < 2 ^ 63
+
+  frames_then : (limit : ℕ) (groups : List Group) → All IsShort groups → All (λ g. length (group_record g) ≤ limit) groups → ItemsThen records limit (map group_record groups) [] (request_text groups)
   unfolding ItemsThen
   frames_then limit [] short all = refl
   frames_then limit (g ∷ groups) short all =
       let first : length (group_record g) ≤ limit = All-head (λ g. length (group_record g) ≤ limit) g groups all in
-      ((unit_record g, record_spelled g (omega (arith, first, short))), first, request_text groups, refl, frames_then limit groups short (All-tail (λ g. length (group_record g) ≤ limit) g groups all))
+      ((unit_record g, record_spelled g (All-head IsShort g groups short)), first, request_text groups, refl, frames_then limit groups (All-tail IsShort g groups short) (All-tail (λ g. length (group_record g) ≤ limit) g groups all))
 
-  units_held : (limit : ℕ) (groups : List Group) → limit < 2 ^ 63 → All (λ g. length (group_record g) ≤ limit) groups → AreRequestUnits (map group_record groups) (map group_text groups)
+  units_held : (groups : List Group) → All IsShort groups → AreRequestUnits (map group_record groups) (map group_text groups)
   unfolding AreRequestUnits unit_record
-  units_held limit [] short all = refl
-  units_held limit (g ∷ groups) short all =
-      let first : length (group_record g) ≤ limit = All-head (λ g. length (group_record g) ≤ limit) g groups all in
-      (unit_record g, record_spelled g (omega (arith, first, short)), map group_text groups, refl, units_held limit groups short (All-tail (λ g. length (group_record g) ≤ limit) g groups all))
+  units_held [] short = refl
+  units_held (g ∷ groups) short =
+      (unit_record g, record_spelled g (All-head IsShort g groups short), map group_text groups, refl, units_held groups (All-tail IsShort g groups short))
 
-  plain_units : (limit : ℕ) (groups : List Group) → limit < 2 ^ 63 → All (λ g. length (group_record g) ≤ limit) groups → IsSoundTrace groups → IsProperTrace groups → AllZip IsRequestUnit (map group_text groups) (map plain_noted groups)
-  plain_units limit [] short all sound proper = tt
-  plain_units limit (g ∷ groups) short all sound proper =
-      let first : length (group_record g) ≤ limit = All-head (λ g. length (group_record g) ≤ limit) g groups all in (
-        L.again g (All-head IsSoundGroup g groups sound) (All-head IsProperGroup g groups proper) (omega (arith, first, short)),
-        plain_units limit groups short (All-tail (λ g. length (group_record g) ≤ limit) g groups all) (All-tail IsSoundGroup g groups sound) (All-tail IsProperGroup g groups proper),
-      )
+  plain_units : (groups : List Group) → All IsShort groups → IsSoundTrace groups → IsProperTrace groups → AllZip IsRequestUnit (map group_text groups) (map plain_noted groups)
+  plain_units [] short sound proper = tt
+  plain_units (g ∷ groups) short sound proper = (
+    L.again g (All-head IsSoundGroup g groups sound) (All-head IsProperGroup g groups proper) (All-head IsShort g groups short),
+    plain_units groups (All-tail IsShort g groups short) (All-tail IsSoundGroup g groups sound) (All-tail IsProperGroup g groups proper),
+  )
 
-  request_read_back : (groups : List Group) → IsSoundTrace groups → IsProperTrace groups → IsSized forms.OtlpProto groups → ReadsRequest (request_text groups) (map plain_noted groups)
-  request_read_back groups sound proper sized =
-      let all : All (λ g. length (group_record g) ≤ length (request_text groups)) groups = each_within (length (request_text groups)) groups (omega arith) in
-      record {
-        frames = map group_record groups;
-        framed = frames_then (length (request_text groups)) groups sized all;
-        units = map group_text groups;
-        are_units = units_held (length (request_text groups)) groups sized all;
-        are_groups = plain_units (length (request_text groups)) groups sized all sound proper;
-      }
+  request_read_back : (groups : List Group) → IsSoundTrace groups → IsProperTrace groups → All IsShort groups → ReadsRequest (request_text groups) (map plain_noted groups)
+  request_read_back groups sound proper short = record {
+    frames = map group_record groups;
+    framed = frames_then (length (request_text groups)) groups short (each_within (length (request_text groups)) groups (omega arith));
+    units = map group_text groups;
+    are_units = units_held groups short;
+    are_groups = plain_units groups short sound proper;
+  }
 
-  pub read_back : (to : Form) (groups : List Group) → IsHeldBy to groups → IsSized to groups → ReadsPlainly to (canonical_text to groups) (normal_form to groups)
-  read_back forms.OtlpProto groups h sized = request_read_back groups h.can_hold.sound h.can_hold.proper sized
-  read_back forms.OtlpJson groups h sized = group_file_back L.input.groups groups h
-  read_back forms.JaegerBinary groups h sized = batches_back binary L L.input.binary (normal groups) (binary_normals L.normal groups h)
-  read_back forms.JaegerCompact groups h sized = batches_back compact L L.input.compact (normal groups) (compact_normals L.normal groups h)
-  read_back forms.ZipkinJson groups h sized = span_file_back L.input.spans groups h
+  pub read_back : (to : Form) (groups : List Group) → IsHeldBy to groups → ReadsPlainly to (canonical_text to groups) (normal_form to groups)
+  read_back forms.OtlpProto groups h = request_read_back groups h.can_hold.sound h.can_hold.proper h.sized
+  read_back forms.OtlpJson groups h = group_file_back L.input.groups groups h
+  read_back forms.JaegerBinary groups h = batches_back binary L L.input.binary (normal groups) (binary_normals L.normal groups h)
+  read_back forms.JaegerCompact groups h = batches_back compact L L.input.compact (normal groups) (compact_normals L.normal groups h)
+  read_back forms.ZipkinJson groups h = span_file_back L.input.spans groups h
 
   -- ---- canonical text converts to itself
 
@@ -174,7 +174,7 @@ module _ (L : TextLaws) where
       let many : length own ≡ length (map plain_noted own) = sym (length-map own plain_noted) in
       record {
         noted = map plain_noted own;
-        whole = reads_whole L.input to limits (canonical_text to groups) (map plain_noted own) (read_back to groups h (fits_sized to limits (canonical_text to groups) valid fits)) fits;
+        whole = reads_whole L.input to limits (canonical_text to groups) (map plain_noted own) (read_back to groups h) fits;
         held = held_units to (map plain_noted own) (subst (CanHoldTrace to) same (normal_held L.normal L.input.spans to groups h).can_hold);
         is_text = ap (λ (l : List Group). trace_text to l) (sym (normal_again L.normal L.input.spans to groups h)) ∙ ap (λ (l : List Group). canonical_text to l) same;
         counts = (λ i. tally_of (many i) (sym (normal_spans L.input.spans to groups) i)) ∙ ap (λ (l : List Group). tally_of (length (map plain_noted own)) (span_count l)) same;

@@ -16,9 +16,9 @@ use Rattle.trace_model.specs.declared.remark.Remark.{Remark}
 use Rattle.trace_model.specs.OtlpParts.{NotedGroup}
 use Rattle.trace_model.specs.declared.trace.Group.{Group}
 use Rattle.otlp_proto.specs.Group.{IsGroupText, group_rules}
-use Rattle.otlp_proto.specs.Laws.{SomeGroup}
+use Rattle.otlp_proto.specs.StatedLaws.{SomeGroup}
 use Rattle.otlp_proto.specs.Rows.{bytes_in}
-use Rattle.map_jaeger.specs.Laws.{ReadIsSound, ReadIsProper}
+use Rattle.map_jaeger.specs.StatedLaws.{ReadIsSound, ReadIsProper}
 use Rattle.span_convert.specs.BatchFiles.{ProtocolWords, batches, HoldsBatches, IsBatchUnit}
 use Rattle.span_convert.specs.InputLaws.{RequestLaws, BatchLaws}
 use Rattle.span_convert.specs.Requests.{AreRequestUnits, HoldsRequestUnits}

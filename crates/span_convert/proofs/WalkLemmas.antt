@@ -9,7 +9,7 @@ use Rattle.std.specs.Coded.{le_prop}
 use mathlib.Core.HLevel.{⊥_prop}
 use Rattle.std.specs.Prelude.{◌==◌, if◌then◌else◌}
 use Rattle.std.specs.List.{flat_map}
-use Rattle.span_io.specs.TableLaws.{flat_more}
+use Rattle.span_io.specs.laws.TableLaws.{flat_more}
 use Rattle.span_io.specs.Frames.{Framing, BeginsFrame, ItemsThen}
 use Rattle.span_io.specs.Framings.{OneStep}
 use Rattle.span_io.specs.Outside.{Outlet, Sure, so_many, any_number, less, Gains, OutputHolds, FailsWithin, Rises, last_count}

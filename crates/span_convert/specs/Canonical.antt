@@ -1,5 +1,5 @@
 -- Which bytes are a text of a trace in each form, however long its units are.
-use Rattle.std.specs.Prelude.{◌≡◌, ◌↔◌, ℕ, ◌<◌, ◌≤◌, ◌^◌, List, [], length, map, All}
+use Rattle.std.specs.Prelude.{◌≡◌, ◌↔◌, ℕ, ◌≤◌, List, [], length, map, All}
 use Rattle.span_io.specs.Frames.{Framing, ItemsThen}
 use Rattle.span_io.specs.declared.form.Form.{Form}
 use Rattle.span_io.specs.declared.form.Form.TheVariants as forms
@@ -42,10 +42,6 @@ pub record IsHeldBy (to : Form) (groups : List Group) : Type 0 where
   pub can_hold : CanHoldTrace to groups
   pub sized : All (IsSizedGroup to) groups
 
--- the canonical text of the trace has fewer than 2 ^ 63 bytes
-abbrev pub IsSized : Form → List Group → Type 0
-IsSized to groups = length (canonical_text to groups) < 2 ^ 63
-
 -- the bytes are frames, each within the limit of a unit, and all of them are within that of an input
 pub record AreFramesWithin (F : Framing) (limits : Limits) (bytes : List ℕ) : Type 0 where
   pub frames : List (List ℕ)
@@ -76,7 +72,7 @@ pub record ReadsBack (from to : Form) (limits : Limits) (bytes out : List ℕ) :
   pub tally : Tally
   pub is_good : IsGood (input_form from) (form_target to) limits bytes out tally
   pub plainly : ReadsPlainly to out (normal_form to (groups_in is_good.noted))
-  pub only : (other : List Group) → IsHeldBy to other → IsSized to other
+  pub only : (other : List Group) → IsHeldBy to other
       → (out ≡ canonical_text to other) ↔ (normal_form to (groups_in is_good.noted) ≡ normal_form to other)
   pub again : Fits to limits out → ConvertsToItself to limits out (groups_in is_good.noted)
   -- where it fits it converts back to the input's form, with the text of that normal form, which the input's form leaves as it is

@@ -1,17 +1,18 @@
 -- What a converter or a reporter holds, and what it was fed.
-use Rattle.std.specs.Prelude.{◌≡◌, ℕ, ◌≤◌, Bool, true, false, List, length, Option, Some, None, Result, Ok, Err}
+use Rattle.std.specs.Prelude.{◌≡◌, ℕ, ◌≤◌, Bool, true, false, List, length, Option, Some, None, Result, Ok, Err, IfOk, OnOk}
 use Rattle.span_io.specs.Limits.{AreLimits}
 use Rattle.span_io.specs.Outside.{Outlet}
 use Rattle.span_io.specs.declared.form.Form.{Form}
+use Rattle.span_io.specs.declared.limits.Limits.{Limits}
 use Rattle.span_io.specs.declared.refusal.Refusal.{Refusal}
 use Rattle.span_convert.specs.Intakes.{Taken, form_in}
-use Rattle.span_convert.specs.Outlooks.{IsOutlookAs, WritesFrontFrom}
+use Rattle.span_convert.specs.Outlooks.{CarriesFrom, IsOutlookAs, ReachesFrom, WritesFrontFrom}
 use Rattle.span_convert.specs.Pens.{written_by}
 use Rattle.span_convert.specs.Reports.{IsJudgedAs, IsVerdictAs, written_target}
 use Rattle.span_convert.specs.Targets.{open_target}
 use Rattle.span_convert.specs.Units.{input_form, input_limit, open_form}
-use Rattle.span_convert.specs.Verdicts.{Verdict, good, refused, faulted, IsJudgedOn}
-use Rattle.span_convert.specs.Walks.{WritesWhole}
+use Rattle.span_convert.specs.Verdicts.{Verdict, good, refused, faulted, IsJudgedOn, verdict_text}
+use Rattle.span_convert.specs.Walks.{Reaches, WritesWhole}
 use Rattle.span_convert.specs.declared.bad.Bad.{Bad}
 use Rattle.span_convert.specs.declared.bad.Bad.TheVariants as bads
 use Rattle.span_convert.specs.declared.converter.Walker.{Walker}
@@ -60,66 +61,66 @@ is_ended (states.Faulted found) = false
 is_ended states.Write = false
 is_ended states.OutOfMemory = false
 
--- it reads this form
-abbrev pub form_of : Walker → Form
-form_of c = form_in c.intake
+-- the stop that it answered, if one was, and whether the whole text was written
+abbrev pub stop_of : Walker → Option Stop
+stop_of c = stop_in c.state
 
--- its input is written so
-abbrev pub what_of : Walker → Written
-what_of c = written_by c.progress.pen
+abbrev pub has_ended : Walker → Bool
+has_ended c = is_ended c.state
 
--- it reads the one form, and writes the other or this report
-abbrev pub HasForms : Walker → Form → Written → Type 0
-HasForms c from what = (form_of c ≡ from) × (what_of c ≡ what)
+-- ---- what it was made for
 
--- the most bytes that its input may have
-abbrev pub limit_of : Walker → ℕ
-limit_of c = input_limit (form_of c) c.limits
+-- the form that it reads, what its input is written as, and its limits
+pub record Work : Type 0 where
+  pub from : Form
+  pub what : Written
+  pub limits : Limits
 
--- the verdict on these bytes, by the form, the target and the limits that it has
-abbrev pub IsVerdictBy : Walker → List ℕ → Verdict → Type 0
-IsVerdictBy c bytes verdict = IsVerdictAs (form_of c) (what_of c) c.limits bytes verdict
+abbrev pub work_of : Walker → Work
+work_of c = record { from = form_in c.intake; what = written_by c.progress.pen; limits = c.limits }
 
-abbrev pub IsJudgedBy : {T : Type 0} → Walker → List ℕ → Result T Stop → Type 0
-IsJudgedBy c bytes result = IsJudgedAs (form_of c) (what_of c) c.limits bytes result
+-- ---- what it was fed
 
--- the outlook on these bytes, by the same
-abbrev pub IsOutlookBy : Walker → List ℕ → Verdict → Type 0
-IsOutlookBy c bytes outlook = IsOutlookAs (form_of c) (what_of c) c.limits bytes outlook
-
--- there is an outlook on them, where one was carried out
-abbrev pub IsForeseenBy : {T : Type 0} → Walker → List ℕ → Result T Stop → Type 0
-IsForeseenBy c bytes result = IsJudgedOn (open_form (form_of c)) (open_target (written_target (what_of c))) c.limits bytes result
-
--- a front of what goes on from there was written, up to the text of the first units of these bytes
-abbrev pub WritesFrontBy : Walker → List ℕ → List ℕ → Outlet → Outlet → Type 0
-WritesFrontBy c bytes said before now = WritesFrontFrom (input_form (form_of c)) (written_target (what_of c)) c.limits bytes said before now
-
--- the rest of the whole text of these bytes was written, and its units are as long as the target can tell
-abbrev pub WritesWholeBy : Walker → List ℕ → Tally → List ℕ → Outlet → Outlet → Type 0
-WritesWholeBy c bytes counts said before now = WritesWhole (input_form (form_of c)) (written_target (what_of c)) c.limits bytes counts said before now
-
--- It answered no stop, isn't ended, and was fed these bytes. The text of the units that ended in them was written.
-pub record Fed (c : Walker) (bytes : List ℕ) : Type 0 where
+-- It answered no stop, isn't ended, and was fed these bytes. Nothing in them stops it, and this text of the units that ended in them was
+-- written.
+pub record Fed (c : Walker) (work : Work) (bytes said : List ℕ) : Type 0 where
   pub going : c.state ≡ states.Open
+  pub works : work_of c ≡ work
+  pub limits : AreLimits work.limits
   pub size : c.fed ≡ length bytes
-  pub within : length bytes ≤ limit_of c
-  pub limits : AreLimits c.limits
-  pub said : List ℕ
-  pub taken : Taken c.intake (what_of c) c.limits bytes said c.held c.progress
+  pub within : length bytes ≤ input_limit work.from work.limits
+  pub taken : Taken c.intake work.what work.limits bytes said c.held c.progress
+  pub tally : Tally
+  pub outlook : IsOutlookAs work.from work.what work.limits bytes (good said tally)
 
 -- the refusal or fault that is kept is that of the verdict
 abbrev pub KeepsWhy : Verdict → State → Type 0
-KeepsWhy (good text tally) (states.Refused refusal) = ⊥
-KeepsWhy (good text tally) (states.Faulted found) = ⊥
-KeepsWhy (refused why text) (states.Refused refusal) = refusal ≡ why
-KeepsWhy (refused why text) (states.Faulted found) = ⊥
-KeepsWhy (faulted why text) (states.Refused refusal) = ⊥
-KeepsWhy (faulted why text) (states.Faulted found) = found ≡ why
+KeepsWhy verdict (states.Refused refusal) = verdict ≡ refused refusal (verdict_text verdict)
+KeepsWhy verdict (states.Faulted found) = verdict ≡ faulted found (verdict_text verdict)
 KeepsWhy verdict states.Open = Unit {0}
 KeepsWhy verdict states.Ended = Unit {0}
 KeepsWhy verdict states.Write = Unit {0}
 KeepsWhy verdict states.OutOfMemory = Unit {0}
+
+-- What a call did that fed it these bytes, behind what was written of those before. There is an outlook on them, and it was carried out.
+-- Whatever is answered, a front of what goes on from there was written, up to the text of the first units.
+pub record Feeds (work : Work) (new : Walker) (said bytes : List ℕ) (result : Result (Unit {0}) Stop) (before now : Outlet) : Type 0 where
+  pub fed : OnOk result (Reaches (Fed new work bytes) said before now)
+  pub exists : IsJudgedOn (open_form work.from) (open_target (written_target work.what)) work.limits bytes result
+  pub outlook : (outlook : Verdict) → IsOutlookAs work.from work.what work.limits bytes outlook
+      → ReachesFrom said outlook result before now × KeepsWhy outlook new.state
+  pub front : WritesFrontFrom (input_form work.from) (written_target work.what) work.limits bytes said before now
+
+-- The same of the end of these bytes, and the verdict on them. What is whole is the text of units of which no part is longer than the target
+-- can tell.
+pub record Finishes (work : Work) (new : Walker) (said bytes : List ℕ) (result : Result Tally Stop) (before now : Outlet) : Type 0 where
+  pub judged : IsJudgedAs work.from work.what work.limits bytes result
+  pub verdict : (verdict : Verdict) → IsVerdictAs work.from work.what work.limits bytes verdict
+      → CarriesFrom said verdict result before now × KeepsWhy verdict new.state
+  pub front : WritesFrontFrom (input_form work.from) (written_target work.what) work.limits bytes said before now
+  pub whole : IfOk result (λ counts. WritesWhole (input_form work.from) (written_target work.what) work.limits bytes counts said before now)
+
+-- ---- stops
 
 -- a call on one that had stopped answers the same, and changes nothing
 abbrev pub SameStop : {T : Type 0} → Option Stop → Result T Stop → Type 0 → Type 0
@@ -127,9 +128,9 @@ SameStop None result Unchanged = Unit {0}
 SameStop (Some stop) result Unchanged = (result ≡ Err stop) × Unchanged
 
 -- the stop that a call answers is kept
-abbrev pub KeepsStop : {T : Type 0} → Result T Stop → State → Type 0
-KeepsStop (Ok x) state = Unit {0}
-KeepsStop (Err stop) state = stop_in state ≡ Some stop
+abbrev pub KeepsStop : {T : Type 0} → Result T Stop → Walker → Type 0
+KeepsStop (Ok x) c = Unit {0}
+KeepsStop (Err stop) c = stop_of c ≡ Some stop
 
 -- the stop and the state behind a walk that goes no further
 abbrev pub stop_at : WalkStop → Stop
@@ -154,7 +155,7 @@ bad_in states.Write = bads.OutOfMemory
 bad_in states.OutOfMemory = bads.OutOfMemory
 
 -- what is told is the refusal or fault that is kept
-abbrev pub IsWhy : Why → State → Type 0
-IsWhy whys.Nothing state = (refusal_in state ≡ None) × (fault_in state ≡ None)
-IsWhy (whys.Refusal kept) state = refusal_in state ≡ Some kept.now
-IsWhy (whys.Fault kept) state = fault_in state ≡ Some kept.now
+abbrev pub IsWhy : Why → Walker → Type 0
+IsWhy whys.Nothing c = (refusal_in c.state ≡ None) × (fault_in c.state ≡ None)
+IsWhy (whys.Refusal kept) c = refusal_in c.state ≡ Some kept.now
+IsWhy (whys.Fault kept) c = fault_in c.state ≡ Some kept.now

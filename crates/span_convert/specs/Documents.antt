@@ -1,7 +1,7 @@
 -- A form whose inputs are documents. A document is read whole, and its units are the groups that it is a text of.
 use Rattle.std.specs.Prelude.{◌≡◌, ℕ, ◌<◌, ◌≤◌, ◌⊎◌, Bool, true, if◌then◌else◌, List, [], ◌∷◌, ◌++◌, length}
 use Rattle.std.specs.List.{join_with_byte}
-use Rattle.span_io.specs.Paths.{Faults, RefusesInput}
+use Rattle.span_io.specs.Paths.{Offences, RefusesInput}
 use Rattle.span_io.specs.declared.cause.Cause.TheVariants as causes
 use Rattle.span_io.specs.declared.limits.Limits.{Limits}
 use Rattle.span_io.specs.declared.refusal.Refusal.{Refusal}
@@ -12,7 +12,7 @@ pub record DocumentForm : Type 1 where
   -- the bytes are a text of these groups, each with the remarks on it
   pub Reads : List ℕ → List NotedGroup → Type 0
   -- what offends in the bytes, by path
-  pub Offends : List ℕ → Faults
+  pub Offends : List ℕ → Offences
 
 -- ---- what an input is read as
 

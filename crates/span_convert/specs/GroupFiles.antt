@@ -3,7 +3,7 @@ use Rattle.std.specs.Prelude.{ℕ, List, codes, map}
 use Rattle.trace_model.specs.OtlpParts.{NotedGroup}
 use Rattle.otlp_json.specs.Canonical.{json_group_text}
 use Rattle.otlp_json.specs.Group.{RemarkedGroup}
-use Rattle.otlp_json.specs.Texts.{AreGroupsText, groups_document_faults}
+use Rattle.otlp_json.specs.Texts.{AreGroupsText, groups_document_offends}
 use Rattle.span_convert.specs.Documents.{DocumentForm, DocumentText}
 
 -- ---- which bytes are a text of a trace, however long they are
@@ -17,7 +17,7 @@ abbrev pub ReadsGroups : List ℕ → List NotedGroup → Type 0
 ReadsGroups bytes noted = AreGroupsText (map remarked_group noted) bytes
 
 abbrev pub group_document : DocumentForm
-group_document = record { Reads = ReadsGroups; Offends = groups_document_faults }
+group_document = record { Reads = ReadsGroups; Offends = groups_document_offends }
 
 -- ---- texts
 

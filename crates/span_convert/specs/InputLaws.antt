@@ -2,24 +2,24 @@
 use Rattle.std.specs.Prelude.{◌<◌, ◌^◌, [], length}
 use Rattle.span_io.specs.Framings.{OneFraming, OneStep}
 use Rattle.span_io.specs.Pieces.{PieceLaws}
-use Rattle.proto_wire.specs.Laws.{OneWireReading, ShortestRecord}
+use Rattle.proto_wire.specs.StatedLaws.{OneWireReading, ShortestRecord}
 use Rattle.proto_wire.specs.Wire.{records, RefusedBy}
-use Rattle.thrift_core.specs.Laws.{OneReading, OpenFronts, PartsReadBack}
+use Rattle.thrift_core.specs.StatedLaws.{OneReading, OpenFronts, PartsReadBack}
 use Rattle.thrift_core.specs.WrittenLaws.{WrittenStructs}
-use Rattle.trace_model.specs.Laws.{AttributesOnce, AttributesExist}
+use Rattle.trace_model.specs.StatedLaws.{AttributesOnce, AttributesExist}
 use Rattle.trace_model.specs.Proper.{IsProperGroup}
 use Rattle.trace_model.specs.Soundness.{IsSoundGroup}
 use Rattle.trace_model.specs.declared.trace.Group.{Group}
-use Rattle.otlp_json.specs.Laws.{OneJsonGroups, SomeJsonGroups, GroupsWrittenAgain, ReadsHeldGroups}
+use Rattle.otlp_json.specs.StatedLaws.{OneJsonGroups, SomeJsonGroups, GroupsWrittenAgain, ReadsHeldGroups}
 use Rattle.otlp_proto.specs.Group.{IsGroupText}
-use Rattle.otlp_proto.specs.Laws.{OneGroup}
+use Rattle.otlp_proto.specs.StatedLaws.{OneGroup}
 use Rattle.otlp_proto.specs.Texts.{group_text, group_record}
 use Rattle.jaeger_model.specs.FreeAtAnyDepth.{FreeAtAnyDepth}
-use Rattle.jaeger_model.specs.Laws.{OneBatch, OneTree, SomeBatch, FreeFields, ReadsTimes, ReadsProper}
+use Rattle.jaeger_model.specs.StatedLaws.{OneBatch, OneTree, SomeBatch, FreeFields, ReadsTimes, ReadsProper}
 use Rattle.jaeger_model.specs.WrittenAgain.{EqualBatchTexts, WrittenAgain}
-use Rattle.map_jaeger.specs.Laws.{BatchesReadBack, NormalForms, WrittenIsProper}
-use Rattle.map_zipkin.specs.Laws.{GroupsNoted, ReadIsHeld, ReadIsZipkinNormal, Regroupings, SpansReadBack, WrittenIsWritable, ZipkinNormalForms}
-use Rattle.zipkin_json.specs.Laws.{OneList, SomeList, SpansWrittenAgain, ReadsWritable}
+use Rattle.map_jaeger.specs.StatedLaws.{BatchesReadBack, NormalForms, WrittenIsProper}
+use Rattle.map_zipkin.specs.StatedLaws.{GroupsNoted, ReadIsHeld, ReadIsZipkinNormal, Regroupings, SpansReadBack, WrittenIsWritable, ZipkinNormalForms}
+use Rattle.zipkin_json.specs.StatedLaws.{OneList, SomeList, SpansWrittenAgain, ReadsWritable}
 use Rattle.span_convert.specs.BatchFiles.{ProtocolWords, binary, compact, batches, RefusedBatch}
 
 pub record RequestLaws : Type 0 where

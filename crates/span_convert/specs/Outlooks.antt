@@ -3,11 +3,12 @@
 -- units. A refusal is one that no more bytes take away, and a fault stands in a whole unit: these are the verdict on every input that
 -- begins so. Of a document nothing is known before its end, but that it is too long.
 use Rattle.std.specs.Prelude.{◌≡◌, ℕ, ◌+◌, List, ◌++◌, Result, Ok, Err}
-use Rattle.span_io.specs.Outside.{Outlet, Gains, GainsFront, FailsWithin}
+use Rattle.span_io.specs.Outside.{Outlet, Gains, GainsFront, FailsWithin, OutputFails, OutputHolds}
 use Rattle.span_io.specs.declared.cause.Cause.TheVariants as causes
 use Rattle.span_io.specs.declared.form.Form.{Form}
 use Rattle.span_io.specs.declared.form.Form.TheVariants as forms
 use Rattle.span_io.specs.declared.limits.Limits.{Limits}
+use Rattle.span_io.specs.declared.refusal.Refusal.{Refusal}
 use Rattle.span_convert.specs.Reports.{written_target}
 use Rattle.span_convert.specs.Targets.{Target, open_target}
 use Rattle.span_convert.specs.Units.{InputForm, open_form}
@@ -15,6 +16,7 @@ use Rattle.span_convert.specs.Verdicts.{Verdict, good, refused, faulted, IsGood,
 use Rattle.span_convert.specs.declared.stop.Stop.{Stop}
 use Rattle.span_convert.specs.declared.stop.Stop.TheVariants as stops
 use Rattle.span_convert.specs.declared.tally.Tally.{Tally}
+use Rattle.span_convert.specs.declared.target_fault.TargetFault.{TargetFault}
 use Rattle.span_convert.specs.declared.written.Written.{Written}
 
 -- the outlook on these bytes, of an input in this form whose units are written to the target
@@ -54,6 +56,13 @@ pub data EndsSo (from : InputForm) (to : Target) (limits : Limits) (bytes said :
   whole : (text : List ℕ) → IsGood from to limits bytes text tally → EndsSo from to limits bytes said tally
   cut : IsRefusal from to limits bytes said (record { unit = tally.units + 1; cause = causes.Truncated }) → EndsSo from to limits bytes said tally
 
+-- ---- what a call tells of a sink
+
+-- It failed where the call says so, and nowhere else.
+pub record SinkTold (Failed : Type 0) (before now : Outlet) : Type 0 where
+  pub fails : Failed → OutputFails before now
+  pub holds : ¬ Failed → OutputHolds before now
+
 -- ---- what a call writes that goes on with a text
 
 -- Of the text this is written already, and the sink gained what goes on from there.
@@ -80,22 +89,19 @@ pub record WritesFrontFrom (from : InputForm) (to : Target) (limits : Limits) (b
   pub so_far : IsTextSoFar from to limits bytes text
   pub gains : GainsFrontFrom said before now text
 
--- How the verdict was carried out where a call stopped, behind what is written already.
+-- How the verdict was carried out where a call stopped, behind what is written already: it is a refusal or a fault, and its text was
+-- written; or the sink failed within its text, or memory was wanted and a front of it was written.
 abbrev pub StopsFrom : List ℕ → Verdict → Stop → Outlet → Outlet → Type 0
-StopsFrom said (good text tally) stops.Refused before now = ⊥
-StopsFrom said (good text tally) stops.Faulted before now = ⊥
-StopsFrom said (refused refusal text) stops.Refused before now = GainsFrom said before now text
-StopsFrom said (refused refusal text) stops.Faulted before now = ⊥
-StopsFrom said (faulted found text) stops.Refused before now = ⊥
-StopsFrom said (faulted found text) stops.Faulted before now = GainsFrom said before now text
+StopsFrom said verdict stops.Refused before now =
+    ((why : Refusal) × (verdict ≡ refused why (verdict_text verdict))) × GainsFrom said before now (verdict_text verdict)
+StopsFrom said verdict stops.Faulted before now =
+    ((why : TargetFault) × (verdict ≡ faulted why (verdict_text verdict))) × GainsFrom said before now (verdict_text verdict)
 StopsFrom said verdict stops.Write before now = FailsFrom said before now (verdict_text verdict)
 StopsFrom said verdict stops.OutOfMemory before now = GainsFrontFrom said before now (verdict_text verdict)
 
--- how it was where a call went on, or came to the end
+-- how it was where a call went on, or came to the end: it is good, of so many units and spans
 abbrev pub EndsFrom : List ℕ → Verdict → Tally → Outlet → Outlet → Type 0
-EndsFrom said (good text tally) counts before now = (counts ≡ tally) × GainsFrom said before now text
-EndsFrom said (refused refusal text) counts before now = ⊥
-EndsFrom said (faulted found text) counts before now = ⊥
+EndsFrom said verdict counts before now = (verdict ≡ good (verdict_text verdict) counts) × GainsFrom said before now (verdict_text verdict)
 
 -- the end of an input carries out the verdict on it
 abbrev pub CarriesFrom : List ℕ → Verdict → Result Tally Stop → Outlet → Outlet → Type 0
@@ -104,7 +110,5 @@ CarriesFrom said verdict (Err stop) before now = StopsFrom said verdict stop bef
 
 -- a piece of it carries out the outlook
 abbrev pub ReachesFrom : List ℕ → Verdict → Result (Unit {0}) Stop → Outlet → Outlet → Type 0
-ReachesFrom said (good text tally) (Ok done) before now = GainsFrom said before now text
-ReachesFrom said (refused refusal text) (Ok done) before now = ⊥
-ReachesFrom said (faulted found text) (Ok done) before now = ⊥
+ReachesFrom said outlook (Ok done) before now = (tally : Tally) × EndsFrom said outlook tally before now
 ReachesFrom said outlook (Err stop) before now = StopsFrom said outlook stop before now

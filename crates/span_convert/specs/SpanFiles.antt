@@ -4,9 +4,9 @@ use Rattle.std.specs.List.{flat_map}
 use Rattle.trace_model.specs.OtlpParts.{NotedGroup}
 use Rattle.trace_model.specs.declared.trace.Group.{Group}
 use Rattle.zipkin_json.specs.Canonical.{zspan_text, spans_text}
-use Rattle.zipkin_json.specs.Span.{spans_faults}
+use Rattle.zipkin_json.specs.Span.{spans_offend}
 use Rattle.zipkin_json.specs.Texts.{AreSpansText}
-use Rattle.json_members.specs.Texts.{document_faults}
+use Rattle.json_members.specs.Texts.{document_offends}
 use Rattle.zipkin_json.specs.declared.span.ZSpan.{ZSpan}
 use Rattle.map_zipkin.specs.Normal.{zipkin_normal}
 use Rattle.map_zipkin.specs.NotedGroups.{noted_groups_of}
@@ -23,7 +23,7 @@ pub record ReadsSpans (bytes : List ℕ) (noted : List NotedGroup) : Type 0 wher
   pub means : noted ≡ noted_groups_of spans
 
 abbrev pub span_document : DocumentForm
-span_document = record { Reads = ReadsSpans; Offends = document_faults spans_faults }
+span_document = record { Reads = ReadsSpans; Offends = document_offends spans_offend }
 
 -- ---- texts
 

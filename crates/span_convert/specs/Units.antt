@@ -1,5 +1,5 @@
 -- What an input is read as, what the target can't hold of a group, and the texts of a trace, each by its form.
-use Rattle.std.specs.Prelude.{◌≡◌, ℕ, List, [], length, map, Some, None}
+use Rattle.std.specs.Prelude.{◌≡◌, ◌<◌, ◌^◌, ℕ, List, [], length, map, Some, None}
 use Rattle.span_io.specs.Offences.{Offence}
 use Rattle.span_io.specs.declared.form.Form.{Form}
 use Rattle.span_io.specs.declared.form.Form.TheVariants as forms
@@ -14,7 +14,8 @@ use Rattle.trace_model.specs.declared.trace.Group.{Group}
 use Rattle.otlp_json.specs.Canonical.{json_groups_text}
 use Rattle.otlp_json.specs.Held.{IsJsonFaultOf}
 use Rattle.otlp_proto.specs.Group.{group_rules}
-use Rattle.jaeger_model.specs.Laws.{BatchOffends}
+use Rattle.otlp_proto.specs.Texts.{group_record}
+use Rattle.jaeger_model.specs.StatedLaws.{BatchOffends}
 use Rattle.jaeger_model.specs.Writable.{IsWritable}
 use Rattle.map_jaeger.specs.Faults.{IsFaultOf}
 use Rattle.map_jaeger.specs.Normal.{normal}
@@ -120,9 +121,9 @@ CanHold forms.JaegerBinary group = IsFaultOf group None
 CanHold forms.JaegerCompact group = IsFaultOf group None
 CanHold forms.ZipkinJson group = IsZipkinFaultOf group None
 
--- No part of the group is longer than the form can tell. OTLP and JSON can tell each length.
+-- No part of the group is longer than the form can tell: in OTLP the record of a group has fewer than 2 ^ 63 bytes. JSON can tell each length.
 abbrev pub IsSizedGroup : Form → Group → Type 0
-IsSizedGroup forms.OtlpProto group = Unit {0}
+IsSizedGroup forms.OtlpProto group = length (group_record group) < 2 ^ 63
 IsSizedGroup forms.OtlpJson group = Unit {0}
 IsSizedGroup forms.JaegerBinary group = IsWritable (batch_of group)
 IsSizedGroup forms.JaegerCompact group = IsWritable (batch_of group)

@@ -2,7 +2,7 @@
 -- counts, or that has a fault of the target, or the rest behind them all. In one unit a cause goes before a fault. What was
 -- written is then the text of the units before. In an input that is read whole a cause goes before every fault.
 use Rattle.std.specs.Prelude.{◌≡◌, ℕ, ◌+◌, min, List, [], ◌∷◌, ◌++◌, length, All, Result, Ok, Err}
-use Rattle.span_io.specs.Outside.{Outlet, Gains, GainsFront, FailsWithin, last_count}
+use Rattle.span_io.specs.Outside.{Outlet, GainsFront, last_count}
 use Rattle.span_io.specs.declared.form.Form.{Form}
 use Rattle.span_io.specs.declared.limits.Limits.{Limits}
 use Rattle.span_io.specs.declared.refusal.Refusal.{Refusal}
@@ -103,9 +103,6 @@ IsJudgedOn from to limits bytes (Err stops.Faulted) = (verdict : Verdict) × IsV
 IsJudgedOn from to limits bytes (Err stops.Write) = Unit {0}
 IsJudgedOn from to limits bytes (Err stops.OutOfMemory) = Unit {0}
 
-abbrev pub IsJudged : {T : Type 0} → Form → Form → Limits → List ℕ → Result T Stop → Type 0
-IsJudged from to limits bytes result = IsJudgedOn (input_form from) (form_target to) limits bytes result
-
 -- the text so far of the first units of the input
 pub record IsPartial (from : InputForm) (to : Target) (limits : Limits) (bytes text : List ℕ) : Type 0 where
   pub noted : List NotedGroup
@@ -125,40 +122,9 @@ pub record WritesFrontOn (from : InputForm) (to : Target) (limits : Limits) (byt
   pub so_far : IsTextSoFar from to limits bytes text
   pub gains : GainsFront before now text
 
-abbrev pub WritesFront : Form → Form → Limits → List ℕ → Outlet → Outlet → Type 0
-WritesFront from to limits bytes before now = WritesFrontOn (input_form from) (form_target to) limits bytes before now
-
--- How the verdict was carried out where a call stopped: whole, or the sink failed within its text, or memory was wanted and a
--- front of it was written.
-abbrev pub Stops : Verdict → Stop → Outlet → Outlet → Type 0
-Stops (good text tally) stops.Refused before now = ⊥
-Stops (good text tally) stops.Faulted before now = ⊥
-Stops (refused refusal text) stops.Refused before now = Gains before now text
-Stops (refused refusal text) stops.Faulted before now = ⊥
-Stops (faulted found text) stops.Refused before now = ⊥
-Stops (faulted found text) stops.Faulted before now = Gains before now text
-Stops verdict stops.Write before now = FailsWithin before now (verdict_text verdict)
-Stops verdict stops.OutOfMemory before now = GainsFront before now (verdict_text verdict)
-
--- how it was where a call came to the end
-abbrev pub Ends : Verdict → Tally → Outlet → Outlet → Type 0
-Ends (good text tally) counts before now = (counts ≡ tally) × Gains before now text
-Ends (refused refusal text) counts before now = ⊥
-Ends (faulted found text) counts before now = ⊥
-
-abbrev pub Carries : Verdict → Result Tally Stop → Outlet → Outlet → Type 0
-Carries verdict (Ok counts) before now = Ends verdict counts before now
-Carries verdict (Err stop) before now = Stops verdict stop before now
-
--- the same of a call that answers the text
+-- a call that answers the text answers that of the verdict, or why there is none
 abbrev pub Answers : Verdict → Result (List ℕ) Bad → Type 0
-Answers (good text tally) (Ok out) = out ≡ text
-Answers (good text tally) (Err (bads.Refused refusal)) = ⊥
-Answers (good text tally) (Err (bads.Faulted found)) = ⊥
-Answers (refused why text) (Ok out) = ⊥
-Answers (refused why text) (Err (bads.Refused refusal)) = refusal ≡ why
-Answers (refused why text) (Err (bads.Faulted found)) = ⊥
-Answers (faulted why text) (Ok out) = ⊥
-Answers (faulted why text) (Err (bads.Refused refusal)) = ⊥
-Answers (faulted why text) (Err (bads.Faulted found)) = found ≡ why
+Answers verdict (Ok out) = (tally : Tally) × (verdict ≡ good out tally)
+Answers verdict (Err (bads.Refused refusal)) = verdict ≡ refused refusal (verdict_text verdict)
+Answers verdict (Err (bads.Faulted found)) = verdict ≡ faulted found (verdict_text verdict)
 Answers verdict (Err bads.OutOfMemory) = Unit {0}

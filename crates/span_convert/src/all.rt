@@ -1,5 +1,5 @@
 //! Conversion in one call.
-ghost use Rattle.std.specs.Prelude.{◌≡◌, ◌<◌, ◌^◌, ℕ, List, length, IfOk};
+ghost use Rattle.std.specs.Prelude.{◌≡◌, ℕ, List, IfOk};
 ghost use Rattle.span_io.specs.Limits.{AreLimits};
 ghost use Rattle.span_io.specs.declared.cause.Cause.TheVariants as causes;
 ghost use Rattle.span_io.specs.declared.form.Form.{Form};
@@ -18,13 +18,6 @@ use crate::laws::{
 use span_io::laws::proper_bytes;
 use span_io::{Blob, Form, Limits};
 use std::alloc::Global;
-
-// Bytes in memory are fewer than 2^63.
-fn bytes_known(bytes: &[u8])
-    ensures { length bytes.now < 2 ^ 63 }
-{
-    // The type keeps it.
-}
 
 /// Converts a whole input. The answer is its canonical text in the target form, or why it has none.
 /// That text has all spans of the input, and converts back where it fits as an input; no second trip,
@@ -72,10 +65,7 @@ pub fn convert_all(
     cut_batches();
     let mut out = GrowingSink::new(alloc);
     match convert_into(alloc, from, to, bytes, limits, &mut out) {
-        Ok(_) => {
-            bytes_known(out.text.as_slice());
-            Ok(out.text)
-        }
+        Ok(_) => Ok(out.text),
         Err(bad) => Err(bad),
     }
 }

@@ -3,7 +3,7 @@ ghost use Rattle.std.specs.Prelude.{◌≡◌, ◌++◌, Some, IfOk, OnOk};
 ghost use Rattle.jaeger_model.specs.Canonical.{batch_text};
 ghost use Rattle.jaeger_model.specs.Writable.{IsWritable};
 ghost use Rattle.map_jaeger.specs.Faults.{HasNoFault, IsFaultOf};
-ghost use Rattle.map_jaeger.specs.Laws.{IsHeld};
+ghost use Rattle.map_jaeger.specs.StatedLaws.{IsHeld};
 ghost use Rattle.map_jaeger.specs.Normal.{normal_group};
 ghost use Rattle.map_jaeger.specs.Writing.{batch_of};
 ghost use Rattle.span_io.specs.declared.form.Form.TheVariants as forms;
@@ -12,7 +12,7 @@ ghost use Rattle.span_convert.specs.Pens.{StandsForAny};
 ghost use Rattle.span_convert.specs.Walks.{IfWhy};
 ghost use Rattle.trace_model.specs.Soundness.{IsSoundGroup};
 
-use crate::batch_file::{BinaryBatches, CompactBatches};
+use crate::batch_file::{Batches, BinaryBatches, CompactBatches};
 use crate::laws::form_targets;
 use crate::tally::Tally;
 use crate::units::UnitWriter;
@@ -60,7 +60,7 @@ impl UnitWriter for BinaryBatches {
     }
 
     fn none() -> Self {
-        BinaryBatches
+        Batches::new()
     }
 
     fn write(
@@ -88,7 +88,7 @@ impl UnitWriter for CompactBatches {
     }
 
     fn none() -> Self {
-        CompactBatches
+        Batches::new()
     }
 
     fn write(

@@ -1,11 +1,9 @@
 //! Conversion and reports of an input that comes in pieces.
-ghost use Rattle.std.specs.Prelude.{◌≡◌, ◌≢◌, ◌+◌, ◌-◌, ◌++◌, [], ℕ, List, length, take, ◌≤◌, ◌<◌, ◌^◌, true, Err, None, IfOk, OnOk};
+ghost use Rattle.std.specs.Prelude.{◌≡◌, ◌≢◌, ◌+◌, ◌-◌, ◌++◌, [], ℕ, List, length, take, ◌≤◌, ◌<◌, true, Err, None, OnOk};
 ghost use Rattle.span_io.specs.Limits.{AreLimits};
-ghost use Rattle.span_io.specs.Outside.{OutputFails, OutputHolds};
 ghost use Rattle.span_convert.specs.Intakes.{form_in, scanning_in};
-ghost use Rattle.span_convert.specs.Outlooks.{CarriesFrom, IfDocument, ReachesFrom};
+ghost use Rattle.span_convert.specs.Outlooks.{IfDocument, SinkTold};
 ghost use Rattle.span_convert.specs.Units as told;
-ghost use Rattle.span_convert.specs.Verdicts.{Verdict, good, tally_of};
 ghost use Rattle.span_convert.specs.Walks.{Exceeds};
 ghost use Rattle.span_convert.specs.declared.converter.State.TheVariants as states;
 ghost use Rattle.span_convert.specs.declared.stop.Stop.TheVariants as stops;
@@ -129,15 +127,12 @@ pub type Converter = Walker;
 pub type Reporter = Walker;
 
 impl Walker {
-    ghost use Rattle.span_convert.specs.Converters.{HasForms, IsVerdictBy, IsJudgedBy, IsOutlookBy, IsForeseenBy, WritesFrontBy, WritesWholeBy, Fed, KeepsWhy, SameStop, KeepsStop, IsWhy, bad_in, form_of, what_of, stop_in, is_ended};
+    ghost use Rattle.span_convert.specs.Converters.{Fed, Feeds, Finishes, IsWhy, KeepsStop, SameStop, Work, bad_in, has_ended, stop_of, work_of};
 
     /// A converter or reporter that was fed nothing.
     pub fn new(alloc: Global, from: Form, what: Written, limits: &Limits) -> Walker
         requires limits { AreLimits limits.now }
-        ensures fed { Fed result [] }
-        ensures forms { HasForms result from what }
-        ensures limits { result.limits ≡ limits.now }
-        ensures outlook { IsOutlookBy result [] (good [] (tally_of 0 0)) }
+        ensures { Fed result (record { from = from; what = what; limits = limits.now }) [] [] }
     {
         let progress = Progress::new(alloc, what.pen());
         progress.target_laws();
@@ -154,36 +149,23 @@ impl Walker {
 
     /// Takes the next piece of the input.
     pub fn feed<K: Sink>(&mut self, piece: &[u8], out: &mut K) -> Result<(), Stop>
-        requires going { is_ended self.old.state ≢ true }
+        requires going { has_ended self.old ≢ true }
 
         // Behind a stop each call answers the same, and calls no sink.
-        ensures stopped { SameStop (stop_in self.old.state) result ((self.new ≡ self.old) × (out.new ≡ out.old)) }
-        ensures stays { KeepsStop result self.new.state }
-        ensures forms { HasForms self.new (form_of self.old) (what_of self.old) }
-        ensures limits { self.new.limits ≡ self.old.limits }
+        ensures stopped { SameStop (stop_of self.old) result ((self.new ≡ self.old) × (out.new ≡ out.old)) }
+        ensures stays { KeepsStop result self.new }
+        ensures same { work_of self.new ≡ work_of self.old }
 
         // Of the bytes so far there is an outlook, and it is carried out behind what was written.
-        ensures fed { (bytes : List ℕ) → Fed self.old bytes → OnOk result (Fed self.new (bytes ++ piece.now)) }
-        ensures exists { (bytes : List ℕ) → Fed self.old bytes → IsForeseenBy self.old (bytes ++ piece.now) result }
-        ensures outlook { (bytes : List ℕ) → Fed self.old bytes → (said : List ℕ) (tally : Tally)
-            → IsOutlookBy self.old bytes (good said tally)
-            → (outlook : Verdict) → IsOutlookBy self.old (bytes ++ piece.now) outlook
-            → ReachesFrom said outlook result (K.outlet out.old) (K.outlet out.new) × KeepsWhy outlook self.new.state }
+        ensures feeds { (work : Work) (bytes said : List ℕ) → Fed self.old work bytes said
+            → Feeds work self.new said (bytes ++ piece.now) result (K.outlet out.old) (K.outlet out.new) }
 
         // While a document is taken no sink is called.
-        ensures unwritten { IfDocument (form_of self.old) (out.new ≡ out.old) }
-
-        // Whatever is answered, a front of what goes on from there was written, up to the text of the first
-        // units.
-        ensures front { (bytes : List ℕ) → Fed self.old bytes → (said : List ℕ) (tally : Tally)
-            → IsOutlookBy self.old bytes (good said tally)
-            → WritesFrontBy self.old (bytes ++ piece.now) said (K.outlet out.old) (K.outlet out.new) }
+        ensures unwritten { IfDocument (work_of self.old).from (out.new ≡ out.old) }
 
         // The sink failed where its count rose, and only there. Behind a failed write comes no other, and none
         // is of nothing.
-        ensures fails { stop_in self.old.state ≡ None → result ≡ Err stops.Write
-            → OutputFails (K.outlet out.old) (K.outlet out.new) }
-        ensures holds { result ≢ Err stops.Write → OutputHolds (K.outlet out.old) (K.outlet out.new) }
+        ensures sink { SinkTold ((stop_of self.old ≡ None) × (result ≡ Err stops.Write)) (K.outlet out.old) (K.outlet out.new) }
     {
         one_outlook();
         self.progress.target_laws();
@@ -215,31 +197,17 @@ impl Walker {
 
     /// Ends the input: the rest of its text is written, and the answer says how much was converted.
     pub fn finish<K: Sink>(&mut self, out: &mut K) -> Result<Tally, Stop>
-        requires going { is_ended self.old.state ≢ true }
-        ensures stopped { SameStop (stop_in self.old.state) result ((self.new ≡ self.old) × (out.new ≡ out.old)) }
-        ensures stays { KeepsStop result self.new.state }
-        ensures forms { HasForms self.new (form_of self.old) (what_of self.old) }
-        ensures ended { OnOk result (self.new.state ≡ states.Ended) }
+        requires going { has_ended self.old ≢ true }
+        ensures stopped { SameStop (stop_of self.old) result ((self.new ≡ self.old) × (out.new ≡ out.old)) }
+        ensures stays { KeepsStop result self.new }
+        ensures same { work_of self.new ≡ work_of self.old }
+        ensures ended { OnOk result (has_ended self.new ≡ true) }
 
         // The verdict on all bytes is carried out behind what was written.
-        ensures judged { (bytes : List ℕ) → Fed self.old bytes → IsJudgedBy self.old bytes result }
-        ensures verdict { (bytes : List ℕ) → Fed self.old bytes → (said : List ℕ) (tally : Tally)
-            → IsOutlookBy self.old bytes (good said tally)
-            → (verdict : Verdict) → IsVerdictBy self.old bytes verdict
-            → CarriesFrom said verdict result (K.outlet out.old) (K.outlet out.new) × KeepsWhy verdict self.new.state }
-        ensures front { (bytes : List ℕ) → Fed self.old bytes → (said : List ℕ) (tally : Tally)
-            → IsOutlookBy self.old bytes (good said tally)
-            → WritesFrontBy self.old bytes said (K.outlet out.old) (K.outlet out.new) }
-
-        // What is whole is the text of units of which no part is longer than the target can tell.
-        ensures whole { (bytes : List ℕ) → Fed self.old bytes → (said : List ℕ) (tally : Tally)
-            → IsOutlookBy self.old bytes (good said tally)
-            → IfOk result (λ counts. WritesWholeBy self.old bytes counts said (K.outlet out.old) (K.outlet out.new)) }
-        ensures fails { stop_in self.old.state ≡ None → result ≡ Err stops.Write
-            → OutputFails (K.outlet out.old) (K.outlet out.new) }
-        ensures holds { result ≢ Err stops.Write → OutputHolds (K.outlet out.old) (K.outlet out.new) }
+        ensures finishes { (work : Work) (bytes said : List ℕ) → Fed self.old work bytes said
+            → Finishes work self.new said bytes result (K.outlet out.old) (K.outlet out.new) }
+        ensures sink { SinkTold ((stop_of self.old ≡ None) × (result ≡ Err stops.Write)) (K.outlet out.old) (K.outlet out.new) }
     {
-        one_outlook();
         one_verdict();
         if let Some(earlier) = self.state.stop() {
             return Err(earlier);
@@ -265,14 +233,14 @@ impl Walker {
 
     /// Whether the whole text was written.
     pub fn ended(&self) -> bool
-        ensures { result ≡ is_ended self.now.state }
+        ensures { result ≡ has_ended self.now }
     {
         matches!(self.state, State::Ended)
     }
 
     /// The refusal or fault, if one was answered.
     pub fn why(&self) -> Why<'_>
-        ensures { IsWhy result self.now.state }
+        ensures { IsWhy result self.now }
     {
         match &self.state {
             State::Refused(refusal) => Why::Refusal(refusal),

@@ -1,10 +1,11 @@
 //! The walk over a document, which is read whole. Its groups are its units.
 ghost use Rattle.std.specs.Prelude.{◌≡◌, ◌≢◌, ◌≤◌, ◌+◌, ◌<◌, ◌^◌, ◌++◌, ℕ, List, length, map, All, OnOk, IfOk, IfErr, Err};
-ghost use Rattle.span_io.specs.Outside.{Outlet, OutputFails, OutputHolds};
+ghost use Rattle.span_io.specs.Outside.{Outlet};
 ghost use Rattle.span_io.specs.declared.limits.Limits.{Limits};
 ghost use Rattle.trace_model.specs.Soundness.{IsSoundGroup};
 ghost use Rattle.map_zipkin.specs.NotedGroups.{noted_group};
 ghost use Rattle.span_convert.specs.Documents.{IsDocument};
+ghost use Rattle.span_convert.specs.Outlooks.{SinkTold};
 ghost use Rattle.span_convert.specs.Pens.{written_by};
 ghost use Rattle.span_convert.specs.Reports.{written_target};
 ghost use Rattle.span_convert.specs.Targets.{open_target};
@@ -76,8 +77,7 @@ fn write_groups<R: DocumentReader, K: Sink>(
     ensures walk { (what : Written) (limits : Limits) (bytes said : List ℕ)
         → DocumentTaken what limits bytes said bytes progress.old → IsDocument R.form limits bytes (map noted_group units)
         → EndsWalk (document_input R.form) (written_target what) limits bytes result said (K.outlet out.old) (K.outlet out.new) }
-    ensures fails { result ≡ Err WalkStop.Write → OutputFails (K.outlet out.old) (K.outlet out.new) }
-    ensures holds { result ≢ Err WalkStop.Write → OutputHolds (K.outlet out.old) (K.outlet out.new) }
+    ensures sink { SinkTold (result ≡ Err WalkStop.Write) (K.outlet out.old) (K.outlet out.new) }
 {
     gains_then();
     'units: for unit in units.into_vec() {
@@ -99,8 +99,7 @@ pub(crate) fn walk_document<R: DocumentReader, K: Sink>(
     ensures walk { (what : Written) (limits : Limits) (bytes said : List ℕ)
         → DocumentTaken what limits bytes said held.now progress.old
         → EndsWalk (document_input R.form) (written_target what) limits bytes result said (K.outlet out.old) (K.outlet out.new) }
-    ensures fails { result ≡ Err WalkStop.Write → OutputFails (K.outlet out.old) (K.outlet out.new) }
-    ensures holds { result ≢ Err WalkStop.Write → OutputHolds (K.outlet out.old) (K.outlet out.new) }
+    ensures sink { SinkTold (result ≡ Err WalkStop.Write) (K.outlet out.old) (K.outlet out.new) }
 {
     gains_then();
     let units = units_in::<R>(alloc, held)?;

@@ -7,7 +7,7 @@ ghost use Rattle.span_convert.specs.Verdicts.{Verdict, Answers, IsGood, IsVerdic
 
 use crate::bad::Bad;
 use crate::converter::Walker;
-use crate::laws::{one_outlook, one_verdict, outlook_lasts};
+use crate::laws::{one_verdict, outlook_lasts};
 use crate::tally::Tally;
 use crate::written::Written;
 use span_io::{Blob, Failed, Form, Limits, OutOfMemory, Sink};
@@ -74,7 +74,6 @@ pub(crate) fn convert_into(
         → Answers verdict (Err bad)) }
 {
     one_verdict();
-    one_outlook();
     outlook_lasts();
     let mut walker = Walker::new(alloc, from, Written::Form(to), limits);
     match walker.feed(bytes, out) {

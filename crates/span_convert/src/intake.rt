@@ -1,10 +1,10 @@
 //! What takes in an input, by its form.
-ghost use Rattle.std.specs.Prelude.{◌≡◌, ◌≢◌, ◌≤◌, ◌+◌, ◌<◌, ◌^◌, ◌++◌, [], ℕ, List, length, OnOk, IfErr, Err};
+ghost use Rattle.std.specs.Prelude.{◌≡◌, ◌≤◌, ◌+◌, ◌<◌, ◌^◌, ◌++◌, [], ℕ, List, length, OnOk, IfErr, Err};
 ghost use Rattle.span_io.specs.Limits.{AreLimits};
-ghost use Rattle.span_io.specs.Outside.{OutputFails, OutputHolds, last_count};
+ghost use Rattle.span_io.specs.Outside.{last_count};
 ghost use Rattle.span_io.specs.declared.limits.Limits.{Limits};
 ghost use Rattle.span_convert.specs.Intakes.{CanBeRead, Taken, form_in, scanning_in};
-ghost use Rattle.span_convert.specs.Outlooks.{IfDocument};
+ghost use Rattle.span_convert.specs.Outlooks.{IfDocument, SinkTold};
 ghost use Rattle.span_convert.specs.Pens.{written_by};
 ghost use Rattle.span_convert.specs.Reports.{written_target};
 ghost use Rattle.span_convert.specs.Targets.{open_target};
@@ -102,8 +102,7 @@ pub(crate) fn take_piece<K: Sink>(
         → IsLookedAt (input_limit (form_in intake.old) limits) bytes more piece.now too_long
         → StopsWalk (open_form (form_in intake.old)) (open_target (written_target what)) limits (bytes ++ more) stop said
         (K.outlet out.old) (K.outlet out.new)) }
-    ensures fails { result ≡ Err WalkStop.Write → OutputFails (K.outlet out.old) (K.outlet out.new) }
-    ensures holds { result ≢ Err WalkStop.Write → OutputHolds (K.outlet out.old) (K.outlet out.new) }
+    ensures sink { SinkTold (result ≡ Err WalkStop.Write) (K.outlet out.old) (K.outlet out.new) }
 {
     match intake {
         Intake::Request(scanner) => {
@@ -135,8 +134,7 @@ pub(crate) fn end_input<K: Sink>(
         → Taken intake.now what limits bytes said held.now progress.old
         → EndsWalk (input_form (form_in intake.now)) (written_target what) limits bytes result said
         (K.outlet out.old) (K.outlet out.new) }
-    ensures fails { result ≡ Err WalkStop.Write → OutputFails (K.outlet out.old) (K.outlet out.new) }
-    ensures holds { result ≢ Err WalkStop.Write → OutputHolds (K.outlet out.old) (K.outlet out.new) }
+    ensures sink { SinkTold (result ≡ Err WalkStop.Write) (K.outlet out.old) (K.outlet out.new) }
 {
     match intake {
         Intake::Request(_) => end_frames::<Request, K>(held, progress, out),

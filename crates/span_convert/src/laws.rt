@@ -7,7 +7,7 @@ ghost use Rattle.span_io.specs.declared.form.Form.{Form};
 ghost use Rattle.span_io.specs.declared.limits.Limits.{Limits};
 ghost use Rattle.trace_model.specs.OtlpParts.{NotedGroup};
 ghost use Rattle.trace_model.specs.declared.trace.Group.{Group};
-ghost use Rattle.span_convert.specs.Canonical.{ConvertsToItself, Reads, ReadsNoted, ReadsPlainly, ReadsBack, Fits, IsHeldBy, IsSized};
+ghost use Rattle.span_convert.specs.Canonical.{ConvertsToItself, Reads, ReadsNoted, ReadsPlainly, ReadsBack, Fits, IsHeldBy};
 ghost use Rattle.span_convert.specs.BatchFiles.{words};
 ghost use Rattle.span_convert.specs.CutBatches.{EndsInBatch, IfJaeger};
 ghost use Rattle.span_convert.specs.InputLaws.{BatchLaws, GroupFileLaws, InputLaws, SpanFileLaws, TextLaws, TreeLaws};
@@ -288,7 +288,7 @@ fn text_laws()
 
 /// The canonical text of a trace is a text of its normal form, without remarks.
 pub fn text_read_back()
-    ensures { (to : Form) (groups : List Group) → IsHeldBy to groups → IsSized to groups
+    ensures { (to : Form) (groups : List Group) → IsHeldBy to groups
         → ReadsPlainly to (canonical_text to groups) (normal_form to groups) }
 {
     text_laws();
@@ -316,7 +316,7 @@ pub fn normal_forms()
 
 /// Traces of equal normal forms, and only they, have equal texts.
 pub fn equal_texts()
-    ensures { (to : Form) (a b : List Group) → IsHeldBy to a → IsSized to a → IsHeldBy to b → IsSized to b
+    ensures { (to : Form) (a b : List Group) → IsHeldBy to a → IsHeldBy to b
         → (canonical_text to a ≡ canonical_text to b) ↔ (normal_form to a ≡ normal_form to b) }
 {
     text_read_back();
@@ -335,14 +335,14 @@ pub fn converts_to_itself()
 /// and is the text of no trace of another normal form; where it fits as an input of its form it
 /// converts to itself, and back to the input's form; that normal form keeps the spans of the trace.
 pub fn output_read_back()
-    ensures read { (from to : Form) (limits : Limits) (bytes text : List ℕ) (tally : Tally) → length text < 2 ^ 63
+    ensures read { (from to : Form) (limits : Limits) (bytes text : List ℕ) (tally : Tally)
         → (h : IsGood (input_form from) (form_target to) limits bytes text tally) → All (IsSizedGroup to) (groups_in h.noted)
         → ReadsPlainly to text (normal_form to (groups_in h.noted)) }
     ensures again { (from to : Form) (limits : Limits) (bytes text : List ℕ) (tally : Tally) → AreLimits limits
         → (h : IsGood (input_form from) (form_target to) limits bytes text tally) → All (IsSizedGroup to) (groups_in h.noted)
         → Fits to limits text → ConvertsToItself to limits text (groups_in h.noted) }
     ensures back { (from to : Form) (limits : Limits) (bytes text : List ℕ) (tally : Tally) → AreLimits limits
-        → length text < 2 ^ 63 → (h : IsGood (input_form from) (form_target to) limits bytes text tally)
+        → (h : IsGood (input_form from) (form_target to) limits bytes text tally)
         → All (IsSizedGroup to) (groups_in h.noted) → ReadsBack from to limits bytes text }
 {
     input_laws();

@@ -10,7 +10,7 @@ ghost use Rattle.span_convert.specs.Reports as told;
 ghost use Rattle.span_convert.specs.Units.{CanHold, FaultOf};
 ghost use Rattle.span_convert.specs.Pens.{HasLastRun, StandsForAny};
 
-use crate::batch_file::{BinaryBatches, CompactBatches};
+use crate::batch_file::{Batches, BinaryBatches, CompactBatches};
 use crate::group_file::GroupFile;
 use crate::request::Request;
 use map_zipkin::{Run, last_run};
@@ -88,7 +88,7 @@ impl Losing for BinaryBatches {
     ghost behind = { StandsForAny };
 
     fn start() -> Self {
-        BinaryBatches
+        Batches::new()
     }
 
     fn fault_of(alloc: Global, group: &Group) -> Result<Option<Fault>, OutOfMemory> {
@@ -106,7 +106,7 @@ impl Losing for CompactBatches {
     ghost behind = { StandsForAny };
 
     fn start() -> Self {
-        CompactBatches
+        Batches::new()
     }
 
     fn fault_of(alloc: Global, group: &Group) -> Result<Option<Fault>, OutOfMemory> {

@@ -1,10 +1,11 @@
 //! What a walk over the units of an input has written so far.
-ghost use Rattle.std.specs.Prelude.{◌≡◌, ◌≢◌, ℕ, ◌+◌, ◌<◌, ◌++◌, min, [], ◌∷◌, List, length, if◌then◌else◌, IfOk, IfErr, OnOk, OnErr, Err};
+ghost use Rattle.std.specs.Prelude.{◌≡◌, ℕ, ◌+◌, ◌<◌, ◌++◌, min, [], ◌∷◌, List, length, if◌then◌else◌, IfOk, IfErr, OnOk, OnErr, Err};
 ghost use Rattle.span_io.specs.Outside.{Outlet, Gains, OutputFails, OutputHolds, FailsWithin, last_count};
 ghost use Rattle.trace_model.specs.OtlpParts.{NotedGroup};
 ghost use Rattle.trace_model.specs.Soundness.{IsSoundGroup};
 ghost use Rattle.zipkin_json.specs.Canonical.{zspan_text};
 ghost use Rattle.map_zipkin.specs.NotedGroups.{noted_group};
+ghost use Rattle.span_convert.specs.Outlooks.{SinkTold};
 ghost use Rattle.span_convert.specs.Pens.{StartsAs, pen_target, written_by};
 ghost use Rattle.span_convert.specs.Reports.{written_target};
 ghost use Rattle.span_convert.specs.SpanFiles.{left_text};
@@ -90,8 +91,7 @@ impl Progress {
         ensures written { WritesOut result (WalkStop.Refused (record { unit = self.old.tally.units + 1; cause = cause }))
             self.old.unwritten (K.outlet out.old) (K.outlet out.new) }
         ensures pen { self.new.pen ≡ self.old.pen }
-        ensures fails { result ≡ WalkStop.Write → OutputFails (K.outlet out.old) (K.outlet out.new) }
-        ensures holds { result ≢ WalkStop.Write → OutputHolds (K.outlet out.old) (K.outlet out.new) }
+        ensures sink { SinkTold (result ≡ WalkStop.Write) (K.outlet out.old) (K.outlet out.new) }
     {
         let unit = self.next_unit();
         match self.flush(out) {
@@ -106,8 +106,7 @@ impl Progress {
         ensures written { WritesOut result (WalkStop.Faulted (record { unit = self.old.tally.units + 1; fault = fault }))
             self.old.unwritten (K.outlet out.old) (K.outlet out.new) }
         ensures pen { self.new.pen ≡ self.old.pen }
-        ensures fails { result ≡ WalkStop.Write → OutputFails (K.outlet out.old) (K.outlet out.new) }
-        ensures holds { result ≢ WalkStop.Write → OutputHolds (K.outlet out.old) (K.outlet out.new) }
+        ensures sink { SinkTold (result ≡ WalkStop.Write) (K.outlet out.old) (K.outlet out.new) }
     {
         let unit = self.next_unit();
         match self.flush(out) {
@@ -183,8 +182,7 @@ impl Progress {
         ensures stop { IfErr result (λ stop. (what : Written) (units : List NotedGroup) (said : List ℕ) (before : Outlet)
             → Converted what units said before (K.outlet out.old) self.old
             → StopsText (written_target what) units stop said before (K.outlet out.new)) }
-        ensures fails { result ≡ Err WalkStop.Write → OutputFails (K.outlet out.old) (K.outlet out.new) }
-        ensures holds { result ≢ Err WalkStop.Write → OutputHolds (K.outlet out.old) (K.outlet out.new) }
+        ensures sink { SinkTold (result ≡ Err WalkStop.Write) (K.outlet out.old) (K.outlet out.new) }
     {
         gains_then();
         self.pen.target_laws();

@@ -1,5 +1,5 @@
 //! The units of an OTLP request.
-ghost use Rattle.std.specs.Prelude.{◌≡◌};
+ghost use Rattle.std.specs.Prelude.{◌≡◌, ◌<◌, ◌^◌, length};
 ghost use Rattle.span_io.specs.declared.form.Form.TheVariants as forms;
 ghost use Rattle.proto_wire.specs.Records.{plain_record};
 ghost use Rattle.otlp_proto.specs.Rows.{bytes_in};
@@ -71,12 +71,21 @@ impl UnitWriter for Request {
         unit: (Group, Items<Remark>),
     ) -> Result<(), Halt<Fault>> {
         proper_group(&unit.0);
-        Ok(write_group(out, &unit.0)?)
+        write_group(out, &unit.0)?;
+        bytes_known(out.as_slice());
+        Ok(())
     }
 
     fn close(&self, _out: &mut Blob, _all: Tally) -> Result<(), OutOfMemory> {
         Ok(())
     }
+}
+
+// Bytes in memory are fewer than 2^63.
+fn bytes_known(bytes: &[u8])
+    ensures { length bytes.now < 2 ^ 63 }
+{
+    // The type keeps it.
 }
 
 // What a record holds, if it is of the field of units.

@@ -1,12 +1,13 @@
 //! The walk over the units of an input, which writes what a target has of each. Its bytes come in pieces, cut anywhere; of
 //! them it holds those of a frame that isn't whole yet.
-ghost use Rattle.std.specs.Prelude.{◌≡◌, ◌≢◌, ◌≤◌, ◌+◌, ◌<◌, ◌^◌, ◌++◌, ◌∷◌, [], ℕ, List, length, OnOk, OnErr, IfErr, Err};
+ghost use Rattle.std.specs.Prelude.{◌≡◌, ◌≤◌, ◌+◌, ◌<◌, ◌^◌, ◌++◌, ◌∷◌, [], ℕ, List, length, OnOk, OnErr, IfErr, Err};
 ghost use Rattle.span_io.specs.Limits.{AreLimits};
-ghost use Rattle.span_io.specs.Outside.{Outlet, OutputFails, OutputHolds, last_count};
+ghost use Rattle.span_io.specs.Outside.{Outlet, last_count};
 ghost use Rattle.span_io.specs.declared.limits.Limits.{Limits};
 ghost use Rattle.trace_model.specs.OtlpParts.{NotedGroup};
 ghost use Rattle.trace_model.specs.Soundness.{IsSoundGroup};
 ghost use Rattle.map_zipkin.specs.NotedGroups.{noted_group};
+ghost use Rattle.span_convert.specs.Outlooks.{SinkTold};
 ghost use Rattle.span_convert.specs.Pens.{written_by};
 ghost use Rattle.span_convert.specs.Reports.{written_target};
 ghost use Rattle.span_convert.specs.SpanFiles.{left_text};
@@ -38,8 +39,7 @@ fn write_full<K: Sink>(progress: &mut Progress, out: &mut K) -> Result<(), WalkS
         (before : Outlet) → Converted what (units ++ unit ∷ []) said before (K.outlet out.old) (with_text progress.old left)
         → StopsUnit (written_target what) units unit stop said before (K.outlet out.new)) }
     ensures units { OnOk result (progress.new.tally.units ≡ progress.old.tally.units) }
-    ensures fails { result ≡ Err WalkStop.Write → OutputFails (K.outlet out.old) (K.outlet out.new) }
-    ensures holds { result ≢ Err WalkStop.Write → OutputHolds (K.outlet out.old) (K.outlet out.new) }
+    ensures sink { SinkTold (result ≡ Err WalkStop.Write) (K.outlet out.old) (K.outlet out.new) }
 {
     gains_then();
     if progress.unwritten() < FULL {
@@ -67,8 +67,7 @@ fn write_spans<K: Sink>(
         → Converted what (units ++ unit ∷ []) said before (K.outlet out.old) (with_text progress.old (left_text left))
         → StopsUnit (written_target what) units unit stop said before (K.outlet out.new)) }
     ensures units { OnOk result (progress.new.tally.units ≡ progress.old.tally.units) }
-    ensures fails { result ≡ Err WalkStop.Write → OutputFails (K.outlet out.old) (K.outlet out.new) }
-    ensures holds { result ≢ Err WalkStop.Write → OutputHolds (K.outlet out.old) (K.outlet out.new) }
+    ensures sink { SinkTold (result ≡ Err WalkStop.Write) (K.outlet out.old) (K.outlet out.new) }
 {
     gains_then();
     let mut behind = left.behind;
@@ -100,8 +99,7 @@ pub(crate) fn convert_unit<K: Sink>(
         → Converted what units said before (K.outlet out.old) progress.old
         → StopsUnit (written_target what) units (noted_group unit) stop said before (K.outlet out.new)) }
     ensures units { OnOk result (progress.new.tally.units ≡ progress.old.tally.units + 1) }
-    ensures fails { result ≡ Err WalkStop.Write → OutputFails (K.outlet out.old) (K.outlet out.new) }
-    ensures holds { result ≢ Err WalkStop.Write → OutputHolds (K.outlet out.old) (K.outlet out.new) }
+    ensures sink { SinkTold (result ≡ Err WalkStop.Write) (K.outlet out.old) (K.outlet out.new) }
 {
     gains_then();
     match progress.add_unit(alloc, unit) {
@@ -134,8 +132,7 @@ fn convert_frame<R: UnitReader, K: Sink>(
         → WalkedUnits R.form what limits whole (frame.now ++ behind) said before (K.outlet out.old) progress.old
         → StopsWalk (open_frames R.form) (open_target (written_target what)) limits whole stop said before (K.outlet out.new)) }
     ensures units { OnOk result (progress.new.tally.units ≤ progress.old.tally.units + 1) }
-    ensures fails { result ≡ Err WalkStop.Write → OutputFails (K.outlet out.old) (K.outlet out.new) }
-    ensures holds { result ≢ Err WalkStop.Write → OutputHolds (K.outlet out.old) (K.outlet out.new) }
+    ensures sink { SinkTold (result ≡ Err WalkStop.Write) (K.outlet out.old) (K.outlet out.new) }
 {
     gains_then();
     R::held_by_frames();
@@ -171,8 +168,7 @@ fn take_frame<R: UnitReader, K: Sink>(
         → WalkedUnits R.form what limits whole ((held.old ++ last.now) ++ behind) said before (K.outlet out.old) progress.old
         → StopsWalk (open_frames R.form) (open_target (written_target what)) limits whole stop said before (K.outlet out.new)) }
     ensures units { OnOk result (progress.new.tally.units ≤ progress.old.tally.units + 1) }
-    ensures fails { result ≡ Err WalkStop.Write → OutputFails (K.outlet out.old) (K.outlet out.new) }
-    ensures holds { result ≢ Err WalkStop.Write → OutputHolds (K.outlet out.old) (K.outlet out.new) }
+    ensures sink { SinkTold (result ≡ Err WalkStop.Write) (K.outlet out.old) (K.outlet out.new) }
 {
     gains_then();
     if held.len() == 0 {
@@ -236,8 +232,7 @@ fn take_units<R: UnitReader, K: Sink>(
         → WalksOn R.form what limits whole said before (K.outlet out.old)
         (R.Scanner.scanning scanner.old) held.old piece.now progress.old
         → StopsWalk (open_frames R.form) (open_target (written_target what)) limits whole stop said before (K.outlet out.new)) }
-    ensures fails { result ≡ Err WalkStop.Write → OutputFails (K.outlet out.old) (K.outlet out.new) }
-    ensures holds { result ≢ Err WalkStop.Write → OutputHolds (K.outlet out.old) (K.outlet out.new) }
+    ensures sink { SinkTold (result ≡ Err WalkStop.Write) (K.outlet out.old) (K.outlet out.new) }
 {
     gains_then();
     R::held_by_frames();
@@ -284,8 +279,7 @@ pub(crate) fn take_frames<R: UnitReader, K: Sink>(
         → IsLookedAt limits.binary bytes more piece.now too_long
         → StopsWalk (open_frames R.form) (open_target (written_target what)) limits (bytes ++ more) stop said
         (K.outlet out.old) (K.outlet out.new)) }
-    ensures fails { result ≡ Err WalkStop.Write → OutputFails (K.outlet out.old) (K.outlet out.new) }
-    ensures holds { result ≢ Err WalkStop.Write → OutputHolds (K.outlet out.old) (K.outlet out.new) }
+    ensures sink { SinkTold (result ≡ Err WalkStop.Write) (K.outlet out.old) (K.outlet out.new) }
 {
     gains_then();
     R::held_by_frames();
@@ -310,8 +304,7 @@ pub(crate) fn end_frames<R: UnitReader, K: Sink>(
     ensures walk { (what : Written) (limits : Limits) (bytes said : List ℕ) (s : R.Scanner)
         → FramesTaken R.form what limits bytes said (R.Scanner.scanning s) held.now progress.old
         → EndsWalk (framed_input R.form) (written_target what) limits bytes result said (K.outlet out.old) (K.outlet out.new) }
-    ensures fails { result ≡ Err WalkStop.Write → OutputFails (K.outlet out.old) (K.outlet out.new) }
-    ensures holds { result ≢ Err WalkStop.Write → OutputHolds (K.outlet out.old) (K.outlet out.new) }
+    ensures sink { SinkTold (result ≡ Err WalkStop.Write) (K.outlet out.old) (K.outlet out.new) }
 {
     gains_then();
     if held.len() == 0 {

@@ -5,11 +5,11 @@ use Rattle.std.proofs.lemmas.Bool.Decides.{nat_tests}
 use Rattle.span_io.specs.declared.form.Form.{Form}
 use Rattle.span_io.specs.declared.limits.Limits.{Limits}
 use Rattle.span_io.specs.declared.refusal.Refusal.{Refusal}
-use Rattle.span_convert.specs.Verdicts.{Answers, IsVerdict, Verdict, good, refused, faulted}
+use Rattle.span_convert.specs.Verdicts.{Answers, IsVerdict, Verdict, good, refused, faulted, verdict_text}
 use Rattle.span_convert.specs.declared.bad.Bad.TheVariants as bads
 use Rattle.span_convert.specs.declared.target_fault.TargetFault.{TargetFault}
 use Rattle.http_conn.specs.Replies.{answer_text}
-use Rattle.span_gateway.specs.Answers.{AppendsFormAnswer, bare_answer, plain_text, type_of}
+use Rattle.span_gateway.specs.Answers.{AppendsFormAnswer, bare_answer, plain_text, type_of, verdict_answer}
 use Rattle.span_gateway.specs.NoteLines.{fault_line, refusal_line}
 
 is_above : (n l : ℕ) → n < l → nat_lt n l ≡ true
@@ -23,47 +23,29 @@ module _ (from to : Form) (limits : Limits) (body : List ℕ) (close : Bool) (ol
       → answer ≡ cond (nat_lt limits.reply (length text)) (bare_answer 413 close) (answer_text 200 (type_of to) text close)
   by_length b text e answer h = h ∙ ap (λ (t : Bool). cond t (bare_answer 413 close) (answer_text 200 (type_of to) text close)) e
 
+  -- the answer of a verdict that is another
+  told : (verdict : Verdict) → IsVerdict from to limits body verdict → (other : Verdict) → verdict ≡ other → (answer : List ℕ) → answer ≡ verdict_answer to limits close other → new ≡ old ++ answer
+      → AppendsFormAnswer from to limits body close old new
+  told verdict is other same answer answered grows =
+      record { verdict = verdict; is_verdict = is; grows = grows ∙ ap (λ l. old ++ l) (answered ∙ ap (λ (v : Verdict). verdict_answer to limits close v) (sym same)) }
+
   -- its text is longer than an answer may be
   pub appends_long : (verdict : Verdict) → IsVerdict from to limits body verdict → (out : List ℕ) → Answers verdict (Ok out) → limits.reply < length out
       → new ≡ old ++ bare_answer 413 close → AppendsFormAnswer from to limits body close old new
-  appends_long (good text tally) is out same long grows =
-      let longer : nat_lt limits.reply (length text) ≡ true = ap (λ l. nat_lt limits.reply (length l)) (sym same) ∙ is_above limits.reply (length out) long in
-      record {
-        verdict = good text tally;
-        is_verdict = is;
-        grows = grows ∙ ap (λ l. old ++ l) (by_length true text (sym longer) (bare_answer 413 close) refl);
-      }
-  appends_long (refused why text) is out same long grows = absurd same
-  appends_long (faulted why text) is out same long grows = absurd same
+  appends_long verdict is out (tally, same) long grows =
+      let longer = is_above limits.reply (length out) long in
+      told verdict is (good out tally) same (bare_answer 413 close) (by_length true out (sym longer) (bare_answer 413 close) refl) grows
 
   pub appends_text : (verdict : Verdict) → IsVerdict from to limits body verdict → (out : List ℕ) → Answers verdict (Ok out) → length out ≤ limits.reply
       → new ≡ old ++ answer_text 200 (type_of to) out close → AppendsFormAnswer from to limits body close old new
-  appends_text (good text tally) is out same short grows =
-      let shorter : nat_lt limits.reply (length text) ≡ false = ap (λ l. nat_lt limits.reply (length l)) (sym same) ∙ is_within limits.reply (length out) short in
-      record {
-        verdict = good text tally;
-        is_verdict = is;
-        grows = grows ∙ ap (λ l. old ++ l) (by_length false text (sym shorter) (answer_text 200 (type_of to) out close) (ap (λ l. answer_text 200 (type_of to) l close) same));
-      }
-  appends_text (refused why text) is out same short grows = absurd same
-  appends_text (faulted why text) is out same short grows = absurd same
+  appends_text verdict is out (tally, same) short grows =
+      let shorter = is_within limits.reply (length out) short in
+      told verdict is (good out tally) same (answer_text 200 (type_of to) out close) (by_length false out (sym shorter) (answer_text 200 (type_of to) out close) refl) grows
 
   pub appends_refusal : (verdict : Verdict) → IsVerdict from to limits body verdict → (refusal : Refusal) → Answers verdict (Err (bads.Refused refusal))
       → new ≡ old ++ answer_text 400 plain_text (refusal_line refusal) close → AppendsFormAnswer from to limits body close old new
-  appends_refusal (good text tally) is refusal same grows = absurd same
-  appends_refusal (refused why text) is refusal same grows = record {
-    verdict = refused why text;
-    is_verdict = is;
-    grows = grows ∙ ap (λ (r : Refusal). old ++ answer_text 400 plain_text (refusal_line r) close) same;
-  }
-  appends_refusal (faulted why text) is refusal same grows = absurd same
+  appends_refusal verdict is refusal same grows = told verdict is (refused refusal (verdict_text verdict)) same _ refl grows
 
   pub appends_fault : (verdict : Verdict) → IsVerdict from to limits body verdict → (found : TargetFault) → Answers verdict (Err (bads.Faulted found))
       → new ≡ old ++ answer_text 422 plain_text (fault_line found) close → AppendsFormAnswer from to limits body close old new
-  appends_fault (good text tally) is found same grows = absurd same
-  appends_fault (refused why text) is found same grows = absurd same
-  appends_fault (faulted why text) is found same grows = record {
-    verdict = faulted why text;
-    is_verdict = is;
-    grows = grows ∙ ap (λ (f : TargetFault). old ++ answer_text 422 plain_text (fault_line f) close) same;
-  }
+  appends_fault verdict is found same grows = told verdict is (faulted found (verdict_text verdict)) same _ refl grows

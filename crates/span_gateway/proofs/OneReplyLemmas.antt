@@ -5,7 +5,7 @@ use Rattle.span_io.specs.Limits.{AreLimits}
 use Rattle.span_io.specs.declared.form.Form.{Form}
 use Rattle.span_io.specs.declared.limits.Limits.{Limits}
 use Rattle.span_convert.specs.Verdicts.{Verdict, IsVerdict}
-use Rattle.http_conn.specs.Laws.{OneNextRequest, WholeRequests}
+use Rattle.http_conn.specs.StatedLaws.{OneNextRequest, WholeRequests}
 use Rattle.http_conn.specs.NextRequests.{IsNext}
 use Rattle.http_conn.specs.declared.next.Next.{Next}
 use Rattle.http_conn.specs.declared.next.Next.TheVariants.{Need, Whole, Refuse}

@@ -11,7 +11,7 @@ use Rattle.span_io.specs.declared.course.ReadCourse.{ReadCourse}
 use Rattle.span_io.specs.declared.course.ReadCourse.TheVariants as reads
 use Rattle.span_io.specs.declared.form.Form.{Form}
 use Rattle.span_io.specs.declared.limits.Limits.{Limits}
-use Rattle.http_conn.specs.Laws.{OneNextRequest, WholeRequests}
+use Rattle.http_conn.specs.StatedLaws.{OneNextRequest, WholeRequests}
 use Rattle.http_conn.specs.NextRequests.{IsNext}
 use Rattle.http_conn.specs.declared.next.Next.TheVariants.{Need}
 use Rattle.span_gateway.specs.Serving.{KeepsMark, Serves, Takes, WantsMemory, stream_of}

@@ -4,7 +4,7 @@ use Rattle.std.proofs.lemmas.Grind.{flat_map-append}
 use Rattle.std.proofs.lemmas.List.{append-nil, take-append-le, drop-append-le}
 use Rattle.span_io.specs.declared.form.Form.{Form}
 use Rattle.span_io.specs.declared.limits.Limits.{Limits}
-use Rattle.http_conn.specs.Laws.{OneNextRequest, WholeRequests}
+use Rattle.http_conn.specs.StatedLaws.{OneNextRequest, WholeRequests}
 use Rattle.http_conn.specs.NextRequests.{IsNext}
 use Rattle.http_conn.specs.declared.next.Next.TheVariants.{Need, Whole, Refuse}
 use Rattle.http_conn.specs.declared.next.Request.{Request}

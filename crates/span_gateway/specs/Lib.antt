@@ -1,5 +1,5 @@
 pub mod Answers
-pub mod Laws
+pub mod StatedLaws
 pub mod NoteLines
 pub mod Serving
 pub mod Steps

@@ -1,6 +1,6 @@
 //! Laws over all streams of connections. The functions do nothing but call for what they rest on: their contracts
 //! are the laws.
-ghost use Rattle.span_gateway.specs.Laws.{OneReply};
+ghost use Rattle.span_gateway.specs.StatedLaws.{OneReply};
 
 use http_conn::laws::{one_next_request, whole_requests};
 use span_convert::laws::one_verdict;

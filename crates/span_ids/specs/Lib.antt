@@ -1,5 +1,5 @@
 pub mod HexTexts
 pub mod Identifiers
-pub mod Laws
+pub mod StatedLaws
 pub mod Times
 pub mod Proper

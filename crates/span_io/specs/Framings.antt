@@ -6,8 +6,8 @@ use Rattle.span_io.specs.declared.step.Step.{Step}
 use Rattle.span_io.specs.declared.step.Step.TheVariants as steps
 use Rattle.span_io.specs.Frames.{Framing, BeginsFrame, NeedsMore, ItemsThen, IsFramed, GoesOn}
 use Rattle.span_io.specs.Steps.{NoFrame, StepIs}
-use Rattle.span_io.specs.Cuts.{two_cuts, some_length}
-use Rattle.span_io.specs.FramingLaws.{FramingLaws, one_step, some_step, item_first, first_item, needs_more}
+use Rattle.span_io.specs.laws.Cuts.{two_cuts, some_length}
+use Rattle.span_io.specs.laws.FramingLaws.{FramingLaws, one_step, some_step, item_first, first_item, needs_more}
 
 -- Bytes have one first step: a frame begins, no frame comes for one cause, or they need more. The empty bytes need more.
 pub record OneStep (F : Framing) (EndsIn : Cause → List ℕ → Type 0) : Type 0 where

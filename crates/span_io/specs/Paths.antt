@@ -9,42 +9,42 @@ use Rattle.span_io.specs.declared.halt.Halt.TheVariants as halts
 use Rattle.span_io.specs.declared.refusal.Refusal.{Refusal}
 
 -- what offends in a value: at this path, with this number
-abbrev pub Faults : Type 1
-Faults = List ℕ → ℕ → Type 0
+abbrev pub Offences : Type 1
+Offences = List ℕ → ℕ → Type 0
 
-abbrev pub nothing : Faults
+abbrev pub nothing : Offences
 nothing path number = ⊥
 
 -- the value itself offends with these numbers
-abbrev pub here : (ℕ → Type 0) → Faults
+abbrev pub here : (ℕ → Type 0) → Offences
 here Numbers [] number = Numbers number
 here Numbers (i ∷ path) number = ⊥
 
 -- a member or element, and then the others; what offends in the whole stands with the others
 infixr 5 ◌▹◌
-unfoldable pub ◌▹◌ : Faults → Faults → Faults
+unfoldable pub ◌▹◌ : Offences → Offences → Offences
 ◌▹◌ First Others [] number = Others [] number
 ◌▹◌ First Others (zero ∷ path) number = First path number
 ◌▹◌ First Others (suc i ∷ path) number = Others (i ∷ path) number
 
 module _ {A : Type 0} where
   -- Missing: a member that must be there
-  abbrev pub required : (A → Faults) → Option A → Faults
+  abbrev pub required : (A → Offences) → Option A → Offences
   required Offends None = here (λ number. number ≡ 8)
   required Offends (Some x) = Offends x
 
   -- a member that may be absent
-  abbrev pub optional : (A → Faults) → Option A → Faults
+  abbrev pub optional : (A → Offences) → Option A → Offences
   optional Offends None = nothing
   optional Offends (Some x) = Offends x
 
   -- the elements of a list
-  abbrev pub each : (A → Faults) → List A → Faults
+  abbrev pub each : (A → Offences) → List A → Offences
   each Offends [] = nothing
   each Offends (x ∷ more) = Offends x ▹ each Offends more
 
   -- BadShape: a value that must be of a kind
-  abbrev pub valued : (A → Faults) → Option A → Faults
+  abbrev pub valued : (A → Offences) → Option A → Offences
   valued Offends None = here (λ number. number ≡ 11)
   valued Offends (Some x) = Offends x
 
@@ -73,36 +73,36 @@ ComesBefore (i ∷ p) [] = ⊥
 ComesBefore (i ∷ p) (j ∷ q) = (i < j) ⊎ ((i ≡ j) × ComesBefore p q)
 
 -- of all offences the first by path, and at one path the least number
-pub record IsLeast (Offends : Faults) (path : List ℕ) (number : ℕ) : Type 0 where
+pub record IsLeast (Offends : Offences) (path : List ℕ) (number : ℕ) : Type 0 where
   pub offence : Offends path number
   pub least : (p : List ℕ) (n : ℕ) → Offends p n → ComesBefore path p ⊎ ((path ≡ p) × (number ≤ n))
 
 -- nothing offends
-pub record NothingOffends (Offends : Faults) : Type 0 where
+pub record NothingOffends (Offends : Offences) : Type 0 where
   pub none : (path : List ℕ) (number : ℕ) → ¬ Offends path number
 
 -- the value itself doesn't offend
-pub record Quiet (Offends : Faults) : Type 0 where
+pub record Quiet (Offends : Offences) : Type 0 where
   pub none : (number : ℕ) → ¬ Offends [] number
 
 -- ---- what a reader answers
 
 -- this is the number of the offence that counts
-pub record Counts (Offends : Faults) (number : ℕ) : Type 0 where
+pub record Counts (Offends : Offences) (number : ℕ) : Type 0 where
   pub path : List ℕ
   pub is_least : IsLeast Offends path number
 
-abbrev pub Halts : Halt Cause → Faults → Type 0
+abbrev pub Halts : Halt Cause → Offences → Type 0
 Halts (halts.Why cause) Offends = Counts Offends (cause_number cause)
 Halts halts.OutOfMemory Offends = Unit {0}
 
 -- Nothing offends where there is a value, and a cause is that of the offence that counts.
-abbrev pub JudgesValue : {T : Type 0} → Result T (Halt Cause) → Faults → Type 0
+abbrev pub JudgesValue : {T : Type 0} → Result T (Halt Cause) → Offences → Type 0
 JudgesValue (Ok x) Offends = NothingOffends Offends
 JudgesValue (Err halt) Offends = Halts halt Offends
 
 -- The same of a call that wants no memory, so a cause is all that it gives in place of a value.
-abbrev pub JudgesByCause : {T : Type 0} → Result T Cause → Faults → Type 0
+abbrev pub JudgesByCause : {T : Type 0} → Result T Cause → Offences → Type 0
 JudgesByCause (Ok x) Offends = NothingOffends Offends
 JudgesByCause (Err cause) Offends = Counts Offends (cause_number cause)
 
@@ -112,17 +112,17 @@ unit_of [] = 0
 unit_of (i ∷ path) = suc i
 
 -- a refusal has the number of the offence that counts, and of the element that it stands in
-pub record RefusesInput (Offends : Faults) (refusal : Refusal) : Type 0 where
+pub record RefusesInput (Offends : Offences) (refusal : Refusal) : Type 0 where
   pub path : List ℕ
   pub is_least : IsLeast Offends path (cause_number refusal.cause)
   pub unit : refusal.unit ≡ unit_of path
 
-abbrev pub HaltsInput : Halt Refusal → Faults → Type 0
+abbrev pub HaltsInput : Halt Refusal → Offences → Type 0
 HaltsInput (halts.Why refusal) Offends = RefusesInput Offends refusal
 HaltsInput halts.OutOfMemory Offends = Unit {0}
 
 -- The same of an input, which is a list of units.
-abbrev pub JudgesInput : {T : Type 0} → Result T (Halt Refusal) → Faults → Type 0
+abbrev pub JudgesInput : {T : Type 0} → Result T (Halt Refusal) → Offences → Type 0
 JudgesInput (Ok x) Offends = NothingOffends Offends
 JudgesInput (Err halt) Offends = HaltsInput halt Offends
 

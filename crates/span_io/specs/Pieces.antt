@@ -9,8 +9,8 @@ use Rattle.span_io.specs.declared.step.Step.{Step}
 use Rattle.span_io.specs.declared.step.Step.TheVariants as steps
 use Rattle.span_io.specs.Frames.{Framing, IsOpen, NeedsMore, DecidedBy, BeginsFrame, IsItemOf, IsTooLong, IsRefusedIn, ItemsThen}
 use Rattle.span_io.specs.Steps.{NoFrame, StepIs, behind, Waits}
-use Rattle.span_io.specs.Cuts.{two_cuts}
-use Rattle.span_io.specs.FramingLaws.{FramingLaws, open_front, exact, first_item, item_first, item_size}
+use Rattle.span_io.specs.laws.Cuts.{two_cuts}
+use Rattle.span_io.specs.laws.FramingLaws.{FramingLaws, open_front, exact, first_item, item_first, item_size}
 
 pub record PieceLaws (F : Framing) (EndsIn : Cause → List ℕ → Type 0) : Type 0 where
   -- an answer other than Need holds whatever follows

@@ -11,11 +11,11 @@ use Rattle.trace_model.specs.declared.fault.Fault.TheVariants.{EndBeforeStart, R
 use Rattle.trace_model.specs.declared.span.Event.{Event}
 use Rattle.trace_model.specs.declared.span.Span.{Span}
 use Rattle.trace_model.specs.declared.value.Value.{Value, Text, List', Map'}
-use Rattle.span_tags.specs.AttributeLaws.{keys_map}
-use Rattle.span_tags.specs.LeastRows.{any_none}
+use Rattle.span_tags.specs.laws.AttributeLaws.{keys_map}
+use Rattle.span_tags.specs.laws.LeastRows.{any_none}
 use Rattle.span_tags.specs.TagKeys.{service_key}
 use Rattle.span_tags.specs.TagWords.{Pairs}
-use Rattle.map_jaeger.specs.Columns.{flags_in}
+use Rattle.map_jaeger.specs.ColumnWords.{flags_in}
 use Rattle.map_jaeger.specs.Faults.{HasReserved, in_span, in_event, IsOwnParent, HasDoubleInside, HasDouble, HasDoubleAt, IsSpanFault, IsResourceFault}
 use Rattle.map_jaeger.specs.Keys.{flags_key}
 use Rattle.map_zipkin.specs.Faults.{HasDoubleIn, IsZipkinSpanFault}

@@ -13,8 +13,8 @@ use Rattle.trace_model.specs.declared.span.Span.{Span}
 use Rattle.trace_model.specs.declared.trace.Group.{Group}
 use Rattle.trace_model.specs.declared.trace.Scope.{Scope}
 use Rattle.trace_model.specs.declared.value.Value.{Value, Text, List', Map', Nothing}
-use Rattle.span_tags.specs.AttributeLaws.{all_attrs}
-use Rattle.span_tags.specs.RunLaws.{IsPlain, scoped_all, scoped_each, runs_each}
+use Rattle.span_tags.specs.laws.AttributeLaws.{all_attrs}
+use Rattle.span_tags.specs.laws.RunLaws.{IsPlain, scoped_all, scoped_each, runs_each}
 use Rattle.span_tags.specs.Runs.{Scoped, under, spans_of, scoped}
 use Rattle.span_tags.specs.TagKeys.{service_key}
 use Rattle.span_tags.specs.TagWords.{Pairs, row, text_given, without, text_or_none}
@@ -23,7 +23,7 @@ use Rattle.map_jaeger.specs.Normal.{normal_attributes, normal_event, normal_link
 use Rattle.map_jaeger.specs.TagValues.{normal_value, normal_attribute}
 use Rattle.map_jaeger.specs.Writing.{is_child_of}
 use Rattle.map_zipkin.specs.Keys.{peer_key}
-use Rattle.map_zipkin.specs.Laws.{IsPlainGroup, Regroupings}
+use Rattle.map_zipkin.specs.StatedLaws.{IsPlainGroup, Regroupings}
 use Rattle.map_zipkin.specs.Normal.{normal_pairs, zipkin_normal_event, zipkin_normal_span, normal_one, normal_spans, zipkin_normal}
 use Rattle.map_zipkin.specs.Regrouped.{RunSpan, run_of, runs_of, regrouped}
 use Rattle.map_zipkin.specs.Writing.{as_text, as_texts}

@@ -6,13 +6,13 @@ use Rattle.trace_model.specs.Soundness.{IsSoundSpan, IsSoundScope}
 use Rattle.trace_model.specs.declared.span.Span.{Span}
 use Rattle.trace_model.specs.declared.trace.Group.{Group}
 use Rattle.trace_model.specs.declared.trace.Scope.{Scope}
-use Rattle.span_tags.specs.RunLaws.{scoped_runs, scoped_all}
+use Rattle.span_tags.specs.laws.RunLaws.{scoped_runs, scoped_all}
 use Rattle.span_tags.specs.Runs.{Scoped, under, scoped}
 use Rattle.map_jaeger.specs.Faults.{IsResourceFault, IsSpanFault, HasNoFault}
-use Rattle.map_jaeger.specs.Laws.{IsHeld, NormalForms}
+use Rattle.map_jaeger.specs.StatedLaws.{IsHeld, NormalForms}
 use Rattle.map_jaeger.specs.Normal.{normal_scoped, normal_group, normal}
 use Rattle.map_zipkin.specs.Faults.{IsZipkinResourceFault, IsZipkinSpanFault, HasNoZipkinFault}
-use Rattle.map_zipkin.specs.Laws.{IsHeldByZipkin, Regroupings, ZipkinNormalForms}
+use Rattle.map_zipkin.specs.StatedLaws.{IsHeldByZipkin, Regroupings, ZipkinNormalForms}
 use Rattle.map_zipkin.specs.Normal.{zipkin_normal}
 use Rattle.map_zipkin.specs.Regrouped.{RunSpan, in_scope, run_of, runs_of, regrouped}
 use Rattle.span_moves.specs.Pairs.{FromJaegerToZipkin, FromZipkinToJaeger}

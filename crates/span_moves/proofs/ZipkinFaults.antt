@@ -10,14 +10,14 @@ use Rattle.trace_model.specs.declared.fault.Fault.TheVariants.{EndBeforeStart, R
 use Rattle.trace_model.specs.declared.span.Event.{Event}
 use Rattle.trace_model.specs.declared.span.Span.{Span}
 use Rattle.trace_model.specs.declared.value.Value.{Value, Text, Eight}
-use Rattle.span_tags.specs.AttributeLaws.{all_attrs, at_map, keys_map}
-use Rattle.span_tags.specs.LeastRows.{any_none}
+use Rattle.span_tags.specs.laws.AttributeLaws.{all_attrs, at_map, keys_map}
+use Rattle.span_tags.specs.laws.LeastRows.{any_none}
 use Rattle.span_tags.specs.TagKeys.{service_key}
 use Rattle.span_tags.specs.TagWords.{Pairs, row, without, text_given, text_or_none}
 use Rattle.map_jaeger.specs.Normal.{normal_attributes, normal_resource, normal_event, normal_span}
 use Rattle.map_jaeger.specs.TagValues.{normal_value, normal_attribute}
 use Rattle.map_zipkin.specs.Faults.{IsOutOfForm, HasOwnKey, IsToldWrong, HasDoubleIn, IsZipkinSpanFault, IsZipkinResourceFault}
-use Rattle.map_zipkin.specs.TagColumns.{is_true_text, is_address, is_port_text, own_forms}
+use Rattle.map_zipkin.specs.OwnColumns.{is_true_text, is_address, is_port_text, own_forms}
 use Rattle.span_moves.proofs.JaegerFaults.{floor_below}
 use Rattle.span_moves.proofs.Lists.{any_back, none_of}
 use Rattle.span_moves.proofs.NoFault.{blank, PlainResource, PlainSpan}

@@ -2,9 +2,9 @@
 -- other it becomes its normal form of that, which the first can hold, and of which a move back changes nothing.
 use Rattle.std.specs.Prelude.{◌≡◌, List, All}
 use Rattle.trace_model.specs.declared.trace.Group.{Group}
-use Rattle.map_jaeger.specs.Laws.{IsHeld}
+use Rattle.map_jaeger.specs.StatedLaws.{IsHeld}
 use Rattle.map_jaeger.specs.Normal.{normal}
-use Rattle.map_zipkin.specs.Laws.{IsHeldByZipkin}
+use Rattle.map_zipkin.specs.StatedLaws.{IsHeldByZipkin}
 use Rattle.map_zipkin.specs.Normal.{zipkin_normal}
 
 -- From Jaeger to Zipkin: where both can hold the groups, Jaeger can hold their normal form of Zipkin; and where the groups are

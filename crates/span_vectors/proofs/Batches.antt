@@ -16,14 +16,13 @@ use Rattle.trace_model.specs.declared.span.Code.TheVariants as statuses
 use Rattle.trace_model.specs.declared.span.Kind.{Kind}
 use Rattle.trace_model.specs.declared.span.Kind.TheVariants as kinds
 use Rattle.trace_model.specs.declared.value.Value.{Value, Text}
-use Rattle.span_tags.specs.AttributeLaws.{all_attrs}
+use Rattle.span_tags.specs.laws.AttributeLaws.{all_attrs}
 use Rattle.span_tags.specs.Runs.{scoped, under}
-use Rattle.span_tags.specs.TagKeys.{error_key, scope_name_key, code_key}
 use Rattle.span_tags.specs.TagWords.{Pairs, row, code_given}
-use Rattle.map_jaeger.specs.Columns.{Columns, rows}
-use Rattle.map_jaeger.specs.Keys.{description_key, kind_key}
+use Rattle.map_jaeger.specs.ColumnWords.{error_given, description_given, kind_given}
+use Rattle.map_jaeger.specs.Columns.{Columns, columns_of, rows}
 use Rattle.map_jaeger.specs.TagValues.{tag_value, tag_of}
-use Rattle.map_jaeger.specs.Writing.{error_given, description_given, kind_given, jaeger_span, batch_of}
+use Rattle.map_jaeger.specs.Writing.{jaeger_span, batch_of}
 use Rattle.span_vectors.specs.Gauge.{kind_numbered, code_numbered, gauge_attributes, gauge_span, gauge_spans, gauge_group, first_span, group_size}
 use Rattle.span_vectors.proofs.Faults.{all_scoped}
 use Rattle.span_vectors.proofs.Held.{alone, both, number_pair, text_pair}
@@ -106,36 +105,25 @@ attributes_fine i = record {
   each = both IsFine (number_pair i) text_pair (record { key = omega arith; value = tt }) (record { key = omega arith; value = omega arith });
 }
 
--- what a span of this kind and code has in the columns
-abbrev columns : Kind → Code → Columns
-columns kind code = record {
-  error = error_given code;
-  dropped_attributes = None;
-  dropped_events = None;
-  dropped_links = None;
-  library_name = None;
-  library_version = None;
-  scope_name = Some (Text (codes "gauge"));
-  scope_version = None;
-  code = code_given code;
-  description = description_given code [];
-  kind = kind_given kind;
-  state = None;
-}
+-- what a span has in the columns
+abbrev gauge_columns : ℕ → Columns
+gauge_columns i = columns_of (under (codes "gauge") [] (gauge_span i))
 
-rows_fine : (kind : Kind) (code : Code) → AreFine 5 (rows (columns kind code))
-rows_fine kind code =
-    together (row_fine error_key (error_given code) (omega arith) (error_held code))
-    (together no_pairs (together no_pairs (together no_pairs (together no_pairs (together no_pairs
-    (together (row_fine scope_name_key (Some (Text (codes "gauge"))) (omega arith) (omega arith))
-    (together no_pairs
-    (together (row_fine code_key (code_given code) (omega arith) (code_held code))
-    (together (row_fine description_key (description_given code []) (omega arith) (description_held code))
-    (together (row_fine kind_key (kind_given kind) (omega arith) (kind_held kind))
-    no_pairs))))))))))
+-- five of them hold something, at the most
+rows_fine : (i : ℕ) → AreFine 5 (rows (gauge_columns i))
+unfolding gauge_span
+rows_fine i =
+    let code = code_numbered (i % 3) in
+    let kind = kind_numbered (1 + i % 5) in
+    together (row_fine (codes "error") (error_given code) (omega arith) (error_held code))
+    (together (row_fine (codes "otel.scope.name") (Some (Text (codes "gauge"))) (omega arith) (omega arith))
+    (together (row_fine (codes "otel.status_code") (code_given code) (omega arith) (code_held code))
+    (together (row_fine (codes "otel.status_description") (description_given code []) (omega arith) (description_held code))
+    (together (row_fine (codes "span.kind") (kind_given kind) (omega arith) (kind_held kind))
+    no_pairs))))
 
-span_tags_fine : (kind : Kind) (code : Code) (i : ℕ) → AreWritable IsWritableTag (map tag_of (attrs (rows (columns kind code) ++ gauge_attributes i)))
-span_tags_fine kind code i = tags_fine 7 (rows (columns kind code) ++ gauge_attributes i) (omega arith) (together (rows_fine kind code) (attributes_fine i))
+span_tags_fine : (i : ℕ) → AreWritable IsWritableTag (map tag_of (attrs (rows (gauge_columns i) ++ gauge_attributes i)))
+span_tags_fine i = tags_fine 7 (rows (gauge_columns i) ++ gauge_attributes i) (omega arith) (together (rows_fine i) (attributes_fine i))
 
 -- ---- spans, and the batch
 
@@ -147,7 +135,7 @@ span_fine i = record {
   start = omega arith;
   end = omega arith;
   ordered = omega arith;
-  tags = span_tags_fine (kind_numbered (1 + i % 5)) (code_numbered (i % 3)) i;
+  tags = span_tags_fine i;
   logs = record { sized = omega arith; each = All-nil IsWritableLog };
 }
 

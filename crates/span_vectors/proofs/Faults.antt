@@ -14,14 +14,15 @@ use Rattle.trace_model.specs.declared.span.Span.{Span}
 use Rattle.trace_model.specs.declared.trace.Scope.{Scope}
 use Rattle.trace_model.specs.declared.value.Value.{Value}
 use Rattle.span_tags.specs.PlacedFaults.{Placed, IsFaultBy, in_resource, in_span, CountsBy}
-use Rattle.span_tags.specs.RunLaws.{scoped_all}
+use Rattle.span_tags.specs.laws.RunLaws.{scoped_all}
 use Rattle.span_tags.specs.Runs.{Scoped, scoped, spans_of, under}
 use Rattle.otlp_json.specs.Doubles.{double_in_span, double_in_group}
 use Rattle.map_jaeger.specs.Faults as jaeger
-use Rattle.map_jaeger.specs.Keys.{is_reserved, flags_key}
+use Rattle.map_jaeger.specs.Columns.{is_reserved}
+use Rattle.map_jaeger.specs.Keys.{flags_key}
 use Rattle.map_zipkin.specs.Faults as zipkin
 use Rattle.map_zipkin.specs.Keys.{is_zipkin_reserved}
-use Rattle.map_zipkin.specs.TagColumns.{own_forms}
+use Rattle.map_zipkin.specs.OwnColumns.{own_forms}
 use Rattle.span_vectors.specs.Gauge.{gauge_attributes, gauge_resource, gauge_span, gauge_spans, gauge_scope, gauge_group, first_span, group_size}
 use Rattle.span_vectors.proofs.Held.{alone, both, number_pair, text_pair, service_pair}
 use Rattle.span_vectors.proofs.Spans.{all_spans}

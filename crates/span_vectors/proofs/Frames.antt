@@ -6,7 +6,7 @@ use Rattle.std.proofs.lemmas.List.Elements.{All-head, All-tail}
 use Rattle.std.proofs.lemmas.List.FromFn.{map-range_with_len_more, length-map-range_with_len}
 use Rattle.std.proofs.lemmas.Grind.{flat_map-append}
 use Rattle.span_io.specs.Frames.{ItemsThen}
-use Rattle.proto_wire.specs.Laws.{ShortestRecord}
+use Rattle.proto_wire.specs.StatedLaws.{ShortestRecord}
 use Rattle.proto_wire.specs.Records.{Record, bytes}
 use Rattle.proto_wire.specs.Wire.{SpellsRecord, records}
 use Rattle.trace_model.specs.declared.trace.Group.{Group}

@@ -1,29 +1,31 @@
 -- The verdict on the request of a gauge: each form holds the gauge, so it is good.
 use Rattle.std.proofs.Common.{◌≡◌, ◌↔◌, ℕ, ◌<◌, ◌≤◌, ◌^◌, List, [], ◌∷◌, length, map, All, sym, ap, ◌∙◌, subst, arith}
+use Rattle.std.proofs.lemmas.List.{length-append}
 use Rattle.std.proofs.lemmas.List.Elements.{All-nil, All-cons, All-head, All-tail}
 use Rattle.span_io.specs.Limits.{AreLimits, shipped_limits}
 use Rattle.span_io.specs.declared.form.Form.{Form}
 use Rattle.span_io.specs.declared.form.Form.TheVariants as forms
 use Rattle.span_io.specs.declared.limits.Limits.{Limits}
-use Rattle.proto_wire.specs.Laws.{ShortestRecord}
+use Rattle.proto_wire.specs.StatedLaws.{ShortestRecord}
 use Rattle.trace_model.specs.OtlpParts.{NotedGroup}
 use Rattle.trace_model.specs.Proper.{IsProperGroup}
 use Rattle.trace_model.specs.Soundness.{IsSoundTrace}
 use Rattle.trace_model.specs.declared.trace.Group.{Group}
 use Rattle.otlp_proto.specs.Texts.{group_record}
-use Rattle.span_convert.specs.Canonical.{ConvertsToItself, Fits, IsHeldBy, IsSized}
+use Rattle.span_convert.specs.Canonical.{ConvertsToItself, Fits, IsHeldBy}
 use Rattle.span_convert.specs.Requests.{request_text}
 use Rattle.span_convert.specs.Targets.{form_target}
 use Rattle.span_convert.specs.Units.{groups_in, input_form, CanHold, IsSizedGroup, normal_form, canonical_text, span_count}
 use Rattle.span_convert.specs.Verdicts.{IsFaultless, IsGood, tally_of}
 use Rattle.span_vectors.specs.Gauge.{gauge, gauge_group, group_count}
-use Rattle.span_vectors.specs.Laws.{GaugeIsConverted}
+use Rattle.span_vectors.specs.StatedLaws.{GaugeIsConverted}
 use Rattle.span_vectors.proofs.Batches.{batch_fine}
 use Rattle.span_vectors.proofs.Faults.{no_double, jaeger_fine, zipkin_fine}
 use Rattle.span_vectors.proofs.Frames.{groups_size, gauge_frames}
 use Rattle.span_vectors.proofs.Held.{gauge_sound, gauge_proper}
 use Rattle.span_vectors.proofs.Numbers.{spans_counted, groups_counted}
 use Rattle.span_vectors.proofs.Spans.{all_groups}
+use Rattle.span_vectors.proofs.TextSizes.{record_size}
 
 -- ---- each form holds the gauge
 
@@ -35,7 +37,7 @@ fine forms.JaegerCompact spans group = jaeger_fine spans group
 fine forms.ZipkinJson spans group = zipkin_fine spans group
 
 sized : (to : Form) (spans group : ℕ) → IsSizedGroup to (gauge_group spans group)
-sized forms.OtlpProto spans group = tt
+sized forms.OtlpProto spans group = omega (arith, (record_size spans group).within)
 sized forms.OtlpJson spans group = tt
 sized forms.JaegerBinary spans group = batch_fine spans group
 sized forms.JaegerCompact spans group = batch_fine spans group
@@ -50,9 +52,16 @@ held to spans few = record {
   sized = all_groups (IsSizedGroup to) spans (λ group has. sized to spans group);
 }
 
--- OTLP holds each sound trace
-held_by_otlp : (groups : List Group) → IsSoundTrace groups → All IsProperGroup groups → IsHeldBy forms.OtlpProto groups
-held_by_otlp groups sound proper = record { can_hold = record { sound = sound; proper = proper; no_fault = λ k d lt. tt }; sized = λ k d lt. tt }
+-- no record is longer than the whole text
+each_short : (groups : List Group) → length (request_text groups) < 2 ^ 63 → All (IsSizedGroup forms.OtlpProto) groups
+each_short [] short = All-nil (IsSizedGroup forms.OtlpProto)
+each_short (g ∷ groups) short =
+    let whole = length-append (group_record g) (request_text groups) in
+    All-cons (IsSizedGroup forms.OtlpProto) g groups (omega (arith, short, whole)) (each_short groups (omega (arith, short, whole)))
+
+-- OTLP holds each sound trace whose text isn't too long
+held_by_otlp : (groups : List Group) → IsSoundTrace groups → All IsProperGroup groups → length (request_text groups) < 2 ^ 63 → IsHeldBy forms.OtlpProto groups
+held_by_otlp groups sound proper short = record { can_hold = record { sound = sound; proper = proper; no_fault = λ k d lt. tt }; sized = each_short groups short }
 
 all_units : (P : Group → Type 0) (units : List NotedGroup) → All P (groups_in units) → All (λ (unit : NotedGroup). P unit.means) units
 all_units P [] h = All-nil (λ (unit : NotedGroup). P unit.means)
@@ -77,7 +86,7 @@ request_within spans few = omega (arith, (groups_size spans (group_count spans))
 module _ (shortest : ShortestRecord)
     (itself : (to : Form) (limits : Limits) (groups : List Group) → AreLimits limits → IsHeldBy to groups
     → Fits to limits (canonical_text to groups) → ConvertsToItself to limits (canonical_text to groups) groups)
-    (equal : (to : Form) (a b : List Group) → IsHeldBy to a → IsSized to a → IsHeldBy to b → IsSized to b
+    (equal : (to : Form) (a b : List Group) → IsHeldBy to a → IsHeldBy to b
     → (canonical_text to a ≡ canonical_text to b) ↔ (normal_form to a ≡ normal_form to b))
     (spans : ℕ) (few : spans ≤ 1000000) where
   fits : Fits forms.OtlpProto shipped_limits (request_text (gauge spans))
@@ -91,8 +100,8 @@ module _ (shortest : ShortestRecord)
   same =
       let short : length (request_text (gauge spans)) < 2 ^ 63 = omega (arith, request_within spans few) in
       (equal forms.OtlpProto (groups_in again.noted) (gauge spans)
-      (held_by_otlp (groups_in again.noted) again.held.sound again.held.proper) (subst (λ (l : List ℕ). length l < 2 ^ 63) again.is_text short)
-      (held forms.OtlpProto spans (omega (arith, few))) short).0 (sym again.is_text)
+      (held_by_otlp (groups_in again.noted) again.held.sound again.held.proper (subst (λ (l : List ℕ). length l < 2 ^ 63) again.is_text short))
+      (held forms.OtlpProto spans (omega (arith, few)))).0 (sym again.is_text)
 
   tally : tally_of (group_count spans) spans ≡ tally_of (length (gauge spans)) (span_count (gauge spans))
   tally = ap (λ (n : ℕ). tally_of n spans) (sym (groups_counted spans)) ∙ ap (λ (n : ℕ). tally_of (length (gauge spans)) n) (sym (spans_counted spans))

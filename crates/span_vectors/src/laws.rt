@@ -3,7 +3,7 @@ ghost use Rattle.std.specs.Prelude.{◌≡◌, ◌+◌, ◌%◌, ◌≤◌, ◌<
 ghost use Rattle.span_io.specs.declared.form.Form.{Form};
 ghost use Rattle.span_convert.specs.Canonical.{IsHeldBy};
 ghost use Rattle.span_vectors.specs.Gauge.{gauge, gauge_span, gauge_spans};
-ghost use Rattle.span_vectors.specs.Laws.{GaugeIsConverted};
+ghost use Rattle.span_vectors.specs.StatedLaws.{GaugeIsConverted};
 ghost use Rattle.trace_model.specs.Flat.{flat};
 ghost use Rattle.trace_model.specs.OtlpParts.{kind_number, code_number};
 

@@ -1,7 +1,7 @@
 //! How many bytes the gauge has in each form.
 ghost use Rattle.std.specs.Prelude.{◌≡◌, ◌≤◌, ◌<◌, ◌+◌, length, IfOk, OnOk};
 ghost use Rattle.span_io.specs.Outside.{last_count};
-ghost use Rattle.span_convert.specs.Converters.{form_of, what_of, HasForms};
+ghost use Rattle.span_convert.specs.Converters.{work_of};
 ghost use Rattle.span_convert.specs.Units.{canonical_text};
 ghost use Rattle.span_convert.specs.declared.stop.Stop.TheVariants as stops;
 ghost use Rattle.span_vectors.specs.Feeds.{FeedsGroups};
@@ -37,7 +37,7 @@ fn feed_group(
     requires group { before < group_count spans }
     requires feeds { FeedsGroups walker.old spans before sink.old }
     ensures feeds { OnOk result (FeedsGroups walker.new spans (before + 1) sink.new) }
-    ensures forms { HasForms walker.new (form_of walker.old) (what_of walker.old) }
+    ensures same { work_of walker.new ≡ work_of walker.old }
 {
     gains_then();
     one_verdict();
@@ -61,7 +61,7 @@ fn feed_groups(
     requires most { spans ≤ 1000000 }
     requires fresh { sink.old ≡ 0 }
     ensures feeds { IfOk result (λ walker. FeedsGroups walker spans (group_count spans) sink.new) }
-    ensures what { IfOk result (λ walker. what_of walker ≡ Written.Form to) }
+    ensures what { IfOk result (λ walker. (work_of walker).what ≡ Written.Form to) }
 {
     gains_then();
     let what = Written::Form(to);

@@ -1,8 +1,4 @@
-pub mod TypeCodes
-pub mod Spelling
 pub mod Reading
-pub mod JudgedBytes
-pub mod JudgedHeads
-pub mod Laws
-pub mod Unfinished
-pub mod ProperWords
+pub mod Spelling
+pub mod TypeCodes
+pub mod laws

@@ -1,8 +1,8 @@
 ghost use Rattle.thrift_binary.specs.Spelling as spelling;
 ghost use Rattle.thrift_binary.specs.Reading as reading;
-ghost use Rattle.thrift_binary.specs.Laws as binary_laws;
-ghost use Rattle.thrift_binary.specs.Unfinished as unfinished;
-ghost use Rattle.thrift_binary.specs.ProperWords as proper_words;
+ghost use Rattle.thrift_binary.specs.laws.ProtocolLaws as binary_laws;
+ghost use Rattle.thrift_binary.specs.laws.Unfinished as unfinished;
+ghost use Rattle.thrift_binary.specs.laws.ProperWords as proper_words;
 ghost use Rattle.thrift_core.specs.Values.{finds_own};
 
 use crate::reading::{

@@ -1,13 +1,4 @@
-pub mod TypeCodes
-pub mod Spelling
 pub mod Reading
-pub mod JudgedVarints
-pub mod JudgedNumbers
-pub mod JudgedSizes
-pub mod JudgedLists
-pub mod JudgedMaps
-pub mod JudgedFields
-pub mod ReadsExactly
-pub mod Unfinished
-pub mod Laws
-pub mod ProperWords
+pub mod Spelling
+pub mod TypeCodes
+pub mod laws

@@ -1,9 +1,9 @@
 ghost use Rattle.thrift_compact.specs.Spelling as spelling;
 ghost use Rattle.thrift_compact.specs.Reading as reading;
-ghost use Rattle.thrift_compact.specs.Laws as compact_laws;
-ghost use Rattle.thrift_compact.specs.ReadsExactly as exactly;
-ghost use Rattle.thrift_compact.specs.Unfinished as unfinished;
-ghost use Rattle.thrift_compact.specs.ProperWords as proper_words;
+ghost use Rattle.thrift_compact.specs.laws.ProtocolLaws as compact_laws;
+ghost use Rattle.thrift_compact.specs.laws.ReadsExactly as exactly;
+ghost use Rattle.thrift_compact.specs.laws.Unfinished as unfinished;
+ghost use Rattle.thrift_compact.specs.laws.ProperWords as proper_words;
 ghost use Rattle.thrift_core.specs.Values.{finds_own};
 
 use crate::reading::{

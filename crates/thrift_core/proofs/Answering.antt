@@ -4,9 +4,9 @@ use Rattle.std.proofs.lemmas.List.{append-nil, length-append}
 use Rattle.std.proofs.Math.Seq.{take-append_seam, drop-append_seam}
 use Rattle.span_io.specs.declared.cause.Cause.{Cause}
 use Rattle.span_io.specs.declared.cause.Cause.TheVariants as causes
-use Rattle.span_io.specs.Cuts.{two_cuts}
+use Rattle.span_io.specs.laws.Cuts.{two_cuts}
 use Rattle.span_io.specs.Frames.{Framing, IsOpen, IsRefused, IsRefusedAt}
-use Rattle.span_io.specs.FramingLaws.{FrontsAreOpen, open_front}
+use Rattle.span_io.specs.laws.FramingLaws.{FrontsAreOpen, open_front}
 use Rattle.thrift_core.specs.declared.passing.Halted.{Halted}
 use Rattle.thrift_core.specs.declared.passing.Halted.TheVariants as halts
 use Rattle.thrift_core.specs.declared.type_code.TypeCode.{TypeCode}

@@ -7,7 +7,7 @@ use Rattle.span_io.specs.declared.cause.Cause.TheVariants as causes
 use Rattle.span_io.specs.declared.step.Step.{Step}
 use Rattle.span_io.specs.declared.step.Step.TheVariants as steps
 use Rattle.span_io.specs.Frames.{BeginsFrame, NeedsMore}
-use Rattle.span_io.specs.FramingLaws.{of_front}
+use Rattle.span_io.specs.laws.FramingLaws.{of_front}
 use Rattle.span_io.specs.Pieces.{PieceLaws, piece_laws}
 use Rattle.span_io.specs.Steps.{behind}
 use Rattle.thrift_core.specs.declared.passing.Halted.{Halted}

@@ -1,7 +1,7 @@
 -- Structs as messages whose fields may offend. Places are counted in the struct's own bytes, its stop byte among them.
 use Rattle.std.specs.Prelude.{◌≡◌, ℕ, ℤ, pos, Bool, Option, Some, None, List, [], ◌∷◌, ◌++◌, length}
 use Rattle.span_io.specs.Offences.{Format}
-use Rattle.span_io.specs.TableLaws.{Whole}
+use Rattle.span_io.specs.laws.TableLaws.{Whole}
 use Rattle.thrift_core.specs.declared.field.Field.{Field}
 use Rattle.thrift_core.specs.Parts.{header, Spelling, Begins}
 use Rattle.thrift_core.specs.Trees.{Tree, Fields, no_fields, field_then, kind_of, ValueThen}

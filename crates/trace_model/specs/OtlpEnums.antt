@@ -2,7 +2,7 @@
 -- to the last is that of a value.
 use Rattle.std.proofs.Common.{◌≡◌, ◌<◌, ◌≤◌, ℕ, ◌⊎◌, inl, inr, ◌==◌, if◌then◌else◌, refl, sym, ap, ◌∙◌, arith}
 use Rattle.std.proofs.lemmas.Bool.{cases_eq}
-use Rattle.span_io.specs.RowLaws.{EnumLaws}
+use Rattle.span_io.specs.laws.RowLaws.{EnumLaws}
 use Rattle.trace_model.specs.declared.span.Code.TheVariants as codes
 use Rattle.trace_model.specs.declared.span.Code.{Code}
 use Rattle.trace_model.specs.declared.span.Kind.TheVariants as kinds

@@ -1,7 +1,7 @@
 //! Laws of attributes and values, as contracts of functions that do nothing.
 ghost use Rattle.trace_model.specs.EventExact.{EventTextsExact, EventTextsAreUtf8, EventTextsProper};
 ghost use Rattle.trace_model.specs.LeastOf.{LeastOfEither};
-ghost use Rattle.trace_model.specs.Laws.{AttributesOnce, AttributesExist, MembersOfValues, MembersOfProperValues, RisingAttributes, TextsOfValues, EventTextsOnce, EventTextsOrNone, EventTextsReadBack, TextsForBytes};
+ghost use Rattle.trace_model.specs.StatedLaws.{AttributesOnce, AttributesExist, MembersOfValues, MembersOfProperValues, RisingAttributes, TextsOfValues, EventTextsOnce, EventTextsOrNone, EventTextsReadBack, TextsForBytes};
 
 /// A list of pairs makes one list of attributes at most, and one list of repeated keys.
 pub fn attributes_once()

@@ -1,11 +1,11 @@
 //! Members of objects of JSON.
-use json::Writer;
+use json::{Scratch, Writer};
 use json_members::{
     close_array, close_object, count_member, given_text_member, id_member, member_of, name_of,
-    open_array, open_object, own_text_member, parent_member, take_member, text, text_member,
-    text_of, trace_member, truth_member, truth_of, unread, whole_count_member, whole_text_member,
+    open_array, open_object, own_text_member, parent_member, text, text_member, text_of,
+    trace_member, truth_member, truth_of, unread, whole_count_member, whole_text_member,
 };
-use serde_json::Value;
+use json_nodes::{Lent, bytes_nodes, text_nodes};
 use span_ids::{SpanId, TraceId};
 use span_io::{Cause, Halt, OutOfMemory, Refusal, Text};
 use std::test::Fail;
@@ -24,17 +24,13 @@ const MEMBERS: [(&str, Option<u64>); 7] = [
 #[test]
 fn finds_members(rt: HostRuntime) -> Result<(), Fail> {
     for (given, number) in MEMBERS {
-        let mut v = Value::from_str(rt.alloc(), given)?;
-        let found = match member_of(&v, "a") {
+        let mut scratch = Scratch::new(rt.alloc());
+        let nodes = text_nodes(rt.alloc(), given, &mut scratch)?;
+        let found = match member_of(&Lent::of(nodes.as_slice()), "a") {
             Some(member) => member.as_u64(),
             None => None,
         };
         assert_eq!(rt; found, number, "{given}");
-        let taken = match take_member(&mut v, "a") {
-            Some(member) => member.as_u64(),
-            None => None,
-        };
-        assert_eq!(rt; taken, number, "{given}");
     }
     Ok(())
 }
@@ -67,7 +63,7 @@ fn str_of(read: &Option<Text>) -> Option<&str> {
     }
 }
 
-fn read_truth(v: &Value) -> Result<bool, Halt<Cause>> {
+fn read_truth(v: &Lent<'_, '_>) -> Result<bool, Halt<Cause>> {
     let truth = truth_of(v)?;
     Ok(truth)
 }
@@ -75,7 +71,9 @@ fn read_truth(v: &Value) -> Result<bool, Halt<Cause>> {
 #[test]
 fn reads_texts_and_truth_values(rt: HostRuntime) -> Result<(), Fail> {
     for (given, wanted, truth) in LEAVES {
-        let v = Value::from_str(rt.alloc(), given)?;
+        let mut scratch = Scratch::new(rt.alloc());
+        let nodes = text_nodes(rt.alloc(), given, &mut scratch)?;
+        let v = Lent::of(nodes.as_slice());
         let read = if_shaped(text_of(rt.alloc(), &v))?;
         assert_eq!(rt; str_of(&read), wanted, "{given}");
         assert_eq!(rt; if_shaped(read_truth(&v))?, truth, "{given}");
@@ -94,7 +92,9 @@ const TEXTS: [(&str, Option<&str>); 4] = [
 #[test]
 fn reads_texts_that_may_be_absent(rt: HostRuntime) -> Result<(), Fail> {
     for (given, wanted) in TEXTS {
-        let v = Value::from_str(rt.alloc(), given)?;
+        let mut scratch = Scratch::new(rt.alloc());
+        let nodes = text_nodes(rt.alloc(), given, &mut scratch)?;
+        let v = Lent::of(nodes.as_slice());
         let read = if_shaped(text(rt.alloc(), &v, "a"))?;
         assert_eq!(rt; str_of(&read), wanted, "{given}");
     }
@@ -111,9 +111,10 @@ fn refuses_what_is_no_value(rt: HostRuntime) {
         cause: Cause::BadJson,
     };
     for bytes in NO_VALUES {
-        match Value::from_slice(rt.alloc(), bytes) {
+        let mut scratch = Scratch::new(rt.alloc());
+        match bytes_nodes(rt.alloc(), bytes, &mut scratch) {
             Ok(_) => panic!(rt; "a value: {bytes:?}"),
-            Err(error) => assert_eq!(rt; unread(&error), Halt::Why(refusal), "{bytes:?}"),
+            Err(why) => assert_eq!(rt; unread(why), Halt::Why(refusal), "{bytes:?}"),
         }
     }
 }

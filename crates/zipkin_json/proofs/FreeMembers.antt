@@ -1,22 +1,22 @@
 -- Unknown members change nothing: values whose known members agree mean the same spans, and the same offends in them.
 use Rattle.std.proofs.Common.{◌≡◌, [], false, Option, None, sym, ◌∙◌, subst}
 use Rattle.serde_json.specs.Data.{Data}
-use Rattle.serde_json.specs.Find.{as_object}
 use Rattle.span_io.specs.Paths.{required, optional, Never}
-use Rattle.json_members.specs.Agreement.{same, both_or_neither, objects_agree, arrays_agree}
-use Rattle.json_members.specs.AgreementLaws.{AgreesBothWays, same_turns, objects_turn, arrays_turn, found_same, MeanAlike, given_alike, given_same, array_alike, OffendAlike, FaultsAlike, nothing_alike, parts_alike, same_alike, optional_alike, array_faults_alike, object_faults_alike}
-use Rattle.json_members.specs.Members.{IsText, text_faults, IsTruth, truth_faults, IsCount, Spelled}
+use Rattle.json_members.specs.Agreement.{same, both_or_neither, objects_agree}
+use Rattle.json_members.specs.laws.AgreementLaws.{AgreesBothWays, same_turns, objects_turn, arrays_turn, found_same, MeanAlike, given_same, array_alike, OffendAlike, OffencesAlike, no_parts_alike, parts_alike, same_alike, array_offends_alike, by_parts_alike, object_alike, list_alike, object_offence_alike, list_offence_alike}
+use Rattle.json_members.specs.laws.DecisionLaws.{◌&◌}
+use Rattle.json_members.specs.Members.{IsText, text_offends, IsTruth, truth_offends, IsCount, Spelled}
 use Rattle.zipkin_json.specs.Identifiers.{SpellsTrace, SpellsSpan, SpellsParent}
 use Rattle.zipkin_json.specs.Known.{endpoint_known, annotation_known, span_known, spans_agree}
-use Rattle.zipkin_json.specs.Laws.{FreeMembers}
-use Rattle.zipkin_json.specs.Members.{IsPort, port_faults, count_faults, count_or_zero}
-use Rattle.zipkin_json.specs.Span.{SpellsKind, trace_faults, id_faults, parent_faults, kind_faults, IsEndpoint, no_endpoint, endpoint_members, endpoint_faults, IsAnnotation, annotation_members, annotation_faults, AreAnnotations, annotations_faults, AreTags, tags_faults, IsZSpan, span_members, span_faults, AreSpans, spans_faults}
+use Rattle.zipkin_json.specs.StatedLaws.{FreeMembers}
+use Rattle.zipkin_json.specs.Members.{IsPort, port_offends, count_offends, count_or_zero}
+use Rattle.zipkin_json.specs.Span.{SpellsKind, trace_offends, id_offends, parent_offends, kind_offends, IsEndpoint, no_endpoint, endpoint_members, endpoint_offends, IsAnnotation, annotation_members, annotation_offends, AreTags, tags_offend, IsZSpan, span_members, span_offends, AreSpans, spans_offend}
 use Rattle.zipkin_json.specs.declared.span.ZKind.TheVariants as kinds
 
 -- ---- endpoints
 
 endpoints_turn : AgreesBothWays (objects_agree endpoint_known)
-endpoints_turn = objects_turn endpoint_known (same_turns, (same_turns, (same_turns, (same_turns, tt))))
+endpoints_turn = objects_turn endpoint_known (same_turns & same_turns & same_turns & same_turns & tt)
 
 endpoint_alike : MeanAlike IsEndpoint (objects_agree endpoint_known)
 endpoint_alike v w h e is =
@@ -29,20 +29,20 @@ endpoint_alike v w h e is =
       port = given_same IsPort (λ port. port ≡ 0) _ _ m.1.1.1.0 e.port is.port;
     }
 
-endpoint_faults_alike : FaultsAlike endpoint_faults (objects_agree endpoint_known)
+endpoint_offends_alike : OffencesAlike endpoint_offends (objects_agree endpoint_known)
 unfolding endpoint_members
-endpoint_faults_alike v w h =
+endpoint_offends_alike v w h =
     let m = h.1 in
-    object_faults_alike (endpoint_members v) (endpoint_members w) (as_object v) (as_object w) h.0
-    (parts_alike (same_alike (optional text_faults) _ _ m.0)
-    (parts_alike (same_alike (optional text_faults) _ _ m.1.0)
-    (parts_alike (same_alike (optional text_faults) _ _ m.1.1.0)
-    (parts_alike (same_alike (optional port_faults) _ _ m.1.1.1.0) nothing_alike))))
+    by_parts_alike endpoint_members v w h.0
+    (parts_alike (same_alike (optional text_offends) _ _ m.0)
+    (parts_alike (same_alike (optional text_offends) _ _ m.1.0)
+    (parts_alike (same_alike (optional text_offends) _ _ m.1.1.0)
+    (parts_alike (same_alike (optional port_offends) _ _ m.1.1.1.0) no_parts_alike))))
 
 -- ---- annotations
 
 annotation_turns : AgreesBothWays (objects_agree annotation_known)
-annotation_turns = objects_turn annotation_known (same_turns, (same_turns, tt))
+annotation_turns = objects_turn annotation_known (same_turns & same_turns & tt)
 
 annotation_alike : MeanAlike IsAnnotation (objects_agree annotation_known)
 annotation_alike v w h a is =
@@ -56,45 +56,20 @@ annotation_alike v w h a is =
       value = given_same IsText Never _ _ m.1.0 a.1 is.value;
     }
 
-annotation_faults_alike : FaultsAlike annotation_faults (objects_agree annotation_known)
+annotation_offends_alike : OffencesAlike annotation_offends (objects_agree annotation_known)
 unfolding annotation_members
-annotation_faults_alike v w h =
+annotation_offends_alike v w h =
     let m = h.1 in
-    object_faults_alike (annotation_members v) (annotation_members w) (as_object v) (as_object w) h.0
-    (parts_alike (same_alike (required (count_faults 0)) _ _ m.0) (parts_alike (same_alike (required text_faults) _ _ m.1.0) nothing_alike))
+    by_parts_alike annotation_members v w h.0
+    (parts_alike (same_alike (required (count_offends 0)) _ _ m.0) (parts_alike (same_alike (required text_offends) _ _ m.1.0) no_parts_alike))
 
 -- ---- spans
 
 spans_turn : AgreesBothWays spans_agree
 spans_turn =
     arrays_turn (objects_agree span_known) (objects_turn span_known (
-      same_turns,
-      (
-        same_turns,
-        (
-          same_turns,
-          (
-            same_turns,
-            (
-              same_turns,
-              (
-                same_turns,
-                (
-                  same_turns,
-                  (
-                    same_turns,
-                    (
-                      same_turns,
-                      (endpoints_turn, (endpoints_turn, (arrays_turn (objects_agree annotation_known) annotation_turns, (same_turns, tt)))),
-                    ),
-                  ),
-                ),
-              ),
-            ),
-          ),
-        ),
-      ),
-    ))
+    same_turns & same_turns & same_turns & same_turns & same_turns & same_turns & same_turns & same_turns & same_turns
+    & endpoints_turn & endpoints_turn & arrays_turn (objects_agree annotation_known) annotation_turns & same_turns & tt))
 
 span_alike : MeanAlike IsZSpan (objects_agree span_known)
 span_alike v w h s is =
@@ -115,39 +90,37 @@ span_alike v w h s is =
       end = is.end;
       debug = given_same IsTruth (λ truth. truth ≡ false) _ _ m.1.1.1.1.1.1.1.0 s.debug is.debug;
       shared = given_same IsTruth (λ truth. truth ≡ false) _ _ m.1.1.1.1.1.1.1.1.0 s.shared is.shared;
-      local = given_alike IsEndpoint (λ e. e ≡ no_endpoint) (objects_agree endpoint_known) endpoint_alike _ _ m.1.1.1.1.1.1.1.1.1.0 s.local is.local;
-      remote = given_alike IsEndpoint (λ e. e ≡ no_endpoint) (objects_agree endpoint_known) endpoint_alike _ _ m.1.1.1.1.1.1.1.1.1.1.0 s.remote is.remote;
-      annotations = given_alike AreAnnotations (λ list. list ≡ []) (arrays_agree (objects_agree annotation_known))
-          (array_alike IsAnnotation (objects_agree annotation_known) annotation_alike) _ _ m.1.1.1.1.1.1.1.1.1.1.1.0 s.annotations is.annotations;
+      local = object_alike IsEndpoint endpoint_known endpoint_alike _ _ m.1.1.1.1.1.1.1.1.1.0 no_endpoint s.local is.local;
+      remote = object_alike IsEndpoint endpoint_known endpoint_alike _ _ m.1.1.1.1.1.1.1.1.1.1.0 no_endpoint s.remote is.remote;
+      annotations = list_alike IsAnnotation annotation_known annotation_alike _ _ m.1.1.1.1.1.1.1.1.1.1.1.0 s.annotations is.annotations;
       tags = given_same AreTags (λ tags. tags ≡ []) _ _ m.1.1.1.1.1.1.1.1.1.1.1.1.0 s.tags is.tags;
     }
 
 -- the duration offends by what the timestamp is
 duration_alike : (t u d e : Option Data) → both_or_neither same t u → both_or_neither same d e
-    → OffendAlike (optional (count_faults (count_or_zero t)) d) (optional (count_faults (count_or_zero u)) e)
+    → OffendAlike (optional (count_offends (count_or_zero t)) d) (optional (count_offends (count_or_zero u)) e)
 duration_alike t u d e h k path number offends =
-    subst (λ (q : Option Data). optional (count_faults (count_or_zero q)) e path number) (found_same t u h)
-    (same_alike (optional (count_faults (count_or_zero t))) d e k path number offends)
+    subst (λ (q : Option Data). optional (count_offends (count_or_zero q)) e path number) (found_same t u h)
+    (same_alike (optional (count_offends (count_or_zero t))) d e k path number offends)
 
-span_faults_alike : FaultsAlike span_faults (objects_agree span_known)
+span_offends_alike : OffencesAlike span_offends (objects_agree span_known)
 unfolding span_members
-span_faults_alike v w h =
+span_offends_alike v w h =
     let m = h.1 in
-    object_faults_alike (span_members v) (span_members w) (as_object v) (as_object w) h.0
-    (parts_alike (same_alike (required trace_faults) _ _ m.0)
-    (parts_alike (same_alike (required id_faults) _ _ m.1.0)
-    (parts_alike (same_alike (optional parent_faults) _ _ m.1.1.0)
-    (parts_alike (same_alike (optional text_faults) _ _ m.1.1.1.0)
-    (parts_alike (same_alike (optional kind_faults) _ _ m.1.1.1.1.0)
-    (parts_alike (same_alike (optional (count_faults 0)) _ _ m.1.1.1.1.1.0)
+    by_parts_alike span_members v w h.0
+    (parts_alike (same_alike (required trace_offends) _ _ m.0)
+    (parts_alike (same_alike (required id_offends) _ _ m.1.0)
+    (parts_alike (same_alike (optional parent_offends) _ _ m.1.1.0)
+    (parts_alike (same_alike (optional text_offends) _ _ m.1.1.1.0)
+    (parts_alike (same_alike (optional kind_offends) _ _ m.1.1.1.1.0)
+    (parts_alike (same_alike (optional (count_offends 0)) _ _ m.1.1.1.1.1.0)
     (parts_alike (duration_alike _ _ _ _ m.1.1.1.1.1.0 m.1.1.1.1.1.1.0)
-    (parts_alike (same_alike (optional truth_faults) _ _ m.1.1.1.1.1.1.1.0)
-    (parts_alike (same_alike (optional truth_faults) _ _ m.1.1.1.1.1.1.1.1.0)
-    (parts_alike (optional_alike endpoint_faults (objects_agree endpoint_known) endpoint_faults_alike _ _ m.1.1.1.1.1.1.1.1.1.0)
-    (parts_alike (optional_alike endpoint_faults (objects_agree endpoint_known) endpoint_faults_alike _ _ m.1.1.1.1.1.1.1.1.1.1.0)
-    (parts_alike (optional_alike annotations_faults (arrays_agree (objects_agree annotation_known))
-    (array_faults_alike annotation_faults (objects_agree annotation_known) annotation_faults_alike) _ _ m.1.1.1.1.1.1.1.1.1.1.1.0)
-    (parts_alike (same_alike (optional tags_faults) _ _ m.1.1.1.1.1.1.1.1.1.1.1.1.0) nothing_alike)))))))))))))
+    (parts_alike (same_alike (optional truth_offends) _ _ m.1.1.1.1.1.1.1.0)
+    (parts_alike (same_alike (optional truth_offends) _ _ m.1.1.1.1.1.1.1.1.0)
+    (parts_alike (object_offence_alike endpoint_offends endpoint_known endpoint_offends_alike _ _ m.1.1.1.1.1.1.1.1.1.0)
+    (parts_alike (object_offence_alike endpoint_offends endpoint_known endpoint_offends_alike _ _ m.1.1.1.1.1.1.1.1.1.1.0)
+    (parts_alike (list_offence_alike annotation_offends annotation_known annotation_offends_alike _ _ m.1.1.1.1.1.1.1.1.1.1.1.0)
+    (parts_alike (same_alike (optional tags_offend) _ _ m.1.1.1.1.1.1.1.1.1.1.1.1.0) no_parts_alike)))))))))))))
 
 -- ---- the whole text
 
@@ -160,5 +133,5 @@ free_members = record {
     means : MeanAlike AreSpans spans_agree
     means = array_alike IsZSpan (objects_agree span_known) span_alike
 
-    offends : FaultsAlike spans_faults spans_agree
-    offends = array_faults_alike span_faults (objects_agree span_known) span_faults_alike
+    offends : OffencesAlike spans_offend spans_agree
+    offends = array_offends_alike span_offends (objects_agree span_known) span_offends_alike

@@ -8,11 +8,11 @@ use Rattle.std.specs.Ordering.{nat_cmp}
 use Rattle.serde_json.specs.Data.{Data, string}
 use Rattle.serde_json.specs.View.{items_of}
 use Rattle.serde_json.specs.Written.{compact_text}
-use Rattle.span_ids.specs.Laws.{IdentifiersReadBack}
+use Rattle.span_ids.specs.StatedLaws.{IdentifiersReadBack}
 use Rattle.span_ids.specs.Times.{micros}
-use Rattle.json_members.specs.TextLaws.{text_back, number_back, true_back, trace_back, id_back, parent_back, items_joined}
+use Rattle.json_members.specs.laws.TextLaws.{text_back, number_back, true_back, trace_back, id_back, parent_back, items_joined}
 use Rattle.zipkin_json.specs.Canonical.{endpoint_rows, endpoint_data, annotation_json, annotations_data, tag_members, kind_data, zspan_rows, span_json, zspan_text, spans_json, spans_text}
-use Rattle.zipkin_json.specs.Laws.{OneList, SpansWrittenAgain, EqualSpansTexts}
+use Rattle.zipkin_json.specs.StatedLaws.{OneList, SpansWrittenAgain, EqualSpansTexts}
 use Rattle.zipkin_json.specs.Proper.{IsProperEndpoint, IsProperAnnotation, IsProperZTag, IsWritableZSpan}
 use Rattle.zipkin_json.specs.Span.{TagsRise, AreSpans}
 use Rattle.zipkin_json.specs.Texts.{AreSpansText}

@@ -1,9 +1,10 @@
 pub mod Identifiers
 pub mod Members
 pub mod Span
+pub mod Tags
 pub mod Proper
 pub mod Known
-pub mod Laws
+pub mod StatedLaws
 pub mod Texts
 pub mod Canonical
 pub mod Writing

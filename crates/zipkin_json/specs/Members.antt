@@ -3,24 +3,24 @@ use Rattle.std.specs.Prelude.{◌≡◌, ℕ, ◌+◌, ◌<◌, ◌≤◌, Optio
 use Rattle.serde_json.specs.Data.{Num, unsigned, negative, float, Data}
 use Rattle.serde_json.specs.Find.{as_number, as_u64}
 use Rattle.span_ids.specs.Times.{last_micros}
-use Rattle.span_io.specs.Paths.{Faults, here, valued}
+use Rattle.span_io.specs.Paths.{Offences, here, valued}
 use Rattle.json_members.specs.Members.{IsCount}
 
 abbrev pub IsPort : ℕ → Data → Type 0
 IsPort port d = IsCount port d × (port ≤ 65535)
 
 -- BadShape: no whole number from 0 to 65535
-abbrev pub port_faults : Data → Faults
-port_faults d = valued (λ port. here (λ number. (number ≡ 11) × (65535 < port))) (option_and_then as_u64 (as_number d))
+abbrev pub port_offends : Data → Offences
+port_offends d = valued (λ port. here (λ number. (number ≡ 11) × (65535 < port))) (option_and_then as_u64 (as_number d))
 
 -- BadTime: a whole number that is negative, or comes behind the last microsecond where it is counted from `start`; BadShape: another
-abbrev pub micros_faults : ℕ → Num → Faults
-micros_faults start (unsigned count) = here (λ number. (number ≡ 16) × (last_micros < start + count))
-micros_faults start (negative z) = here (λ number. number ≡ 16)
-micros_faults start (float x) = here (λ number. number ≡ 11)
+abbrev pub micros_offends : ℕ → Num → Offences
+micros_offends start (unsigned count) = here (λ number. (number ≡ 16) × (last_micros < start + count))
+micros_offends start (negative z) = here (λ number. number ≡ 16)
+micros_offends start (float x) = here (λ number. number ≡ 11)
 
-abbrev pub count_faults : ℕ → Data → Faults
-count_faults start d = valued (micros_faults start) (as_number d)
+abbrev pub count_offends : ℕ → Data → Offences
+count_offends start d = valued (micros_offends start) (as_number d)
 
 -- the count that a member gives, and 0 without one
 abbrev pub count_or_zero : Option Data → ℕ

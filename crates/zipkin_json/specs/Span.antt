@@ -5,17 +5,17 @@ use Rattle.std.specs.Cmp.Lexicographic.{slice_cmp}
 use Rattle.std.specs.List.Sorted.{IsStrictlySortedBy}
 use Rattle.std.specs.Ordering.{nat_cmp}
 use Rattle.serde_json.specs.Data.{Data, null, string, Members, no_members, member as has}
-use Rattle.serde_json.specs.Find.{as_array, as_object}
+use Rattle.serde_json.specs.Find.{as_object}
 use Rattle.span_ids.specs.Times.{last_micros, nanos}
-use Rattle.span_io.specs.Paths.{Faults, nothing, ◌▹◌, required, optional, each, valued, Given, Never, OfKind}
-use Rattle.std.specs.List.{AllZip}
+use Rattle.span_io.specs.Paths.{Offences, required, optional, each, valued, Given, Never, OfKind}
 use Rattle.zipkin_json.specs.declared.span.Endpoint.{Endpoint}
 use Rattle.zipkin_json.specs.declared.span.ZKind.{ZKind}
 use Rattle.zipkin_json.specs.declared.span.ZKind.TheVariants as kinds
 use Rattle.zipkin_json.specs.declared.span.ZSpan.{ZSpan}
 use Rattle.zipkin_json.specs.Identifiers.{SpellsTrace, SpellsSpan, SpellsParent}
-use Rattle.json_members.specs.Members.{unless_null, member, elements, member_values, IsText, text_faults, IsTruth, truth_faults, IsCount, Spelled, unspelled}
-use Rattle.zipkin_json.specs.Members.{IsPort, port_faults, count_faults, count_or_zero}
+use Rattle.json_members.specs.Members.{unless_null, member, AreHeld, elements_offend, member_values, IsText, text_offends, IsTruth, truth_offends, IsCount, Spelled, unspelled}
+use Rattle.json_members.specs.Parts.{object_offends}
+use Rattle.zipkin_json.specs.Members.{IsPort, port_offends, count_offends, count_or_zero}
 
 -- ---- identifiers and the kind, which are texts
 
@@ -27,17 +27,17 @@ SpellsKind text kinds.Producer = text ≡ codes "PRODUCER"
 SpellsKind text kinds.Consumer = text ≡ codes "CONSUMER"
 
 -- BadId, BadEnum
-abbrev pub trace_faults : Data → Faults
-trace_faults d = unspelled SpellsTrace 12 d
+abbrev pub trace_offends : Data → Offences
+trace_offends d = unspelled SpellsTrace 12 d
 
-abbrev pub id_faults : Data → Faults
-id_faults d = unspelled SpellsSpan 12 d
+abbrev pub id_offends : Data → Offences
+id_offends d = unspelled SpellsSpan 12 d
 
-abbrev pub parent_faults : Data → Faults
-parent_faults d = unspelled SpellsParent 12 d
+abbrev pub parent_offends : Data → Offences
+parent_offends d = unspelled SpellsParent 12 d
 
-abbrev pub kind_faults : Data → Faults
-kind_faults d = unspelled SpellsKind 13 d
+abbrev pub kind_offends : Data → Offences
+kind_offends d = unspelled SpellsKind 13 d
 
 -- ---- `Endpoint`
 
@@ -52,12 +52,12 @@ pub record IsEndpoint (e : Endpoint) (d : Data) : Type 0 where
 abbrev pub no_endpoint : Endpoint
 no_endpoint = record { service = []; ipv4 = []; ipv6 = []; port = 0 }
 
-unfoldable pub endpoint_members : Data → Faults
-endpoint_members d = optional text_faults (member (codes "serviceName") d) ▹ optional text_faults (member (codes "ipv4") d)
-    ▹ optional text_faults (member (codes "ipv6") d) ▹ optional port_faults (member (codes "port") d) ▹ nothing
+unfoldable pub endpoint_members : Data → List Offences
+endpoint_members d = optional text_offends (member (codes "serviceName") d) ∷ optional text_offends (member (codes "ipv4") d)
+    ∷ optional text_offends (member (codes "ipv6") d) ∷ optional port_offends (member (codes "port") d) ∷ []
 
-abbrev pub endpoint_faults : Data → Faults
-endpoint_faults d = valued (λ members. endpoint_members d) (as_object d)
+abbrev pub endpoint_offends : Data → Offences
+endpoint_offends d = object_offends endpoint_members d
 
 -- ---- `Annotation`
 
@@ -69,17 +69,18 @@ pub record IsAnnotation (a : ℕ × List ℕ) (d : Data) : Type 0 where
   pub time : a.0 ≡ nanos timestamp
   pub value : Given IsText Never a.1 (member (codes "value") d)
 
-unfoldable pub annotation_members : Data → Faults
-annotation_members d = required (count_faults 0) (member (codes "timestamp") d) ▹ required text_faults (member (codes "value") d) ▹ nothing
+unfoldable pub annotation_members : Data → List Offences
+annotation_members d =
+    required (count_offends 0) (member (codes "timestamp") d) ∷ required text_offends (member (codes "value") d) ∷ []
 
-abbrev pub annotation_faults : Data → Faults
-annotation_faults d = valued (λ members. annotation_members d) (as_object d)
+abbrev pub annotation_offends : Data → Offences
+annotation_offends d = object_offends annotation_members d
 
 abbrev pub AreAnnotations : List (ℕ × List ℕ) → Data → Type 0
-AreAnnotations list d = OfKind (λ l held. AllZip (λ d x. IsAnnotation x d) (elements held) l) list (as_array d)
+AreAnnotations list d = AreHeld IsAnnotation list d
 
-abbrev pub annotations_faults : Data → Faults
-annotations_faults d = valued (λ held. each annotation_faults (elements held)) (as_array d)
+abbrev pub annotations_offend : Data → Offences
+annotations_offend d = elements_offend annotation_offends d
 
 -- ---- `tags`, whose keys name texts; a tag that is null is absent too
 
@@ -92,11 +93,11 @@ texts_in (has key d more) = None
 abbrev pub AreTags : List (List ℕ × List ℕ) → Data → Type 0
 AreTags tags d = OfKind (λ texts members. texts_in members ≡ Some texts) tags (as_object d)
 
-abbrev pub tag_faults : Data → Faults
-tag_faults d = optional text_faults (unless_null (Some d))
+abbrev pub tag_offends : Data → Offences
+tag_offends d = optional text_offends (unless_null (Some d))
 
-abbrev pub tags_faults : Data → Faults
-tags_faults d = valued (λ members. each tag_faults (member_values members)) (as_object d)
+abbrev pub tags_offend : Data → Offences
+tags_offend d = valued (λ members. each tag_offends (member_values members)) (as_object d)
 
 -- ---- `Span`
 
@@ -123,17 +124,17 @@ pub record IsZSpan (s : ZSpan) (d : Data) : Type 0 where
   pub tags : Given AreTags (λ tags. tags ≡ []) s.tags (member (codes "tags") d)
 
 -- the start and the duration are added at `duration`
-unfoldable pub span_members : Data → Faults
-span_members d = required trace_faults (member (codes "traceId") d) ▹ required id_faults (member (codes "id") d)
-    ▹ optional parent_faults (member (codes "parentId") d) ▹ optional text_faults (member (codes "name") d)
-    ▹ optional kind_faults (member (codes "kind") d) ▹ optional (count_faults 0) (member (codes "timestamp") d)
-    ▹ optional (count_faults (count_or_zero (member (codes "timestamp") d))) (member (codes "duration") d)
-    ▹ optional truth_faults (member (codes "debug") d) ▹ optional truth_faults (member (codes "shared") d)
-    ▹ optional endpoint_faults (member (codes "localEndpoint") d) ▹ optional endpoint_faults (member (codes "remoteEndpoint") d)
-    ▹ optional annotations_faults (member (codes "annotations") d) ▹ optional tags_faults (member (codes "tags") d) ▹ nothing
+unfoldable pub span_members : Data → List Offences
+span_members d = required trace_offends (member (codes "traceId") d) ∷ required id_offends (member (codes "id") d)
+    ∷ optional parent_offends (member (codes "parentId") d) ∷ optional text_offends (member (codes "name") d)
+    ∷ optional kind_offends (member (codes "kind") d) ∷ optional (count_offends 0) (member (codes "timestamp") d)
+    ∷ optional (count_offends (count_or_zero (member (codes "timestamp") d))) (member (codes "duration") d)
+    ∷ optional truth_offends (member (codes "debug") d) ∷ optional truth_offends (member (codes "shared") d)
+    ∷ optional endpoint_offends (member (codes "localEndpoint") d) ∷ optional endpoint_offends (member (codes "remoteEndpoint") d)
+    ∷ optional annotations_offend (member (codes "annotations") d) ∷ optional tags_offend (member (codes "tags") d) ∷ []
 
-abbrev pub span_faults : Data → Faults
-span_faults d = valued (λ members. span_members d) (as_object d)
+abbrev pub span_offends : Data → Offences
+span_offends d = object_offends span_members d
 
 -- what is read has rising keys, since an object has each name once, in their order
 abbrev pub TagsRise : List (List ℕ × List ℕ) → Type 0
@@ -145,7 +146,7 @@ HasRisingTags s = TagsRise s.tags
 -- ---- the whole text: an array of spans
 
 abbrev pub AreSpans : List ZSpan → Data → Type 0
-AreSpans spans d = OfKind (λ list held. AllZip (λ d x. IsZSpan x d) (elements held) list) spans (as_array d)
+AreSpans spans d = AreHeld IsZSpan spans d
 
-abbrev pub spans_faults : Data → Faults
-spans_faults d = valued (λ held. each span_faults (elements held)) (as_array d)
+abbrev pub spans_offend : Data → Offences
+spans_offend d = elements_offend span_offends d

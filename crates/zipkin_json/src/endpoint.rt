@@ -1,14 +1,14 @@
 //! `Endpoint` of Zipkin v2.
 ghost use Rattle.std.specs.Prelude.{◌≡◌, IfOk};
-ghost use Rattle.serde_json.specs.View.{view};
+ghost use Rattle.json_nodes.specs.Lents.{lent_view as view};
 ghost use Rattle.span_io.specs.Paths.{optional, JudgesValue, Given};
 ghost use Rattle.json_members.specs.Members.{member};
-ghost use Rattle.zipkin_json.specs.Span.{IsEndpoint, endpoint_members, endpoint_faults, no_endpoint};
+ghost use Rattle.zipkin_json.specs.Span.{IsEndpoint, endpoint_members, endpoint_offends, no_endpoint};
 
 use crate::members::port;
 use crate::span::Endpoint;
-use json_members::{member_of, text};
-use serde_json::Value;
+use json_members::{Table, bare_member, member, member_of, object, text};
+use json_nodes::Lent;
 use span_io::{Cause, Halt, Text};
 use std::alloc::Global;
 
@@ -26,18 +26,23 @@ impl Endpoint {
     }
 }
 
-#[tactic(auto, using(span_io::specs::PathLaws::in_order), unfolding(crate::specs::Span::endpoint_members))]
-fn read_endpoint(alloc: Global, v: &Value) -> Result<Endpoint, Halt<Cause>>
+// The members of an endpoint.
+struct EndpointTable;
+
+impl Table for EndpointTable {
+    ghost parts = { endpoint_members };
+}
+
+#[tactic(auto, using(json_members::specs::laws::PartLaws::reading), unfolding(crate::specs::Span::endpoint_members))]
+fn read_endpoint(alloc: Global, v: &Lent<'_, '_>) -> Result<Endpoint, Halt<Cause>>
     ensures value { IfOk result (λ e. IsEndpoint e (view v.now)) }
-    ensures judged { JudgesValue result (endpoint_faults (view v.now)) }
+    ensures judged { JudgesValue result (endpoint_offends (view v.now)) }
 {
-    if !v.is_object() {
-        return Err(Halt::Why(Cause::BadShape));
-    }
-    let service = text(alloc, v, "serviceName")?;
-    let ipv4 = text(alloc, v, "ipv4")?;
-    let ipv6 = text(alloc, v, "ipv6")?;
-    let port = port(v, "port")?;
+    object::<EndpointTable>(v)?;
+    let service = member::<EndpointTable, _>(v, 0, text(alloc, v, "serviceName"))?;
+    let ipv4 = member::<EndpointTable, _>(v, 1, text(alloc, v, "ipv4"))?;
+    let ipv6 = member::<EndpointTable, _>(v, 2, text(alloc, v, "ipv6"))?;
+    let port = bare_member::<EndpointTable, _>(v, 3, port(v, "port"))?;
     Ok(Endpoint {
         service,
         ipv4,
@@ -47,13 +52,13 @@ fn read_endpoint(alloc: Global, v: &Value) -> Result<Endpoint, Halt<Cause>>
 }
 
 // An endpoint that may be absent, of which nothing is given then.
-pub fn endpoint_of(alloc: Global, v: &Value, name: &str) -> Result<Endpoint, Halt<Cause>>
+pub fn endpoint_of(alloc: Global, v: &Lent<'_, '_>, name: &str) -> Result<Endpoint, Halt<Cause>>
     ensures value { IfOk result (λ e. Given IsEndpoint (λ e. e ≡ no_endpoint) e
         (member name.now (view v.now))) }
-    ensures judged { JudgesValue result (optional endpoint_faults (member name.now (view v.now))) }
+    ensures judged { JudgesValue result (optional endpoint_offends (member name.now (view v.now))) }
 {
     match member_of(v, name) {
         None => Ok(Endpoint::none(alloc)),
-        Some(found) => read_endpoint(alloc, found),
+        Some(found) => read_endpoint(alloc, &found),
     }
 }

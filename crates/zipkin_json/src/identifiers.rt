@@ -1,16 +1,16 @@
 //! Identifiers and the kind, which are texts.
 ghost use Rattle.std.specs.Prelude.{◌≡◌, ◌↔◌, ℕ, Option, IfSome, IfOk, OnErr, IfNone, IsTrue};
-ghost use Rattle.serde_json.specs.View.{view};
+ghost use Rattle.json_nodes.specs.Lents.{lent_view as view};
 ghost use Rattle.span_io.specs.Paths.{required, optional, JudgesByCause, Given, Never};
 ghost use Rattle.zipkin_json.specs.Identifiers.{AreZeros, SpellsTrace, SpellsSpan, SpellsParent};
 ghost use Rattle.json_members.specs.Members.{member, Spelled};
-ghost use Rattle.zipkin_json.specs.Span.{SpellsKind, trace_faults, id_faults, parent_faults, kind_faults};
+ghost use Rattle.zipkin_json.specs.Span.{SpellsKind, trace_offends, id_offends, parent_offends, kind_offends};
 ghost use Rattle.zipkin_json.specs.declared.span.ZKind.TheVariants as kinds;
 ghost use Rattle.zipkin_json.specs.declared.span.ZKind.{ZKind};
 
 use crate::span::ZKind;
 use json_members::member_of;
-use serde_json::Value;
+use json_nodes::Lent;
 use span_ids::{BadId, IdRule, SpanId, TraceId};
 use span_io::Cause;
 
@@ -62,9 +62,9 @@ fn kind_of(text: &str) -> Option<ZKind>
     }
 }
 
-fn trace_in(v: &Value) -> Result<TraceId, Cause>
+fn trace_in(v: &Lent<'_, '_>) -> Result<TraceId, Cause>
     ensures value { IfOk result (λ id. Spelled SpellsTrace id (view v.now)) }
-    ensures judged { JudgesByCause result (trace_faults (view v.now)) }
+    ensures judged { JudgesByCause result (trace_offends (view v.now)) }
 {
     let Some(text) = v.as_str() else {
         return Err(Cause::BadShape);
@@ -75,9 +75,9 @@ fn trace_in(v: &Value) -> Result<TraceId, Cause>
     }
 }
 
-fn span_in(v: &Value) -> Result<SpanId, Cause>
+fn span_in(v: &Lent<'_, '_>) -> Result<SpanId, Cause>
     ensures value { IfOk result (λ id. Spelled SpellsSpan id (view v.now)) }
-    ensures judged { JudgesByCause result (id_faults (view v.now)) }
+    ensures judged { JudgesByCause result (id_offends (view v.now)) }
 {
     let Some(text) = v.as_str() else {
         return Err(Cause::BadShape);
@@ -88,9 +88,9 @@ fn span_in(v: &Value) -> Result<SpanId, Cause>
     }
 }
 
-fn parent_in(v: &Value) -> Result<Option<SpanId>, Cause>
+fn parent_in(v: &Lent<'_, '_>) -> Result<Option<SpanId>, Cause>
     ensures value { IfOk result (λ id. Spelled SpellsParent id (view v.now)) }
-    ensures judged { JudgesByCause result (parent_faults (view v.now)) }
+    ensures judged { JudgesByCause result (parent_offends (view v.now)) }
 {
     let Some(text) = v.as_str() else {
         return Err(Cause::BadShape);
@@ -101,9 +101,9 @@ fn parent_in(v: &Value) -> Result<Option<SpanId>, Cause>
     }
 }
 
-fn kind_in(v: &Value) -> Result<ZKind, Cause>
+fn kind_in(v: &Lent<'_, '_>) -> Result<ZKind, Cause>
     ensures value { IfOk result (λ kind. Spelled SpellsKind kind (view v.now)) }
-    ensures judged { JudgesByCause result (kind_faults (view v.now)) }
+    ensures judged { JudgesByCause result (kind_offends (view v.now)) }
 {
     let Some(text) = v.as_str() else {
         return Err(Cause::BadShape);
@@ -114,48 +114,48 @@ fn kind_in(v: &Value) -> Result<ZKind, Cause>
     }
 }
 
-pub fn required_trace(v: &Value, name: &str) -> Result<TraceId, Cause>
+pub fn required_trace(v: &Lent<'_, '_>, name: &str) -> Result<TraceId, Cause>
     ensures value { IfOk result (λ id. Given (Spelled SpellsTrace) Never id
         (member name.now (view v.now))) }
-    ensures judged { JudgesByCause result (required trace_faults (member name.now (view v.now))) }
+    ensures judged { JudgesByCause result (required trace_offends (member name.now (view v.now))) }
 {
     match member_of(v, name) {
         None => Err(Cause::Missing),
-        Some(found) => trace_in(found),
+        Some(found) => trace_in(&found),
     }
 }
 
-pub fn required_span(v: &Value, name: &str) -> Result<SpanId, Cause>
+pub fn required_span(v: &Lent<'_, '_>, name: &str) -> Result<SpanId, Cause>
     ensures value { IfOk result (λ id. Given (Spelled SpellsSpan) Never id
         (member name.now (view v.now))) }
-    ensures judged { JudgesByCause result (required id_faults (member name.now (view v.now))) }
+    ensures judged { JudgesByCause result (required id_offends (member name.now (view v.now))) }
 {
     match member_of(v, name) {
         None => Err(Cause::Missing),
-        Some(found) => span_in(found),
+        Some(found) => span_in(&found),
     }
 }
 
 // A parent that may be absent.
-pub fn parent(v: &Value, name: &str) -> Result<Option<SpanId>, Cause>
+pub fn parent(v: &Lent<'_, '_>, name: &str) -> Result<Option<SpanId>, Cause>
     ensures value { IfOk result (λ id. Given (Spelled SpellsParent) (λ p. p ≡ None) id
         (member name.now (view v.now))) }
-    ensures judged { JudgesByCause result (optional parent_faults (member name.now (view v.now))) }
+    ensures judged { JudgesByCause result (optional parent_offends (member name.now (view v.now))) }
 {
     match member_of(v, name) {
         None => Ok(None),
-        Some(found) => parent_in(found),
+        Some(found) => parent_in(&found),
     }
 }
 
 // A kind that may be absent.
-pub fn kind(v: &Value, name: &str) -> Result<ZKind, Cause>
+pub fn kind(v: &Lent<'_, '_>, name: &str) -> Result<ZKind, Cause>
     ensures value { IfOk result (λ kind. Given (Spelled SpellsKind) (λ k. k ≡ kinds.Absent) kind
         (member name.now (view v.now))) }
-    ensures judged { JudgesByCause result (optional kind_faults (member name.now (view v.now))) }
+    ensures judged { JudgesByCause result (optional kind_offends (member name.now (view v.now))) }
 {
     match member_of(v, name) {
         None => Ok(ZKind::Absent),
-        Some(found) => kind_in(found),
+        Some(found) => kind_in(&found),
     }
 }

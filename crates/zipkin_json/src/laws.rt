@@ -1,5 +1,5 @@
 //! Laws of what JSON values mean, as contracts of functions that do nothing.
-ghost use Rattle.zipkin_json.specs.Laws.{OneList, SomeList, SpansWrittenAgain, EqualSpansTexts, ReadsWritable, FreeMembers};
+ghost use Rattle.zipkin_json.specs.StatedLaws.{OneList, SomeList, SpansWrittenAgain, EqualSpansTexts, ReadsWritable, FreeMembers};
 
 /// A value has one list of spans at most, and nothing offends in one that has a list.
 pub fn one_list()

@@ -4,6 +4,7 @@
 mod annotation;
 mod endpoint;
 mod identifiers;
+mod input;
 pub mod laws;
 mod members;
 mod proper;
@@ -12,7 +13,7 @@ mod span;
 mod tags;
 mod writing;
 
+pub use input::{read_spans, read_text};
 pub use proper::proper_span;
-pub use reading::{read_spans, read_text};
 pub use span::{Endpoint, ZKind, ZSpan};
 pub use writing::write_span;

@@ -6,7 +6,7 @@ ghost use Rattle.map_jaeger.specs.Keys.{flags_key};
 ghost use Rattle.map_jaeger.specs.Reading as meant;
 ghost use Rattle.map_jaeger.specs.ReadColumns.{ArePartsOf, own_tags};
 
-use crate::keys::is_reserved;
+use crate::columns::is_free;
 use crate::writing::attributes_but;
 use jaeger_model::JSpan;
 use span_io::{Items, LONGEST, OutOfMemory, Text};
@@ -67,7 +67,7 @@ fn with_row(
 /// Tags of a span, by their keys.
 #[derive(Debug, Drop)]
 pub(crate) struct Parted {
-    /// Those of Jaeger's own.
+    /// Those of the table.
     pub own: Attrs,
     pub free: Attrs,
 }
@@ -83,7 +83,7 @@ pub(crate) fn part_tags(alloc: Global, tags: Attrs) -> Result<Parted, OutOfMemor
     Ok(Parted { own, free })
 }
 
-// Copies of the tags of Jaeger's own.
+// Copies of the tags of the table.
 fn own_of(alloc: Global, tags: &Attrs) -> Result<Attrs, OutOfMemory>
     ensures { IfOk result (λ own. own ≡ own_tags tags.now) }
 {
@@ -94,12 +94,6 @@ fn own_of(alloc: Global, tags: &Attrs) -> Result<Attrs, OutOfMemory>
         }
     }
     Ok(own)
-}
-
-fn is_free(key: &str) -> bool
-    ensures { result ≡ meant.is_free key.now }
-{
-    !is_reserved(key) && "jaeger.flags" != key
 }
 
 // The flags but the first bit, where there are any.

@@ -1,74 +1,67 @@
-//! What the tags of Jaeger's own say of a span.
-ghost use Rattle.std.specs.Prelude.{◌≡◌, unwrap_or, if◌then◌else◌, option_map, false, IfOk};
+//! What the tags of the table say of a span.
+ghost use Rattle.std.specs.Prelude.{◌≡◌, [], unwrap_or, if◌then◌else◌, option_map, false, IfOk};
+ghost use Rattle.span_tags.specs.TagWords as words;
 ghost use Rattle.trace_model.specs.declared.span.Code.TheVariants as statuses;
-ghost use Rattle.map_jaeger.specs.Columns as told;
-ghost use Rattle.map_jaeger.specs.Reading as meant;
-ghost use Rattle.map_jaeger.specs.ReadColumns.{IsToldBy};
+ghost use Rattle.map_jaeger.specs.ColumnWords as meant;
+ghost use Rattle.map_jaeger.specs.Columns.{looked, status_of_columns};
 
-use crate::reading::values::{error_in, kind_in};
+use crate::columns::Column;
+use crate::reading::values::error_in;
 use span_io::{OutOfMemory, Text};
 use span_tags::{code_in, count_in, name_in, text_or_empty};
 use std::alloc::Global;
-use trace_model::{Attrs, Code, Kind, Status, Value, find};
+use trace_model::{Attrs, Code, Status, Value, find};
 
-/// What the columns of a span and its scope hold.
-#[derive(Debug, Drop)]
-pub(crate) struct Told {
-    pub name: Text,
-    pub version: Text,
-    pub state: Text,
-    pub kind: Kind,
-    pub dropped_attributes: u32,
-    pub dropped_events: u32,
-    pub dropped_links: u32,
-    pub status: Status,
-}
-
-/// What these tags tell.
-pub(crate) fn told_by(alloc: Global, tags: &Attrs) -> Result<Told, OutOfMemory>
-    ensures { IfOk result (λ told. IsToldBy tags.now told) }
+/// What the tags hold in a column.
+pub(crate) fn held(tags: &Attrs, column: Column) -> Option<&Value>
+    ensures { option_map (λ value. value.now) result ≡ looked tags.now column }
 {
-    let name = name_in(
-        alloc,
-        find(tags, "otel.scope.name"),
-        find(tags, "otel.library.name"),
-    )?;
-    let version = name_in(
-        alloc,
-        find(tags, "otel.scope.version"),
-        find(tags, "otel.library.version"),
-    )?;
-    let state = text_or_empty(alloc, find(tags, "w3c.tracestate"))?;
-    let status = status_of(alloc, tags)?;
-    Ok(Told {
-        name,
-        version,
-        state,
-        kind: kind_in(find(tags, "span.kind")).unwrap_or(Kind::Internal),
-        dropped_attributes: count_in(find(tags, "otel.dropped_attributes_count")).unwrap_or(0),
-        dropped_events: count_in(find(tags, "otel.dropped_events_count")).unwrap_or(0),
-        dropped_links: count_in(find(tags, "otel.dropped_links_count")).unwrap_or(0),
-        status,
-    })
+    find(tags, column.key())
 }
 
-fn status_of(alloc: Global, tags: &Attrs) -> Result<Status, OutOfMemory>
-    ensures code { IfOk result (λ status. status.code ≡ meant.status_of_columns (told.looked tags.now)) }
-    ensures message { IfOk result (λ status.
-        status.message ≡ meant.message_by (meant.status_of_columns (told.looked tags.now)) (told.looked tags.now).description) }
+/// The text in a column.
+pub(crate) fn text_held(alloc: Global, tags: &Attrs, column: Column) -> Result<Text, OutOfMemory>
+    ensures { IfOk result (λ text. text ≡ unwrap_or (words.text_in (looked tags.now column)) []) }
+{
+    text_or_empty(alloc, held(tags, column))
+}
+
+/// The count in a column.
+pub(crate) fn count_held(tags: &Attrs, column: Column) -> u32
+    ensures { result ≡ unwrap_or (words.count_in (looked tags.now column)) 0 }
+{
+    count_in(held(tags, column)).unwrap_or(0)
+}
+
+/// The name in a column, or where that is absent in an older one.
+pub(crate) fn name_held(
+    alloc: Global,
+    tags: &Attrs,
+    newer: Column,
+    older: Column,
+) -> Result<Text, OutOfMemory>
+    ensures { IfOk result (λ name. name ≡ words.name_in (looked tags.now newer) (looked tags.now older)) }
+{
+    name_in(alloc, held(tags, newer), held(tags, older))
+}
+
+pub(crate) fn status_of(alloc: Global, tags: &Attrs) -> Result<Status, OutOfMemory>
+    ensures code { IfOk result (λ status. status.code ≡ status_of_columns (looked tags.now)) }
+    ensures message { IfOk result (λ status. status.message
+        ≡ meant.message_by (status_of_columns (looked tags.now)) (looked tags.now Column.Description)) }
 {
     let code = code_of(tags);
-    let message = message_by(alloc, code, find(tags, "otel.status_description"))?;
+    let message = message_by(alloc, code, held(tags, Column::Description))?;
     Ok(Status { code, message })
 }
 
 /// The code that `otel.status_code` names, else that of `error`.
 pub(crate) fn code_of(tags: &Attrs) -> Code
-    ensures { result ≡ meant.status_of_columns (told.looked tags.now) }
+    ensures { result ≡ status_of_columns (looked tags.now) }
 {
-    match code_in(find(tags, "otel.status_code")) {
+    match code_in(held(tags, Column::Code)) {
         Some(code) => code,
-        None => code_by_error(error_in(find(tags, "error"))),
+        None => code_by_error(error_in(held(tags, Column::Error))),
     }
 }
 

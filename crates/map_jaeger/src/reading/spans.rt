@@ -8,19 +8,21 @@ ghost use Rattle.map_jaeger.specs.Reading as meant;
 ghost use Rattle.map_jaeger.specs.ReadColumns.{scoped_by_parts};
 ghost use Rattle.map_jaeger.specs.Remarks.{RepeatsOfSpan, jspan_remarks};
 
+use crate::columns::{COLUMNS, Column};
 use crate::reading::attributes::{part_tags, span_attributes};
-use crate::reading::columns::{Told, told_by};
+use crate::reading::columns::{count_held, held, name_held, status_of, text_held};
 use crate::reading::events::events_of;
 use crate::reading::links::{links_but, parent_of};
-use crate::reading::remarks::remark_left_out;
+use crate::reading::remarks::remark_columns;
 use crate::reading::tags::attributes_of;
+use crate::reading::values::kind_in;
 use jaeger_model::JSpan;
 use span_io::{Items, OutOfMemory};
 use span_tags::{ReadSpan, Runs};
 use std::alloc::Global;
 use std::mem;
 use trace_model::{
-    Attrs, Event, Place, Remark, Scope, Span, remark_all, remark_dropped, remark_keys,
+    Attrs, Event, Kind, Place, Remark, Scope, Span, remark_all, remark_dropped, remark_keys,
 };
 
 /// The scopes of spans, and the remarks on them.
@@ -70,12 +72,12 @@ fn read_span(
     remark_keys(remarks, Place::Span(number), keys)?;
     let dropped = 0 < span.invalid_refs;
     remark_dropped(alloc, remarks, Place::Span(number), dropped)?;
-    remark_left_out(alloc, remarks, Place::Span(number), &parts.own)?;
+    remark_columns(alloc, remarks, Place::Span(number), &parts.own, &COLUMNS)?;
     remark_all(remarks, read.remarks)?;
     span_by(alloc, span, &parts.own, attributes, read.events)
 }
 
-// The span that has these tags of Jaeger's own, attributes and events.
+// The span that has these tags of the table, attributes and events.
 fn span_by(
     alloc: Global,
     span: JSpan,
@@ -85,38 +87,29 @@ fn span_by(
 ) -> Result<ReadSpan, OutOfMemory>
     ensures { IfOk result (λ read. one_of read ≡ scoped_by_parts span own.now attributes events) }
 {
-    let Told {
-        name,
-        version,
-        state,
-        kind,
-        dropped_attributes,
-        dropped_events,
-        dropped_links,
-        status,
-    } = told_by(alloc, own)?;
     let parent = parent_of(&span);
+    let links = links_but(alloc, span.trace, parent, &span.references)?;
     let span = Span {
         trace: span.trace,
         id: span.id,
-        state,
+        state: text_held(alloc, own, Column::State)?,
         parent,
         name: span.name,
-        kind,
+        kind: kind_in(held(own, Column::Kind)).unwrap_or(Kind::Internal),
         start: span.start,
         end: span.end,
         attributes,
-        dropped_attributes,
+        dropped_attributes: count_held(own, Column::DroppedAttributes),
         events,
-        dropped_events,
-        links: links_but(alloc, span.trace, parent, &span.references)?,
-        dropped_links,
-        status,
+        dropped_events: count_held(own, Column::DroppedEvents),
+        links,
+        dropped_links: count_held(own, Column::DroppedLinks),
+        status: status_of(alloc, own)?,
         flags: span.flags.cast_unsigned() % 2,
     };
     Ok(ReadSpan {
-        name,
-        version,
+        name: name_held(alloc, own, Column::ScopeName, Column::LibraryName)?,
+        version: name_held(alloc, own, Column::ScopeVersion, Column::LibraryVersion)?,
         span,
     })
 }

@@ -1,6 +1,6 @@
-//! What the values under the reserved keys say.
+//! What the values under keys of the table say.
 ghost use Rattle.std.specs.Prelude.{◌≡◌, option_map};
-ghost use Rattle.map_jaeger.specs.Reading as meant;
+ghost use Rattle.map_jaeger.specs.ColumnWords as meant;
 
 use span_tags::text_in;
 use trace_model::{Kind, Value};

@@ -1,53 +1,39 @@
 //! The attributes of a span and of its resource.
 ghost use Rattle.std.specs.Prelude.{◌≡◌, [], ◌∷◌, ◌++◌, filter, option_map, IfOk, OnOk};
+ghost use Rattle.span_tags.specs.Columns.{rows_by};
 ghost use Rattle.span_tags.specs.TagKeys.{service_key};
 ghost use Rattle.span_tags.specs.TagWords.{row, without};
 ghost use Rattle.map_zipkin.specs.Keys.{peer_key};
-ghost use Rattle.map_zipkin.specs.ReadColumns.{ArePartedBy, local_rows, zipkin_own_by, remote_rows};
+ghost use Rattle.map_zipkin.specs.OwnColumns as told;
+ghost use Rattle.map_zipkin.specs.OwnColumns.{own_of, own_row, own_rows};
+ghost use Rattle.map_zipkin.specs.ReadColumns.{ArePartedBy};
 ghost use Rattle.map_zipkin.specs.Reading as meant;
-ghost use Rattle.map_zipkin.specs.TagColumns as columns;
 
 use crate::count_texts::count_text;
 use crate::keys::{is_free, resource_key};
+use crate::own::{OWN_KEYS, Own};
 use span_io::{Items, OutOfMemory, Text};
-use span_tags::{add_row, text_in, text_kept, word_given};
+use span_tags::{add_row, text_given, text_in, text_kept, word_given};
 use std::alloc::Global;
 use trace_model::{Attrs, Value, attrs_of};
-use zipkin_json::Endpoint;
+use zipkin_json::ZSpan;
 
-/// What the endpoints and marks of a span tell: the service of its resource, and attributes.
-#[derive(Debug, Drop)]
-pub(crate) struct Ends {
-    pub service: Text,
-    pub pairs: Attrs,
-}
-
-/// What these endpoints and marks tell, where that tag names the service at the other end.
+/// The attributes that the endpoints and marks of a span tell, where its service at the other end is
+/// this and that tag names one.
 pub(crate) fn ends_of(
     alloc: Global,
-    marks: (bool, bool),
-    local: Endpoint,
-    remote: Endpoint,
+    span: &ZSpan,
+    service: Text,
     tag: Option<&Value>,
-) -> Result<Ends, OutOfMemory>
-    ensures service { IfOk result (λ ends. ends.service ≡ local.service) }
-    ensures pairs { IfOk result (λ ends. ends.pairs
-        ≡ row peer_key (meant.peer_of remote.service (option_map (λ v. v.now) tag.entry))
-        ++ columns.own_rows (zipkin_own_by marks.0 marks.1 local remote)) }
+) -> Result<Attrs, OutOfMemory>
+    ensures { IfOk result (λ pairs. pairs
+        ≡ row peer_key (meant.peer_of service (option_map (λ v. v.now) tag.entry)) ++ own_rows (own_of span.now)) }
 {
-    let peer = peer_of(alloc, remote.service, tag)?;
-    let debug = truth_given(alloc, marks.0)?;
-    let shared = truth_given(alloc, marks.1)?;
     let mut pairs = Items::new(alloc);
+    let peer = peer_of(alloc, service, tag)?;
     add_row(alloc, &mut pairs, "peer.service", peer)?;
-    add_row(alloc, &mut pairs, "zipkin.debug", debug)?;
-    add_local(alloc, &mut pairs, local.ipv4, local.ipv6, local.port)?;
-    add_remote(alloc, &mut pairs, remote.ipv4, remote.ipv6, remote.port)?;
-    add_row(alloc, &mut pairs, "zipkin.shared", shared)?;
-    Ok(Ends {
-        service: local.service,
-        pairs,
-    })
+    add_own(alloc, &mut pairs, span, &OWN_KEYS)?;
+    Ok(pairs)
 }
 
 // The service at the other end: that of the endpoint counts before the tag.
@@ -64,7 +50,7 @@ fn peer_of(alloc: Global, service: Text, tag: Option<&Value>) -> Result<Option<V
 }
 
 fn truth_given(alloc: Global, truth: bool) -> Result<Option<Value>, OutOfMemory>
-    ensures { IfOk result (λ value. value ≡ columns.truth_given truth) }
+    ensures { IfOk result (λ value. value ≡ told.truth_given truth) }
 {
     if truth {
         return word_given(alloc, "true");
@@ -72,34 +58,37 @@ fn truth_given(alloc: Global, truth: bool) -> Result<Option<Value>, OutOfMemory>
     Ok(None)
 }
 
-fn add_local(
-    alloc: Global,
-    pairs: &mut Attrs,
-    ipv4: Text,
-    ipv6: Text,
-    port: u16,
-) -> Result<(), OutOfMemory>
-    ensures { OnOk result (pairs.new ≡ pairs.old ++ local_rows ipv4 ipv6 port) }
+// What a span tells under a key of Zipkin's own.
+fn given(alloc: Global, span: &ZSpan, own: Own) -> Result<Option<Value>, OutOfMemory>
+    ensures { IfOk result (λ value. value ≡ own_of span.now own) }
 {
-    let port = count_text(alloc, u32::from(port))?;
-    add_row(alloc, pairs, "zipkin.local.ipv4", text_kept(ipv4))?;
-    add_row(alloc, pairs, "zipkin.local.ipv6", text_kept(ipv6))?;
-    add_row(alloc, pairs, "zipkin.local.port", port)
+    match own {
+        Own::Debug => truth_given(alloc, span.debug),
+        Own::LocalIpv4 => text_given(&span.local.ipv4),
+        Own::LocalIpv6 => text_given(&span.local.ipv6),
+        Own::LocalPort => count_text(alloc, u32::from(span.local.port)),
+        Own::RemoteIpv4 => text_given(&span.remote.ipv4),
+        Own::RemoteIpv6 => text_given(&span.remote.ipv6),
+        Own::RemotePort => count_text(alloc, u32::from(span.remote.port)),
+        Own::Shared => truth_given(alloc, span.shared),
+    }
 }
 
-fn add_remote(
-    alloc: Global,
-    pairs: &mut Attrs,
-    ipv4: Text,
-    ipv6: Text,
-    port: u16,
-) -> Result<(), OutOfMemory>
-    ensures { OnOk result (pairs.new ≡ pairs.old ++ remote_rows ipv4 ipv6 port) }
+fn add_one(alloc: Global, pairs: &mut Attrs, span: &ZSpan, own: Own) -> Result<(), OutOfMemory>
+    ensures { OnOk result (pairs.new ≡ pairs.old ++ row (own_row own).key (own_of span.now own)) }
 {
-    let port = count_text(alloc, u32::from(port))?;
-    add_row(alloc, pairs, "zipkin.remote.ipv4", text_kept(ipv4))?;
-    add_row(alloc, pairs, "zipkin.remote.ipv6", text_kept(ipv6))?;
-    add_row(alloc, pairs, "zipkin.remote.port", port)
+    let value = given(alloc, span, own)?;
+    add_row(alloc, pairs, own.key(), value)
+}
+
+// Adds the attributes under these keys of Zipkin's own.
+fn add_own(alloc: Global, pairs: &mut Attrs, span: &ZSpan, keys: &[Own]) -> Result<(), OutOfMemory>
+    ensures { OnOk result (pairs.new ≡ pairs.old ++ rows_by own_row keys.now (own_of span.now)) }
+{
+    'keys: for own in keys {
+        add_one(alloc, pairs, span, *own)?;
+    }
+    Ok(())
 }
 
 /// Tags as attributes of the resource and of the span.

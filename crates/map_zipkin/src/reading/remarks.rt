@@ -1,15 +1,18 @@
 //! Remarks on tags of a span that say nothing, or other than what stands in a place of its own.
 ghost use Rattle.std.specs.Prelude.{◌≡◌, ◌++◌, is_some, Some, IfOk, OnOk};
+ghost use Rattle.span_tags.specs.Columns.{left_out_by};
 ghost use Rattle.span_tags.specs.TagKeys.{code_key, error_key};
 ghost use Rattle.span_tags.specs.TagWords as words;
 ghost use Rattle.trace_model.specs.Attributes.{at};
 ghost use Rattle.trace_model.specs.Remarks.{Keys, tags_dropped};
 ghost use Rattle.trace_model.specs.declared.place.Place.TheVariants as places;
 ghost use Rattle.map_zipkin.specs.Keys.{peer_key};
+ghost use Rattle.map_zipkin.specs.OwnColumns.{own_in, own_row};
 ghost use Rattle.map_zipkin.specs.ReadColumns as parts;
 ghost use Rattle.map_zipkin.specs.Remarks as told;
 ghost use Rattle.map_zipkin.specs.TagColumns.{columns_in};
 
+use crate::own::{OWN_KEYS, Own, has_own};
 use span_io::{Items, OutOfMemory, Text};
 use span_tags::{
     code_in, is_idle_code, is_idle_count, is_idle_library, is_there, remark_if, text_in,
@@ -58,7 +61,7 @@ pub(crate) fn remarks_of(
     let place = Place::Span(1);
     remark_first(alloc, &mut remarks, place, tags)?;
     remark_next(alloc, &mut remarks, place, service, tags)?;
-    remark_own(alloc, &mut remarks, place, tags)?;
+    remark_own(alloc, &mut remarks, place, tags, &OWN_KEYS)?;
     Ok(remarks)
 }
 
@@ -105,33 +108,32 @@ fn remark_next(
 }
 
 // Adds that a tag of this key was left out, if there is one.
-fn remark_there(
+fn remark_one(
     alloc: Global,
     remarks: &mut Items<Remark>,
     place: Place,
     tags: &Attrs,
-    key: &str,
+    own: Own,
 ) -> Result<(), OutOfMemory>
-    ensures { OnOk result (remarks.new
-        ≡ remarks.old ++ tags_dropped place (words.if_left key.now (is_some (at key.now tags.now)))) }
+    ensures { OnOk result (remarks.new ≡ remarks.old
+        ++ tags_dropped place (words.if_left (own_row own).key (is_some (own_in tags.now own)))) }
 {
-    remark_if(alloc, remarks, place, key, is_there(tags, key))
+    remark_if(alloc, remarks, place, own.key(), has_own(tags, own))
 }
 
+// Adds which of the tags of these keys of Zipkin's own were left out: all that are there.
 fn remark_own(
     alloc: Global,
     remarks: &mut Items<Remark>,
     place: Place,
     tags: &Attrs,
+    keys: &[Own],
 ) -> Result<(), OutOfMemory>
-    ensures { OnOk result (remarks.new ≡ remarks.old ++ tags_dropped place (told.own_left tags.now)) }
+    ensures { OnOk result (remarks.new ≡ remarks.old
+        ++ tags_dropped place (left_out_by own_row keys.now (own_in tags.now))) }
 {
-    remark_there(alloc, remarks, place, tags, "zipkin.debug")?;
-    remark_there(alloc, remarks, place, tags, "zipkin.local.ipv4")?;
-    remark_there(alloc, remarks, place, tags, "zipkin.local.ipv6")?;
-    remark_there(alloc, remarks, place, tags, "zipkin.local.port")?;
-    remark_there(alloc, remarks, place, tags, "zipkin.remote.ipv4")?;
-    remark_there(alloc, remarks, place, tags, "zipkin.remote.ipv6")?;
-    remark_there(alloc, remarks, place, tags, "zipkin.remote.port")?;
-    remark_there(alloc, remarks, place, tags, "zipkin.shared")
+    'keys: for own in keys {
+        remark_one(alloc, remarks, place, tags, *own)?;
+    }
+    Ok(())
 }

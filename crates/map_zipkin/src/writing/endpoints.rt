@@ -6,10 +6,12 @@ ghost use Rattle.span_tags.specs.TagWords as words;
 ghost use Rattle.trace_model.specs.Attributes.{at};
 ghost use Rattle.trace_model.specs.EventTexts.{holds_double};
 ghost use Rattle.map_zipkin.specs.Keys.{peer_key};
+ghost use Rattle.map_zipkin.specs.OwnColumns.{own_in};
 ghost use Rattle.map_zipkin.specs.TagColumns as columns;
 ghost use Rattle.map_zipkin.specs.Unfit.{port_unfit, ports_unfit};
 ghost use Rattle.map_zipkin.specs.Writing as told;
 
+use crate::own::{Own, own_held};
 use span_io::OutOfMemory;
 use span_tags::{decimal_in, text_in, text_or_empty, text_or_none};
 use std::alloc::Global;
@@ -44,13 +46,13 @@ fn local_endpoint(
 ) -> Result<Endpoint, OutOfMemory>
     requires plain { double_at (at service_key resource.now) ≡ false }
     requires ports { ports_unfit attributes.now ≡ false }
-    ensures { IfOk result (λ endpoint. endpoint ≡ told.local_endpoint resource.now (columns.own_in attributes.now)) }
+    ensures { IfOk result (λ endpoint. endpoint ≡ told.local_endpoint resource.now (own_in attributes.now)) }
 {
     Ok(Endpoint {
         service: text_or_none(alloc, find(resource, "service.name"))?,
-        ipv4: text_or_empty(alloc, find(attributes, "zipkin.local.ipv4"))?,
-        ipv6: text_or_empty(alloc, find(attributes, "zipkin.local.ipv6"))?,
-        port: port_told(find(attributes, "zipkin.local.port")),
+        ipv4: text_or_empty(alloc, own_held(attributes, Own::LocalIpv4))?,
+        ipv6: text_or_empty(alloc, own_held(attributes, Own::LocalIpv6))?,
+        port: port_told(own_held(attributes, Own::LocalPort)),
     })
 }
 
@@ -58,13 +60,13 @@ fn local_endpoint(
 fn remote_endpoint(alloc: Global, attributes: &Attrs) -> Result<Endpoint, OutOfMemory>
     requires plain { double_at (at peer_key attributes.now) ≡ false }
     requires ports { ports_unfit attributes.now ≡ false }
-    ensures { IfOk result (λ endpoint. endpoint ≡ told.remote_endpoint attributes.now (columns.own_in attributes.now)) }
+    ensures { IfOk result (λ endpoint. endpoint ≡ told.remote_endpoint attributes.now (own_in attributes.now)) }
 {
     Ok(Endpoint {
         service: text_or_none(alloc, find(attributes, "peer.service"))?,
-        ipv4: text_or_empty(alloc, find(attributes, "zipkin.remote.ipv4"))?,
-        ipv6: text_or_empty(alloc, find(attributes, "zipkin.remote.ipv6"))?,
-        port: port_told(find(attributes, "zipkin.remote.port")),
+        ipv4: text_or_empty(alloc, own_held(attributes, Own::RemoteIpv4))?,
+        ipv6: text_or_empty(alloc, own_held(attributes, Own::RemoteIpv6))?,
+        port: port_told(own_held(attributes, Own::RemotePort)),
     })
 }
 
@@ -78,8 +80,8 @@ pub(crate) fn endpoints_of(
     requires resource { holds_double resource.now ≡ false }
     requires attributes { holds_double attributes.now ≡ false }
     requires ports { ports_unfit attributes.now ≡ false }
-    ensures local { IfOk result (λ ends. ends.0 ≡ told.local_endpoint resource.now (columns.own_in attributes.now)) }
-    ensures remote { IfOk result (λ ends. ends.1 ≡ told.remote_endpoint attributes.now (columns.own_in attributes.now)) }
+    ensures local { IfOk result (λ ends. ends.0 ≡ told.local_endpoint resource.now (own_in attributes.now)) }
+    ensures remote { IfOk result (λ ends. ends.1 ≡ told.remote_endpoint attributes.now (own_in attributes.now)) }
 {
     let local = local_endpoint(alloc, resource, attributes)?;
     let remote = remote_endpoint(alloc, attributes)?;

@@ -2,11 +2,11 @@ use Rattle.std.proofs.Common.{[], ℕ, List, sym, ap, subst, ◌∙◌}
 use Rattle.std.proofs.lemmas.List.{append-nil}
 use Rattle.std.proofs.lemmas.Result.{err_from_is_err_and}
 use Rattle.span_io.specs.Offences.{Offence}
-use Rattle.span_io.specs.GatheringLaws.{judged_end, refused_end}
+use Rattle.span_io.specs.laws.GatheringLaws.{judged_end, refused_end}
 use Rattle.span_io.specs.Tables.{givens}
 use Rattle.span_io.specs.Walks.{Walk}
 use Rattle.thrift_core.specs.Messages.{FieldItem, structs, whole_struct, AreFields}
-use Rattle.thrift_core.specs.StructLaws.{struct_laws}
+use Rattle.thrift_core.specs.laws.StructLaws.{struct_laws}
 use Rattle.thrift_core.specs.Trees.{Fields, outer_levels}
 use Rattle.jaeger_model.specs.declared.batch.Batch.{Batch}
 use Rattle.jaeger_model.specs.declared.batch_rows.BatchRows.{BatchRows}

@@ -1,8 +1,8 @@
 use Rattle.std.proofs.Common.{subst, ℕ, List}
-use Rattle.span_io.specs.GatheringLaws.{judged_end, refused_end}
+use Rattle.span_io.specs.laws.GatheringLaws.{judged_end, refused_end}
 use Rattle.span_io.specs.Tables.{givens}
 use Rattle.thrift_core.specs.Messages.{FieldItem, structs, whole_struct, AreFields}
-use Rattle.thrift_core.specs.StructLaws.{struct_laws}
+use Rattle.thrift_core.specs.laws.StructLaws.{struct_laws}
 use Rattle.thrift_core.specs.Trees.{Fields}
 use Rattle.jaeger_model.specs.Logs.{IsLog, log_table, log_ends, log_rules}
 use Rattle.jaeger_model.specs.declared.span.Log.{Log}

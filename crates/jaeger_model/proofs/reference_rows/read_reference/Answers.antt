@@ -1,5 +1,5 @@
 use Rattle.std.proofs.Common.{subst, List, Option}
-use Rattle.span_io.specs.GatheringLaws.{judged_end, refused_end}
+use Rattle.span_io.specs.laws.GatheringLaws.{judged_end, refused_end}
 use Rattle.span_io.specs.Tables.{givens}
 use Rattle.thrift_core.specs.Messages.{FieldItem, structs, whole_struct, AreFields}
 use Rattle.jaeger_model.specs.declared.span.SpanRef.{SpanRef}

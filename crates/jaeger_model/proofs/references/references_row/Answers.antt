@@ -2,7 +2,7 @@ use Rattle.std.proofs.Common.{◌-◌, Ok, Err, Option, Some, refl}
 use Rattle.std.proofs.lemmas.Result.{err_from_is_err_and}
 use Rattle.span_io.specs.Offences.{HereOrInside}
 use Rattle.span_io.specs.declared.items.Items.{Items}
-use Rattle.thrift_core.specs.StructLaws.{struct_laws}
+use Rattle.thrift_core.specs.laws.StructLaws.{struct_laws}
 use Rattle.jaeger_model.specs.declared.span.SpanRef.{SpanRef}
 use Rattle.jaeger_model.specs.InnerRows.{BadElement, ListOffends}
 use Rattle.jaeger_model.specs.ReferenceSoFar.{KeepsReferences}

@@ -1,7 +1,7 @@
 use Rattle.std.proofs.Common.{All, sym, subst}
 use Rattle.jaeger_model.specs.declared.batch.Batch.{Batch}
 use Rattle.map_jaeger.specs.Faults.{IsFaultOf}
-use Rattle.map_jaeger.specs.Laws.{IsTimely}
+use Rattle.map_jaeger.specs.StatedLaws.{IsTimely}
 use Rattle.map_jaeger.proofs.NoDoubles.{group_plain}
 use Rattle.map_jaeger.proofs.NoFault.{none_found}
 use Rattle.map_jaeger.proofs.TimelySpans.{spans_timely}

@@ -1,9 +1,15 @@
-use Rattle.std.proofs.Common.{option_map, ap, sym, subst, ◌∙◌}
+use Rattle.std.proofs.Common.{◌≡◌, ◌++◌, map, Option, option_map, ap, sym, subst, ◌∙◌}
 use Rattle.std.proofs.lemmas.Result.{err_from_is_err_and}
 use Rattle.trace_model.specs.Remarks.{tags_dropped}
 use Rattle.trace_model.specs.Soundness.{IsSoundSpan}
 use Rattle.trace_model.specs.Values.{AreSound}
 use Rattle.trace_model.specs.declared.place.Place.TheVariants as places
+use Rattle.trace_model.specs.declared.value.Value.{Value}
+use Rattle.zipkin_json.specs.declared.span.ZSpan.{ZSpan}
+use Rattle.span_tags.specs.TagWords.{row}
+use Rattle.map_zipkin.specs.Keys.{peer_key}
+use Rattle.map_zipkin.specs.OwnColumns.{own_of, own_rows}
+use Rattle.map_zipkin.specs.Reading.{pair_of, pairs_of, peer_of, zipkin_event_of}
 use Rattle.map_zipkin.specs.Remarks.{left_out_by}
 use Rattle.map_zipkin.specs.TagColumns.{columns_in}
 use Rattle.map_zipkin.proofs.EventFacts.{EventsRead}
@@ -12,14 +18,20 @@ use Rattle.map_zipkin.proofs.SpanJoined.{span_joined}
 use Rattle.map_zipkin.proofs.reading.triple_of_span.Goals as goal
 
 pub returns-clause-value : goal.returns-clause-value
-returns-clause-value c = span_joined c.args.span c.in_ok-told.told c.in_ok-parted.parted c.in_ok-events.events c.new.result c.kind_of.result
-    c.in_ok-tags.tags c.in_ok-ends.ends.pairs c.in_ok-ends.ends.service (option_map (λ v. v.now) c.find-tag.result)
-    c.in_ok-tags.ensures c.in_ok-told.ensures c.in_ok-events.ensures c.in_ok-ends.ensures.service c.find-tag.ensures
-    c.in_ok-ends.ensures.pairs c.in_ok-parted.ensures c.kind_of.ensures c.new.ensures
+returns-clause-value c =
+    let span : ZSpan = c.args.span in
+    let tag : Option Value = option_map (λ v. v.now) c.find-tag.result in
+    span_joined span c.in_ok-told.told c.in_ok-parted.parted c.in_ok-events.events c.new-links.result c.kind_of.result
+    c.in_ok-tags.tags c.in_ok-ends.ends c.replace-service.result tag
+    (c.in_ok-tags.ensures ∙ ap (map pair_of) c.replace-own_tags.ensures.value) c.in_ok-told.ensures
+    (c.in_ok-events.ensures ∙ ap (map zipkin_event_of) c.replace-annotations.ensures.value) c.replace-service.ensures.value c.find-tag.ensures
+    (c.in_ok-ends.ensures ∙ ap (λ s. row peer_key (peer_of s tag) ++ own_rows (own_of span)) c.replace-peer.ensures.value)
+    c.in_ok-parted.ensures c.kind_of.ensures c.new-links.ensures
 
 pub returns-clause-remarks : goal.returns-clause-remarks
-returns-clause-remarks c = c.in_ok-remarks.ensures
-    ∙ ap (λ t. tags_dropped (places.Span 1) (left_out_by c.args.span.remote.service (columns_in t) t)) c.in_ok-tags.ensures
+returns-clause-remarks c =
+    let tags_are : c.in_ok-tags.tags ≡ pairs_of c.args.span = c.in_ok-tags.ensures ∙ ap (map pair_of) c.replace-own_tags.ensures.value in
+    c.in_ok-remarks.ensures ∙ ap (λ t. tags_dropped (places.Span 1) (left_out_by c.args.span.remote.service (columns_in t) t)) tags_are
 
 pub returns-clause-sound : goal.returns-clause-sound
 returns-clause-sound c =

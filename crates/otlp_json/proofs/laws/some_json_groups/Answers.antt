@@ -3,12 +3,12 @@ use Rattle.serde_json.specs.Data.{Data}
 use Rattle.span_io.specs.Causes.{cause_number}
 use Rattle.span_io.specs.declared.cause.Cause.{Cause}
 use Rattle.span_io.specs.Paths.{Counts}
-use Rattle.span_io.specs.PathDecisions.{IsSettled, one, none}
-use Rattle.otlp_json.specs.Group.{RemarkedGroup, AreJsonGroups, json_groups_faults}
+use Rattle.span_io.specs.laws.PathDecisions.{IsSettled, one, none}
+use Rattle.otlp_json.specs.Group.{RemarkedGroup, AreJsonGroups, json_groups_offend}
 use Rattle.otlp_json.proofs.SettledGroups.{groups_settled}
 use Rattle.otlp_json.proofs.laws.some_json_groups.Goals as goal
 
-some : (d : Data) → IsSettled (λ groups. AreJsonGroups groups d) (json_groups_faults d) → ((groups : List RemarkedGroup) × AreJsonGroups groups d) ⊎ ((cause : Cause) × Counts (json_groups_faults d) (cause_number cause))
+some : (d : Data) → IsSettled (λ groups. AreJsonGroups groups d) (json_groups_offend d) → ((groups : List RemarkedGroup) × AreJsonGroups groups d) ⊎ ((cause : Cause) × Counts (json_groups_offend d) (cause_number cause))
 some d (one groups means only clean) = inl (groups, means)
 some d (none cause counts never) = inr (cause, counts)
 

@@ -1,24 +1,16 @@
-use Rattle.std.proofs.Common.{rules}
-use Rattle.span_io.specs.PathLaws.{clean_parts, clean_nothing, halts_first, halts_later, quiet_parts, quiet_nothing, exits}
+use Rattle.std.proofs.lemmas.Result.{IfOk-at_ok}
+use Rattle.json_members.specs.laws.PartLaws.{reading_ends}
 use Rattle.otlp_json.specs.Group.{scope_members}
 use Rattle.otlp_json.proofs.scope.read_members.Goals as goal
 
-pub returns-in_err-instrumentation-clause-judged : goal.returns-in_err-instrumentation-clause-judged
-unfolding scope_members
-returns-in_err-instrumentation-clause-judged c =
-    exits c.in_err-instrumentation.field-0.0 _ _ (search rules) (halts_first _ _ _ (search (quiet_parts, quiet_nothing) depth 40) c.in_err-instrumentation.ensures.judged)
-
-pub returns-in_err-spans-clause-judged : goal.returns-in_err-spans-clause-judged
-unfolding scope_members
-returns-in_err-spans-clause-judged c =
-    exits c.in_err-spans.field-0.0 _ _ (search rules) (halts_later _ _ _ c.in_ok-instrumentation.ensures.judged (halts_first _ _ _ (search (quiet_parts, quiet_nothing) depth 40) c.in_err-spans.ensures.judged))
-
-pub returns-in_err-schema_url-clause-judged : goal.returns-in_err-schema_url-clause-judged
-unfolding scope_members
-returns-in_err-schema_url-clause-judged c =
-    exits c.in_err-schema_url.field-0.0 _ _ (search rules) (halts_later _ _ _ c.in_ok-instrumentation.ensures.judged (halts_later _ _ _ c.in_ok-spans.ensures.judged (halts_first _ _ _ quiet_nothing c.in_err-schema_url.ensures.judged)))
+pub returns-clause-value : goal.returns-clause-value
+returns-clause-value c = record {
+  shape = c.in_ok-object.ensures.begins.shape;
+  instrumentation = IfOk-at_ok _ c.in_ok-instrumentation.ensures.same c.instrumentation_of.ensures.value;
+  spans = IfOk-at_ok _ c.in_ok-spans.ensures.same c.rows_of.ensures.value;
+  url = IfOk-at_ok _ c.in_ok-schema_url.ensures.same c.text.ensures.value;
+}
 
 pub returns-clause-judged : goal.returns-clause-judged
 unfolding scope_members
-returns-clause-judged c =
-    clean_parts _ _ c.in_ok-instrumentation.ensures.judged (clean_parts _ _ c.in_ok-spans.ensures.judged (clean_parts _ _ c.in_ok-schema_url.ensures.judged clean_nothing))
+returns-clause-judged c = reading_ends scope_members _ 3 c.in_ok-schema_url.ensures.goes_on tt

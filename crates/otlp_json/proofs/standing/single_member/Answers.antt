@@ -1,10 +1,9 @@
 use Rattle.std.proofs.Common.{sym, ◌∙◌}
-use Rattle.serde_json.proofs.Views.{Entry}
-use Rattle.serde_json.specs.View.{view}
-use Rattle.otlp_json.proofs.SingleMembers.{single}
+use Rattle.json_nodes.specs.Lents.{lent_view as view, members_left}
+use Rattle.otlp_json.proofs.SingleMembers.{single, at_none}
 use Rattle.otlp_json.proofs.standing.single_member.Goals as goal
 
 pub returns : goal.returns
 returns c =
-    let x : Entry = (c.in-Some-first_key_value.name.now, c.in-Some-first_key_value.held.now) in
-    single (view c.args.v.now) c.in-Some.members.now.entries x c.in-Some.ensures (sym c.len.ensures.len ∙ c.if-len-ne1.false) c.in-Some-first_key_value.ensures.first
+    single (view c.args.v.now) (members_left c.in-Some.members) c.in-Some-next.name.now (view c.in-Some-next.held) (members_left c.next.new.self)
+    c.in-Some.ensures c.in-Some-next.ensures (at_none _ _ _ (sym c.is_some.ensures ∙ c.if-is_some.false) c.next-2.ensures)

@@ -1,11 +1,12 @@
-use Rattle.std.proofs.Common.{◌≡◌, suc, length, ap, true, is_some, arith, rules}
+use Rattle.std.proofs.Common.{◌≡◌, suc, true, is_some, arith, rules}
 use Rattle.serde_json.specs.Find.{as_object}
-use Rattle.serde_json.specs.View.{view}
+use Rattle.json_nodes.specs.Lents.{lent_view as view}
 use Rattle.span_io.specs.declared.halt.Halt.TheVariants as halts
-use Rattle.span_io.specs.PathLaws.{clean_valued, clean_parts, clean_nothing, halts_valued, halts_first, halts_later, quiet_parts, quiet_nothing, exits}
+use Rattle.span_io.specs.laws.PathLaws.{clean_valued, clean_parts, clean_nothing, halts_valued, halts_first, halts_later, quiet_parts, quiet_nothing, exits}
 use Rattle.otlp_json.specs.Found.{value_found, pair_found}
-use Rattle.otlp_json.specs.Values.{many_members, key_value_members, json_value_offends, json_key_value_offends}
-use Rattle.otlp_json.proofs.ValueLemmas.{none_below, judged_behind, halts_behind, clean_next, halts_next, clean_held, halts_held, value_deeper, pair_deeper, value_clean_deeper, value_halts_deeper, pair_clean_deeper, pair_halts_deeper, values_next, pairs_next, values_given, pairs_given}
+use Rattle.otlp_json.specs.Values.{many_members, key_value_members, inner_value_offends, inner_pair_offends}
+use Rattle.otlp_json.proofs.ValueLemmas.{judged_behind, halts_behind, clean_held, halts_held, values_given, pairs_given, values_begin, value_more, value_stops, pairs_begin, pair_more, pair_stops, too_deep}
+use Rattle.otlp_json.proofs.Walks.{all_passed}
 use Rattle.otlp_json.proofs.values.+values.Goals as goal
 
 -- ---- the parts of a value
@@ -47,35 +48,38 @@ read_list-returns-clause-judged t c =
 
 pub values_in-returns-in_err-read-clause-judged : goal.values_in-returns-in_err-read-clause-judged
 values_in-returns-in_err-read-clause-judged t c =
-    exits c.in_err-read.field-0.0 _ _ (search rules) (halts_held c.args.left (json_value_offends c.args.left) _ _ c.in-Some.ensures _ c.in_err-read.ensures.judged)
+    exits c.in_err-read.field-0.0 _ _ (search rules) (halts_held c.args.left (inner_value_offends c.args.left) _ _ c.in-Some.ensures _ c.in_err-read.ensures.judged)
 
 pub values_in-returns-clause-value : goal.values_in-returns-clause-value
 values_in-returns-clause-value t c = values_given c.args.left _ _ c.in-Some.ensures _ _ c.in_ok-read.ensures.value
 
 pub values_in-returns-clause-judged : goal.values_in-returns-clause-judged
-values_in-returns-clause-judged t c = clean_held c.args.left (json_value_offends c.args.left) _ _ c.in-Some.ensures c.in_ok-read.ensures.judged
+values_in-returns-clause-judged t c = clean_held c.args.left (inner_value_offends c.args.left) _ _ c.in-Some.ensures c.in_ok-read.ensures.judged
+
+pub read_elements-elements-init : goal.read_elements-elements-init
+read_elements-elements-init t c = values_begin c.args.left _ _ _ c.in_ok-values.ensures c.new-noted.ensures
 
 pub read_elements-returns-in_err-read-clause-judged : goal.read_elements-returns-in_err-read-clause-judged
 read_elements-returns-in_err-read-clause-judged t c =
-    let some : c.args.left ≡ suc c.in-Some.below = omega (arith, c.in-Some.ensures) in
+    let some : c.args.left ≡ suc c.in-Some-checked_sub.below = omega (arith, c.in-Some-checked_sub.ensures) in
     exits c.in_err-read.field-0.0 _ _ (search rules)
-    (halts_next (json_value_offends c.args.left) c.args.elements.now.items c.elements.element-index c.element-item.result (search rules) (search rules)
-    c.args.left c.in-Some.below some c.in_err-read.field-0.0 (search rules) (value_halts_deeper c.args.left c.in-Some.below some _ _ c.in_err-read.ensures.judged))
+    (value_stops c.args.left _ c.in-Some-checked_sub.below some _ _ _ c.in-Some.ensures _ _ c.in_err-read.field-0.0 c.elements.invariant c.in_err-read.ensures.judged)
 
-pub read_elements-returns-in_default-clause-judged : goal.read_elements-returns-in_default-clause-judged
-read_elements-returns-in_default-clause-judged t c =
-    none_below (json_value_offends c.args.left) c.args.elements.now.items c.elements.element-index c.args.left
-    (omega (arith, c.elements-test.true, ap length c.deref-element-items.ensures.value)) (omega (arith, c.in_default.ensures))
+pub read_elements-returns-in_default-checked_sub-clause-judged : goal.read_elements-returns-in_default-checked_sub-clause-judged
+read_elements-returns-in_default-checked_sub-clause-judged t c =
+    too_deep c.args.left _ (inner_value_offends c.args.left) _ _ _ c.in-Some.ensures c.elements.invariant (omega (arith, c.in_default-checked_sub.ensures))
 
 pub read_elements-elements-preserved : goal.read_elements-elements-preserved
 read_elements-elements-preserved t c =
-    let some : c.args.left ≡ suc c.in-Some.below = omega (arith, c.in-Some.ensures) in
-    record {
-      read = rw (c.in_ok-push.ensures.ok, c.in_ok-note_keys.ensures) (values_next c.args.left c.deref-element-items.result.now c.elements.element-index c.element-item.result c.elements-test.true c.element-item.is
-          c.elements.values c.elements.noted (value_found c.in_ok-read.read) c.elements.invariant.read (value_deeper c.args.left c.in-Some.below some _ _ c.in_ok-read.ensures.value));
-      clean = clean_next (json_value_offends c.args.left) c.deref-element-items.result.now c.elements.element-index c.element-item.result c.elements-test.true c.element-item.is
-          c.args.left c.in-Some.below some c.elements.invariant.clean (value_clean_deeper c.args.left c.in-Some.below some _ c.in_ok-read.ensures.judged);
-    }
+    let some : c.args.left ≡ suc c.in-Some-checked_sub.below = omega (arith, c.in-Some-checked_sub.ensures) in
+    value_more c.args.left _ c.in-Some-checked_sub.below some _ _ _ c.in-Some.ensures _ _ _ _ (value_found c.in_ok-read.read)
+    c.in_ok-push.ensures.ok c.in_ok-note_keys.ensures c.in_ok-read.ensures.value c.in_ok-read.ensures.judged c.elements.invariant
+
+pub read_elements-returns-clause-value : goal.read_elements-returns-clause-value
+read_elements-returns-clause-value t c = (all_passed _ _ _ c.in_default.ensures c.elements.invariant).read
+
+pub read_elements-returns-clause-judged : goal.read_elements-returns-clause-judged
+read_elements-returns-clause-judged t c = (all_passed _ _ _ c.in_default.ensures c.elements.invariant).clean
 
 -- ---- maps
 
@@ -93,30 +97,38 @@ read_map-returns-clause-judged t c =
 
 pub pairs_in-returns-in_err-read-clause-judged : goal.pairs_in-returns-in_err-read-clause-judged
 pairs_in-returns-in_err-read-clause-judged t c =
-    exits c.in_err-read.field-0.0 _ _ (search rules) (halts_held c.args.left (json_key_value_offends c.args.left) _ _ c.in-Some.ensures _ c.in_err-read.ensures.judged)
+    exits c.in_err-read.field-0.0 _ _ (search rules) (halts_held c.args.left (inner_pair_offends c.args.left) _ _ c.in-Some.ensures _ c.in_err-read.ensures.judged)
 
 pub pairs_in-returns-clause-value : goal.pairs_in-returns-clause-value
 pairs_in-returns-clause-value t c = pairs_given c.args.left _ _ c.in-Some.ensures _ _ c.in_ok-read.ensures.value
 
 pub pairs_in-returns-clause-judged : goal.pairs_in-returns-clause-judged
-pairs_in-returns-clause-judged t c = clean_held c.args.left (json_key_value_offends c.args.left) _ _ c.in-Some.ensures c.in_ok-read.ensures.judged
+pairs_in-returns-clause-judged t c = clean_held c.args.left (inner_pair_offends c.args.left) _ _ c.in-Some.ensures c.in_ok-read.ensures.judged
+
+pub read_pairs-elements-init : goal.read_pairs-elements-init
+read_pairs-elements-init t c = pairs_begin c.args.left _ _ _ c.in_ok-rows.ensures.pairs c.in_ok-rows.ensures.noted
 
 pub read_pairs-returns-in_err-read-clause-judged : goal.read_pairs-returns-in_err-read-clause-judged
 read_pairs-returns-in_err-read-clause-judged t c =
-    let some : c.args.left ≡ suc c.in-Some.below = omega (arith, c.in-Some.ensures) in
+    let some : c.args.left ≡ suc c.in-Some-checked_sub.below = omega (arith, c.in-Some-checked_sub.ensures) in
     exits c.in_err-read.field-0.0 _ _ (search rules)
-    (halts_next (json_key_value_offends c.args.left) c.args.elements.now.items c.elements.element-index c.element-item.result (search rules) (search rules)
-    c.args.left c.in-Some.below some c.in_err-read.field-0.0 (search rules) (pair_halts_deeper c.args.left c.in-Some.below some _ _ c.in_err-read.ensures.judged))
+    (pair_stops c.args.left _ c.in-Some-checked_sub.below some _ _ _ c.in-Some.ensures _ _ c.in_err-read.field-0.0 c.elements.invariant c.in_err-read.ensures.judged)
+
+pub read_pairs-returns-in_default-checked_sub-clause-judged : goal.read_pairs-returns-in_default-checked_sub-clause-judged
+read_pairs-returns-in_default-checked_sub-clause-judged t c =
+    too_deep c.args.left _ (inner_pair_offends c.args.left) _ _ _ c.in-Some.ensures c.elements.invariant (omega (arith, c.in_default-checked_sub.ensures))
 
 pub read_pairs-elements-preserved : goal.read_pairs-elements-preserved
 read_pairs-elements-preserved t c =
-    let some : c.args.left ≡ suc c.in-Some.below = omega (arith, c.in-Some.ensures) in
-    record {
-      read = rw (c.in_ok-push.ensures.pairs, c.in_ok-push.ensures.noted) (pairs_next c.args.left c.deref-element-items.result.now c.elements.element-index c.element-item.result c.elements-test.true c.element-item.is
-          c.elements.rows.pairs c.elements.rows.noted (pair_found c.in_ok-read.read) c.elements.invariant.read (pair_deeper c.args.left c.in-Some.below some _ _ c.in_ok-read.ensures.value));
-      clean = clean_next (json_key_value_offends c.args.left) c.deref-element-items.result.now c.elements.element-index c.element-item.result c.elements-test.true c.element-item.is
-          c.args.left c.in-Some.below some c.elements.invariant.clean (pair_clean_deeper c.args.left c.in-Some.below some _ c.in_ok-read.ensures.judged);
-    }
+    let some : c.args.left ≡ suc c.in-Some-checked_sub.below = omega (arith, c.in-Some-checked_sub.ensures) in
+    pair_more c.args.left _ c.in-Some-checked_sub.below some _ _ _ c.in-Some.ensures _ _ _ _ (pair_found c.in_ok-read.read)
+    c.in_ok-push.ensures.pairs c.in_ok-push.ensures.noted c.in_ok-read.ensures.value c.in_ok-read.ensures.judged c.elements.invariant
+
+pub read_pairs-returns-clause-value : goal.read_pairs-returns-clause-value
+read_pairs-returns-clause-value t c = (all_passed _ _ _ c.in_default.ensures c.elements.invariant).read
+
+pub read_pairs-returns-clause-judged : goal.read_pairs-returns-clause-judged
+read_pairs-returns-clause-judged t c = (all_passed _ _ _ c.in_default.ensures c.elements.invariant).clean
 
 -- ---- `KeyValue`
 

@@ -1,8 +1,7 @@
-use Rattle.std.proofs.Common.{◌+◌, ◌*◌, map, take}
-use Rattle.serde_json.specs.View.{view}
-use Rattle.span_io.specs.Paths.{NothingOffends}
-use Rattle.otlp_json.specs.Found.{AreValuesFound, ArePairsFound}
-use Rattle.otlp_json.specs.Values.{values_faults, json_value_offends, json_key_value_offends}
+use Rattle.std.proofs.Common.{◌+◌, ◌*◌, length}
+use Rattle.json_nodes.specs.Lents.{elements_left}
+use Rattle.otlp_json.proofs.ValueLemmas.{ValuesSoFar, PairsSoFar}
+use Rattle.otlp_json.proofs.Walks.{Passed}
 use Rattle.otlp_json.proofs.values.+values.Given as goal
 
 -- Each function is measured by the levels that are left, and within a level by how many calls stand at most between it and those
@@ -44,13 +43,15 @@ abbrev pub decreases-read_pairs : goal.decreases-read_pairs
 decreases-read_pairs l = 8 * l.left
 
 abbrev pub invariant-read_elements-elements : goal.invariant-read_elements-elements
-invariant-read_elements-elements l = record {
-  read : AreValuesFound l.left (map view (take l.element-index l.element-items)) l.values l.noted;
-  clean : NothingOffends (values_faults l.left (json_value_offends l.left) (map view (take l.element-index l.element-items)));
-}
+invariant-read_elements-elements l =
+    Passed (ValuesSoFar l.left l.values l.noted) (elements_left l.fn.elements) (elements_left l.rest)
+
+abbrev pub decreases-read_elements-elements : goal.decreases-read_elements-elements
+decreases-read_elements-elements l = length (elements_left l.rest)
 
 abbrev pub invariant-read_pairs-elements : goal.invariant-read_pairs-elements
-invariant-read_pairs-elements l = record {
-  read : ArePairsFound l.left (map view (take l.element-index l.element-items)) l.rows.pairs l.rows.noted;
-  clean : NothingOffends (values_faults l.left (json_key_value_offends l.left) (map view (take l.element-index l.element-items)));
-}
+invariant-read_pairs-elements l =
+    Passed (PairsSoFar l.left l.rows.pairs l.rows.noted) (elements_left l.fn.elements) (elements_left l.rest)
+
+abbrev pub decreases-read_pairs-elements : goal.decreases-read_pairs-elements
+decreases-read_pairs-elements l = length (elements_left l.rest)

@@ -1,13 +1,13 @@
 use Rattle.std.proofs.Common.{rules}
 use Rattle.std.proofs.lemmas.Result.{err_from_is_err_and}
 use Rattle.span_io.specs.Offences.{Offence}
-use Rattle.span_io.specs.OffenceLaws.{judged_inside, none_in_item}
+use Rattle.span_io.specs.laws.OffenceLaws.{judged_inside, none_in_item}
 use Rattle.span_io.specs.Tables.{Twice}
 use Rattle.proto_wire.specs.Messages.{messages}
 use Rattle.otlp_proto.specs.declared.noted.ReadResource.{ReadResource}
 use Rattle.otlp_proto.specs.Group.{resource_rules}
 use Rattle.otlp_proto.specs.GroupSoFar.{MeansResource}
-use Rattle.span_io.specs.RowLaws.{first_item}
+use Rattle.span_io.specs.laws.RowLaws.{first_item}
 use Rattle.otlp_proto.proofs.group.resource_row.Goals as goal
 
 pub returns-in_err-read_resource-clause-judged : goal.returns-in_err-read_resource-clause-judged

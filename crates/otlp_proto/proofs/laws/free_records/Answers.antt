@@ -1,5 +1,5 @@
 use Rattle.span_io.specs.Tables.{no_ends}
-use Rattle.otlp_proto.specs.Laws.{WireFacts}
+use Rattle.otlp_proto.specs.StatedLaws.{WireFacts}
 use Rattle.otlp_proto.specs.Event.{IsEvent, event_table}
 use Rattle.otlp_proto.specs.Group.{IsResource, resource_table, IsGroup, group_table}
 use Rattle.otlp_proto.specs.Link.{IsLink, link_table}

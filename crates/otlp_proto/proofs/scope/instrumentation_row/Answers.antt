@@ -1,13 +1,13 @@
 use Rattle.std.proofs.Common.{rules}
 use Rattle.std.proofs.lemmas.Result.{err_from_is_err_and}
 use Rattle.span_io.specs.Offences.{Offence}
-use Rattle.span_io.specs.OffenceLaws.{judged_inside, none_in_item}
+use Rattle.span_io.specs.laws.OffenceLaws.{judged_inside, none_in_item}
 use Rattle.span_io.specs.Tables.{Twice}
 use Rattle.proto_wire.specs.Messages.{messages}
 use Rattle.otlp_proto.specs.declared.noted.ReadInstrumentationScope.{ReadInstrumentationScope}
 use Rattle.otlp_proto.specs.Scope.{instrumentation_scope_rules}
 use Rattle.otlp_proto.specs.ScopeSoFar.{MeansInstrumentationScope}
-use Rattle.span_io.specs.RowLaws.{first_item}
+use Rattle.span_io.specs.laws.RowLaws.{first_item}
 use Rattle.otlp_proto.proofs.scope.instrumentation_row.Goals as goal
 
 pub returns-in_err-read_instrumentation_scope-clause-judged : goal.returns-in_err-read_instrumentation_scope-clause-judged

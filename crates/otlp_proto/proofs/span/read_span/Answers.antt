@@ -8,7 +8,7 @@ use Rattle.otlp_proto.specs.Span.{span_rules, span_table}
 use Rattle.otlp_proto.specs.SpanSoFar.{GatheredSpan, ReadsSpan}
 use Rattle.proto_wire.specs.Messages.{messages}
 use Rattle.proto_wire.specs.Wire.{Wire}
-use Rattle.span_io.specs.GatheringLaws.{judged_end}
+use Rattle.span_io.specs.laws.GatheringLaws.{judged_end}
 use Rattle.otlp_proto.proofs.SpanLemmas.{span_read}
 use Rattle.otlp_proto.proofs.span.read_span.Goals as goal
 

@@ -1,13 +1,13 @@
 use Rattle.std.proofs.lemmas.Result.{err_from_is_err_and}
 use Rattle.std.proofs.Common.{rules}
 use Rattle.span_io.specs.Offences.{Offence}
-use Rattle.span_io.specs.OffenceLaws.{judged_inside, none_in_item}
+use Rattle.span_io.specs.laws.OffenceLaws.{judged_inside, none_in_item}
 use Rattle.span_io.specs.Tables.{Twice}
 use Rattle.proto_wire.specs.Messages.{messages}
 use Rattle.trace_model.specs.declared.span.Status.{Status}
 use Rattle.otlp_proto.specs.SpanSoFar.{MeansStatus}
 use Rattle.otlp_proto.specs.Status.{status_rules}
-use Rattle.span_io.specs.RowLaws.{first_item}
+use Rattle.span_io.specs.laws.RowLaws.{first_item}
 use Rattle.otlp_proto.proofs.span.status_row.Goals as goal
 
 pub returns-in_err-read_status-clause-judged : goal.returns-in_err-read_status-clause-judged

@@ -10,7 +10,7 @@ use Rattle.span_cli.specs.Jobs.{Job, IfGauge, task_of}
 use Rattle.span_cli.specs.Jobs as jobs
 use Rattle.span_cli.specs.Runs.{EndsGauge, IsGaugeStatus, WritesAllOf}
 use Rattle.span_cli.specs.declared.job.Task.TheVariants.{Make}
-use Rattle.span_cli.specs.Outcomes.{OnOutcome, IsJudgedAt, AgreesWith, Writes, CarriesOut, gauge_outcome, line_of}
+use Rattle.span_cli.specs.Outcomes.{OnOutcome, IsJudgedAt, Writes, CarriesOut, gauge_outcome}
 use Rattle.span_cli.specs.Servings.{ServesConnections}
 use Rattle.span_cli.proofs.EndingLaws.{never_usage, is_status, on_outcome, stage_noted, untouched_in_vain, untouched_output_in_vain, output_in_vain, notes_in_vain}
 use Rattle.span_cli.proofs.GaugeEndings.{gauge_carried, gauge_status}
@@ -118,33 +118,16 @@ judged g c = subst (λ (status : ℕ). IfSome (g.S.Source.inlet c.args.input.now
 pub returns-clause-judged : goal.returns-clause-judged
 returns-clause-judged g c = on_job g c _ (judged g c)
 
-verdict : (g : Over) (c : Joined-ending g) → OnOutcome c.in-Make.job (g.S.Source.inlet c.args.input.now).left (AgreesWith (stage_of c.status.result) c.status.result)
-verdict g c = subst (λ (status : ℕ). OnOutcome c.in-Make.job (g.S.Source.inlet c.args.input.now).left (AgreesWith (stage_of status) status)) (sym c.status.ensures)
-    c.carry_out-ending.ensures.run.agrees
+carried : (g : Over) (c : Joined-ending g) → OnOutcome c.in-Make.job (g.S.Source.inlet c.args.input.now).left
+    (CarriesOut c.status.result (g.K.Sink.outlet c.args.output.now) (g.K.Sink.outlet c.carry_out-ending.new.output) (Notes (g.N.Sink.outlet c.args.notes.now) (g.N.Sink.outlet c.note_ending.new.notes)))
+carried g c =
+    let left = (g.S.Source.inlet c.args.input.now).left in
+    let noted = Notes (g.N.Sink.outlet c.args.notes.now) (g.N.Sink.outlet c.note_ending.new.notes) in
+    subst (λ (status : ℕ). OnOutcome c.in-Make.job left (CarriesOut status (g.K.Sink.outlet c.args.output.now) (g.K.Sink.outlet c.carry_out-ending.new.output) noted)) (sym c.status.ensures)
+    (on_outcome c.in-Make.job left _ (CarriesOut (status_of c.carry_out-ending.result) (g.K.Sink.outlet c.args.output.now) (g.K.Sink.outlet c.carry_out-ending.new.output) noted) (λ o by. record { agrees = by.agrees; writes = by.writes; notes = subst noted by.notes c.note_ending.ensures.line }) c.carry_out-ending.ensures.run.carried)
 
-pub returns-clause-verdict : goal.returns-clause-verdict
-returns-clause-verdict g c = on_job g c _ (verdict g c)
-
-written : (g : Over) (c : Joined-ending g) → OnOutcome c.in-Make.job (g.S.Source.inlet c.args.input.now).left
-    (λ outcome. Writes (stage_of c.status.result) outcome.text (g.K.Sink.outlet c.args.output.now) (g.K.Sink.outlet c.carry_out-ending.new.output))
-written g c = subst (λ (status : ℕ). OnOutcome c.in-Make.job (g.S.Source.inlet c.args.input.now).left
-    (λ outcome. Writes (stage_of status) outcome.text (g.K.Sink.outlet c.args.output.now) (g.K.Sink.outlet c.carry_out-ending.new.output)))
-    (sym c.status.ensures) c.carry_out-ending.ensures.run.written
-
-pub returns-clause-output : goal.returns-clause-output
-returns-clause-output g c = on_job g c _ (written g c)
-
-noted : (g : Over) (c : Joined-ending g) → OnOutcome c.in-Make.job (g.S.Source.inlet c.args.input.now).left
-    (λ outcome. Notes (g.N.Sink.outlet c.args.notes.now) (g.N.Sink.outlet c.note_ending.new.notes) (line_of (stage_of c.status.result) outcome))
-noted g c =
-    let before = g.N.Sink.outlet c.args.notes.now in
-    let now = g.N.Sink.outlet c.note_ending.new.notes in
-    subst (λ (status : ℕ). OnOutcome c.in-Make.job (g.S.Source.inlet c.args.input.now).left (λ outcome. Notes before now (line_of (stage_of status) outcome))) (sym c.status.ensures)
-    (on_outcome c.in-Make.job (g.S.Source.inlet c.args.input.now).left _ (λ outcome. Notes before now (line_of (stage_of (status_of c.carry_out-ending.result)) outcome))
-    (λ outcome line. subst (λ (l : List ℕ). Notes before now l) line c.note_ending.ensures.line) c.carry_out-ending.ensures.run.line)
-
-pub returns-clause-notes : goal.returns-clause-notes
-returns-clause-notes g c = on_job g c _ (noted g c)
+pub returns-clause-carried : goal.returns-clause-carried
+returns-clause-carried g c = on_job g c _ (carried g c)
 
 pub returns-clause-output_answers : goal.returns-clause-output_answers
 returns-clause-output_answers g c = λ any e. (c.carry_out-ending.ensures.run.output.fails (sym c.status.ensures ∙ e)).unsure any
@@ -160,23 +143,21 @@ returns-clause-output_takes g c =
     let before = g.K.Sink.outlet c.args.output.now in
     let now = g.K.Sink.outlet c.carry_out-ending.new.output in
     on_job g c _ (on_outcome c.in-Make.job (g.S.Source.inlet c.args.input.now).left _ (λ outcome. Takes before.sure (length outcome.text) → c.status.result ≢ 6)
-    (λ outcome writes takes e. (subst (λ (status : ℕ). Writes (stage_of status) outcome.text before now) (sym c.status.ensures ∙ e) writes).unsure takes) c.carry_out-ending.ensures.run.written)
+    (λ outcome by takes e. (subst (λ (status : ℕ). Writes (stage_of status) outcome.text before now) e by.writes).unsure takes) (carried g c))
 
 pub returns-clause-same : goal.returns-clause-same
 returns-clause-same g c = on_job g c _
-    (carried_out_same (g.S.Source.inlet c.args.input.now).left c.status.result (g.K.Sink.outlet c.args.output.now) (g.K.Sink.outlet c.carry_out-ending.new.output)
-    (g.N.Sink.outlet c.args.notes.now) (g.N.Sink.outlet c.note_ending.new.notes) c.same_batches.ensures c.in-Make.job (verdict g c) (written g c) (noted g c))
+    (carried_out_same (g.S.Source.inlet c.args.input.now).left _ c.same_batches.ensures c.in-Make.job (carried g c))
 
 pub returns-clause-free_members : goal.returns-clause-free_members
 returns-clause-free_members g c = on_job g c _
-    (carried_out_agreeing (g.S.Source.inlet c.args.input.now).left c.status.result (g.K.Sink.outlet c.args.output.now) (g.K.Sink.outlet c.carry_out-ending.new.output)
-    (g.N.Sink.outlet c.args.notes.now) (g.N.Sink.outlet c.note_ending.new.notes) c.free_members.ensures c.in-Make.job (verdict g c) (written g c) (noted g c))
+    (carried_out_agreeing (g.S.Source.inlet c.args.input.now).left _ c.free_members.ensures c.in-Make.job (carried g c))
 
 pub returns-clause-read_back : goal.returns-clause-read_back
 returns-clause-read_back g c = λ form spelled.
     lines_back c.contexts_are_normal.ensures c.heads_are_sound.ensures c.headers_read_back.ensures form (g.S.Source.inlet c.args.input.now).left c.status.result
     (g.K.Sink.outlet c.args.output.now) (g.K.Sink.outlet c.carry_out-ending.new.output)
-    (returns-clause-judged g c (Headers form) spelled) (returns-clause-verdict g c (Headers form) spelled) (returns-clause-output g c (Headers form) spelled)
+    _ (returns-clause-judged g c (Headers form) spelled) (returns-clause-carried g c (Headers form) spelled)
 
 pub returns-clause-there_and_back : goal.returns-clause-there_and_back
 returns-clause-there_and_back g c = λ from to spelled zero.
@@ -190,7 +171,7 @@ pub returns-clause-nothing_lost : goal.returns-clause-nothing_lost
 returns-clause-nothing_lost g c = λ from to spelled.
     losses_told c.no_losses.ensures from to (g.S.Source.inlet c.args.input.now).left c.status.result
     (g.K.Sink.outlet c.args.output.now) (g.K.Sink.outlet c.carry_out-ending.new.output)
-    (returns-clause-judged g c (Losses from to) spelled) (returns-clause-verdict g c (Losses from to) spelled) (returns-clause-output g c (Losses from to) spelled)
+    _ (returns-clause-judged g c (Losses from to) spelled) (returns-clause-carried g c (Losses from to) spelled)
 
 pub returns-clause-gauge : goal.returns-clause-gauge
 returns-clause-gauge g c = λ spans spelled.
@@ -204,7 +185,7 @@ returns-clause-gauge g c = λ spans spelled.
       unread = ends.0;
       status = subst (λ (status : ℕ). IsGaugeStatus status) (sym c.status.ensures)
           (gauge_status g.K.Sink.outlet spans c.args.output.now c.carry_out-ending.new.output before now c.carry_out-ending.result ends.1);
-      carried = subst (λ (status : ℕ). CarriesOut status (g.K.Sink.outlet c.args.output.now) (g.K.Sink.outlet c.carry_out-ending.new.output) before now (gauge_outcome spans)) (sym c.status.ensures)
+      carried = subst (λ (status : ℕ). CarriesOut status (g.K.Sink.outlet c.args.output.now) (g.K.Sink.outlet c.carry_out-ending.new.output) (Notes before now) (gauge_outcome spans)) (sym c.status.ensures)
           (gauge_carried g.K.Sink.outlet spans c.args.output.now c.carry_out-ending.new.output before now c.carry_out-ending.result ends.1 c.note_ending.ensures.line);
     }
 

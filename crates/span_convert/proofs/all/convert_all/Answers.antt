@@ -1,22 +1,22 @@
-use Rattle.std.proofs.Common.{◌≡◌, ◌<◌, ◌^◌, ℕ, List, length, Err, subst}
+use Rattle.std.proofs.Common.{◌≡◌, Err, subst, sym}
 use Rattle.span_convert.specs.Verdicts.{Verdict, Answers, IsVerdict}
 use Rattle.span_convert.specs.declared.bad.Bad.{Bad}
 use Rattle.span_convert.specs.declared.bad.Bad.TheVariants as bads
 use Rattle.span_convert.specs.declared.written.Written.TheVariants as written
-use Rattle.span_convert.proofs.AnswerLemmas.{answers_good, refused_by}
+use Rattle.span_convert.proofs.AnswerLemmas.{refused_by}
 use Rattle.span_convert.proofs.CutLaws.{cut_at}
 use Rattle.span_convert.proofs.FormTargets.{sized_groups}
 use Rattle.span_convert.proofs.all.convert_all.Goals as goal
 
 pub returns-in-Ok-clause-verdict : goal.returns-in-Ok-clause-verdict
 returns-in-Ok-clause-verdict c = λ verdict is_verdict.
-    answers_good _ _ verdict (c.one_verdict.ensures.once c.args.from (written.Form c.args.to) c.args.limits.now c.args.bytes.now _ verdict c.requires.limits c.in-Ok.ensures.whole.0 is_verdict)
+    (c.in-Ok.field-0, sym (c.one_verdict.ensures.once c.args.from (written.Form c.args.to) c.args.limits.now c.args.bytes.now _ verdict c.requires.limits c.in-Ok.ensures.whole.0 is_verdict))
 
 pub returns-in-Ok-clause-back : goal.returns-in-Ok-clause-back
 returns-in-Ok-clause-back c =
     let w = c.in-Ok.ensures.whole in
     c.output_read_back.ensures.back c.args.from c.args.to c.args.limits.now c.args.bytes.now c.convert_into.new.out.text c.in-Ok.field-0 c.requires.limits
-    (subst (λ (l : List ℕ). length l < 2 ^ 63) c.as_slice.ensures c.bytes_known.ensures) w.0 (sized_groups c.args.to w.0.noted w.1)
+    w.0 (sized_groups c.args.to w.0.noted w.1)
 
 pub returns-in-Ok-clause-same : goal.returns-in-Ok-clause-same
 returns-in-Ok-clause-same c = λ other others same verdict is.

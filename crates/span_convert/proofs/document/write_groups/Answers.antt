@@ -33,7 +33,7 @@ units-preserved g c =
       room = omega (arith, c.units.invariant.room, ap length split, c.in_ok-convert_unit.ensures.units);
       same = c.in_ok-convert_unit.ensures.same ∙ c.units.invariant.same;
       sound = All-tail (λ (u : ReadUnit). IsSoundGroup u.0) c.in-Some.unit c.next.new.self.rest.items (subst (All (λ (u : ReadUnit). IsSoundGroup u.0)) split c.units.invariant.sound);
-      holds = c.gains_then.ensures.holding _ _ _ c.units.invariant.holds (c.in_ok-convert_unit.ensures.holds (λ e. absurd (cc)));
+      holds = c.gains_then.ensures.holding _ _ _ c.units.invariant.holds (c.in_ok-convert_unit.ensures.sink.holds (λ e. absurd (cc)));
     }
 
 pub convert_unit-requires-clause-room : goal.convert_unit-requires-clause-room

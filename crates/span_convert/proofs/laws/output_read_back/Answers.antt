@@ -1,8 +1,8 @@
-use Rattle.std.proofs.Common.{◌≡◌, ◌↔◌, ◌<◌, ℕ, ◌^◌, List, length, All, refl, sym, subst, ◌∙◌}
+use Rattle.std.proofs.Common.{◌≡◌, ◌↔◌, ℕ, List, All, refl, sym, subst, ◌∙◌}
 use Rattle.span_io.specs.declared.form.Form.{Form}
 use Rattle.span_io.specs.declared.limits.Limits.{Limits}
 use Rattle.trace_model.specs.declared.trace.Group.{Group}
-use Rattle.span_convert.specs.Canonical.{ConvertsToItself, Fits, IsHeldBy, IsSized, Reads, ReadsPlainly}
+use Rattle.span_convert.specs.Canonical.{ConvertsToItself, Fits, IsHeldBy, Reads, ReadsPlainly}
 use Rattle.span_convert.specs.Moves.{IsNormalTrace}
 use Rattle.span_convert.specs.Targets.{form_target}
 use Rattle.span_convert.specs.Units.{groups_in, input_form, IsSizedGroup, normal_form, canonical_text}
@@ -17,16 +17,13 @@ module _ (c : goal.After-kept) (from to : Form) (limits : Limits) (bytes text : 
   held : (h : IsGood (input_form from) (form_target to) limits bytes text tally) → All (IsSizedGroup to) (groups_in h.noted) → IsHeldBy to (groups_in h.noted)
   held h parts = record { can_hold = held_groups to h.noted h.held; sized = parts }
 
-  sized : length text < 2 ^ 63 → (h : IsGood (input_form from) (form_target to) limits bytes text tally) → IsSized to (groups_in h.noted)
-  sized short h = subst (λ (l : List ℕ). length l < 2 ^ 63) h.is_text short
+  read : (h : IsGood (input_form from) (form_target to) limits bytes text tally) → All (IsSizedGroup to) (groups_in h.noted) → ReadsPlainly to text (normal_form to (groups_in h.noted))
+  read h parts = subst (λ (l : List ℕ). ReadsPlainly to l (normal_form to (groups_in h.noted))) (sym h.is_text) (c.text_read_back.ensures to (groups_in h.noted) (held h parts))
 
-  read : length text < 2 ^ 63 → (h : IsGood (input_form from) (form_target to) limits bytes text tally) → All (IsSizedGroup to) (groups_in h.noted) → ReadsPlainly to text (normal_form to (groups_in h.noted))
-  read short h parts = subst (λ (l : List ℕ). ReadsPlainly to l (normal_form to (groups_in h.noted))) (sym h.is_text) (c.text_read_back.ensures to (groups_in h.noted) (held h parts) (sized short h))
-
-  only : length text < 2 ^ 63 → (h : IsGood (input_form from) (form_target to) limits bytes text tally) → All (IsSizedGroup to) (groups_in h.noted) → (other : List Group) → IsHeldBy to other → IsSized to other
+  only : (h : IsGood (input_form from) (form_target to) limits bytes text tally) → All (IsSizedGroup to) (groups_in h.noted) → (other : List Group) → IsHeldBy to other
       → (text ≡ canonical_text to other) ↔ (normal_form to (groups_in h.noted) ≡ normal_form to other)
-  only short h parts other is_held is_sized =
-      let equal = c.equal_texts.ensures to (groups_in h.noted) other (held h parts) (sized short h) is_held is_sized in
+  only h parts other is_held =
+      let equal = c.equal_texts.ensures to (groups_in h.noted) other (held h parts) is_held in
       (λ e. equal.0 (sym h.is_text ∙ e), λ e. h.is_text ∙ equal.1 e)
 
   -- the trace that was read is left as it is by its form
@@ -43,7 +40,7 @@ module _ (c : goal.After-kept) (from to : Form) (limits : Limits) (bytes text : 
   stays h = c.there_and_back.ensures from to (groups_in h.noted) (its_own h) (held_groups to h.noted h.held)
 
 pub returns-clause-read : goal.returns-clause-read
-returns-clause-read c = λ from to limits bytes text tally short h parts. read c from to limits bytes text tally short h parts
+returns-clause-read c = λ from to limits bytes text tally h parts. read c from to limits bytes text tally h parts
 
 pub returns-clause-again : goal.returns-clause-again
 returns-clause-again c = λ from to limits bytes text tally valid h parts fits.
@@ -51,14 +48,14 @@ returns-clause-again c = λ from to limits bytes text tally valid h parts fits.
     (c.converts_to_itself.ensures to limits (groups_in h.noted) valid (held c from to limits bytes text tally h parts) (subst (λ (l : List ℕ). Fits to limits l) h.is_text fits))
 
 pub returns-clause-back : goal.returns-clause-back
-returns-clause-back c = λ from to limits bytes text tally valid short h parts. record {
+returns-clause-back c = λ from to limits bytes text tally valid h parts. record {
   tally = tally;
   is_good = h;
-  plainly = read c from to limits bytes text tally short h parts;
-  only = only c from to limits bytes text tally short h parts;
+  plainly = read c from to limits bytes text tally h parts;
+  only = only c from to limits bytes text tally h parts;
   again = returns-clause-again c from to limits bytes text tally valid h parts;
   home = λ fits. converts_to c.input_laws.ensures to from limits text (normal_form to (groups_in h.noted)) (stays c from to limits bytes text tally h).can_hold
-      (read c from to limits bytes text tally short h parts) fits;
+      (read c from to limits bytes text tally h parts) fits;
   stays = stays c from to limits bytes text tally h;
   keeps = c.kept.ensures to (groups_in h.noted);
 }

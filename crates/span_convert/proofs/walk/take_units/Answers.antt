@@ -73,5 +73,5 @@ frames-preserved g c =
       same = done.same ∙ c.frames.invariant.same;
       room = omega (arith, c.frames.invariant.room, done.units, some, size, shorter, length-drop c.in-Unit.size c.frames.rest.now);
       short = omega (arith, c.frames.invariant.short, ap length done.cleared, size, shorter, length-drop c.in-Unit.size c.frames.rest.now);
-      holds = c.gains_then.ensures.holding _ _ _ c.frames.invariant.holds (done.holds (λ e. absurd (cc)));
+      holds = c.gains_then.ensures.holding _ _ _ c.frames.invariant.holds (done.sink.holds (λ e. absurd (cc)));
     }

@@ -31,5 +31,5 @@ spans-preserved g c =
           (less_left what units said before _ c.spans.progress _ (c.spans.invariant.walked what units said before w) c.add_span.new.self c.add_span.ensures.tally c.add_span.ensures.pen _ _ parts adds);
       pen = c.in_ok-write_full.ensures.pen ∙ c.add_span.ensures.pen ∙ c.spans.invariant.pen;
       units = c.in_ok-write_full.ensures.units ∙ ap (λ (t : Tally). t.units) c.add_span.ensures.tally ∙ c.spans.invariant.units;
-      holds = c.gains_then.ensures.holding _ _ _ c.spans.invariant.holds (c.in_ok-write_full.ensures.holds (λ e. absurd (cc)));
+      holds = c.gains_then.ensures.holding _ _ _ c.spans.invariant.holds (c.in_ok-write_full.ensures.sink.holds (λ e. absurd (cc)));
     }

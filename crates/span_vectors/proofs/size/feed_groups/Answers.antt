@@ -1,39 +1,30 @@
-use Rattle.std.proofs.Common.{List, [], sym, subst, ◌∙◌}
+use Rattle.std.proofs.Common.{List, [], sym, ap, subst, ◌∙◌}
 use Rattle.span_io.specs.Counting.{counting_outlet}
-use Rattle.span_io.specs.Limits.{shipped_limits}
 use Rattle.span_io.specs.Outside.{Gains}
 use Rattle.span_io.specs.declared.form.Form.TheVariants.{OtlpProto}
-use Rattle.span_convert.specs.Converters.{Fed}
-use Rattle.span_convert.specs.Outlooks.{IsOutlookAs}
-use Rattle.span_convert.specs.Verdicts.{good, tally_of}
+use Rattle.span_io.specs.declared.limits.Limits.{Limits}
+use Rattle.span_convert.specs.Converters.{Fed, Work}
 use Rattle.span_convert.specs.declared.written.Written.TheVariants as written
-use Rattle.span_vectors.proofs.Feeding.{said_by}
+use Rattle.span_vectors.specs.Feeds.{to_form}
 use Rattle.span_vectors.proofs.Frames.{no_groups}
 use Rattle.span_vectors.proofs.size.feed_groups.Goals as goal
 
 pub groups-init : goal.groups-init
 groups-init c =
-    let none = sym (no_groups c.args.spans) in
-    let what = written.Form c.args.to in
     let walker = c.new-walker.result in
-    let limits = c.new-walker.ensures.limits ∙ c.shipped.ensures.values in
+    let limits = ap (λ (l : Limits). record { from = OtlpProto; what = written.Form c.args.to; limits = l }) c.shipped.ensures.values in
     record {
       feeds = record {
         to = c.args.to;
-        forms = c.new-walker.ensures.forms;
-        limits = limits;
-        fed = subst (λ (l : List _). Fed walker l) none c.new-walker.ensures.fed;
         said = [];
-        tally = tally_of 0 0;
-        outlook = subst (λ (l : List _). IsOutlookAs OtlpProto what shipped_limits l (good [] (tally_of 0 0))) none
-            (said_by (λ f w l. IsOutlookAs f w l [] (good [] (tally_of 0 0))) walker OtlpProto what c.new-walker.ensures.forms limits c.new-walker.ensures.outlook);
+        fed = subst (λ (l : List _). Fed walker (to_form c.args.to) l []) (sym (no_groups c.args.spans)) (subst (λ (w : Work). Fed walker w [] []) limits c.new-walker.ensures);
         gains = subst (λ n. Gains (counting_outlet 0) (counting_outlet n) []) (sym c.requires.fresh) (c.gains_then.ensures.none (counting_outlet 0));
       };
-      what = c.new-walker.ensures.forms.1;
+      what = ap (λ (w : Work). w.what) c.new-walker.ensures.works;
     }
 
 pub groups-preserved : goal.groups-preserved
 groups-preserved c = record {
   feeds = c.in_ok-feed_group.ensures.feeds;
-  what = c.feed_group.ensures.forms.1 ∙ c.groups.invariant.what;
+  what = ap (λ (w : Work). w.what) c.feed_group.ensures.same ∙ c.groups.invariant.what;
 }

@@ -1,12 +1,14 @@
-use Rattle.std.proofs.Common.{take, map}
-use Rattle.serde_json.specs.View.{view}
-use Rattle.span_io.specs.Paths.{each, NothingOffends}
-use Rattle.std.specs.List.{AllZip}
-use Rattle.zipkin_json.specs.Span.{IsAnnotation, annotation_faults}
+use Rattle.std.proofs.Common.{ℕ, length}
+use Rattle.json_members.specs.laws.ElementLaws.{ElementsSoFar}
+use Rattle.json_nodes.specs.Lents.{elements_left}
+use Rattle.zipkin_json.specs.Span.{IsAnnotation, annotation_offends}
 use Rattle.zipkin_json.proofs.annotation.read_annotations.Given as goal
 
 abbrev pub invariant-elements : goal.invariant-elements
 invariant-elements l = record {
-  read : AllZip (λ d x. IsAnnotation x d) (map view (take l.element-index l.element-items)) l.list;
-  clean : NothingOffends (each annotation_faults (map view (take l.element-index l.element-items)));
+  unit : ℕ;
+  so_far : ElementsSoFar IsAnnotation annotation_offends (elements_left l.fn.elements) (elements_left l.left) unit l.list;
 }
+
+abbrev pub decreases-elements : goal.decreases-elements
+decreases-elements l = length (elements_left l.left)

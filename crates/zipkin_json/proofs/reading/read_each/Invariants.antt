@@ -1,12 +1,16 @@
-use Rattle.std.proofs.Common.{All}
-use Rattle.json_members.specs.ElementLaws.{ElementsSoFar}
+use Rattle.std.proofs.Common.{All, length}
+use Rattle.json_members.specs.laws.ElementLaws.{ElementsSoFar}
+use Rattle.json_nodes.specs.Lents.{elements_left}
 use Rattle.zipkin_json.specs.Proper.{IsWritableZSpan}
-use Rattle.zipkin_json.specs.Span.{IsZSpan, HasRisingTags, span_faults}
+use Rattle.zipkin_json.specs.Span.{IsZSpan, HasRisingTags, span_offends}
 use Rattle.zipkin_json.proofs.reading.read_each.Given as goal
 
 abbrev pub invariant-elements : goal.invariant-elements
 invariant-elements l = record {
-  so_far : ElementsSoFar IsZSpan span_faults l.fn.elements.items l.element-iterator.rest.items l.unit l.spans;
+  so_far : ElementsSoFar IsZSpan span_offends (elements_left l.fn.elements) (elements_left l.left) (length l.spans) l.spans;
   rising : All HasRisingTags l.spans;
   writable : All IsWritableZSpan l.spans;
 }
+
+abbrev pub decreases-elements : goal.decreases-elements
+decreases-elements l = length (elements_left l.left)

@@ -1,13 +1,13 @@
 use Rattle.std.proofs.Common.{ℕ, pos, refl, sym, ap, subst, ◌∙◌, ◌-◌, to_z, of_z, w16, w64, rules, Ok, Err}
 use Rattle.std.specs.Prelude.{◌⊎◌}
 use Rattle.std.proofs.lemmas.Int.{to_z-of_z}
-use Rattle.span_io.specs.GatheringLaws.{judged_at, refused_at}
+use Rattle.span_io.specs.laws.GatheringLaws.{judged_at, refused_at}
 use Rattle.span_io.specs.Offences.{HereOrInside, Judges}
 use Rattle.span_io.specs.RowsSoFar.{Sets, JudgesCause}
 use Rattle.span_io.specs.Tables.{Twice, givens, table_here, table_inside}
 use Rattle.thrift_core.specs.declared.type_code.TypeCode.TheVariants as kinds
 use Rattle.thrift_core.specs.Messages.{FieldItem, structs}
-use Rattle.thrift_core.specs.StructLaws.{struct_laws}
+use Rattle.thrift_core.specs.laws.StructLaws.{struct_laws}
 use Rattle.jaeger_model.specs.Batches.{batch_table}
 use Rattle.jaeger_model.specs.BatchSoFar.{GatheredBatch}
 use Rattle.jaeger_model.specs.Meanings.{Means}

@@ -1,7 +1,7 @@
 use Rattle.std.proofs.Common.{pos, refl, sym, ap, subst, ◌∙◌, to_z, of_z, w16, w32, w64, rules, Ok, Err}
 use Rattle.std.specs.Prelude.{◌⊎◌}
 use Rattle.std.proofs.lemmas.Int.{to_z-of_z}
-use Rattle.span_io.specs.GatheringLaws.{judged_at, refused_at}
+use Rattle.span_io.specs.laws.GatheringLaws.{judged_at, refused_at}
 use Rattle.span_io.specs.RowsSoFar.{Sets, JudgesCause}
 use Rattle.span_io.specs.Tables.{Twice, givens}
 use Rattle.thrift_core.specs.declared.type_code.TypeCode.TheVariants as kinds

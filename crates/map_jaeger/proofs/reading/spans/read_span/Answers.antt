@@ -26,10 +26,10 @@ returns-clause-remarks c =
     let place = places.Span c.args.number in
     let own = c.in_ok-parts.parts.own in
     if_there c.span_by.result (span_noted c.args.number c.args.span c.in_ok-tags.tags c.in_ok-tags.keys c.args.remarks.now
-    c.remark_keys.new.remarks c.remark_dropped.new.remarks c.remark_left_out.new.remarks c.remark_all.new.remarks c.in_ok-read.read.remarks
+    c.remark_keys.new.remarks c.remark_dropped.new.remarks c.remark_columns.new.remarks c.remark_all.new.remarks c.in_ok-read.read.remarks
     (c.in_ok-tags.ensures.value ∙ ap attributes_of c.replace-own_tags.ensures.value)
     (subst (λ l. AreRepeated c.in_ok-tags.keys (map attribute_of l)) c.replace-own_tags.ensures.value c.in_ok-tags.ensures.repeated)
     (subst (λ l. AreNumbered RepeatsOf (log_remarks c.args.number) 1 l c.in_ok-read.read.remarks) c.replace-own_logs.ensures.value c.in_ok-read.ensures.remarks)
     c.in_ok-remark_keys.ensures c.in_ok-remark_dropped.ensures
-    (c.in_ok-remark_left_out.ensures ∙ ap (λ l. c.remark_dropped.new.remarks ++ tags_dropped place l) (left_of_own own c.in_ok-tags.tags c.in_ok-parts.ensures.own))
+    (c.in_ok-remark_columns.ensures ∙ ap (λ l. c.remark_dropped.new.remarks ++ tags_dropped place l) (left_of_own own c.in_ok-tags.tags c.in_ok-parts.ensures.own))
     c.in_ok-remark_all.ensures)

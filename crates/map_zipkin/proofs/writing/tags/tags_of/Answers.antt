@@ -1,8 +1,8 @@
 use Rattle.std.proofs.Common.{◌≡◌, ◌++◌, [], map, ap, sym, subst, ◌∙◌}
 use Rattle.std.proofs.lemmas.Result.{IfOk-weaker}
 use Rattle.trace_model.specs.Attributes.{Rise, keys}
-use Rattle.span_tags.specs.AttributeLaws.{attrs_rise}
-use Rattle.span_tags.specs.Moved.{none_left}
+use Rattle.span_tags.specs.laws.AttributeLaws.{attrs_rise}
+use Rattle.span_tags.specs.laws.Moved.{none_left}
 use Rattle.map_zipkin.specs.Writing.{zipkin_tag_of}
 use Rattle.map_zipkin.specs.WritingSoFar.{tags_by}
 use Rattle.map_zipkin.proofs.MergedRows.{all_in_order, joined_before}

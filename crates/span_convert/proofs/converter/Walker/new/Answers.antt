@@ -1,25 +1,25 @@
-use Rattle.std.proofs.Common.{ℕ, List, [], refl, sym, subst, arith}
-use Rattle.span_convert.specs.Intakes.{Taken, form_in}
-use Rattle.span_convert.specs.Outlooks.{IsOutlookOn}
-use Rattle.span_convert.specs.Pens.{written_by}
+use Rattle.std.proofs.Common.{◌≡◌, List, [], refl, sym, subst, arith}
+use Rattle.span_convert.specs.Intakes.{Taken}
 use Rattle.span_convert.specs.Reports.{written_target}
-use Rattle.span_convert.specs.Verdicts.{good}
-use Rattle.span_convert.specs.declared.tally.Tally.{Tally}
-use Rattle.span_convert.proofs.IntakeLemmas.{starts_itself, taken_outlook}
+use Rattle.span_convert.specs.declared.written.Written.{Written}
+use Rattle.span_convert.proofs.FeedLemmas.{outlook_then, same_work}
 use Rattle.span_convert.proofs.converter.Walker.new.Goals as goal
 
--- nothing was taken, and nothing was written
-nothing_taken : (c : goal.After-result-2-1) → Taken c.new-2.result (written_by c.new-progress.result.pen) c.args.limits.now [] [] c.new.result c.new-progress.result
-nothing_taken c =
+pub returns : goal.returns
+returns c =
     let done = c.new-progress.ensures.fresh c.args.what c.pen.ensures in
-    subst (λ (l : List ℕ). Taken c.new-2.result (written_by c.new-progress.result.pen) c.args.limits.now [] [] l c.new-progress.result) (sym c.new.ensures)
-    (c.new-2.ensures.taken (written_by c.new-progress.result.pen) [] c.new-progress.result (starts_itself c.args.what c.new-progress.result done.0) done.1 (sym c.target_laws.ensures.none) refl)
-
-pub returns-clause-fed : goal.returns-clause-fed
-returns-clause-fed c = record { going = refl; size = refl; within = omega arith; limits = c.requires.limits; said = []; taken = nothing_taken c }
-
-pub returns-clause-outlook : goal.returns-clause-outlook
-returns-clause-outlook c =
-    let done = c.new-progress.ensures.fresh c.args.what c.pen.ensures in
-    subst (λ (t : Tally). IsOutlookOn (form_in c.new-2.result) (written_target (written_by c.new-progress.result.pen)) c.args.limits.now [] (good [] t)) done.0.counts
-    (taken_outlook (written_by c.new-progress.result.pen) c.args.limits.now [] [] c.new.result c.new-progress.result c.new-2.result (nothing_taken c))
+    let none = subst (λ (w : Written). (written_target w).partial_text [] ≡ []) done.0.pen c.target_laws.ensures.none in
+    -- nothing was taken, and nothing was written
+    let taken : Taken c.new-2.result c.args.what c.args.limits.now [] [] c.new.result c.new-progress.result =
+    subst (λ (l : List _). Taken c.new-2.result c.args.what c.args.limits.now [] [] l c.new-progress.result) (sym c.new.ensures)
+    (c.new-2.ensures.taken c.args.what [] c.new-progress.result done.0 done.1 (sym none) refl) in
+    record {
+      going = refl;
+      works = same_work _ (record { from = c.args.from; what = c.args.what; limits = c.args.limits.now }) c.new-2.ensures.form done.0.pen refl;
+      limits = c.requires.limits;
+      size = refl;
+      within = omega arith;
+      taken = taken;
+      tally = c.new-progress.result.tally;
+      outlook = outlook_then (record { from = c.args.from; what = c.args.what; limits = c.args.limits.now }) c.new-2.result c.new-progress.result [] [] c.new.result c.new-2.ensures.form taken;
+    }

@@ -1,0 +1,5 @@
+mod BuildingLemmas
+mod MemberLemmas
+mod NodeLemmas
+mod NumberLemmas
+mod TokenLemmas

@@ -1,0 +1,4 @@
+pub mod Building
+pub mod Lents
+pub mod Nodes
+pub mod Parts

@@ -1,0 +1,88 @@
+//! The columns of a span's tags.
+ghost use Rattle.std.specs.Prelude.{◌≡◌};
+ghost use Rattle.span_tags.specs.Columns.{is_key};
+ghost use Rattle.map_jaeger.specs.Columns as told;
+ghost use Rattle.map_jaeger.specs.Columns.{row_of};
+
+/// A tag of a span to which the table gives a meaning of its own.
+#[derive(Clone, Copy, Debug)]
+pub(crate) enum Column {
+    Error,
+    Flags,
+    DroppedAttributes,
+    DroppedEvents,
+    DroppedLinks,
+    LibraryName,
+    LibraryVersion,
+    ScopeName,
+    ScopeVersion,
+    Code,
+    Description,
+    Kind,
+    State,
+}
+
+/// All columns, by rising keys.
+pub(crate) const COLUMNS: [Column; 13] = [
+    Column::Error,
+    Column::Flags,
+    Column::DroppedAttributes,
+    Column::DroppedEvents,
+    Column::DroppedLinks,
+    Column::LibraryName,
+    Column::LibraryVersion,
+    Column::ScopeName,
+    Column::ScopeVersion,
+    Column::Code,
+    Column::Description,
+    Column::Kind,
+    Column::State,
+];
+
+impl Column {
+    pub(crate) fn key(self) -> &'static str
+        ensures { result.now ≡ (row_of self).key }
+    {
+        match self {
+            Column::Error => "error",
+            Column::Flags => "jaeger.flags",
+            Column::DroppedAttributes => "otel.dropped_attributes_count",
+            Column::DroppedEvents => "otel.dropped_events_count",
+            Column::DroppedLinks => "otel.dropped_links_count",
+            Column::LibraryName => "otel.library.name",
+            Column::LibraryVersion => "otel.library.version",
+            Column::ScopeName => "otel.scope.name",
+            Column::ScopeVersion => "otel.scope.version",
+            Column::Code => "otel.status_code",
+            Column::Description => "otel.status_description",
+            Column::Kind => "span.kind",
+            Column::State => "w3c.tracestate",
+        }
+    }
+}
+
+/// Whether it is the key of one of these columns.
+pub(crate) fn is_key_of(key: &str, columns: &[Column]) -> bool
+    ensures { result ≡ is_key row_of columns.now key.now }
+{
+    'columns: for column in columns {
+        if key == column.key() {
+            return true;
+        }
+    }
+    false
+}
+
+/// Whether no tag of the table stands under the key.
+pub(crate) fn is_free(key: &str) -> bool
+    ensures { result ≡ told.is_free key.now }
+{
+    !is_key_of(key, &COLUMNS)
+}
+
+/// Whether no attribute of a trace may stand under the key.
+pub(crate) fn is_reserved(key: &str) -> bool
+    ensures { result ≡ told.is_reserved key.now }
+{
+    is_key_of(key, &COLUMNS) && "jaeger.flags" != key
+}

@@ -1,0 +1,105 @@
+-- The keys of Zipkin's own: what a span has there and a trace has no place for, as attributes of texts. A row for each has its key, what a span
+-- tells there, and the form of its value. Writing looks each up in the attributes, and reading fills them from a span.
+use Rattle.std.specs.Prelude.{ℕ, ◌&&◌, nat_le, Bool, true, false, List, [], ◌∷◌, map, Option, Some, None, is_some, codes}
+use Rattle.std.specs.Str.{bytes_eq}
+use Rattle.span_tags.specs.Columns.{ColumnsOf, Row, is_key, looked_by, rows_by}
+use Rattle.span_tags.specs.TagWords.{Pairs, decimal_in, text_given}
+use Rattle.trace_model.specs.declared.value.Value.{Value, Text}
+use Rattle.zipkin_json.specs.declared.span.ZSpan.{ZSpan}
+use Rattle.map_zipkin.specs.TagColumns.{count_text}
+use Rattle.map_zipkin.specs.declared.own.Own.{Own}
+use Rattle.map_zipkin.specs.declared.own.Own.TheVariants as owns
+
+-- by rising keys
+abbrev pub all_own : List Own
+all_own = owns.Debug ∷ owns.LocalIpv4 ∷ owns.LocalIpv6 ∷ owns.LocalPort ∷ owns.RemoteIpv4 ∷ owns.RemoteIpv6 ∷ owns.RemotePort ∷ owns.Shared ∷ []
+
+abbrev pub OwnColumns : Type 0
+OwnColumns = ColumnsOf Own
+
+-- ---- forms
+
+-- the text `true`
+abbrev pub is_true_text : Value → Bool
+is_true_text (Text text) = bytes_eq text (codes "true")
+is_true_text other = false
+
+-- a text that isn't empty
+abbrev pub is_address : Value → Bool
+is_address (Text []) = false
+is_address (Text (x ∷ more)) = true
+is_address other = false
+
+abbrev pub is_port_number : ℕ → Bool
+is_port_number n = nat_le 1 n && nat_le n 65535
+
+abbrev pub has_port : Option ℕ → Bool
+has_port None = false
+has_port (Some n) = is_port_number n
+
+-- the decimal of 1 to 65535, without leading zeros
+abbrev pub is_port_text : Value → Bool
+is_port_text (Text text) = has_port (decimal_in text)
+is_port_text other = false
+
+-- ---- rows
+
+-- a truth value: `true`, or nothing
+abbrev pub truth_given : Bool → Option Value
+truth_given false = None
+truth_given true = Some (Text (codes "true"))
+
+pub record OwnRow : Type 0 where
+  pub key : List ℕ
+  pub given : ZSpan → Option Value
+  pub form : Value → Bool
+
+abbrev pub truth_row : List ℕ → (ZSpan → Bool) → OwnRow
+truth_row key truth = record { key = key; given = λ span. truth_given (truth span); form = is_true_text }
+
+abbrev pub address_row : List ℕ → (ZSpan → List ℕ) → OwnRow
+address_row key address = record { key = key; given = λ span. text_given (address span); form = is_address }
+
+abbrev pub port_row : List ℕ → (ZSpan → ℕ) → OwnRow
+port_row key port = record { key = key; given = λ span. count_text (port span); form = is_port_text }
+
+abbrev pub own_table : Own → OwnRow
+own_table owns.Debug = truth_row (codes "zipkin.debug") (λ span. span.debug)
+own_table owns.LocalIpv4 = address_row (codes "zipkin.local.ipv4") (λ span. span.local.ipv4)
+own_table owns.LocalIpv6 = address_row (codes "zipkin.local.ipv6") (λ span. span.local.ipv6)
+own_table owns.LocalPort = port_row (codes "zipkin.local.port") (λ span. span.local.port)
+own_table owns.RemoteIpv4 = address_row (codes "zipkin.remote.ipv4") (λ span. span.remote.ipv4)
+own_table owns.RemoteIpv6 = address_row (codes "zipkin.remote.ipv6") (λ span. span.remote.ipv6)
+own_table owns.RemotePort = port_row (codes "zipkin.remote.port") (λ span. span.remote.port)
+own_table owns.Shared = truth_row (codes "zipkin.shared") (λ span. span.shared)
+
+abbrev pub own_form : Own → Value → Bool
+own_form own = (own_table own).form
+
+-- a tag of the key is never read
+abbrev pub own_row : Own → Row Own ZSpan
+own_row own = record { key = (own_table own).key; given = (own_table own).given; is_idle = λ value c. is_some value }
+
+-- each of these keys with its form
+abbrev pub forms_of : List Own → List (List ℕ × (Value → Bool))
+forms_of keys = map (λ own. ((own_row own).key, own_form own)) keys
+
+abbrev pub own_forms : List (List ℕ × (Value → Bool))
+own_forms = forms_of all_own
+
+-- ---- columns
+
+abbrev pub is_own : List ℕ → Bool
+is_own key = is_key own_row all_own key
+
+-- what attributes hold of them
+abbrev pub own_in : Pairs → OwnColumns
+own_in attributes = looked_by own_row attributes
+
+-- what a span of Zipkin has of them
+abbrev pub own_of : ZSpan → OwnColumns
+own_of span = λ own. (own_row own).given span
+
+-- the attributes that hold them, in the order of their keys
+abbrev pub own_rows : OwnColumns → Pairs
+own_rows c = rows_by own_row all_own c

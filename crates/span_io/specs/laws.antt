@@ -1,0 +1,13 @@
+pub mod Cuts
+pub mod FramingLaws
+pub mod FreeItemLaws
+pub mod GatheringLaws
+pub mod OffenceLaws
+pub mod PathDecisions
+pub mod PathLaws
+pub mod RowLaws
+pub mod ShortestVarints
+pub mod TableDecisions
+pub mod TableLaws
+pub mod VarintFacts
+pub mod ZigzagFacts

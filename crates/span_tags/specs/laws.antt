@@ -1,0 +1,9 @@
+pub mod AttributeLaws
+pub mod ColumnLaws
+pub mod FirstFaultLaws
+pub mod LeastRows
+pub mod LossSteps
+pub mod Moved
+pub mod QuietLaws
+pub mod RowLaws
+pub mod RunLaws

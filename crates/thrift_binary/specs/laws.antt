@@ -1,0 +1,5 @@
+pub mod JudgedBytes
+pub mod JudgedHeads
+pub mod ProperWords
+pub mod ProtocolLaws
+pub mod Unfinished

@@ -1,0 +1,10 @@
+pub mod JudgedFields
+pub mod JudgedLists
+pub mod JudgedMaps
+pub mod JudgedNumbers
+pub mod JudgedSizes
+pub mod JudgedVarints
+pub mod ProperWords
+pub mod ProtocolLaws
+pub mod ReadsExactly
+pub mod Unfinished

@@ -1,0 +1,5 @@
+pub mod Judged
+pub mod JudgedSteps
+pub mod OneReading
+pub mod Standing
+pub mod StructLaws
