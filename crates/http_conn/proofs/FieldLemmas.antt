@@ -6,7 +6,7 @@ use Rattle.std.specs.Str.{str_eq_ignore_ascii_case}
 use Rattle.std.proofs.lemmas.List.{append-nil, map-append}
 use Rattle.std.proofs.lemmas.List.Elements.{filter-append}
 use Rattle.http_conn.specs.Fields.{Line, is_named, values}
-use Rattle.http_conn.specs.FoundFields.{HoldsOnce}
+use Rattle.http_conn.specs.private.FoundFields.{HoldsOnce}
 use Rattle.http_conn.specs.declared.fields.Once.{Once}
 use Rattle.http_conn.specs.declared.fields.Once.TheVariants.{At, Twice}
 

@@ -8,7 +8,7 @@ use Rattle.httparse.specs.Spans.{IsHeaderWithin, IsRequestOf, header_bytes}
 use Rattle.httparse.specs.declared.spans.HeaderSpan.{HeaderSpan}
 use Rattle.httparse.specs.declared.spans.RequestSpans.{RequestSpans}
 use Rattle.httparse.proofs.GrammarLemmas.{request_unique}
-use Rattle.http_conn.specs.FoundFields.{FoundIn}
+use Rattle.http_conn.specs.private.FoundFields.{FoundIn}
 use Rattle.http_conn.specs.declared.fields.Fields.{Fields}
 use Rattle.http_conn.specs.declared.head.Head.{Head}
 

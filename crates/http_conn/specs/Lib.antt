@@ -1,8 +1,8 @@
 pub mod Bodies
 pub mod Fields
-pub mod FoundFields
 pub mod Heads
-pub mod StatedLaws
 pub mod NextRequests
 pub mod Replies
 pub mod Services
+pub mod StatedLaws
+pub mod private

@@ -6,7 +6,7 @@ ghost use Rattle.std.specs.Str.Parse.{digits_value};
 ghost use Rattle.httparse.specs.Grammar.{RequestHead};
 ghost use Rattle.http_conn.specs.Bodies as told;
 ghost use Rattle.http_conn.specs.Fields.{lines_of};
-ghost use Rattle.http_conn.specs.FoundFields.{IsHead};
+ghost use Rattle.http_conn.specs.private.FoundFields.{IsHead};
 ghost use Rattle.http_conn.specs.Services.{form_by, judged};
 
 use crate::fields::Once;

@@ -1,7 +1,7 @@
 //! The fields that the steps look at, as far as they were found (RFC 9110, section 5).
 ghost use Rattle.std.specs.Prelude.{◌≡◌, ◌++◌, ◌∷◌, [], ℕ, List, IfSome, IsSomeAnd};
 ghost use Rattle.http_conn.specs.Fields.{Line, is_named, values};
-ghost use Rattle.http_conn.specs.FoundFields.{FoundIn, HoldsOnce, has_close, has_coding};
+ghost use Rattle.http_conn.specs.private.FoundFields.{FoundIn, HoldsOnce, has_close, has_coding};
 
 use crate::media::same_word;
 

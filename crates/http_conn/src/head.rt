@@ -3,7 +3,7 @@ ghost use Rattle.std.specs.Prelude.{◌≡◌, ◌≤◌, ◌++◌, ◌∷◌, [
 ghost use Rattle.httparse.specs.Grammar.{ReadsRequest, RequestHead};
 ghost use Rattle.httparse.specs.Spans.{IsHeaderWithin, IsRequestOf, IsRequestWithin, header_bytes};
 ghost use Rattle.http_conn.specs.Fields.{Line};
-ghost use Rattle.http_conn.specs.FoundFields.{FoundIn, IsHead};
+ghost use Rattle.http_conn.specs.private.FoundFields.{FoundIn, IsHead};
 ghost use Rattle.http_conn.specs.Heads.{has_too_many_lines};
 
 use crate::fields::Fields;

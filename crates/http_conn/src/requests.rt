@@ -2,7 +2,7 @@
 ghost use Rattle.std.specs.Prelude.{◌≡◌, ◌==◌, ◌||◌, ◌+◌, ◌≤◌, ◌<◌, ℕ, length, take, IfOk};
 ghost use Rattle.span_io.specs.Limits.{AreLimits};
 ghost use Rattle.httparse.specs.Grammar.{RequestHead};
-ghost use Rattle.http_conn.specs.FoundFields.{IsHead};
+ghost use Rattle.http_conn.specs.private.FoundFields.{IsHead};
 ghost use Rattle.http_conn.specs.Heads.{EndsAt};
 ghost use Rattle.http_conn.specs.NextRequests.{IfNeed, IfWhole, IsNext, IsWithin, Knows, Tells, form_of, next_by, request_of, unended, verdict_of};
 

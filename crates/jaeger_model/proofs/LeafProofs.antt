@@ -16,8 +16,8 @@ use Rattle.jaeger_model.specs.declared.span.SpanRef.{SpanRef}
 use Rattle.jaeger_model.specs.declared.tag.Tag.{Tag}
 use Rattle.jaeger_model.specs.declared.tag.TagValue.{TagValue}
 use Rattle.jaeger_model.specs.declared.tag.TagValue.TheVariants as values
-use Rattle.jaeger_model.specs.declared.tag_rows.TagType.{TagType}
-use Rattle.jaeger_model.specs.declared.tag_rows.TagType.TheVariants as types
+use Rattle.jaeger_model.specs.declared.reading.tag_rows.TagType.{TagType}
+use Rattle.jaeger_model.specs.declared.reading.tag_rows.TagType.TheVariants as types
 use Rattle.jaeger_model.specs.Identifiers.{span_id_of, trace_id_of}
 use Rattle.jaeger_model.specs.Meanings.{Required, Means, MeansEnum}
 use Rattle.jaeger_model.specs.References.{reference_number, IsPointed, IsSpanRef, reference_table, reference_ends, reference_rules}

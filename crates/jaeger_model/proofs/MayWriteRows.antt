@@ -13,7 +13,7 @@ use Rattle.thrift_core.specs.Parts.{header, HasLevel}
 use Rattle.thrift_core.specs.Protocols.{MayWrite, IsGiven, field_head, last_size}
 use Rattle.thrift_core.specs.Trees.{truth_value, i8, i16, i32, i64, double, Tree, leaf, binary, structure, map_of, set_of, list_of, kind_of, outer_levels}
 use Rattle.thrift_core.specs.Written.{Keeping, given, FieldRow, fields_of_rows, struct_trees, MayWriteValue, MayWriteFields, MayWriteElements}
-use Rattle.thrift_core.specs.WrittenLaws.{struct_count, struct_type}
+use Rattle.thrift_core.specs.laws.WrittenLaws.{struct_count, struct_type}
 use Rattle.thrift_core.specs.declared.type_code.TypeCode.TheVariants as kinds
 use Rattle.jaeger_model.specs.declared.batch.Batch.{Batch}
 use Rattle.jaeger_model.specs.declared.span.JSpan.{JSpan}

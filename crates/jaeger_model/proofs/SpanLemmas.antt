@@ -13,9 +13,9 @@ use Rattle.thrift_core.specs.FieldValues.{values_of, i32_in, i64_in, binary_in, 
 use Rattle.thrift_core.specs.Messages.{FieldItem, fields_of}
 use Rattle.thrift_core.specs.Trees.{Fields, Tree, Trees}
 use Rattle.jaeger_model.proofs.FieldLemmas.{values_given}
-use Rattle.jaeger_model.specs.declared.references.References.{References}
+use Rattle.jaeger_model.specs.declared.reading.references.References.{References}
 use Rattle.jaeger_model.specs.declared.span.SpanRef.{SpanRef}
-use Rattle.jaeger_model.specs.declared.span_rows.SpanParts.{SpanParts}
+use Rattle.jaeger_model.specs.declared.reading.span_rows.SpanParts.{SpanParts}
 use Rattle.jaeger_model.specs.Counted.{IsCounted}
 use Rattle.jaeger_model.specs.Identifiers.{span_id_of, trace_id_of}
 use Rattle.jaeger_model.specs.InnerRows.{with_text}

@@ -22,7 +22,7 @@ use Rattle.jaeger_model.proofs.SpanTable.{span_laws}
 use Rattle.jaeger_model.proofs.StructProofs.{binary_proof, int_proof, long_proof, structures_proof, struct_proof, given_back, given_on, inner_back, inner_on, found_or, held_value, value_held}
 use Rattle.jaeger_model.proofs.StructRows.{TableProof, TableFound, AtEnd}
 use Rattle.jaeger_model.specs.declared.span.JSpan.{JSpan}
-use Rattle.jaeger_model.specs.declared.span_rows.SpanParts.{SpanParts}
+use Rattle.jaeger_model.specs.declared.reading.span_rows.SpanParts.{SpanParts}
 use Rattle.jaeger_model.specs.Identifiers.{span_id_of, trace_id_of}
 use Rattle.jaeger_model.specs.InnerRows.{with_text}
 use Rattle.jaeger_model.specs.Logs.{MeansTags, IsLog, log_rules}

@@ -4,7 +4,7 @@ use Rattle.span_io.specs.RowsSoFar.{Gave}
 use Rattle.span_io.specs.Tables.{Givens, givens}
 use Rattle.thrift_core.specs.Messages.{FieldItem}
 use Rattle.thrift_core.specs.Parts.{Spelling}
-use Rattle.jaeger_model.specs.declared.batch_rows.BatchRows.{BatchRows}
+use Rattle.jaeger_model.specs.declared.reading.batch_rows.BatchRows.{BatchRows}
 use Rattle.jaeger_model.specs.Batches.{MeansNothing, batch_table}
 use Rattle.jaeger_model.specs.ListsSoFar.{MeansEach, MeansOne}
 use Rattle.jaeger_model.specs.Meanings.{Means}

@@ -3,7 +3,6 @@ pub mod Batches
 pub mod Canonical
 pub mod Counted
 pub mod FreeAtAnyDepth
-pub mod Growing
 pub mod Identifiers
 pub mod InnerRows
 pub mod ListsSoFar
@@ -25,3 +24,4 @@ pub mod Tags
 pub mod Writable
 pub mod WrittenAgain
 pub mod laws
+pub mod private

@@ -4,7 +4,7 @@ use Rattle.span_io.specs.RowsSoFar.{Gave}
 use Rattle.span_io.specs.Tables.{Givens, givens}
 use Rattle.thrift_core.specs.Messages.{FieldItem}
 use Rattle.thrift_core.specs.Parts.{Spelling}
-use Rattle.jaeger_model.specs.declared.log_rows.LogRows.{LogRows}
+use Rattle.jaeger_model.specs.declared.reading.log_rows.LogRows.{LogRows}
 use Rattle.jaeger_model.specs.ListsSoFar.{MeansEach}
 use Rattle.jaeger_model.specs.Logs.{log_table}
 use Rattle.jaeger_model.specs.Meanings.{MeansTime}

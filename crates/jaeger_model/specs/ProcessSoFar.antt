@@ -4,7 +4,7 @@ use Rattle.span_io.specs.RowsSoFar.{Gave}
 use Rattle.span_io.specs.Tables.{Givens, givens, MeansText}
 use Rattle.thrift_core.specs.Messages.{FieldItem}
 use Rattle.thrift_core.specs.Parts.{Spelling}
-use Rattle.jaeger_model.specs.declared.process_rows.ProcessRows.{ProcessRows}
+use Rattle.jaeger_model.specs.declared.reading.process_rows.ProcessRows.{ProcessRows}
 use Rattle.jaeger_model.specs.ListsSoFar.{MeansEach}
 use Rattle.jaeger_model.specs.Processes.{process_table}
 use Rattle.jaeger_model.specs.Tags.{IsTag}

@@ -3,8 +3,8 @@ use Rattle.std.specs.Prelude.{◌≡◌, ℕ, Option, List, is_none}
 use Rattle.std.specs.List.{flat_map, count_by}
 use Rattle.span_io.specs.RowsSoFar.{Gave}
 use Rattle.span_io.specs.Tables.{Givens, givens}
-use Rattle.jaeger_model.specs.declared.reference_rows.ReferenceRows.{ReferenceRows}
-use Rattle.jaeger_model.specs.declared.references.References.{References}
+use Rattle.jaeger_model.specs.declared.reading.reference_rows.ReferenceRows.{ReferenceRows}
+use Rattle.jaeger_model.specs.declared.reading.references.References.{References}
 use Rattle.jaeger_model.specs.declared.span.SpanRef.{SpanRef}
 use Rattle.thrift_core.specs.Messages.{FieldItem}
 use Rattle.thrift_core.specs.Trees.{Trees}

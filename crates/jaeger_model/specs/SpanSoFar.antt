@@ -7,8 +7,8 @@ use Rattle.thrift_core.specs.FieldValues.{values_of, i32_in, i64_in, binary_in, 
 use Rattle.thrift_core.specs.Parts.{Spelling}
 use Rattle.thrift_core.specs.Trees.{Fields}
 use Rattle.jaeger_model.specs.declared.span.JSpan.{JSpan}
-use Rattle.jaeger_model.specs.declared.span_rows.SpanRows.{SpanRows}
-use Rattle.jaeger_model.specs.declared.span_rows.SpanParts.{SpanParts}
+use Rattle.jaeger_model.specs.declared.reading.span_rows.SpanRows.{SpanRows}
+use Rattle.jaeger_model.specs.declared.reading.span_rows.SpanParts.{SpanParts}
 use Rattle.jaeger_model.specs.Counted.{IsCounted, IsCountedSpan}
 use Rattle.jaeger_model.specs.ListsSoFar.{MeansEach}
 use Rattle.jaeger_model.specs.Logs.{IsLog, MeansTags}

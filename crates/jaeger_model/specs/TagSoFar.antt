@@ -3,7 +3,7 @@ use Rattle.std.specs.Prelude.{List}
 use Rattle.span_io.specs.RowsSoFar.{Gave}
 use Rattle.span_io.specs.Tables.{Givens, givens, MeansText}
 use Rattle.thrift_core.specs.Messages.{FieldItem}
-use Rattle.jaeger_model.specs.declared.tag_rows.TagRows.{TagRows}
+use Rattle.jaeger_model.specs.declared.reading.tag_rows.TagRows.{TagRows}
 use Rattle.jaeger_model.specs.Meanings.{Means, MeansEnum}
 use Rattle.jaeger_model.specs.Tags.{tag_table, tag_type_number}
 

@@ -6,8 +6,8 @@ use Rattle.span_io.specs.Tables.{Row, rules_by, Singular, MeansText}
 use Rattle.thrift_core.specs.Trees.{Fields}
 use Rattle.thrift_core.specs.FieldValues.{values_of, truth_in, i32_in, i64_in, double_in, binary_in}
 use Rattle.jaeger_model.specs.declared.tag.Tag.{Tag}
-use Rattle.jaeger_model.specs.declared.tag_rows.TagType.{TagType}
-use Rattle.jaeger_model.specs.declared.tag_rows.TagType.TheVariants as types
+use Rattle.jaeger_model.specs.declared.reading.tag_rows.TagType.{TagType}
+use Rattle.jaeger_model.specs.declared.reading.tag_rows.TagType.TheVariants as types
 use Rattle.jaeger_model.specs.declared.tag.TagValue.{TagValue}
 use Rattle.jaeger_model.specs.declared.tag.TagValue.TheVariants as values
 use Rattle.jaeger_model.specs.Rows.{required, or_else, text_of_id, enum_of_id, double, truth, number, bytes, Missing}

@@ -3,7 +3,6 @@ pub mod Canonical
 pub mod Counted
 pub mod Members
 pub mod Parts
-pub mod ReadBackLaws
 pub mod Texts
 pub mod Writing
 pub mod laws

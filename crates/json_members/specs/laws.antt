@@ -7,6 +7,7 @@ pub mod ElementLaws
 pub mod MeaningLaws
 pub mod MemberLaws
 pub mod PartLaws
+pub mod ReadBackLaws
 pub mod ReadingLaws
 pub mod SoundLaws
 pub mod TextLaws

@@ -5,7 +5,7 @@ use Rattle.std.proofs.lemmas.List.{set-append_right}
 use Rattle.serde_json.specs.Data.{Data, null, boolean, number, string, array, object, Members, no_members, put}
 use Rattle.serde_json.specs.View.{view, items_of}
 use Rattle.serde_json.specs.declared.value.Value.{Value}
-use Rattle.json_nodes.specs.Building.{Spells, Adds, member_entries}
+use Rattle.json_nodes.specs.private.Building.{Spells, Adds, member_entries}
 use Rattle.json_nodes.specs.Nodes.{num_of, Entry, key, value, values_of, pairs_of, put_all, entries, spelled, value_at}
 use Rattle.json_nodes.specs.declared.node.Node.{Node}
 use Rattle.json_nodes.specs.declared.node.Node.TheVariants as nodes

@@ -5,7 +5,7 @@ use Rattle.serde_json.specs.Data.{Data, null, boolean, number, string, array, ob
 use Rattle.serde_json.specs.Find.{as_null, as_bool, as_number, as_str, as_array, as_object}
 use Rattle.serde_json.specs.View.{items_of}
 use Rattle.json_nodes.specs.Nodes.{num_of, Entry, key, value, next_value, values_of, pairs_of, put_all, entries, spelled, value_at}
-use Rattle.json_nodes.specs.Parts.{first_or_null, is_null_node, truth_in, number_in, text_in, key_in, array_in, object_in, nodes_inside}
+use Rattle.json_nodes.specs.private.Parts.{first_or_null, is_null_node, truth_in, number_in, text_in, key_in, array_in, object_in, nodes_inside}
 use Rattle.json_nodes.specs.declared.node.Node.{Node}
 use Rattle.json_nodes.specs.declared.node.Node.TheVariants as nodes
 

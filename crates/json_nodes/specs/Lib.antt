@@ -1,4 +1,3 @@
-pub mod Building
 pub mod Lents
 pub mod Nodes
-pub mod Parts
+pub mod private

@@ -17,7 +17,7 @@ pub struct Lent<'v, 'a> {
 impl<'v, 'a> Lent<'v, 'a> {
     ghost use Rattle.json_nodes.specs.Nodes.{num_of, put_all, value_at};
     ghost use Rattle.json_nodes.specs.Lents.{lent_view as view, elements_left, members_left};
-    ghost use Rattle.json_nodes.specs.Parts.{first_or_null};
+    ghost use Rattle.json_nodes.specs.private.Parts.{first_or_null};
 
     /// The value that nodes begin with.
     pub fn of(nodes: &'v [Node<'a>]) -> Lent<'v, 'a>

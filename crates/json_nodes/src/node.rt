@@ -1,7 +1,7 @@
 //! Nodes, and lists of them.
 ghost use Rattle.std.specs.Prelude.{◌≡◌, take, drop, option_map};
 ghost use Rattle.json_nodes.specs.Nodes.{spelled, next_value, value_at};
-ghost use Rattle.json_nodes.specs.Parts.{is_null_node, truth_in, number_in, text_in, key_in, array_in, object_in, nodes_inside};
+ghost use Rattle.json_nodes.specs.private.Parts.{is_null_node, truth_in, number_in, text_in, key_in, array_in, object_in, nodes_inside};
 
 use crate::number::Number;
 

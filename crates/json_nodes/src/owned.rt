@@ -3,7 +3,7 @@ ghost use Rattle.std.specs.Prelude.{◌≡◌, ◌∷◌, [], map, IfOk, OnOk};
 ghost use Rattle.serde_json.specs.Data.{array, object};
 ghost use Rattle.serde_json.specs.View.{view, number_view, items_view, members_view};
 ghost use Rattle.json_nodes.specs.Nodes.{num_of, value as held, value_at};
-ghost use Rattle.json_nodes.specs.Building.{Adds, AddsMap};
+ghost use Rattle.json_nodes.specs.private.Building.{Adds, AddsMap};
 
 use crate::building::{close_array, close_object, push};
 use crate::node::Node;

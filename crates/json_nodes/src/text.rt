@@ -4,7 +4,7 @@ ghost use Rattle.json.specs.Json.{value, items, members, parse_map};
 ghost use Rattle.serde_json.specs.Data.{array, object, no_members};
 ghost use Rattle.serde_json.specs.Read.{of_json, of_items, of_members, converted, read as read_text};
 ghost use Rattle.json_nodes.specs.Nodes.{value_at};
-ghost use Rattle.json_nodes.specs.Building.{AddsValue, AddsItems, AddsMembers};
+ghost use Rattle.json_nodes.specs.private.Building.{AddsValue, AddsItems, AddsMembers};
 
 use crate::building::{close_array, close_object, push};
 use crate::node::Node;

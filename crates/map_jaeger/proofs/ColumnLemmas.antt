@@ -1,9 +1,10 @@
 -- What is written in the columns is looked up again, before attributes under other keys.
-use Rattle.std.proofs.Common.{◌≡◌, ℕ, true, false, List, ◌++◌, map, Option, None, option_map, refl, ap, ◌∙◌}
+use Rattle.std.proofs.Common.{◌≡◌, ℕ, true, false, List, ◌++◌, length, map, Option, None, option_map, refl, ap, ◌∙◌}
 use Rattle.std.specs.Option.{option_or}
 use Rattle.trace_model.specs.Attributes.{Rise, keys, attrs, at}
 use Rattle.trace_model.specs.declared.value.Value.{Value}
 use Rattle.span_tags.specs.laws.AttributeLaws.{last_at, at_attrs-append, on_values, at_map}
+use Rattle.span_tags.specs.laws.ColumnLaws.{is_key_of, of_length, key_by_length as keys_by_length}
 use Rattle.span_tags.specs.laws.RowLaws.{Told, last_told, last_at-rows, told_none, on_rows}
 use Rattle.map_jaeger.specs.Columns.{Columns, all_columns, row_of, rows, looked, has_column}
 use Rattle.map_jaeger.specs.TagValues.{normal_value}
@@ -13,6 +14,14 @@ use Rattle.map_jaeger.specs.declared.columns.Column.TheVariants as columns
 pub its_key : (column : Column) → has_column (row_of column).key ≡ true
 its_key columns.Error = refl
 its_key other = refl
+
+-- no two keys have one length
+pub key_by_length : (key : List ℕ) → is_key_of row_of key (of_length row_of all_columns (length key)) ≡ has_column key
+key_by_length = keys_by_length row_of all_columns each its_key
+  where
+    each : (column : Column) → is_key_of row_of (row_of column).key (of_length row_of all_columns (length (row_of column).key)) ≡ true
+    each columns.Error = refl
+    each other = refl
 
 -- ---- rows
 

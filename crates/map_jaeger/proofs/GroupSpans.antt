@@ -1,8 +1,7 @@
 -- The spans of a group that Jaeger can hold, each by itself; and such a group, by its resource and spans.
-use Rattle.std.proofs.Common.{ℕ, zero, suc, ◌+◌, List, [], ◌∷◌, map, get_or, All, refl, sym, subst, arith}
+use Rattle.std.proofs.Common.{ℕ, List, [], ◌∷◌, map, All, refl, sym, subst, arith}
 use Rattle.std.specs.Prelude.{◌≢◌, IsUtf8}
-use Rattle.std.proofs.lemmas.List.{get_or_default}
-use Rattle.std.proofs.lemmas.List.Elements.{All-nil, All-cons, All-head, All-tail, All-map, All-weaker, at_read}
+use Rattle.std.proofs.lemmas.List.Elements.{All-nil, All-cons, All-head, All-tail, All-map, All-weaker}
 use Rattle.std.proofs.lemmas.Str.{IsUtf8-nil}
 use Rattle.trace_model.specs.Proper.{IsProperPair, AreProper, IsProperSpan, IsProperScope}
 use Rattle.trace_model.specs.Soundness.{IsSoundSpan, IsSoundScope}
@@ -13,13 +12,13 @@ use Rattle.trace_model.specs.declared.trace.Group.{Group}
 use Rattle.trace_model.specs.declared.trace.Scope.{Scope}
 use Rattle.trace_model.specs.declared.value.Value.{Value}
 use Rattle.span_tags.specs.laws.AttributeLaws.{attrs_rise}
-use Rattle.span_tags.specs.laws.FirstFaultLaws.{sound_spans, plain_span}
-use Rattle.span_tags.specs.PlacedFaults.{in_resource, in_span}
+use Rattle.span_tags.specs.laws.FaultLaws.{sound_spans, none_plain, plain_spans, none_counts}
 use Rattle.span_tags.specs.laws.RunLaws.{IsPlain, scoped_all, scoped_runs, runs_each}
 use Rattle.span_tags.specs.Runs.{Scoped, spans_of, scoped, runs}
 use Rattle.map_jaeger.specs.Faults.{IsSpanFault, IsResourceFault, HasNoFault}
 use Rattle.map_jaeger.specs.StatedLaws.{IsHeld}
-use Rattle.map_jaeger.proofs.GroupFault.{plain_fault}
+use Rattle.map_jaeger.specs.LeastFault.{jaeger_faults}
+use Rattle.map_jaeger.proofs.FaultRows.{finds_faults}
 
 abbrev pub NoSpanFault : Span → Type 0
 NoSpanFault span = (fault : Fault) → IsSpanFault span fault → ⊥
@@ -45,26 +44,10 @@ all_mapped : {X Y : Type 0} (P : Y → Type 0) (f : X → Y) (xs : List X) → A
 all_mapped P f [] all = All-nil (λ x. P (f x))
 all_mapped P f (x ∷ xs) all = All-cons (λ x. P (f x)) x xs (All-head P (f x) (map f xs) all) (all_mapped P f xs (All-tail P (f x) (map f xs) all))
 
-all_or : {X : Type 0} (P : X → Type 0) (xs : List X) (n : ℕ) (d : X) → All P xs → P d → P (get_or xs n d)
-all_or P [] n d all here = here
-all_or P (x ∷ xs) zero d all here = All-head P x xs all
-all_or P (x ∷ xs) (suc n) d all here = all_or P xs n d (All-tail P x xs all) here
-
 -- ---- faults
 
-abbrev blank : Scoped Span
-blank = record { name = []; version = []; span = plain_span }
-
--- no span of such a group has a fault
-spans_plain : (group : Group) → HasNoFault group → All (λ one. NoSpanFault one.span) (scoped group.scopes)
-spans_plain group none k d lt fault is = none (record { place = k + 1; fault = fault }) (in_span k refl
-    (at_read (scoped group.scopes) (λ one. IsSpanFault one.span fault) k (get_or (scoped group.scopes) k d) lt
-    (get_or_default (scoped group.scopes) k d (get_or (scoped group.scopes) k d) lt) is))
-
 pub no_fault_by : (group : Group) → NoResourceFault group.resource → All (λ one. NoSpanFault one.span) (scoped group.scopes) → HasNoFault group
-no_fault_by group in_no_resource in_no_span found (in_resource first is) = in_no_resource found.fault is
-no_fault_by group in_no_resource in_no_span found (in_span n place holds) =
-    all_or (λ one. NoSpanFault one.span) (scoped group.scopes) n blank in_no_span plain_fault found.fault (holds blank)
+no_fault_by = none_counts IsResourceFault IsSpanFault (none_plain jaeger_faults IsResourceFault IsSpanFault finds_faults)
 
 -- ---- there and back
 
@@ -87,7 +70,7 @@ held_spans group held =
       version = (proper k d lt).version;
       sound = sound k d lt;
       proper = (proper k d lt).span;
-      no_fault = spans_plain group held.no_fault k d lt;
+      no_fault = plain_spans IsResourceFault IsSpanFault group held.no_fault k d lt;
     }
 
 none_sound : AreSound []

@@ -1,7 +1,6 @@
 pub mod ColumnLemmas
 pub mod FaultRows
 pub mod FlagLemmas
-pub mod GroupFault
 pub mod GroupLaws
 pub mod GroupLeaves
 pub mod GroupProper
@@ -18,7 +17,6 @@ pub mod ReadRemarks
 pub mod PlacedRows
 pub mod SoundGroups
 pub mod NoDoubles
-pub mod NoFault
 pub mod TimelySpans
 pub mod ProperBatches
 pub mod ProperGroups

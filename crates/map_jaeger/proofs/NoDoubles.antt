@@ -1,30 +1,31 @@
 -- No double stands inside what is written where nothing is a fault.
-use Rattle.std.proofs.Common.{◌≡◌, ℕ, Bool, true, false, cond, ◌||◌, List, [], ◌∷◌, ◌++◌, filter, not, Option, Some, None, refl, ◌∙◌}
+use Rattle.std.proofs.Common.{◌≡◌, ℕ, Bool, true, false, cond, ◌||◌, List, [], ◌∷◌, ◌++◌, filter, not, get_or, Option, Some, None, refl, ◌∙◌}
 use Rattle.std.specs.List.{list_any}
-use Rattle.std.specs.Option.{option_or}
 use Rattle.std.specs.Ordering.{nat_cmp}
 use Rattle.std.specs.declared.cmp.Ordering.{Ordering}
 use Rattle.std.specs.declared.cmp.Ordering.TheVariants.{Less, Equal, Greater}
 use Rattle.std.specs.Cmp.Lexicographic.{slice_cmp}
 use Rattle.std.specs.Str.{bytes_eq}
+use Rattle.std.proofs.lemmas.Bool.{false_from_ne_true}
 use Rattle.std.proofs.lemmas.List.Folds.{list_any-append}
 use Rattle.trace_model.specs.Attributes.{by_order, placed, attrs}
+use Rattle.trace_model.specs.declared.fault.Fault.{Fault}
 use Rattle.trace_model.specs.declared.fault.Fault.TheVariants.{DoubleInText}
 use Rattle.trace_model.specs.declared.span.Span.{Span}
 use Rattle.trace_model.specs.declared.trace.Group.{Group}
-use Rattle.trace_model.specs.declared.trace.Scope.{Scope}
 use Rattle.trace_model.specs.declared.value.Value.{Value, List', Map'}
 use Rattle.span_tags.specs.Columns.{rows_by}
-use Rattle.span_tags.specs.laws.LeastRows.{if_so}
-use Rattle.span_tags.specs.Runs.{Scoped}
+use Rattle.span_tags.specs.laws.FaultLaws.{span_doubles, plain_resource, plain_spans, none_scoped}
+use Rattle.span_tags.specs.Runs.{Scoped, scoped}
 use Rattle.span_tags.specs.TagWords.{Pairs, row, text_given, without}
 use Rattle.map_jaeger.specs.Columns.{all_columns, row_of, columns_of, rows}
-use Rattle.map_jaeger.specs.Doubles.{scope_has_double, group_has_double}
+use Rattle.map_jaeger.specs.private.Doubles.{scope_has_double, group_has_double}
 use Rattle.map_jaeger.specs.Keys.{event_key, flags_key}
-use Rattle.map_jaeger.specs.LeastFault.{span_has_double, resource_has_double, end_fault, reserved_fault, own_fault, link_fault, double_fault, span_fault, resource_fault, first_fault, scopes_fault, fault_of, has_double_inside, doubles_inside}
+use Rattle.map_jaeger.specs.Faults.{HasDoubleInside, IsResourceFault, IsSpanFault, HasNoFault}
+use Rattle.map_jaeger.specs.LeastFault.{span_has_double, resource_has_double, has_double_inside, doubles_inside, jaeger_faults}
 use Rattle.map_jaeger.specs.declared.columns.Column.{Column}
 use Rattle.map_jaeger.proofs.ColumnLemmas.{normal_column}
-use Rattle.map_jaeger.proofs.NoFault.{none_first, none_second}
+use Rattle.map_jaeger.proofs.FaultRows.{inside_decides, finds_faults}
 use Rattle.map_jaeger.proofs.SpanParts.{text_leaf, leaf_in}
 
 -- ---- members of which none passes
@@ -99,30 +100,11 @@ event_pairs_plain name attributes none = joined has_double_inside (row event_key
 
 -- ---- what has no fault
 
-not_so : (so : Bool) → if_so so DoubleInText ≡ None → so ≡ false
-not_so true e = absurd (cc)
-not_so false e = refl
+span_plain : (span : Span) → ((fault : Fault) → IsSpanFault span fault → ⊥) → span_has_double span ≡ false
+span_plain span none = false_from_ne_true (span_has_double span) (λ e. none DoubleInText ((span_doubles jaeger_faults HasDoubleInside inside_decides span).0 e))
 
-span_plain : (span : Span) → span_fault span ≡ None → span_has_double span ≡ false
-span_plain span none = not_so (span_has_double span)
-    (none_second (link_fault span) (double_fault span)
-    (none_second (own_fault span) (option_or (link_fault span) (double_fault span))
-    (none_second (reserved_fault span) (option_or (own_fault span) (option_or (link_fault span) (double_fault span)))
-    (none_second (end_fault span) _ none))))
-
-spans_plain : (spans : List Span) → first_fault spans ≡ None → list_any span_has_double spans ≡ false
-spans_plain [] none = refl
-spans_plain (span ∷ spans) none = both_false (span_has_double span) (list_any span_has_double spans)
-    (span_plain span (none_first (span_fault span) (first_fault spans) none))
-    (spans_plain spans (none_second (span_fault span) (first_fault spans) none))
-
-scopes_plain : (scopes : List Scope) → scopes_fault scopes ≡ None → list_any scope_has_double scopes ≡ false
-scopes_plain [] none = refl
-scopes_plain (scope ∷ scopes) none = both_false (scope_has_double scope) (list_any scope_has_double scopes)
-    (spans_plain scope.spans (none_first (first_fault scope.spans) (scopes_fault scopes) none))
-    (scopes_plain scopes (none_second (first_fault scope.spans) (scopes_fault scopes) none))
-
-pub group_plain : (group : Group) → fault_of group ≡ None → group_has_double group ≡ false
+pub group_plain : (group : Group) → HasNoFault group → group_has_double group ≡ false
 group_plain group none = both_false (resource_has_double group.resource) (list_any scope_has_double group.scopes)
-    (not_so (resource_has_double group.resource) (none_first (resource_fault group.resource) (scopes_fault group.scopes) none))
-    (scopes_plain group.scopes (none_second (resource_fault group.resource) (scopes_fault group.scopes) none))
+    (false_from_ne_true (resource_has_double group.resource) (λ e. plain_resource IsResourceFault IsSpanFault group none DoubleInText ((finds_faults.resource group.resource).0 e)))
+    (none_scoped span_has_double group.scopes
+    (λ k d lt. span_plain (get_or (scoped group.scopes) k d).span (plain_spans IsResourceFault IsSpanFault group none k d lt)))

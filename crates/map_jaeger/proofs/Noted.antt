@@ -3,7 +3,7 @@ use Rattle.std.proofs.Common.{◌≡◌, ℕ, suc, List, [], ◌∷◌, ◌++◌
 use Rattle.std.proofs.lemmas.List.{append-nil}
 use Rattle.trace_model.specs.Remarks.{numbered}
 use Rattle.trace_model.specs.declared.remark.Remark.{Remark}
-use Rattle.map_jaeger.specs.Noted.{AreNumbered, AddsNoted, IsNumberedBy}
+use Rattle.map_jaeger.specs.private.Noted.{AreNumbered, AddsNoted, IsNumberedBy}
 
 module _ {A K : Type 0} where
   -- one more in front

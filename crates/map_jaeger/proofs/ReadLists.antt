@@ -5,16 +5,17 @@ use Rattle.std.proofs.lemmas.List.Elements.{All-head, All-tail}
 use Rattle.jaeger_model.specs.Counted.{IsCountedSpan}
 use Rattle.jaeger_model.specs.declared.span.JSpan.{JSpan}
 use Rattle.jaeger_model.specs.declared.span.Log.{Log}
+use Rattle.trace_model.specs.declared.noted.Noted.{Noted}
 use Rattle.trace_model.specs.declared.remark.Remark.{Remark}
+use Rattle.trace_model.specs.declared.span.Event.{Event}
 use Rattle.trace_model.specs.declared.trace.Scope.{Scope}
 use Rattle.span_tags.specs.ReadRuns.{one_of, with_behind}
 use Rattle.span_tags.specs.Runs.{in_front, runs}
 use Rattle.span_tags.specs.declared.runs.ReadSpan.{ReadSpan}
 use Rattle.span_tags.specs.declared.runs.Runs.{Runs}
-use Rattle.map_jaeger.specs.Noted.{AddsNoted, AreNumbered, IsNumberedBy}
+use Rattle.map_jaeger.specs.private.Noted.{AddsNoted, AreNumbered, IsNumberedBy}
 use Rattle.map_jaeger.specs.Reading.{event_of, scoped_of}
 use Rattle.map_jaeger.specs.Remarks.{RepeatsOf, RepeatsOfSpan, log_remarks, jspan_remarks}
-use Rattle.map_jaeger.specs.declared.reading.events.ReadEvents.{ReadEvents}
 use Rattle.map_jaeger.proofs.Noted.{numbered_end, numbered_more}
 
 noted_on : {A K : Type 0} (Noted : A → K → Type 0) (remarks : ℕ → A × K → List Remark) (xs rest : List A) (i number : ℕ) (x : A) (old new : List Remark)
@@ -25,13 +26,16 @@ noted_on Noted remarks xs rest i number x old new counted added so_far =
     subst (λ n. IsNumberedBy Noted remarks n rest xs new) (sym next)
     (numbered_more Noted remarks i x rest xs old new (subst (λ n. AddsNoted Noted remarks n x old new) next added) so_far)
 
+abbrev ReadEvents : Type 0
+ReadEvents = Noted (List Event) (List Remark)
+
 -- so many logs are read, and these are left
 pub record EventsSoFar (span : ℕ) (logs : List Log) (i : ℕ) (rest : List Log) (read : ReadEvents) : Type 0 where
   pub count : i + length rest ≡ length logs
-  pub events : read.events ++ map event_of rest ≡ map event_of logs
-  pub remarks : IsNumberedBy RepeatsOf (log_remarks span) i rest logs read.remarks
+  pub events : read.means ++ map event_of rest ≡ map event_of logs
+  pub remarks : IsNumberedBy RepeatsOf (log_remarks span) i rest logs read.notes
 
-pub events_begin : (span : ℕ) (logs rest : List Log) (read : ReadEvents) → rest ≡ logs → read.events ≡ [] → read.remarks ≡ []
+pub events_begin : (span : ℕ) (logs rest : List Log) (read : ReadEvents) → rest ≡ logs → read.means ≡ [] → read.notes ≡ []
     → EventsSoFar span logs 0 rest read
 events_begin span logs rest read all no_events no_remarks = subst (λ l. EventsSoFar span logs 0 l read) (sym all) (record {
   count = omega arith;
@@ -40,12 +44,12 @@ events_begin span logs rest read all no_events no_remarks = subst (λ l. EventsS
 })
 
 pub events_more : (span : ℕ) (logs left rest : List Log) (i number : ℕ) (log : Log) (old new : ReadEvents)
-    → left ≡ log ∷ rest → number ≡ i + 1 → new.events ≡ old.events ++ event_of log ∷ [] → AddsNoted RepeatsOf (log_remarks span) number log old.remarks new.remarks
+    → left ≡ log ∷ rest → number ≡ i + 1 → new.means ≡ old.means ++ event_of log ∷ [] → AddsNoted RepeatsOf (log_remarks span) number log old.notes new.notes
     → EventsSoFar span logs i left old → EventsSoFar span logs number rest new
 events_more span logs left rest i number log old new split counted event added before = record {
   count = omega (arith, counted, so_far.count);
-  events = ap (λ l. l ++ map event_of rest) event ∙ (append_assoc old.events (event_of log ∷ []) (map event_of rest) ∙ so_far.events);
-  remarks = noted_on RepeatsOf (log_remarks span) logs rest i number log old.remarks new.remarks counted added so_far.remarks;
+  events = ap (λ l. l ++ map event_of rest) event ∙ (append_assoc old.means (event_of log ∷ []) (map event_of rest) ∙ so_far.events);
+  remarks = noted_on RepeatsOf (log_remarks span) logs rest i number log old.notes new.notes counted added so_far.remarks;
 }
   where
     so_far : EventsSoFar span logs i (log ∷ rest) old
@@ -58,10 +62,10 @@ number_fits members left rest i x counted split count =
     omega (arith, counted, count, longer)
 
 pub events_end : (span : ℕ) (logs left : List Log) (i : ℕ) (read : ReadEvents) → left ≡ [] → EventsSoFar span logs i left read
-    → (read.events ≡ map event_of logs) × AreNumbered RepeatsOf (log_remarks span) 1 logs read.remarks
+    → (read.means ≡ map event_of logs) × AreNumbered RepeatsOf (log_remarks span) 1 logs read.notes
 events_end span logs left i read none before = (
-  sym (append-nil read.events) ∙ so_far.events,
-  numbered_end RepeatsOf (log_remarks span) i logs read.remarks so_far.remarks,
+  sym (append-nil read.means) ∙ so_far.events,
+  numbered_end RepeatsOf (log_remarks span) i logs read.notes so_far.remarks,
 )
   where
     so_far : EventsSoFar span logs i [] read

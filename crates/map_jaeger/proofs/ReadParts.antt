@@ -10,7 +10,7 @@ use Rattle.span_tags.specs.Runs.{Scoped}
 use Rattle.span_tags.specs.TagWords.{Pairs, row}
 use Rattle.map_jaeger.specs.Columns.{Columns, row_of, looked, left_out, is_free}
 use Rattle.map_jaeger.specs.Keys.{flags_key}
-use Rattle.map_jaeger.specs.ReadColumns.{ArePartsOf, own_tags, free_tags, scoped_by_parts}
+use Rattle.map_jaeger.specs.private.ReadColumns.{ArePartsOf, own_tags, free_tags, scoped_by_parts}
 use Rattle.map_jaeger.specs.Reading.{attributes_of, event_of, high_flags_of, scoped_by, scoped_of, span_attributes}
 use Rattle.map_jaeger.specs.TagValues.{attribute_of}
 use Rattle.map_jaeger.specs.declared.columns.Column.{Column}

@@ -11,7 +11,7 @@ use Rattle.trace_model.specs.declared.value.Value.{Value}
 use Rattle.span_tags.specs.TagKeys.{service_key}
 use Rattle.span_tags.specs.TagWords.{if_left}
 use Rattle.map_jaeger.specs.Columns.{looked, left_out}
-use Rattle.map_jaeger.specs.Noted.{AddsNoted, AreNumbered}
+use Rattle.map_jaeger.specs.private.Noted.{AddsNoted, AreNumbered}
 use Rattle.map_jaeger.specs.Reading.{attributes_of}
 use Rattle.map_jaeger.specs.Remarks.{AreRemarks, RepeatsOf, RepeatsOfSpan, log_remarks, jspan_remarks}
 use Rattle.map_jaeger.specs.TagValues.{attribute_of}

@@ -1,6 +1,5 @@
 //! The columns of a span's tags.
-ghost use Rattle.std.specs.Prelude.{◌≡◌};
-ghost use Rattle.span_tags.specs.Columns.{is_key};
+ghost use Rattle.std.specs.Prelude.{◌≡◌, ◌==◌, length, find};
 ghost use Rattle.map_jaeger.specs.Columns as told;
 ghost use Rattle.map_jaeger.specs.Columns.{row_of};
 
@@ -61,28 +60,40 @@ impl Column {
     }
 }
 
-/// Whether it is the key of one of these columns.
-pub(crate) fn is_key_of(key: &str, columns: &[Column]) -> bool
-    ensures { result ≡ is_key row_of columns.now key.now }
+// The first of these columns whose key has so many bytes.
+fn of_length(columns: &[Column], bytes: usize) -> Option<Column>
+    ensures { result ≡ find (λ column. length (row_of column).key == bytes) columns.now }
 {
     'columns: for column in columns {
-        if key == column.key() {
-            return true;
+        if column.key().len() == bytes {
+            return Some(*column);
         }
     }
-    false
+    None
+}
+
+// Whether it is the key of a column. No two keys have one length, so one of them is compared at most;
+// the loop over their lengths is compiled to a jump.
+#[tactic(auto, using(crate::proofs::ColumnLemmas::key_by_length))]
+fn has_column(key: &str) -> bool
+    ensures { result ≡ told.has_column key.now }
+{
+    match of_length(&COLUMNS, key.len()) {
+        Some(column) => key == column.key(),
+        None => false,
+    }
 }
 
 /// Whether no tag of the table stands under the key.
 pub(crate) fn is_free(key: &str) -> bool
     ensures { result ≡ told.is_free key.now }
 {
-    !is_key_of(key, &COLUMNS)
+    !has_column(key)
 }
 
 /// Whether no attribute of a trace may stand under the key.
 pub(crate) fn is_reserved(key: &str) -> bool
     ensures { result ≡ told.is_reserved key.now }
 {
-    is_key_of(key, &COLUMNS) && "jaeger.flags" != key
+    has_column(key) && "jaeger.flags" != key
 }

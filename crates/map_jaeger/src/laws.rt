@@ -1,6 +1,8 @@
 //! Laws of the table, as contracts of functions that do nothing.
 ghost use Rattle.map_jaeger.specs.StatedLaws.{BatchesReadBack, NormalForms, ReadIsNormal, ReadIsSound, FaultsFound, NoneLost, WrittenIsProper, ReadIsProper};
 
+use crate::faults::Jaeger;
+
 /// Reading the batch of a group that Jaeger can hold gives its normal form, without a remark.
 pub fn batches_read_back()
     ensures { BatchesReadBack }
@@ -35,7 +37,7 @@ pub fn read_is_sound()
 pub fn faults_found()
     ensures { FaultsFound }
 {
-    // The clause is the law.
+    span_tags::laws::faults_found::<Jaeger>();
 }
 
 /// Nothing is lost of a sound group exactly where it is its own normal form.

@@ -7,8 +7,6 @@ pub mod laws;
 mod losing;
 mod reading;
 mod writing;
-mod writing_columns;
-mod writing_flags;
 
 pub use faults::fault_of_group;
 pub use losing::losses;

@@ -43,13 +43,13 @@ pub fn group_of_batch(alloc: Global, batch: Batch) -> Result<(Group, Items<Remar
         key,
         is_there(&tags, key),
     )?;
-    remark_all(&mut remarks, read.remarks)?;
+    remark_all(&mut remarks, read.notes)?;
     let resource = process_attributes(alloc, batch.service, tags)?;
     let group = Group {
         resource,
         dropped: 0,
         schema_url: Text::new(alloc),
-        scopes: read.scopes,
+        scopes: read.means,
     };
     Ok((group, remarks))
 }

@@ -3,21 +3,25 @@ ghost use Rattle.std.specs.Prelude.{◌≡◌, ◌++◌, map, option_map, false,
 ghost use Rattle.std.specs.List.{list_any};
 ghost use Rattle.trace_model.specs.Attributes.{Rise, keys as keys_of};
 ghost use Rattle.trace_model.specs.Soundness.{IsSoundEvent, IsSoundGroup, IsSoundScope, IsSoundSpan};
+ghost use Rattle.span_tags.specs.PlacedFaults.{JudgesFault};
 ghost use Rattle.span_tags.specs.Runs.{scoped, spans_of, under};
 ghost use Rattle.span_tags.specs.TagKeys.{service_key};
 ghost use Rattle.span_tags.specs.TagWords.{without};
-ghost use Rattle.map_jaeger.specs.Doubles.{event_has_double, group_has_double, scope_has_double};
+ghost use Rattle.map_jaeger.specs.private.Doubles.{event_has_double, group_has_double, scope_has_double};
+ghost use Rattle.map_jaeger.specs.Faults.{IsResourceFault, IsSpanFault};
 ghost use Rattle.map_jaeger.specs.StatedLaws.{IsTimely};
-ghost use Rattle.map_jaeger.specs.LeastFault.{JudgesFault};
 ghost use Rattle.map_jaeger.specs.LeastFault as least;
 ghost use Rattle.map_jaeger.specs.TagValues as values;
 ghost use Rattle.map_jaeger.specs.Writing as told;
-ghost use Rattle.map_jaeger.specs.WritingSoFar.{fields_held, tags_with};
+ghost use Rattle.map_jaeger.specs.private.WritingSoFar.{fields_held, tags_with};
+
+mod columns;
+pub(crate) mod flags;
 
 use crate::columns::COLUMNS;
 use crate::faults::fault_of_group;
-use crate::writing_columns::put_columns;
-use crate::writing_flags::flags_of;
+use columns::put_columns;
+use flags::flags_of;
 use jaeger_model::{Batch, JSpan, Log, SpanRef, Tag, TagValue};
 use span_io::{Halt, Items, OutOfMemory, Text};
 use span_tags::{others, put_row, text_kept, text_or_none, text_told};
@@ -251,7 +255,7 @@ fn batch_of(alloc: Global, group: Group) -> Result<Batch, OutOfMemory>
 pub fn batch_of_group(alloc: Global, group: Group) -> Result<Batch, Halt<Fault>>
     requires sound { IsSoundGroup group }
     ensures value { IfOk result (λ batch. batch ≡ told.batch_of group) }
-    ensures judged { JudgesFault result group }
+    ensures judged { JudgesFault IsResourceFault IsSpanFault result group }
     ensures timely { IfOk result (λ batch. All IsTimely batch.spans) }
 {
     match fault_of_group(alloc, &group)? {

@@ -1,73 +1,65 @@
--- What is written in the columns is looked up again: the rows of a record of columns, before pairs under other keys, hold those columns.
-use Rattle.std.proofs.Common.{◌≡◌, ℕ, true, false, List, [], ◌∷◌, ◌++◌, map, Contains, lit≤, Option, None, option_map, refl, sym, ap, ◌∙◌, append-nil}
+-- What is written in the columns is looked up again: their rows, before pairs under other keys, hold them.
+use Rattle.std.proofs.Common.{◌≡◌, ℕ, true, false, List, ◌++◌, length, map, Contains, lit≤, None, option_map, refl, ap, ◌∙◌}
 use Rattle.std.specs.Prelude.{cond}
-use Rattle.std.specs.List.{list_any}
 use Rattle.std.specs.Option.{option_or}
 use Rattle.std.specs.Str.{bytes_eq}
 use Rattle.trace_model.specs.Attributes.{attrs, at}
 use Rattle.trace_model.specs.ValueTexts.{value_text}
 use Rattle.trace_model.specs.declared.value.Value.{Value, Text}
 use Rattle.span_tags.specs.laws.AttributeLaws.{last_at, last_at-append, at_attrs, on_values}
-use Rattle.span_tags.specs.laws.RowLaws.{Told, rows_of, last_told, last_at-rows, told_none, told_at, last_told-at, on_rows}
-use Rattle.span_tags.specs.TagKeys.{error_key, dropped_attributes_key, dropped_events_key, dropped_links_key, library_name_key, library_version_key, scope_name_key, scope_version_key, code_key, state_key}
-use Rattle.span_tags.specs.TagWords.{Pairs, row}
-use Rattle.map_zipkin.specs.Keys.{column_keys, is_zipkin_reserved, peer_key}
+use Rattle.span_tags.specs.laws.ColumnLaws.{is_key_of, of_length, key_by_length as keys_by_length}
+use Rattle.span_tags.specs.laws.RowLaws.{Told, last_told, last_at-rows, told_none, told_at, last_told-at, on_rows}
+use Rattle.span_tags.specs.TagWords.{Pairs}
+use Rattle.map_zipkin.specs.Keys.{is_zipkin_reserved, peer_key}
 use Rattle.map_zipkin.specs.OwnColumns.{all_own, own_row, own_form, own_forms, is_own, own_rows, own_in}
-use Rattle.map_zipkin.specs.TagColumns.{TagColumns, column_rows, columns_in}
+use Rattle.map_zipkin.specs.TagColumns.{TagColumns, all_columns, row_of, is_column, column_rows, columns_in}
 use Rattle.map_zipkin.specs.Writing.{is_told}
+use Rattle.map_zipkin.specs.declared.columns.Column.{Column}
+use Rattle.map_zipkin.specs.declared.columns.Column.TheVariants as columns
 use Rattle.map_zipkin.specs.declared.own.Own.{Own}
 use Rattle.map_zipkin.specs.declared.own.Own.TheVariants as owns
 
 -- ---- rows
 
-abbrev told : TagColumns → Told
-told c = (error_key, c.error) ∷ (dropped_attributes_key, c.dropped_attributes) ∷ (dropped_events_key, c.dropped_events)
-    ∷ (dropped_links_key, c.dropped_links) ∷ (library_name_key, c.library_name) ∷ (library_version_key, c.library_version)
-    ∷ (scope_name_key, c.scope_name) ∷ (scope_version_key, c.scope_version) ∷ (code_key, c.code) ∷ (state_key, c.state) ∷ []
+pub its_key : (column : Column) → is_column (row_of column).key ≡ true
+its_key columns.Error = refl
+its_key other = refl
 
-rows_are : (c : TagColumns) → column_rows c ≡ rows_of (told c)
-rows_are c = λ i. row error_key c.error
-    ++ (row dropped_attributes_key c.dropped_attributes
-    ++ (row dropped_events_key c.dropped_events
-    ++ (row dropped_links_key c.dropped_links
-    ++ (row library_name_key c.library_name
-    ++ (row library_version_key c.library_version
-    ++ (row scope_name_key c.scope_name
-    ++ (row scope_version_key c.scope_version
-    ++ (row code_key c.code
-    ++ sym (append-nil (row state_key c.state)) i))))))))
+-- no two keys have one length
+pub key_by_length : (key : List ℕ) → is_key_of row_of key (of_length row_of all_columns (length key)) ≡ is_column key
+key_by_length = keys_by_length row_of all_columns each its_key
+  where
+    each : (column : Column) → is_key_of row_of (row_of column).key (of_length row_of all_columns (length (row_of column).key)) ≡ true
+    each columns.Error = refl
+    each other = refl
 
-last_in_rows : (k : List ℕ) (c : TagColumns) → last_at k (column_rows c) ≡ last_told k (told c)
-last_in_rows k c = ap (last_at k) (rows_are c) ∙ last_at-rows k (told c)
+abbrev pub told : List Column → TagColumns → Told
+told some c = map (λ column. ((row_of column).key, c column)) some
+
+its_value : (c : TagColumns) (column : Column) → last_told (row_of column).key (told all_columns c) ≡ c column
+its_value c columns.Error = refl
+its_value c other = refl
 
 -- under other keys no row stands
-pub none_in_rows : (k : List ℕ) (c : TagColumns) → list_any (bytes_eq k) column_keys ≡ false → last_at k (column_rows c) ≡ None
-none_in_rows k c e = last_in_rows k c ∙ told_none k (told c) e
+pub none_in_rows : (k : List ℕ) (c : TagColumns) → is_column k ≡ false → last_at k (column_rows c) ≡ None
+none_in_rows k c e = last_at-rows k (told all_columns c) ∙ told_none k (told all_columns c) e
 
 -- ---- columns
 
--- no key of a column stands in these
+-- no tag of the table stands among these
 abbrev pub AreFree : Pairs → Type 0
-AreFree rest = (k : List ℕ) → list_any (bytes_eq k) column_keys ≡ true → last_at k rest ≡ None
+AreFree rest = (column : Column) → last_at (row_of column).key rest ≡ None
 
-module _ (c : TagColumns) (rest : Pairs) (free : AreFree rest) where
-  found : (k : List ℕ) (value : Option Value) → list_any (bytes_eq k) column_keys ≡ true → last_told k (told c) ≡ value → at k (attrs (column_rows c ++ rest)) ≡ value
-  found k value is e = at_attrs k (column_rows c ++ rest) ∙ last_at-append k (column_rows c) rest
-      ∙ ap (λ o. option_or o (last_at k (column_rows c))) (free k is) ∙ last_in_rows k c ∙ e
-
-  pub columns_back : columns_in (attrs (column_rows c ++ rest)) ≡ c
-  columns_back = λ i. record {
-    error = found error_key c.error refl refl i;
-    dropped_attributes = found dropped_attributes_key c.dropped_attributes refl refl i;
-    dropped_events = found dropped_events_key c.dropped_events refl refl i;
-    dropped_links = found dropped_links_key c.dropped_links refl refl i;
-    library_name = found library_name_key c.library_name refl refl i;
-    library_version = found library_version_key c.library_version refl refl i;
-    scope_name = found scope_name_key c.scope_name refl refl i;
-    scope_version = found scope_version_key c.scope_version refl refl i;
-    code = found code_key c.code refl refl i;
-    state = found state_key c.state refl refl i;
-  }
+pub columns_back : (c : TagColumns) (rest : Pairs) → AreFree rest → columns_in (attrs (column_rows c ++ rest)) ≡ c
+columns_back c rest free = λ i column. found column i
+  where
+    found : (column : Column) → columns_in (attrs (column_rows c ++ rest)) column ≡ c column
+    found column =
+        let k = (row_of column).key in
+        at_attrs k (column_rows c ++ rest)
+        ∙ (last_at-append k (column_rows c) rest
+        ∙ (ap (λ o. option_or o (last_at k (column_rows c))) (free column)
+        ∙ (last_at-rows k (told all_columns c) ∙ its_value c column)))
 
 -- ---- columns that hold texts
 
@@ -75,21 +67,10 @@ abbrev pub textual : Value → Value
 textual value = Text (value_text value)
 
 abbrev pub texts_of_columns : TagColumns → TagColumns
-texts_of_columns c = record {
-  error = option_map textual c.error;
-  dropped_attributes = option_map textual c.dropped_attributes;
-  dropped_events = option_map textual c.dropped_events;
-  dropped_links = option_map textual c.dropped_links;
-  library_name = option_map textual c.library_name;
-  library_version = option_map textual c.library_version;
-  scope_name = option_map textual c.scope_name;
-  scope_version = option_map textual c.scope_version;
-  code = option_map textual c.code;
-  state = option_map textual c.state;
-}
+texts_of_columns c = λ column. option_map textual (c column)
 
 pub texts_in_rows : (c : TagColumns) → on_values textual (column_rows c) ≡ column_rows (texts_of_columns c)
-texts_in_rows c = ap (on_values textual) (rows_are c) ∙ on_rows textual (told c) ∙ sym (rows_are (texts_of_columns c))
+texts_in_rows c = on_rows textual (told all_columns c)
 
 -- ---- keys of Zipkin's own
 

@@ -2,7 +2,7 @@
 use Rattle.std.proofs.Common.{◌≡◌, false, [], ◌∷◌, Some, refl}
 use Rattle.std.specs.Fmt.{digits}
 use Rattle.std.specs.Prelude.{codes}
-use Rattle.span_tags.specs.TagKeys.{error_key, scope_name_key, scope_version_key, code_key, service_key}
+use Rattle.span_tags.specs.TagKeys.{service_key}
 use Rattle.trace_model.specs.declared.span.Code.TheVariants as statuses
 use Rattle.trace_model.specs.declared.span.Kind.TheVariants as kinds
 use Rattle.trace_model.specs.declared.span.Span.{Span}
@@ -59,8 +59,8 @@ told = record {
   local = record { service = codes "cart"; ipv4 = []; ipv6 = []; port = 80 };
   remote = record { service = codes "db"; ipv4 = []; ipv6 = []; port = 0 };
   annotations = [];
-  tags = (codes "cached", codes "false") ∷ (error_key, []) ∷ (codes "otel.resource.host", codes "a") ∷ (scope_name_key, codes "lib")
-      ∷ (scope_version_key, codes "2") ∷ (code_key, codes "ERROR") ∷ [];
+  tags = (codes "cached", codes "false") ∷ (codes "error", []) ∷ (codes "otel.resource.host", codes "a") ∷ (codes "otel.scope.name", codes "lib")
+      ∷ (codes "otel.scope.version", codes "2") ∷ (codes "otel.status_code", codes "ERROR") ∷ [];
 }
 
 written : spans_of_group group ≡ told ∷ []

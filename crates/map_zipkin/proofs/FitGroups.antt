@@ -1,11 +1,10 @@
 -- A group in which nothing is a fault has all that its spans are written of.
-use Rattle.std.proofs.Common.{◌≡◌, ℕ, ◌<◌, Bool, true, false, ◌||◌, List, [], ◌∷◌, map, All, Option, refl, arith, inl, inr}
+use Rattle.std.proofs.Common.{◌≡◌, ◌<◌, Bool, true, false, ◌||◌, List, get_or, All, Option, arith, inl, inr}
 use Rattle.std.specs.List.{list_any}
 use Rattle.std.proofs.lemmas.Bool.{le-ltb}
-use Rattle.std.proofs.lemmas.List.Elements.{All-head, All-tail}
-use Rattle.span_tags.specs.PlacedFaults.{in_resource}
-use Rattle.span_tags.specs.laws.RunLaws.{scoped_each}
-use Rattle.span_tags.specs.Runs.{Scoped, spans_of}
+use Rattle.std.proofs.lemmas.List.Folds.{list_any_none}
+use Rattle.span_tags.specs.laws.FaultLaws.{plain_resource, none_scoped}
+use Rattle.span_tags.specs.Runs.{scoped}
 use Rattle.span_tags.specs.TagWords.{Pairs}
 use Rattle.trace_model.specs.EventTexts.{holds_double}
 use Rattle.trace_model.specs.ValueTexts.{has_double}
@@ -13,12 +12,11 @@ use Rattle.trace_model.specs.declared.fault.Fault.TheVariants.{DoubleInText}
 use Rattle.trace_model.specs.declared.span.Event.{Event}
 use Rattle.trace_model.specs.declared.span.Span.{Span}
 use Rattle.trace_model.specs.declared.trace.Group.{Group}
-use Rattle.trace_model.specs.declared.trace.Scope.{Scope}
 use Rattle.trace_model.specs.declared.value.Value.{Value}
-use Rattle.map_zipkin.specs.Faults.{HasDoubleIn, HasNoZipkinFault}
+use Rattle.map_zipkin.specs.Faults.{HasDoubleIn, IsZipkinResourceFault, IsZipkinSpanFault, HasNoZipkinFault}
 use Rattle.map_zipkin.specs.OwnColumns.{own_in, is_port_text}
 use Rattle.map_zipkin.specs.TagColumns.{port_told}
-use Rattle.map_zipkin.specs.Unfit.{event_unfit, port_unfit, ports_unfit, span_unfit, scope_unfit, group_unfit}
+use Rattle.map_zipkin.specs.private.Unfit.{event_unfit, port_unfit, ports_unfit, span_unfit, scope_unfit, group_unfit}
 use Rattle.map_zipkin.specs.declared.own.Own.TheVariants as owns
 use Rattle.map_zipkin.proofs.EventsBack.{none_of, none_passes}
 use Rattle.map_zipkin.proofs.HeldSpans.{NoSpanFault, spans_plain}
@@ -28,11 +26,6 @@ use Rattle.map_zipkin.proofs.SpanBack.{all_formed}
 both_false : (a b : Bool) → a ≡ false → b ≡ false → (a || b) ≡ false
 both_false a b first second = rw first second
 
-none_in_each : {A : Type 0} → (test : A → Bool) (xs : List A) → All (λ x. test x ≡ false) xs → list_any test xs ≡ false
-none_in_each test [] all = refl
-none_in_each test (x ∷ xs) all = both_false (test x) (list_any test xs) (All-head (λ y. test y ≡ false) x xs all)
-    (none_in_each test xs (All-tail (λ y. test y ≡ false) x xs all))
-
 pairs_fit : (pairs : Pairs) → (HasDoubleIn pairs → ⊥) → holds_double pairs ≡ false
 pairs_fit pairs none = none_passes (λ pair. has_double pair.1) pairs (none_of (λ pair. has_double pair.1 ≡ true) pairs none)
 
@@ -40,7 +33,7 @@ port_fit : (value : Option Value) → IsFormed is_port_text value → port_unfit
 port_fit value formed = let fits : port_told value < 65536 = port_fits value formed in le-ltb 65535 (port_told value) (omega (arith, fits))
 
 events_fit : (events : List Event) → All (λ event. HasDoubleIn event.attributes → ⊥) events → list_any event_unfit events ≡ false
-events_fit events none = none_in_each event_unfit events (λ i d lt. pairs_fit _ (none i d lt))
+events_fit events none = list_any_none event_unfit events (λ i d lt. pairs_fit _ (none i d lt))
 
 span_fit : (span : Span) → NoSpanFault span → span_unfit span ≡ false
 span_fit span none =
@@ -52,28 +45,10 @@ span_fit span none =
     (port_fit (own_in span.attributes owns.LocalPort) (formed owns.LocalPort)) (port_fit (own_in span.attributes owns.RemotePort) (formed owns.RemotePort)))
     (events_fit span.events (none_of (λ event. HasDoubleIn event.attributes) span.events (λ any. none DoubleInText (inr any)))))
 
-abbrev IsPlain : Scoped Span → Type 0
-IsPlain one = NoSpanFault one.span
-
-spans_fit : (name version : List ℕ) (spans : List Span) → All IsPlain (map (λ span. record { name = name; version = version; span = span }) spans)
-    → list_any span_unfit spans ≡ false
-spans_fit name version [] all = refl
-spans_fit name version (span ∷ spans) all =
-    let one : Scoped Span = record { name = name; version = version; span = span } in
-    let more : List (Scoped Span) = map (λ span. record { name = name; version = version; span = span }) spans in
-    both_false (span_unfit span) (list_any span_unfit spans) (span_fit span (All-head IsPlain one more all))
-    (spans_fit name version spans (All-tail IsPlain one more all))
-
-scopes_fit : (scopes : List Scope) → All (λ scope. All IsPlain (spans_of scope)) scopes → list_any scope_unfit scopes ≡ false
-scopes_fit [] all = refl
-scopes_fit (scope ∷ scopes) all = both_false (scope_unfit scope) (list_any scope_unfit scopes)
-    (spans_fit scope.name scope.version scope.spans (All-head (λ scope. All IsPlain (spans_of scope)) scope scopes all))
-    (scopes_fit scopes (All-tail (λ scope. All IsPlain (spans_of scope)) scope scopes all))
-
 pub resource_fit : (group : Group) → HasNoZipkinFault group → holds_double group.resource ≡ false
-resource_fit group none = pairs_fit group.resource (λ any. none (record { place = 0; fault = DoubleInText }) (in_resource refl any))
+resource_fit group none = pairs_fit group.resource (plain_resource IsZipkinResourceFault IsZipkinSpanFault group none DoubleInText)
 
 pub group_fit : (group : Group) → HasNoZipkinFault group → group_unfit group ≡ false
 group_fit group none = both_false (holds_double group.resource) (list_any scope_unfit group.scopes)
     (resource_fit group none)
-    (scopes_fit group.scopes (scoped_each IsPlain group.scopes (spans_plain group none)))
+    (none_scoped span_unfit group.scopes (λ k d lt. span_fit (get_or (scoped group.scopes) k d).span (spans_plain group none k d lt)))

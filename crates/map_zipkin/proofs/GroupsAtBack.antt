@@ -19,7 +19,7 @@ use Rattle.trace_model.specs.declared.trace.Group.{Group}
 use Rattle.trace_model.specs.declared.trace.Scope.{Scope}
 use Rattle.trace_model.specs.declared.value.Value.{Value, Text, Truth, Number, Eight, Bytes, List', Map', Nothing}
 use Rattle.map_zipkin.specs.NotedGroups.{noted_group, left_out_remarks, spans_in, with_left_out}
-use Rattle.map_zipkin.specs.ReadGroups.{groups_joined, last_alone, moved_to, IsAdded, IsAlone}
+use Rattle.map_zipkin.specs.private.ReadGroups.{groups_joined, last_alone, moved_to, IsAdded, IsAlone}
 use Rattle.map_zipkin.specs.declared.groups.Last.{Last}
 use Rattle.map_zipkin.proofs.ReadNormal.{map_append}
 use Rattle.map_zipkin.specs.Regrouped.{RunSpan, in_scope, same_text, same_resource, plain_group, before}

@@ -1,15 +1,12 @@
 -- Groups of regrouped spans that Zipkin can hold are held.
-use Rattle.std.proofs.Common.{ℕ, zero, suc, List, [], ◌∷◌, map, get_or, All, None, refl, sym, subst, ⊎_elim, arith}
-use Rattle.trace_model.specs.declared.span.Code.TheVariants as statuses
-use Rattle.trace_model.specs.declared.span.Kind.TheVariants as kinds
-use Rattle.trace_model.specs.declared.fault.Fault.TheVariants.{EndBeforeStart, Reserved, OwnKey, EventText, ChildOfLink, DoubleInText}
+use Rattle.std.proofs.Common.{ℕ, List, [], ◌∷◌, map, get_or, All, refl, sym, subst, arith}
 use Rattle.std.specs.Prelude.{◌≢◌, IsUtf8}
 use Rattle.std.proofs.lemmas.List.Elements.{All-nil, All-cons, All-head, All-tail, All-map, All-weaker}
 use Rattle.std.proofs.lemmas.Str.{IsUtf8-nil}
 use Rattle.span_tags.specs.laws.AttributeLaws.{attrs_rise}
-use Rattle.span_tags.specs.PlacedFaults.{in_span, in_resource}
+use Rattle.span_tags.specs.laws.FaultLaws.{none_plain, none_counts}
 use Rattle.span_tags.specs.laws.RunLaws.{IsPlain, scoped_each}
-use Rattle.span_tags.specs.Runs.{Scoped, spans_of, scoped, under}
+use Rattle.span_tags.specs.Runs.{Scoped, spans_of, under}
 use Rattle.span_tags.specs.TagWords.{Pairs}
 use Rattle.trace_model.specs.Proper.{IsProperPair, AreProper, IsProperSpan, IsProperScope, IsProperGroup}
 use Rattle.trace_model.specs.Soundness.{IsSoundSpan, IsSoundScope, IsSoundGroup}
@@ -22,9 +19,11 @@ use Rattle.trace_model.specs.declared.value.Value.{Value}
 use Rattle.zipkin_json.specs.Proper.{IsProperZSpan, IsTimelyZSpan}
 use Rattle.zipkin_json.specs.declared.span.ZSpan.{ZSpan}
 use Rattle.map_zipkin.specs.Faults.{IsZipkinSpanFault, IsZipkinResourceFault, HasNoZipkinFault}
+use Rattle.map_zipkin.specs.LeastZipkinFault.{zipkin_faults}
 use Rattle.map_zipkin.specs.StatedLaws.{ReadIsHeld}
 use Rattle.map_zipkin.specs.Reading.{run_span_of, groups_of}
 use Rattle.map_zipkin.proofs.EventFacts.{EventsRead, EventsProper}
+use Rattle.map_zipkin.proofs.FaultRows.{finds_faults}
 use Rattle.map_zipkin.proofs.ReadFaults.{read_no_fault, resource_no_fault}
 use Rattle.map_zipkin.proofs.ReadHeld.{resource_sound, span_sound, resource_proper, name_utf8, version_utf8, span_proper}
 use Rattle.map_zipkin.proofs.ReadTexts.{resource_texts}
@@ -103,52 +102,6 @@ group_proper group held = record {
   scopes = λ k d lt. run_proper (get_or group.scopes k d) (held.plain k d lt) (scoped_each IsProperRun group.scopes held.spans k d lt);
 }
 
-all_or : {X : Type 0} (P : X → Type 0) (xs : List X) (n : ℕ) (d : X) → All P xs → P d → P (get_or xs n d)
-all_or P [] n d all here = here
-all_or P (x ∷ xs) zero d all here = All-head P x xs all
-all_or P (x ∷ xs) (suc n) d all here = all_or P xs n d (All-tail P x xs all) here
-
-blank : Scoped Span
-blank = record {
-  name = [];
-  version = [];
-  span = record {
-    trace = 0;
-    id = 0;
-    state = [];
-    parent = None;
-    name = [];
-    kind = kinds.Internal;
-    start = 0;
-    end = 0;
-    attributes = [];
-    dropped_attributes = 0;
-    events = [];
-    dropped_events = 0;
-    links = [];
-    dropped_links = 0;
-    status = record { code = statuses.Unset; message = [] };
-    flags = 0;
-  };
-}
-
-abbrev IsPlainSpan : Span → Type 0
-IsPlainSpan span = (fault : Fault) → IsZipkinSpanFault span fault → ⊥
-
-blank_plain : IsPlainSpan blank.span
-unfolding blank
-blank_plain EndBeforeStart is = omega (arith, is)
-blank_plain (Reserved key) is = let there = is.there in omega (arith, there.1)
-blank_plain (OwnKey key) (k, own, lt, there, here) = here.1
-blank_plain EventText is = omega (arith, is.2)
-blank_plain ChildOfLink is = is
-blank_plain DoubleInText is = ⊎_elim (λ h. omega (arith, h.2)) (λ h. omega (arith, h.2)) is
-
-pub group_no_fault : (group : Group) → HasSoundRuns group → HasNoZipkinFault group
-group_no_fault group held found (in_resource first is) = held.resource.no_fault found.fault is
-group_no_fault group held found (in_span n place holds) =
-    all_or (λ one. IsPlainSpan one.span) (scoped group.scopes) n blank (λ k d lt. (held.spans k d lt).no_fault) blank_plain found.fault (holds blank)
-
 -- ---- what is read
 
 module _ (facts : EventsRead) where
@@ -161,6 +114,11 @@ module _ (facts : EventsRead) where
   sound_groups : (spans : List ZSpan) → All IsTimelyZSpan spans → All IsProperZSpan spans → All HasSoundRuns (groups_of spans)
   sound_groups spans timely proper = regrouped_all IsSoundResource IsSoundRun (map run_span_of spans)
       (All-map (IsRunOf IsSoundResource IsSoundRun) run_span_of spans (λ k d lt. sound_run (get_or spans k d) (timely k d lt) (proper k d lt)))
+
+  group_no_fault : (group : Group) → HasSoundRuns group → HasNoZipkinFault group
+  group_no_fault group held = none_counts IsZipkinResourceFault IsZipkinSpanFault
+      (none_plain zipkin_faults IsZipkinResourceFault IsZipkinSpanFault (finds_faults facts.reads))
+      group held.resource.no_fault (λ k d lt. (held.spans k d lt).no_fault)
 
   pub read_sound : (spans : List ZSpan) → All IsTimelyZSpan spans → All IsProperZSpan spans → All IsSoundGroup (groups_of spans)
   read_sound spans timely proper = All-weaker HasSoundRuns IsSoundGroup group_sound (groups_of spans) (sound_groups spans timely proper)

@@ -1,18 +1,17 @@
 -- The spans of a group that Zipkin can hold, each by itself.
-use Rattle.std.proofs.Common.{◌+◌, get_or, All, refl}
+use Rattle.std.proofs.Common.{All}
 use Rattle.std.specs.Prelude.{IsUtf8}
-use Rattle.std.proofs.lemmas.List.{get_or_default}
-use Rattle.std.proofs.lemmas.List.Elements.{All-map, All-weaker, at_read}
+use Rattle.std.proofs.lemmas.List.Elements.{All-map, All-weaker}
 use Rattle.trace_model.specs.Proper.{IsProperSpan, IsProperScope}
 use Rattle.trace_model.specs.Soundness.{IsSoundSpan, IsSoundScope}
 use Rattle.trace_model.specs.declared.fault.Fault.{Fault}
 use Rattle.trace_model.specs.declared.span.Span.{Span}
 use Rattle.trace_model.specs.declared.trace.Group.{Group}
 use Rattle.trace_model.specs.declared.trace.Scope.{Scope}
-use Rattle.span_tags.specs.PlacedFaults.{in_span}
+use Rattle.span_tags.specs.laws.FaultLaws.{plain_spans}
 use Rattle.span_tags.specs.laws.RunLaws.{scoped_all}
 use Rattle.span_tags.specs.Runs.{Scoped, spans_of, scoped}
-use Rattle.map_zipkin.specs.Faults.{IsZipkinSpanFault, HasNoZipkinFault}
+use Rattle.map_zipkin.specs.Faults.{IsZipkinResourceFault, IsZipkinSpanFault, HasNoZipkinFault}
 use Rattle.map_zipkin.specs.StatedLaws.{IsHeldByZipkin}
 
 abbrev pub NoSpanFault : Span → Type 0
@@ -28,9 +27,7 @@ pub record IsHeldSpan (one : Scoped Span) : Type 0 where
 
 -- no span of a group without fault has one
 pub spans_plain : (group : Group) → HasNoZipkinFault group → All (λ one. NoSpanFault one.span) (scoped group.scopes)
-spans_plain group none k d lt fault is = none (record { place = k + 1; fault = fault }) (in_span k refl
-    (at_read (scoped group.scopes) (λ one. IsZipkinSpanFault one.span fault) k (get_or (scoped group.scopes) k d) lt
-    (get_or_default (scoped group.scopes) k d (get_or (scoped group.scopes) k d) lt) is))
+spans_plain = plain_spans IsZipkinResourceFault IsZipkinSpanFault
 
 pub scope_sound : (scope : Scope) → IsSoundScope scope → All (λ one. IsSoundSpan one.span) (spans_of scope)
 scope_sound scope sound = All-map (λ one. IsSoundSpan one.span) (λ span. record { name = scope.name; version = scope.version; span = span }) scope.spans sound.spans

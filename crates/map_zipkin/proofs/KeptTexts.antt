@@ -15,7 +15,7 @@ use Rattle.span_tags.specs.Losses.{is_empty, is_text}
 use Rattle.span_tags.specs.laws.QuietLaws.{same_parts}
 use Rattle.span_tags.specs.TagWords.{Pairs, text_given, text_or_none}
 use Rattle.map_zipkin.specs.Losses.{goes, changes}
-use Rattle.map_zipkin.specs.LossWalks.{kept_text, kept_texts}
+use Rattle.map_zipkin.specs.private.LossWalks.{kept_text, kept_texts}
 use Rattle.map_zipkin.specs.Normal.{normal_pairs}
 use Rattle.map_zipkin.specs.Writing.{as_text}
 use Rattle.map_zipkin.proofs.NormalPairs.{to_text, normal_at, normal_rise}

@@ -18,7 +18,7 @@ use Rattle.span_tags.specs.Runs.{Scoped, under, scoped}
 use Rattle.span_tags.specs.TagKeys.{service_key}
 use Rattle.span_tags.specs.TagWords.{Pairs}
 use Rattle.map_zipkin.specs.Losses.{follows, group_losses, last_of, names_before, resource_losses, span_losses, unit_losses}
-use Rattle.map_zipkin.specs.LossWalks.{kept_text, kept_texts, still_same, Advances, names_where, names_at_end, joined_losses}
+use Rattle.map_zipkin.specs.private.LossWalks.{kept_text, kept_texts, still_same, Advances, names_where, names_at_end, joined_losses}
 use Rattle.map_zipkin.specs.Normal.{normal_pairs, normal_one}
 use Rattle.map_zipkin.specs.Regrouped.{RunSpan, same_resource}
 use Rattle.map_zipkin.specs.declared.run.Run.{Run}

@@ -16,7 +16,7 @@ use Rattle.span_tags.specs.laws.AttributeLaws.{same_key, below_all, attrs_itself
 use Rattle.span_tags.specs.laws.RowLaws.{last_at-filter}
 use Rattle.span_tags.specs.TagWords.{Pairs}
 use Rattle.map_zipkin.specs.Writing.{as_text, as_texts, is_told, told_pairs, zipkin_tag_of}
-use Rattle.map_zipkin.specs.WritingSoFar.{rows_below, rows_above}
+use Rattle.map_zipkin.specs.private.WritingSoFar.{rows_below, rows_above}
 use Rattle.map_zipkin.proofs.RowsJoined.{attrs_within, in_front_of}
 
 abbrev cmp : List ℕ → List ℕ → Ordering

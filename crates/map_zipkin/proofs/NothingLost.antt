@@ -23,7 +23,7 @@ use Rattle.span_tags.specs.TagWords.{Pairs}
 use Rattle.map_zipkin.specs.Keys.{peer_key}
 use Rattle.map_zipkin.specs.StatedLaws.{IsPlainGroup, NothingLost}
 use Rattle.map_zipkin.specs.Losses.{goes, changes, span_losses, resource_losses, follows, names_before, last_of, run_behind, has_no_span, unit_losses, group_losses, groups_losses}
-use Rattle.map_zipkin.specs.LossWalks.{kept_texts}
+use Rattle.map_zipkin.specs.private.LossWalks.{kept_texts}
 use Rattle.map_zipkin.specs.Normal.{normal_pairs, zipkin_normal_span, normal_one, normal_spans}
 use Rattle.map_zipkin.specs.Regrouped.{RunSpan, in_scope, run_of, runs_of, same_resource, plain_group, group_of_one, before, regrouped}
 use Rattle.map_zipkin.specs.Writing.{as_text}

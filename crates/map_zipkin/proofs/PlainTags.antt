@@ -12,15 +12,18 @@ use Rattle.trace_model.specs.ValueTexts.{has_double}
 use Rattle.trace_model.specs.declared.value.Value.{Value}
 use Rattle.span_tags.specs.laws.AttributeLaws.{all_attrs}
 use Rattle.span_tags.specs.Doubles.{double_at}
-use Rattle.span_tags.specs.TagKeys.{service_key, error_key, dropped_attributes_key, dropped_events_key, dropped_links_key, scope_name_key, scope_version_key, code_key, state_key}
-use Rattle.span_tags.specs.TagWords.{Pairs, row, without, text_given, code_given}
+use Rattle.span_tags.specs.laws.ColumnLaws.{all_rows}
+use Rattle.span_tags.specs.Runs.{under}
+use Rattle.span_tags.specs.TagKeys.{service_key}
+use Rattle.span_tags.specs.TagWords.{Pairs, row, without, text_given}
 use Rattle.trace_model.specs.declared.span.Span.{Span}
-use Rattle.map_zipkin.specs.TagColumns.{count_text}
-use Rattle.map_zipkin.specs.Writing.{error_message, as_text, as_texts, prefixed, resource_pairs}
-use Rattle.map_zipkin.specs.WritingSoFar.{count_rows, unshared_rows, shared_pairs, shared_rows, rows_below, rows_above}
+use Rattle.map_zipkin.specs.TagColumns.{row_of}
+use Rattle.map_zipkin.specs.Writing.{as_text, as_texts, prefixed, resource_pairs}
+use Rattle.map_zipkin.specs.private.WritingSoFar.{unshared_columns, span_columns, unshared_rows, shared_pairs, shared_rows, rows_below, rows_above}
+use Rattle.map_zipkin.specs.declared.columns.Column.TheVariants as columns
 use Rattle.map_zipkin.proofs.ColumnLemmas.{textual}
-use Rattle.map_zipkin.proofs.OwnForms.{text_leaf, count_leaf}
-use Rattle.map_zipkin.proofs.TagsBack.{error_leaf, code_leaf}
+use Rattle.map_zipkin.proofs.OwnForms.{text_leaf}
+use Rattle.map_zipkin.proofs.TagsBack.{column_leaf}
 
 -- ---- what stands at a key
 
@@ -62,21 +65,13 @@ plain_row key (Some value) e = All-cons Plain (key, value) [] (sym (ap double_at
 
 -- those of the columns
 pub own_plain : (span : Span) → holds_double (unshared_rows span) ≡ false
-own_plain span = none_double (unshared_rows span)
-    (All-append Plain (row error_key (error_message span.status.code span.status.message)) _ (plain_row error_key _ (error_leaf span.status.code span.status.message))
-    (All-append Plain (count_rows span) _ (counts span)
-    (All-append Plain (row code_key (code_given span.status.code)) _ (plain_row code_key _ (code_leaf span.status.code))
-    (plain_row state_key _ (text_leaf span.state)))))
-  where
-    counts : (span : Span) → All Plain (count_rows span)
-    counts span = All-append Plain (row dropped_attributes_key (count_text span.dropped_attributes)) _ (plain_row dropped_attributes_key _ (count_leaf span.dropped_attributes))
-        (All-append Plain (row dropped_events_key (count_text span.dropped_events)) _ (plain_row dropped_events_key _ (count_leaf span.dropped_events))
-        (plain_row dropped_links_key _ (count_leaf span.dropped_links)))
+own_plain span = none_double (unshared_rows span) (all_rows row_of Plain unshared_columns (span_columns span)
+    (λ column. plain_row (row_of column).key (span_columns span column) (column_leaf (under [] [] span) column)))
 
 pub shared_plain : (resource : Pairs) (name version : List ℕ) → holds_double (shared_rows resource name version) ≡ false
 shared_plain resource name version = none_double (shared_rows resource name version) (all_attrs Plain (shared_pairs resource name version)
-    (All-append Plain (row scope_name_key (text_given name)) _ (plain_row scope_name_key _ (text_leaf name))
-    (All-append Plain (row scope_version_key (text_given version)) _ (plain_row scope_version_key _ (text_leaf version))
+    (All-append Plain (row (row_of columns.ScopeName).key (text_given name)) _ (plain_row (row_of columns.ScopeName).key _ (text_leaf name))
+    (All-append Plain (row (row_of columns.ScopeVersion).key (text_given version)) _ (plain_row (row_of columns.ScopeVersion).key _ (text_leaf version))
     (prefixed_plain (without service_key resource)))))
 
 -- the rows of a span and those in common

@@ -1,20 +1,19 @@
 -- The spans that are written of a group that Zipkin can hold are proper and timely.
-use Rattle.std.proofs.Common.{◌≡◌, ℕ, ◌<◌, ◌≤◌, ◌^◌, Bool, true, false, cond, ◌==◌, ◌&&◌, List, [], ◌∷◌, ◌++◌, map, filter, get_or, All, Option, Some, None, decimal, refl, sym, subst, ap, true≢false, arith}
+use Rattle.std.proofs.Common.{◌≡◌, ℕ, ◌<◌, ◌≤◌, ◌^◌, Bool, true, false, cond, ◌==◌, List, [], ◌∷◌, ◌++◌, map, filter, get_or, All, Option, Some, None, decimal, refl, sym, subst, ap, arith}
 use Rattle.std.specs.Prelude.{not, codes, IsUtf8}
 use Rattle.std.specs.List.{list_all}
 use Rattle.std.specs.Option.{IfSome}
 use Rattle.std.specs.Str.{bytes_eq}
 use Rattle.std.proofs.Math.Dec.{ltb}
-use Rattle.std.proofs.lemmas.Bool.{ltb-true}
 use Rattle.std.proofs.lemmas.Fmt.{IsAscii-decimal}
 use Rattle.std.proofs.lemmas.List.Elements.{All-nil, All-cons, All-append, All-filter, All-map}
 use Rattle.std.proofs.lemmas.Map.Entries.{All-lookup}
 use Rattle.std.proofs.lemmas.Str.{IsUtf8-nil, IsUtf8-append, IsUtf8-from_ascii}
-use Rattle.std.proofs.lemmas.Str.Ascii.{IsAscii-from_all}
 use Rattle.span_ids.specs.Times.{floor}
 use Rattle.span_tags.specs.laws.AttributeLaws.{attrs_rise, all_attrs}
+use Rattle.span_tags.specs.laws.ColumnLaws.{all_rows}
 use Rattle.span_tags.specs.Runs.{Scoped, scoped}
-use Rattle.span_tags.specs.TagKeys.{error_key, dropped_attributes_key, dropped_events_key, dropped_links_key, scope_name_key, scope_version_key, code_key, state_key, service_key}
+use Rattle.span_tags.specs.TagKeys.{service_key}
 use Rattle.span_tags.specs.TagWords.{Pairs, row, without, text_given, code_given, text_or_none}
 use Rattle.trace_model.specs.Attributes.{Rise, keys, attrs, at}
 use Rattle.trace_model.specs.EventTexts.{event_text}
@@ -32,27 +31,17 @@ use Rattle.map_zipkin.specs.Faults.{HasNoZipkinFault}
 use Rattle.map_zipkin.specs.Keys.{resource_prefix, peer_key}
 use Rattle.map_zipkin.specs.OwnColumns.{OwnColumns, own_row, own_in}
 use Rattle.map_zipkin.specs.StatedLaws.{IsHeldByZipkin, WrittenIsWritable}
-use Rattle.map_zipkin.specs.TagColumns.{column_rows, count_text, text_told}
-use Rattle.map_zipkin.specs.Writing.{error_message, zipkin_columns_of, as_text, as_texts, prefixed, resource_pairs, is_told, told_pairs, zipkin_tag_of, zipkin_tags_of, annotation_of, zipkin_span, spans_of_group}
+use Rattle.map_zipkin.specs.TagColumns.{all_columns, count_text, error_message, row_of, zipkin_columns_of, column_rows, text_told}
+use Rattle.map_zipkin.specs.Writing.{as_text, as_texts, prefixed, resource_pairs, is_told, told_pairs, zipkin_tag_of, zipkin_tags_of, annotation_of, zipkin_span, spans_of_group}
+use Rattle.map_zipkin.specs.declared.columns.Column.{Column}
+use Rattle.map_zipkin.specs.declared.columns.Column.TheVariants as columns
 use Rattle.map_zipkin.specs.declared.own.Own.{Own}
 use Rattle.map_zipkin.specs.declared.own.Own.TheVariants as owns
 use Rattle.map_zipkin.proofs.HeldSpans.{NoSpanFault, spans_plain, IsHeldSpan, held_spans}
 use Rattle.map_zipkin.proofs.OwnForms.{port_fits}
+use Rattle.map_zipkin.proofs.ReadHeld.{word}
 use Rattle.map_zipkin.proofs.SpanBack.{all_formed}
 use Rattle.map_zipkin.proofs.TagsBack.{AreFormed}
-
--- ---- words
-
-ascii : (bs : List ℕ) → list_all (λ b. ltb b 128) bs ≡ true → All (λ b. b < 128) bs
-ascii [] e = All-nil (λ b. b < 128)
-ascii (b ∷ bs) e = by (λ rest. ascii bs rest) (ltb b 128) refl e
-  where
-    by : (list_all (λ c. ltb c 128) bs ≡ true → All (λ c. c < 128) bs) → (low : Bool) → ltb b 128 ≡ low → (low && list_all (λ c. ltb c 128) bs) ≡ true → All (λ c. c < 128) (b ∷ bs)
-    by others true low rest = All-cons (λ c. c < 128) b bs (ltb-true b 128 low) (others rest)
-    by others false low rest = absurd (true≢false (sym rest))
-
-word : (text : List ℕ) → list_all (λ b. ltb b 128) text ≡ true → IsUtf8 text
-word text e = IsUtf8-from_ascii text (IsAscii-from_all text (ascii text e))
 
 -- ---- rows
 
@@ -60,10 +49,9 @@ abbrev Held : Option Value → Type 0
 Held None = Unit {0}
 Held (Some value) = IsProperValue value
 
--- before proper pairs
-row_proper : (key : List ℕ) → IsUtf8 key → (value : Option Value) → Held value → (rest : Pairs) → AreProper rest → AreProper (row key value ++ rest)
-row_proper key utf8 None held rest all = all
-row_proper key utf8 (Some value) held rest all = All-cons IsProperPair (key, value) rest (record { key = utf8; value = held }) all
+row_proper : (key : List ℕ) → IsUtf8 key → (value : Option Value) → Held value → AreProper (row key value)
+row_proper key utf8 None held = All-nil IsProperPair
+row_proper key utf8 (Some value) held = All-cons IsProperPair (key, value) [] (record { key = utf8; value = held }) (All-nil IsProperPair)
 
 text_held : (text : List ℕ) → IsUtf8 text → Held (text_given text)
 text_held [] utf8 = tt
@@ -86,23 +74,24 @@ code_held statuses.Unset = tt
 code_held statuses.Okay = word (codes "OK") refl
 code_held statuses.Fail = word (codes "ERROR") refl
 
-rows_proper : (one : Scoped Span) → IsHeldSpan one → (rest : Pairs) → AreProper rest → AreProper (column_rows (zipkin_columns_of one) ++ rest)
-rows_proper one h rest all =
-    let c = zipkin_columns_of one in
-    All-append IsProperPair (column_rows c) rest
-    (row_proper error_key (word error_key refl) c.error (error_held one.span.status.code one.span.status.message h.proper.status.message) _
-    (row_proper dropped_attributes_key (word dropped_attributes_key refl) c.dropped_attributes (count_held one.span.dropped_attributes h.proper.dropped_attributes) _
-    (row_proper dropped_events_key (word dropped_events_key refl) c.dropped_events (count_held one.span.dropped_events h.proper.dropped_events) _
-    (row_proper dropped_links_key (word dropped_links_key refl) c.dropped_links (count_held one.span.dropped_links h.proper.dropped_links) _
-    (row_proper scope_name_key (word scope_name_key refl) c.scope_name (text_held one.name h.name) _
-    (row_proper scope_version_key (word scope_version_key refl) c.scope_version (text_held one.version h.version) _
-    (row_proper code_key (word code_key refl) c.code (code_held one.span.status.code) _
-    (last_row state_key (word state_key refl) c.state (text_held one.span.state h.proper.state)))))))))
-    all
-  where
-    last_row : (key : List ℕ) → IsUtf8 key → (value : Option Value) → Held value → AreProper (row key value)
-    last_row key utf8 None held = All-nil IsProperPair
-    last_row key utf8 (Some value) held = All-cons IsProperPair (key, value) [] (record { key = utf8; value = held }) (All-nil IsProperPair)
+held_in : (one : Scoped Span) → IsHeldSpan one → (column : Column) → Held (zipkin_columns_of one column)
+held_in one h columns.Error = error_held one.span.status.code one.span.status.message h.proper.status.message
+held_in one h columns.DroppedAttributes = count_held one.span.dropped_attributes h.proper.dropped_attributes
+held_in one h columns.DroppedEvents = count_held one.span.dropped_events h.proper.dropped_events
+held_in one h columns.DroppedLinks = count_held one.span.dropped_links h.proper.dropped_links
+held_in one h columns.ScopeName = text_held one.name h.name
+held_in one h columns.ScopeVersion = text_held one.version h.version
+held_in one h columns.Code = code_held one.span.status.code
+held_in one h columns.State = text_held one.span.state h.proper.state
+held_in one h other = tt
+
+key_ascii : (column : Column) → list_all (λ b. ltb b 128) (row_of column).key ≡ true
+key_ascii columns.Error = refl
+key_ascii other = refl
+
+rows_proper : (one : Scoped Span) → IsHeldSpan one → AreProper (column_rows (zipkin_columns_of one))
+rows_proper one h = all_rows row_of IsProperPair all_columns (zipkin_columns_of one) (λ column.
+    let key = (row_of column).key in row_proper key (word key (key_ascii column)) (zipkin_columns_of one column) (held_in one h column))
 
 -- ---- endpoints
 
@@ -181,7 +170,7 @@ module _ (utf8 : TextsAreUtf8) (events_utf8 : EventsAreUtf8) where
   tags_proper : (resource : Pairs) (one : Scoped Span) → AreProper resource → IsHeldSpan one → All written.IsProperZTag (zipkin_tags_of resource one)
   tags_proper resource one proper h =
       let pairs = column_rows (zipkin_columns_of one) ++ (resource_pairs resource ++ told_pairs one.span.attributes) in
-      let all : AreProper (attrs pairs) = all_attrs IsProperPair pairs (rows_proper one h (resource_pairs resource ++ told_pairs one.span.attributes)
+      let all : AreProper (attrs pairs) = all_attrs IsProperPair pairs (All-append IsProperPair (column_rows (zipkin_columns_of one)) _ (rows_proper one h)
       (All-append IsProperPair (resource_pairs resource) (told_pairs one.span.attributes) (resource_proper resource proper) (told_proper one.span.attributes h.proper.attributes))) in
       All-map written.IsProperZTag zipkin_tag_of (attrs pairs) (λ k d lt. ((all k d lt).key, utf8 (get_or (attrs pairs) k d).1 (all k d lt).value))
 

@@ -19,7 +19,7 @@ use Rattle.span_tags.specs.laws.QuietLaws.{Quiet, both, quiet_as, row_quiet, dif
 use Rattle.span_tags.specs.TagWords.{Pairs}
 use Rattle.map_zipkin.specs.Keys.{peer_key}
 use Rattle.map_zipkin.specs.Losses.{goes, changes, bytes_change, event_losses, link_losses, message_goes, own_losses, span_losses}
-use Rattle.map_zipkin.specs.LossWalks.{kept_texts}
+use Rattle.map_zipkin.specs.private.LossWalks.{kept_texts}
 use Rattle.map_zipkin.specs.Normal.{message_kept, zipkin_normal_kind, zipkin_normal_event, zipkin_normal_span}
 use Rattle.map_zipkin.proofs.KeptTexts.{Stays, all_stay, none_go}
 

@@ -12,7 +12,7 @@ use Rattle.std.proofs.Math.Dec.{ltb}
 use Rattle.std.specs.List.{list_all}
 use Rattle.std.proofs.lemmas.Str.{IsUtf8-nil, IsUtf8-drop, IsUtf8-from_ascii, IsCharBoundary-after_ascii}
 use Rattle.span_tags.specs.laws.AttributeLaws.{attrs_rise, same_key}
-use Rattle.span_tags.specs.TagKeys.{service_key, error_key, state_key, dropped_attributes_key, dropped_events_key, dropped_links_key, library_name_key, library_version_key, scope_name_key, scope_version_key}
+use Rattle.span_tags.specs.TagKeys.{service_key}
 use Rattle.span_tags.specs.TagWords.{Pairs, text_in, text_given, at_most, decimal_in, count_in, name_in}
 use Rattle.trace_model.specs.Attributes.{Rise, keys, at}
 use Rattle.trace_model.specs.EventReading.{event_text_read}
@@ -28,7 +28,9 @@ use Rattle.zipkin_json.specs.declared.span.ZSpan.{ZSpan}
 use Rattle.map_zipkin.specs.Keys.{resource_prefix, peer_key}
 use Rattle.map_zipkin.specs.OwnColumns.{own_row, own_of, truth_given}
 use Rattle.map_zipkin.specs.Reading.{pair_of, pairs_of, is_free_tag, resource_tags, resource_by, attributes_by, event_by, zipkin_event_of, message_of, run_span_of}
-use Rattle.map_zipkin.specs.TagColumns.{count_text}
+use Rattle.map_zipkin.specs.TagColumns.{TagColumns, count_text, row_of, columns_in}
+use Rattle.map_zipkin.specs.declared.columns.Column.{Column}
+use Rattle.map_zipkin.specs.declared.columns.Column.TheVariants as columns
 use Rattle.map_zipkin.specs.declared.own.Own.{Own}
 use Rattle.map_zipkin.specs.declared.own.Own.TheVariants as owns
 use Rattle.map_zipkin.proofs.EventFacts.{EventsRead, EventsProper}
@@ -206,14 +208,17 @@ module _ (span : ZSpan) (proper : IsProperZSpan span) where
 
   -- ---- the span and its run
 
-  resource_row : (key : List ℕ) → IfSome (at key (pairs_of span)) IsProperValue
-  resource_row key = under_key key (pairs_of span) (tags_proper span proper)
+  abbrev its : TagColumns
+  its = columns_in (pairs_of span)
+
+  its_proper : (column : Column) → IfSome (its column) IsProperValue
+  its_proper column = under_key (row_of column).key (pairs_of span) (tags_proper span proper)
 
   pub name_utf8 : IsUtf8 (run_span_of span).0.name
-  name_utf8 = name_proper (at scope_name_key (pairs_of span)) (at library_name_key (pairs_of span)) (resource_row scope_name_key) (resource_row library_name_key)
+  name_utf8 = name_proper (its columns.ScopeName) (its columns.LibraryName) (its_proper columns.ScopeName) (its_proper columns.LibraryName)
 
   pub version_utf8 : IsUtf8 (run_span_of span).0.version
-  version_utf8 = name_proper (at scope_version_key (pairs_of span)) (at library_version_key (pairs_of span)) (resource_row scope_version_key) (resource_row library_version_key)
+  version_utf8 = name_proper (its columns.ScopeVersion) (its columns.LibraryVersion) (its_proper columns.ScopeVersion) (its_proper columns.LibraryVersion)
 
   module _ (facts : EventsRead) (events : EventsProper) where
     event_proper : (time : ℕ) (text : List ℕ) (read : Option (List ℕ × Pairs)) → event_text_read text ≡ read → time < 2 ^ 64 → IsUtf8 text → IsProperEvent (event_by time text read)
@@ -226,18 +231,18 @@ module _ (span : ZSpan) (proper : IsProperZSpan span) where
     span_proper = record {
       trace = proper.trace;
       id = proper.id;
-      state = said (at state_key (pairs_of span)) (resource_row state_key);
+      state = said (its columns.State) (its_proper columns.State);
       parent = proper.parent;
       name = proper.name;
       start = proper.start;
       end = proper.end;
       attributes = attributes_proper;
-      dropped_attributes = count_proper (at dropped_attributes_key (pairs_of span));
+      dropped_attributes = count_proper (its columns.DroppedAttributes);
       events = All-map IsProperEvent zipkin_event_of span.annotations
           (λ k d lt. let one = get_or span.annotations k d in event_proper one.0 one.1 (event_text_read one.1) refl (proper.annotations k d lt).0 (proper.annotations k d lt).1);
-      dropped_events = count_proper (at dropped_events_key (pairs_of span));
+      dropped_events = count_proper (its columns.DroppedEvents);
       links = All-nil IsProperLink;
-      dropped_links = count_proper (at dropped_links_key (pairs_of span));
-      status = record { message = message_proper (run_span_of span).1.status.code (at error_key (pairs_of span)) (resource_row error_key) };
+      dropped_links = count_proper (its columns.DroppedLinks);
+      status = record { message = message_proper (run_span_of span).1.status.code (its columns.Error) (its_proper columns.Error) };
       flags = omega arith;
     }

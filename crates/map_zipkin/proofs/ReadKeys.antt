@@ -7,10 +7,10 @@ use Rattle.std.specs.Str.Pattern.{FindsTextPrefix, StripsPrefix}
 use Rattle.trace_model.specs.declared.value.Value.{Value}
 use Rattle.span_tags.specs.TagKeys.{service_key}
 use Rattle.span_tags.specs.TagWords.{Pairs, without}
-use Rattle.map_zipkin.specs.OwnColumns.{is_own}
-use Rattle.std.specs.List.{list_any}
 use Rattle.std.specs.Str.{bytes_eq}
-use Rattle.map_zipkin.specs.Keys.{resource_prefix, resource_key, column_keys, peer_key}
+use Rattle.map_zipkin.specs.Keys.{resource_prefix, resource_key, peer_key}
+use Rattle.map_zipkin.specs.OwnColumns.{is_own}
+use Rattle.map_zipkin.specs.TagColumns.{is_column}
 use Rattle.map_zipkin.specs.Reading.{is_free_tag, resource_row, resource_tags}
 use Rattle.map_zipkin.proofs.ResourceTags.{key_behind, key_in_front}
 
@@ -39,7 +39,7 @@ by_parts false None told e = absurd (true≢false (sym e))
 -- a key of the resource is no attribute's
 pub resource_not_free : (key rest : List ℕ) → resource_key key ≡ Some rest → is_free_tag key ≡ false
 resource_not_free key rest e =
-    by_parts (list_any (bytes_eq key) column_keys) (resource_key key) (is_own key || bytes_eq peer_key key) (ap is_some e)
+    by_parts (is_column key) (resource_key key) (is_own key || bytes_eq peer_key key) (ap is_some e)
 
 -- nothing is added for it
 pub nothing_more : {T E : Type 0} (r : Result T E) (attributes : Pairs) (tag : List ℕ × Value) (o : Option (Bor (List ℕ))) (x : Bor (List ℕ)) → option_map (λ k. k.now) o ≡ resource_key tag.0 → o ≡ Some x

@@ -7,7 +7,7 @@ use Rattle.std.proofs.lemmas.List.Elements.{All-head, All-tail}
 use Rattle.span_ids.specs.Times.{floor}
 use Rattle.span_tags.specs.laws.AttributeLaws.{key_itself}
 use Rattle.span_tags.specs.Runs.{scoped}
-use Rattle.span_tags.specs.TagKeys.{service_key, error_key}
+use Rattle.span_tags.specs.TagKeys.{service_key}
 use Rattle.span_tags.specs.TagWords.{Pairs, text_given, text_or_none}
 use Rattle.trace_model.specs.Attributes.{at}
 use Rattle.trace_model.specs.EventReading.{event_text_read}
@@ -24,6 +24,8 @@ use Rattle.map_zipkin.specs.OwnColumns.{own_row, is_own}
 use Rattle.map_zipkin.specs.StatedLaws.{ReadIsZipkinNormal}
 use Rattle.map_zipkin.specs.Normal.{zipkin_normal_kind, message_kept, zipkin_normal_event, zipkin_normal_span, normal_pairs, normal_spans, zipkin_normal}
 use Rattle.map_zipkin.specs.Reading.{pairs_of, resource_tags, resource_by, attributes_by, is_free_tag, event_by, zipkin_event_of, zipkin_kind_read, message_of, run_span_of, groups_of}
+use Rattle.map_zipkin.specs.TagColumns.{columns_in}
+use Rattle.map_zipkin.specs.declared.columns.Column.TheVariants as columns
 use Rattle.map_zipkin.specs.Regrouped.{RunSpan, run_of, runs_of, regrouped}
 use Rattle.map_zipkin.proofs.ColumnLemmas.{own_no_peer}
 use Rattle.map_zipkin.proofs.EventFacts.{EventsRead}
@@ -170,7 +172,7 @@ module _ (facts : EventsRead) where
           end = timely.end i;
           attributes = attributes_normal span i;
           events = events i;
-          status = record { code = s.status.code; message = message_normal s.status.code (at error_key (pairs_of span)) i };
+          status = record { code = s.status.code; message = message_normal s.status.code (columns_in (pairs_of span) columns.Error) i };
         },
       )
 

@@ -1,10 +1,8 @@
 -- The span of Zipkin of a span in normal form is that of the span.
-use Rattle.std.proofs.Common.{◌≡◌, ℕ, ◌+◌, List, [], ◌∷◌, ◌++◌, map, get_or, All, Option, Some, None, is_some, option_map, refl, sym, ap, ◌∙◌, arith}
+use Rattle.std.proofs.Common.{◌≡◌, ℕ, List, [], ◌∷◌, ◌++◌, map, get_or, All, Option, Some, None, is_some, option_map, refl, sym, ap, ◌∙◌, arith}
 use Rattle.std.specs.List.{flat_map}
-use Rattle.std.proofs.lemmas.List.{get_or_default}
-use Rattle.std.proofs.lemmas.List.Elements.{All-nil, All-head, All-tail, All-map, All-append, All-weaker, at_read}
+use Rattle.std.proofs.lemmas.List.Elements.{All-nil, All-head, All-tail, All-map, All-append, All-weaker}
 use Rattle.span_ids.specs.Times.{floor}
-use Rattle.span_tags.specs.PlacedFaults.{in_span}
 use Rattle.span_tags.specs.laws.RunLaws.{scoped_all}
 use Rattle.span_tags.specs.Runs.{spans_of, scoped}
 use Rattle.span_tags.specs.TagKeys.{service_key}
@@ -21,18 +19,21 @@ use Rattle.trace_model.specs.declared.trace.Group.{Group}
 use Rattle.trace_model.specs.declared.trace.Scope.{Scope}
 use Rattle.trace_model.specs.declared.value.Value.{Value, Text}
 use Rattle.zipkin_json.specs.declared.span.ZSpan.{ZSpan}
-use Rattle.map_zipkin.specs.Faults.{IsOutOfForm, HasOwnKey, IsZipkinSpanFault, HasNoZipkinFault}
+use Rattle.map_zipkin.specs.Faults.{IsOutOfForm, HasOwnKey}
 use Rattle.map_zipkin.specs.Keys.{peer_key}
 use Rattle.map_zipkin.specs.OwnColumns.{own_row, own_form, own_in, is_true_text, is_address, is_port_text}
 use Rattle.map_zipkin.specs.StatedLaws.{IsHeldByZipkin}
 use Rattle.map_zipkin.specs.Normal.{normal_pairs, zipkin_normal_kind, message_kept, zipkin_normal_event, zipkin_normal}
 use Rattle.map_zipkin.specs.Regrouped.{RunSpan, run_of, runs_of, in_scope, regrouped}
-use Rattle.map_zipkin.specs.TagColumns.{column_rows, text_told, port_told}
-use Rattle.map_zipkin.specs.Writing.{error_message, zipkin_columns_of, zipkin_kind, zipkin_tag_of, annotation_of, zipkin_span, spans_of_group}
+use Rattle.map_zipkin.specs.TagColumns.{error_message, zipkin_columns_of, column_rows, text_told, port_told}
+use Rattle.map_zipkin.specs.Writing.{zipkin_kind, zipkin_tag_of, annotation_of, zipkin_span, spans_of_group}
+use Rattle.map_zipkin.specs.declared.columns.Column.{Column}
+use Rattle.map_zipkin.specs.declared.columns.Column.TheVariants as columns
 use Rattle.map_zipkin.specs.declared.own.Own.{Own}
 use Rattle.map_zipkin.specs.declared.own.Own.TheVariants as owns
 use Rattle.map_zipkin.proofs.ColumnLemmas.{own_no_peer, own_there}
 use Rattle.map_zipkin.proofs.EventFacts.{SameEventText}
+use Rattle.map_zipkin.proofs.HeldSpans.{spans_plain}
 use Rattle.map_zipkin.proofs.NormalPairs.{to_text, text_kept, at_others, resource_same, told_same}
 use Rattle.map_zipkin.proofs.ReadNormal.{normal_run, map_map, map_flat, flat_each, normal_flat}
 use Rattle.map_zipkin.proofs.Regrouping.{regrouped_spans}
@@ -51,6 +52,11 @@ error_same : (code : Code) (message : List ℕ) → error_message code (message_
 error_same statuses.Unset message = refl
 error_same statuses.Okay message = refl
 error_same statuses.Fail message = refl
+
+-- an error has its message, and the other columns stay
+column_same : (one : RunSpan) (column : Column) → zipkin_columns_of (in_scope (normal_run one)) column ≡ zipkin_columns_of (in_scope one) column
+column_same one columns.Error = error_same one.1.status.code one.1.status.message
+column_same one other = refl
 
 floor_twice : (n : ℕ) → floor (floor n) ≡ floor n
 floor_twice n = omega arith
@@ -112,7 +118,6 @@ module _ (texts : SameEventText) where
       let own = own_same s up formed in
       let local = text_kept service_key one.0.resource up_resource in
       let remote = text_kept peer_key s.attributes up in
-      let error = error_same s.status.code s.status.message in
       let resource = resource_same one.0.resource up_resource in
       let told = told_same s.attributes up in
       let annotations : map annotation_of (map zipkin_normal_event s.events) ≡ map annotation_of s.events =
@@ -140,18 +145,13 @@ module _ (texts : SameEventText) where
           port = port_told (own i owns.RemotePort);
         };
         annotations = annotations i;
-        tags = map zipkin_tag_of (attrs (column_rows (record (zipkin_columns_of (in_scope one)) { error = error i }) ++ (resource i ++ told i)));
+        tags = map zipkin_tag_of (attrs (column_rows (λ column. column_same one column i) ++ (resource i ++ told i)));
       }
 
   -- ---- the spans of groups
 
   abbrev IsSame : RunSpan → Type 0
   IsSame one = zspan (normal_run one) ≡ zspan one
-
-  spans_plain : (group : Group) → HasNoZipkinFault group → All (λ one. AreFormed one.span) (scoped group.scopes)
-  spans_plain group none k d lt key is = none (record { place = k + 1; fault = OwnKey key }) (in_span k refl
-      (at_read (scoped group.scopes) (λ one. IsZipkinSpanFault one.span (OwnKey key)) k (get_or (scoped group.scopes) k d) lt
-      (get_or_default (scoped group.scopes) k d (get_or (scoped group.scopes) k d) lt) is))
 
   scope_rise : (scope : Scope) → IsSoundScope scope → All (λ one. Rise (keys one.span.attributes)) (spans_of scope)
   scope_rise scope sound = All-map (λ one. Rise (keys one.span.attributes)) (λ span. record { name = scope.name; version = scope.version; span = span }) scope.spans
@@ -163,7 +163,8 @@ module _ (texts : SameEventText) where
       scoped_all (λ one. Rise (keys one.span.attributes)) group.scopes
       (All-weaker IsSoundScope (λ scope. All (λ one. Rise (keys one.span.attributes)) (spans_of scope)) scope_rise group.scopes held.sound.scopes) in
       All-map IsSame (run_of group.resource) (scoped group.scopes)
-      (λ k d lt. same_span (run_of group.resource (get_or (scoped group.scopes) k d)) held.sound.resource.rising (rise k d lt) (spans_plain group held.no_fault k d lt))
+      (λ k d lt. same_span (run_of group.resource (get_or (scoped group.scopes) k d)) held.sound.resource.rising (rise k d lt)
+      (λ key. spans_plain group held.no_fault k d lt (OwnKey key)))
 
   groups_same : (groups : List Group) → All IsHeldByZipkin groups → All IsSame (flat_map runs_of groups)
   groups_same [] held = All-nil IsSame

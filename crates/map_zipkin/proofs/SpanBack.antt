@@ -5,7 +5,7 @@ use Rattle.span_ids.specs.Times.{floor}
 use Rattle.span_tags.specs.laws.AttributeLaws.{at_absent}
 use Rattle.span_tags.specs.laws.ColumnLaws.{none_left}
 use Rattle.span_tags.specs.Runs.{Scoped, scoped}
-use Rattle.span_tags.specs.TagKeys.{error_key, dropped_attributes_key, dropped_events_key, dropped_links_key, library_name_key, library_version_key, code_key, service_key}
+use Rattle.span_tags.specs.TagKeys.{service_key}
 use Rattle.span_tags.specs.TagWords.{Pairs, text_in, code_in, name_in, text_given, code_given, text_or_none, is_idle, if_left}
 use Rattle.trace_model.specs.Attributes.{Rise, keys, at}
 use Rattle.trace_model.specs.declared.fault.Fault.TheVariants.{Reserved, OwnKey, EventText, DoubleInText}
@@ -20,10 +20,12 @@ use Rattle.map_zipkin.specs.Keys.{resource_prefix, peer_key}
 use Rattle.map_zipkin.specs.StatedLaws.{IsHeldByZipkin, SpansReadBack}
 use Rattle.map_zipkin.specs.Normal.{zipkin_normal_kind, message_kept, zipkin_normal_event, normal_one, normal_spans}
 use Rattle.map_zipkin.specs.Reading.{pairs_of, message_of, code_of_error, zipkin_event_of, zipkin_kind_read, span_read_by, run_by, run_span_of}
-use Rattle.map_zipkin.specs.Remarks.{is_idle_message, is_idle_peer, left_out_by, zipkin_left_out}
+use Rattle.map_zipkin.specs.Remarks.{is_idle_peer, first_columns, left_out_by, zipkin_left_out}
 use Rattle.map_zipkin.specs.OwnColumns.{all_own, own_row, own_form, own_in}
-use Rattle.map_zipkin.specs.TagColumns.{columns_in}
-use Rattle.map_zipkin.specs.Writing.{error_message, zipkin_columns_of, zipkin_kind, annotation_of, zipkin_span, spans_of_group}
+use Rattle.map_zipkin.specs.TagColumns.{error_message, is_idle_message, row_of, columns_in, zipkin_columns_of, is_idle_in}
+use Rattle.map_zipkin.specs.Writing.{zipkin_kind, annotation_of, zipkin_span, spans_of_group}
+use Rattle.map_zipkin.specs.declared.columns.Column.{Column}
+use Rattle.map_zipkin.specs.declared.columns.Column.TheVariants as columns
 use Rattle.map_zipkin.specs.declared.own.Own.{Own}
 use Rattle.map_zipkin.proofs.ColumnLemmas.{own_apart, own_untold, own_there}
 use Rattle.map_zipkin.proofs.EventsBack.{none_of, ReadsEvents, EventsReadBack, event_back}
@@ -118,17 +120,20 @@ module _ (resource : Pairs) (up : Rise (keys resource)) (one : Scoped Span) (kno
   own_none : (own : Own) → is_some (own_in its_tags own) ≡ false
   own_none own = ap is_some (placed_none resource one up known.sound.attributes.rising free (own_row own).key (own_apart own) (own_untold own))
 
+  told_in : (column : Column) → is_idle_in (zipkin_columns_of one) column ≡ false
+  told_in columns.Error = message_told one.span.status.code one.span.status.message
+  told_in columns.DroppedAttributes = count_told one.span.dropped_attributes known.proper.dropped_attributes
+  told_in columns.DroppedEvents = count_told one.span.dropped_events known.proper.dropped_events
+  told_in columns.DroppedLinks = count_told one.span.dropped_links known.proper.dropped_links
+  told_in columns.Code = code_told one.span.status.code
+  told_in other = refl
+
   none_left_out : left_out_by (zipkin_span resource one).remote.service (zipkin_columns_of one) its_tags ≡ []
-  none_left_out = λ i. if_left error_key (message_told one.span.status.code one.span.status.message i)
-      ++ (if_left dropped_attributes_key (count_told one.span.dropped_attributes known.proper.dropped_attributes i)
-      ++ (if_left dropped_events_key (count_told one.span.dropped_events known.proper.dropped_events i)
-      ++ (if_left dropped_links_key (count_told one.span.dropped_links known.proper.dropped_links i)
-      ++ (if_left library_name_key false
-      ++ (if_left library_version_key false
+  none_left_out = λ i. none_left row_of first_columns (zipkin_columns_of one) told_in i
       ++ (if_left (resource_prefix ++ service_key) (is_some (service_none resource one up known.sound.attributes.rising free i))
-      ++ (if_left code_key (code_told one.span.status.code i)
+      ++ (if_left (row_of columns.Code).key (told_in columns.Code i)
       ++ (if_left peer_key (is_idle_peer (text_or_none (at peer_key one.span.attributes)) (text_in (placed_none resource one up known.sound.attributes.rising free peer_key refl refl i)))
-      ++ none_left own_row all_own (own_in its_tags) own_none i))))))))
+      ++ none_left own_row all_own (own_in its_tags) own_none i)))
 
   pub span_plainly : zipkin_left_out (zipkin_span resource one) ≡ []
   span_plainly =

@@ -8,7 +8,7 @@ use Rattle.trace_model.specs.declared.value.Value.{Value}
 use Rattle.zipkin_json.specs.declared.span.ZSpan.{ZSpan}
 use Rattle.span_tags.specs.TagWords.{Pairs, row}
 use Rattle.map_zipkin.specs.Keys.{peer_key}
-use Rattle.map_zipkin.specs.ReadColumns.{IsZipkinToldBy, ArePartedBy}
+use Rattle.map_zipkin.specs.private.ReadColumns.{IsZipkinToldBy, ArePartedBy}
 use Rattle.map_zipkin.specs.Reading.{pairs_of, zipkin_event_of, zipkin_kind_read, peer_of, is_free_tag, resource_by, run_by, span_read_by, run_span_of}
 use Rattle.map_zipkin.specs.Regrouped.{RunSpan}
 use Rattle.map_zipkin.specs.OwnColumns.{own_rows, own_of}

@@ -1,6 +1,5 @@
 -- The tags of a span that was written: what they hold in columns, of the resource, and as attributes.
 use Rattle.std.proofs.Common.{◌≡◌, ℕ, Bool, true, false, cond, not, ◌||◌, List, [], ◌∷◌, ◌++◌, map, filter, Option, Some, None, is_some, option_map, option_and_then, refl, sym, ap, ◌∙◌, true≢false}
-use Rattle.std.specs.List.{list_any, AllByRecursion}
 use Rattle.std.specs.Option.{option_or}
 use Rattle.std.specs.Str.{bytes_eq}
 use Rattle.std.proofs.lemmas.List.{map-append}
@@ -11,19 +10,21 @@ use Rattle.trace_model.specs.declared.span.Span.{Span}
 use Rattle.trace_model.specs.declared.value.Value.{Value}
 use Rattle.span_tags.specs.laws.AttributeLaws.{same_key, option_or-none, last_at, last_at-append, last_at-rising, attrs_rise, at_attrs, same_pairs, at_filter, filter_rise, on_values, at_map, map_rise, map_attrs}
 use Rattle.span_tags.specs.laws.ColumnLaws.{each_key}
-use Rattle.span_tags.specs.laws.RowLaws.{each_of, last_at-filter}
+use Rattle.span_tags.specs.laws.RowLaws.{last_at-filter}
 use Rattle.span_tags.specs.Runs.{Scoped}
 use Rattle.span_tags.specs.TagKeys.{service_key}
 use Rattle.span_tags.specs.TagWords.{Pairs, row, without, text_in, text_given, code_given, text_or_none}
-use Rattle.map_zipkin.specs.Keys.{column_keys, resource_prefix, resource_key, is_zipkin_reserved, peer_key}
+use Rattle.map_zipkin.specs.Keys.{resource_prefix, resource_key, is_zipkin_reserved, peer_key}
 use Rattle.map_zipkin.specs.Normal.{normal_pairs}
 use Rattle.map_zipkin.specs.Reading.{pair_of, resource_tags, resource_by, peer_of, is_free_tag, attributes_by}
 use Rattle.map_zipkin.specs.OwnColumns.{all_own, own_row, own_form, is_own, own_rows, own_in, own_of}
-use Rattle.map_zipkin.specs.TagColumns.{column_rows, columns_in}
-use Rattle.map_zipkin.specs.Writing.{error_message, zipkin_columns_of, as_texts, prefixed, resource_pairs, is_told, told_pairs, zipkin_tag_of, zipkin_tags_of, zipkin_span}
+use Rattle.map_zipkin.specs.TagColumns.{error_message, row_of, is_column, columns_in, zipkin_columns_of, column_rows}
+use Rattle.map_zipkin.specs.Writing.{as_texts, prefixed, resource_pairs, is_told, told_pairs, zipkin_tag_of, zipkin_tags_of, zipkin_span}
+use Rattle.map_zipkin.specs.declared.columns.Column.{Column}
+use Rattle.map_zipkin.specs.declared.columns.Column.TheVariants as columns
 use Rattle.map_zipkin.specs.declared.own.Own.{Own}
 use Rattle.map_zipkin.specs.declared.own.Own.TheVariants as owns
-use Rattle.map_zipkin.proofs.ColumnLemmas.{none_in_rows, AreFree, columns_back, textual, texts_of_columns, texts_in_rows, own_at}
+use Rattle.map_zipkin.proofs.ColumnLemmas.{its_key, none_in_rows, AreFree, columns_back, textual, texts_of_columns, texts_in_rows, own_at}
 use Rattle.map_zipkin.proofs.OwnForms.{text_leaf, count_leaf, IsFormed, truth_back, address_back, port_back, truth_text_leaf, address_leaf, port_leaf}
 use Rattle.map_zipkin.proofs.ResourceTags.{last_at-resource_tags, last_at-prefixed, none_prefixed}
 
@@ -61,19 +62,19 @@ code_leaf statuses.Unset = refl
 code_leaf statuses.Okay = refl
 code_leaf statuses.Fail = refl
 
+pub column_leaf : (one : Scoped Span) (column : Column) → option_map textual (zipkin_columns_of one column) ≡ zipkin_columns_of one column
+column_leaf one columns.Error = error_leaf one.span.status.code one.span.status.message
+column_leaf one columns.DroppedAttributes = count_leaf one.span.dropped_attributes
+column_leaf one columns.DroppedEvents = count_leaf one.span.dropped_events
+column_leaf one columns.DroppedLinks = count_leaf one.span.dropped_links
+column_leaf one columns.ScopeName = text_leaf one.name
+column_leaf one columns.ScopeVersion = text_leaf one.version
+column_leaf one columns.Code = code_leaf one.span.status.code
+column_leaf one columns.State = text_leaf one.span.state
+column_leaf one other = refl
+
 columns_texts : (one : Scoped Span) → texts_of_columns (zipkin_columns_of one) ≡ zipkin_columns_of one
-columns_texts one = λ i. record {
-  error = error_leaf one.span.status.code one.span.status.message i;
-  dropped_attributes = count_leaf one.span.dropped_attributes i;
-  dropped_events = count_leaf one.span.dropped_events i;
-  dropped_links = count_leaf one.span.dropped_links i;
-  library_name = None;
-  library_version = None;
-  scope_name = text_leaf one.name i;
-  scope_version = text_leaf one.version i;
-  code = code_leaf one.span.status.code i;
-  state = text_leaf one.span.state i;
-}
+columns_texts one = λ i column. column_leaf one column i
 
 texts_again : (l : Pairs) → on_values textual (as_texts l) ≡ as_texts l
 texts_again [] = refl
@@ -107,8 +108,9 @@ pairs_texts resource one =
 
 -- ---- keys
 
-columns_unprefixed : AllByRecursion (λ k. resource_key k ≡ None) column_keys
-columns_unprefixed = (refl, (refl, (refl, (refl, (refl, (refl, (refl, (refl, (refl, (refl, tt))))))))))
+column_unprefixed : (column : Column) → resource_key (row_of column).key ≡ None
+column_unprefixed columns.Error = refl
+column_unprefixed other = refl
 
 -- no reserved key stands in these
 abbrev pub HasNoReserved : Pairs → Type 0
@@ -151,11 +153,11 @@ module _ (resource : Pairs) (one : Scoped Span) (up_resource : Rise (keys resour
   rest = resource_pairs resource ++ told
 
   rest_free : AreFree rest
-  rest_free k is =
-      let reserved : is_zipkin_reserved k ≡ true = ap (λ b. b || is_some (resource_key k)) is in
-      let unprefixed : resource_key k ≡ None = each_of (λ q. resource_key q ≡ None) column_keys columns_unprefixed k is in
+  rest_free column =
+      let k = (row_of column).key in
+      let reserved : is_zipkin_reserved k ≡ true = ap (λ b. b || is_some (resource_key k)) (its_key column) in
       last_at-append k (resource_pairs resource) told
-      ∙ (λ i. option_or (none_reserved k reserved i) (none_prefixed k others unprefixed i))
+      ∙ (λ i. option_or (none_reserved k reserved i) (none_prefixed k others (column_unprefixed column) i))
 
   abbrev pairs : Pairs
   pairs = column_rows (zipkin_columns_of one) ++ rest
@@ -172,8 +174,8 @@ module _ (resource : Pairs) (one : Scoped Span) (up_resource : Rise (keys resour
   -- under other keys than reserved ones
   at_held : (k : List ℕ) → is_zipkin_reserved k ≡ false → at k held ≡ last_at k told
   at_held k e =
-      let unprefixed : resource_key k ≡ None = none_is (resource_key k) (right_false (list_any (bytes_eq k) column_keys) (is_some (resource_key k)) e) in
-      let no_column : list_any (bytes_eq k) column_keys ≡ false = left_false (list_any (bytes_eq k) column_keys) (is_some (resource_key k)) e in
+      let unprefixed : resource_key k ≡ None = none_is (resource_key k) (right_false (is_column k) (is_some (resource_key k)) e) in
+      let no_column : is_column k ≡ false = left_false (is_column k) (is_some (resource_key k)) e in
       last_in k
       ∙ (λ i. option_or (option_or (last_at k told) (none_prefixed k others unprefixed i)) (none_in_rows k (zipkin_columns_of one) no_column i))
       ∙ option_or-none (option_or (last_at k told) None)

@@ -1,9 +1,8 @@
 -- The keys of tags to which the OpenTelemetry exporter page for Zipkin gives a meaning of their own, so that no attribute may stand under
 -- them, and that of the service at the other end.
-use Rattle.std.specs.Prelude.{ℕ, Bool, ◌||◌, if◌then◌else◌, is_some, List, [], ◌∷◌, take, drop, Option, Some, None, codes}
-use Rattle.std.specs.List.{list_any}
+use Rattle.std.specs.Prelude.{ℕ, Bool, ◌||◌, if◌then◌else◌, is_some, List, take, drop, Option, Some, None, codes}
 use Rattle.std.specs.Str.{bytes_eq}
-use Rattle.span_tags.specs.TagKeys.{error_key, dropped_attributes_key, dropped_events_key, dropped_links_key, library_name_key, library_version_key, scope_name_key, scope_version_key, code_key, state_key}
+use Rattle.map_zipkin.specs.TagColumns.{is_column}
 
 -- ---- of the resource: tags that begin with this
 
@@ -14,14 +13,10 @@ resource_prefix = codes "otel.resource."
 abbrev pub resource_key : List ℕ → Option (List ℕ)
 resource_key key = if bytes_eq (take 14 key) resource_prefix then Some (drop 14 key) else None
 
--- ---- of the span and its scope, in the order of their bytes
-
-abbrev pub column_keys : List (List ℕ)
-column_keys = error_key ∷ dropped_attributes_key ∷ dropped_events_key ∷ dropped_links_key ∷ library_name_key ∷ library_version_key
-    ∷ scope_name_key ∷ scope_version_key ∷ code_key ∷ state_key ∷ []
+-- ---- reserved: those of the span and its scope, too
 
 abbrev pub is_zipkin_reserved : List ℕ → Bool
-is_zipkin_reserved key = list_any (bytes_eq key) column_keys || is_some (resource_key key)
+is_zipkin_reserved key = is_column key || is_some (resource_key key)
 
 -- ---- the service at the other end
 

@@ -1,14 +1,16 @@
 -- The keys of Zipkin's own: what a span has there and a trace has no place for, as attributes of texts. A row for each has its key, what a span
 -- tells there, and the form of its value. Writing looks each up in the attributes, and reading fills them from a span.
-use Rattle.std.specs.Prelude.{ℕ, ◌&&◌, nat_le, Bool, true, false, List, [], ◌∷◌, map, Option, Some, None, is_some, codes}
+use Rattle.std.specs.Prelude.{ℕ, ◌&&◌, nat_le, Bool, true, false, List, [], ◌∷◌, ◌++◌, map, Option, Some, None, is_some, codes}
 use Rattle.std.specs.Str.{bytes_eq}
 use Rattle.span_tags.specs.Columns.{ColumnsOf, Row, is_key, looked_by, rows_by}
-use Rattle.span_tags.specs.TagWords.{Pairs, decimal_in, text_given}
+use Rattle.span_tags.specs.TagWords.{Pairs, row, decimal_in, text_given}
 use Rattle.trace_model.specs.declared.value.Value.{Value, Text}
+use Rattle.zipkin_json.specs.declared.span.Endpoint.{Endpoint}
 use Rattle.zipkin_json.specs.declared.span.ZSpan.{ZSpan}
 use Rattle.map_zipkin.specs.TagColumns.{count_text}
 use Rattle.map_zipkin.specs.declared.own.Own.{Own}
 use Rattle.map_zipkin.specs.declared.own.Own.TheVariants as owns
+use Rattle.map_zipkin.specs.declared.reading.attributes.Ends.{Ends}
 
 -- by rising keys
 abbrev pub all_own : List Own
@@ -51,33 +53,33 @@ truth_given true = Some (Text (codes "true"))
 
 pub record OwnRow : Type 0 where
   pub key : List ℕ
-  pub given : ZSpan → Option Value
+  pub given : Ends → Option Value
   pub form : Value → Bool
 
-abbrev pub truth_row : List ℕ → (ZSpan → Bool) → OwnRow
-truth_row key truth = record { key = key; given = λ span. truth_given (truth span); form = is_true_text }
+abbrev pub truth_row : List ℕ → (Ends → Bool) → OwnRow
+truth_row key truth = record { key = key; given = λ ends. truth_given (truth ends); form = is_true_text }
 
-abbrev pub address_row : List ℕ → (ZSpan → List ℕ) → OwnRow
-address_row key address = record { key = key; given = λ span. text_given (address span); form = is_address }
+abbrev pub address_row : List ℕ → (Ends → List ℕ) → OwnRow
+address_row key address = record { key = key; given = λ ends. text_given (address ends); form = is_address }
 
-abbrev pub port_row : List ℕ → (ZSpan → ℕ) → OwnRow
-port_row key port = record { key = key; given = λ span. count_text (port span); form = is_port_text }
+abbrev pub port_row : List ℕ → (Ends → ℕ) → OwnRow
+port_row key port = record { key = key; given = λ ends. count_text (port ends); form = is_port_text }
 
 abbrev pub own_table : Own → OwnRow
-own_table owns.Debug = truth_row (codes "zipkin.debug") (λ span. span.debug)
-own_table owns.LocalIpv4 = address_row (codes "zipkin.local.ipv4") (λ span. span.local.ipv4)
-own_table owns.LocalIpv6 = address_row (codes "zipkin.local.ipv6") (λ span. span.local.ipv6)
-own_table owns.LocalPort = port_row (codes "zipkin.local.port") (λ span. span.local.port)
-own_table owns.RemoteIpv4 = address_row (codes "zipkin.remote.ipv4") (λ span. span.remote.ipv4)
-own_table owns.RemoteIpv6 = address_row (codes "zipkin.remote.ipv6") (λ span. span.remote.ipv6)
-own_table owns.RemotePort = port_row (codes "zipkin.remote.port") (λ span. span.remote.port)
-own_table owns.Shared = truth_row (codes "zipkin.shared") (λ span. span.shared)
+own_table owns.Debug = truth_row (codes "zipkin.debug") (λ ends. ends.debug)
+own_table owns.LocalIpv4 = address_row (codes "zipkin.local.ipv4") (λ ends. ends.local.ipv4)
+own_table owns.LocalIpv6 = address_row (codes "zipkin.local.ipv6") (λ ends. ends.local.ipv6)
+own_table owns.LocalPort = port_row (codes "zipkin.local.port") (λ ends. ends.local.port)
+own_table owns.RemoteIpv4 = address_row (codes "zipkin.remote.ipv4") (λ ends. ends.remote.ipv4)
+own_table owns.RemoteIpv6 = address_row (codes "zipkin.remote.ipv6") (λ ends. ends.remote.ipv6)
+own_table owns.RemotePort = port_row (codes "zipkin.remote.port") (λ ends. ends.remote.port)
+own_table owns.Shared = truth_row (codes "zipkin.shared") (λ ends. ends.shared)
 
 abbrev pub own_form : Own → Value → Bool
 own_form own = (own_table own).form
 
 -- a tag of the key is never read
-abbrev pub own_row : Own → Row Own ZSpan
+abbrev pub own_row : Own → Row Own Ends
 own_row own = record { key = (own_table own).key; given = (own_table own).given; is_idle = λ value c. is_some value }
 
 -- each of these keys with its form
@@ -97,9 +99,17 @@ abbrev pub own_in : Pairs → OwnColumns
 own_in attributes = looked_by own_row attributes
 
 -- what a span of Zipkin has of them
+abbrev pub own_told : Ends → OwnColumns
+own_told ends = λ own. (own_row own).given ends
+
 abbrev pub own_of : ZSpan → OwnColumns
-own_of span = λ own. (own_row own).given span
+own_of span = own_told (record { debug = span.debug; shared = span.shared; local = span.local; remote = span.remote })
 
 -- the attributes that hold them, in the order of their keys
 abbrev pub own_rows : OwnColumns → Pairs
 own_rows c = rows_by own_row all_own c
+
+-- those of an endpoint, under these keys
+abbrev pub end_rows : Own × Own × Own → Endpoint → Pairs
+end_rows keys end = row (own_row keys.0).key (text_given end.ipv4)
+    ++ (row (own_row keys.1).key (text_given end.ipv6) ++ row (own_row keys.2).key (count_text end.port))

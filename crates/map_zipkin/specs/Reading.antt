@@ -22,6 +22,7 @@ use Rattle.map_zipkin.specs.Keys.{resource_key, is_zipkin_reserved, peer_key}
 use Rattle.map_zipkin.specs.OwnColumns.{is_own, own_rows, own_of}
 use Rattle.map_zipkin.specs.Regrouped.{RunSpan, regrouped}
 use Rattle.map_zipkin.specs.TagColumns.{TagColumns, columns_in}
+use Rattle.map_zipkin.specs.declared.columns.Column.TheVariants as columns
 use Rattle.map_zipkin.specs.declared.run.Run.{Run}
 
 -- the tags as pairs with values
@@ -53,7 +54,7 @@ abbrev pub code_of_error : Option Value → Code
 code_of_error error = if is_some error then statuses.Fail else statuses.Unset
 
 abbrev pub status_code : TagColumns → Code
-status_code c = unwrap_or (code_in c.code) (code_of_error c.error)
+status_code c = unwrap_or (code_in (c columns.Code)) (code_of_error (c columns.Error))
 
 -- and its message
 abbrev pub message_of : Code → Option Value → List ℕ
@@ -95,27 +96,27 @@ abbrev pub span_read_by : ZSpan → TagColumns → Pairs → Span
 span_read_by span c tags = record {
   trace = span.trace;
   id = span.id;
-  state = unwrap_or (text_in c.state) [];
+  state = unwrap_or (text_in (c columns.State)) [];
   parent = span.parent;
   name = span.name;
   kind = zipkin_kind_read span.kind;
   start = span.start;
   end = span.end;
   attributes = attributes_by span tags;
-  dropped_attributes = unwrap_or (count_in c.dropped_attributes) 0;
+  dropped_attributes = unwrap_or (count_in (c columns.DroppedAttributes)) 0;
   events = map zipkin_event_of span.annotations;
-  dropped_events = unwrap_or (count_in c.dropped_events) 0;
+  dropped_events = unwrap_or (count_in (c columns.DroppedEvents)) 0;
   links = [];
-  dropped_links = unwrap_or (count_in c.dropped_links) 0;
-  status = record { code = status_code c; message = message_of (status_code c) c.error };
+  dropped_links = unwrap_or (count_in (c columns.DroppedLinks)) 0;
+  status = record { code = status_code c; message = message_of (status_code c) (c columns.Error) };
   flags = 0;
 }
 
 abbrev pub run_by : ZSpan → TagColumns → Pairs → Run
 run_by span c tags = record {
   resource = resource_by span.local.service tags;
-  name = name_in c.scope_name c.library_name;
-  version = name_in c.scope_version c.library_version;
+  name = name_in (c columns.ScopeName) (c columns.LibraryName);
+  version = name_in (c columns.ScopeVersion) (c columns.LibraryVersion);
 }
 
 abbrev pub run_span_of : ZSpan → RunSpan

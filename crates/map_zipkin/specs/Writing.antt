@@ -1,16 +1,14 @@
 -- The spans of Zipkin of a group (OpenTelemetry exporter page for Zipkin; Zipkin v2 API), where nothing in it is a fault. Tags stand by rising
 -- keys, and each value is told as its text.
-use Rattle.std.specs.Prelude.{ℕ, Bool, not, ◌||◌, is_some, List, ◌++◌, map, filter, Option, Some, None}
+use Rattle.std.specs.Prelude.{ℕ, Bool, not, ◌||◌, is_some, List, ◌++◌, map, filter}
 use Rattle.std.specs.Str.{bytes_eq}
 use Rattle.span_ids.specs.Times.{floor}
 use Rattle.span_tags.specs.Runs.{Scoped, scoped}
 use Rattle.span_tags.specs.TagKeys.{service_key}
-use Rattle.span_tags.specs.TagWords.{Pairs, without, text_given, code_given, text_or_none}
+use Rattle.span_tags.specs.TagWords.{Pairs, without, text_or_none}
 use Rattle.trace_model.specs.Attributes.{attrs, at}
 use Rattle.trace_model.specs.EventTexts.{event_text}
 use Rattle.trace_model.specs.ValueTexts.{value_text}
-use Rattle.trace_model.specs.declared.span.Code.{Code}
-use Rattle.trace_model.specs.declared.span.Code.TheVariants as statuses
 use Rattle.trace_model.specs.declared.span.Event.{Event}
 use Rattle.trace_model.specs.declared.span.Kind.{Kind}
 use Rattle.trace_model.specs.declared.span.Kind.TheVariants as kinds
@@ -23,30 +21,8 @@ use Rattle.zipkin_json.specs.declared.span.ZKind.TheVariants as zkinds
 use Rattle.zipkin_json.specs.declared.span.ZSpan.{ZSpan}
 use Rattle.map_zipkin.specs.Keys.{resource_prefix, peer_key}
 use Rattle.map_zipkin.specs.OwnColumns.{OwnColumns, is_own, own_in}
-use Rattle.map_zipkin.specs.TagColumns.{TagColumns, column_rows, count_text, text_told, port_told}
+use Rattle.map_zipkin.specs.TagColumns.{column_rows, zipkin_columns_of, text_told, port_told}
 use Rattle.map_zipkin.specs.declared.own.Own.TheVariants as owns
-
--- ---- columns
-
--- `error` has the message, also where that is empty
-abbrev pub error_message : Code → List ℕ → Option Value
-error_message statuses.Fail message = Some (Text message)
-error_message statuses.Okay message = None
-error_message statuses.Unset message = None
-
-abbrev pub zipkin_columns_of : Scoped Span → TagColumns
-zipkin_columns_of one = record {
-  error = error_message one.span.status.code one.span.status.message;
-  dropped_attributes = count_text one.span.dropped_attributes;
-  dropped_events = count_text one.span.dropped_events;
-  dropped_links = count_text one.span.dropped_links;
-  library_name = None;
-  library_version = None;
-  scope_name = text_given one.name;
-  scope_version = text_given one.version;
-  code = code_given one.span.status.code;
-  state = text_given one.span.state;
-}
 
 abbrev pub zipkin_kind : Kind → ZKind
 zipkin_kind kinds.Unspecified = zkinds.Absent

@@ -8,7 +8,7 @@ ghost use Rattle.trace_model.specs.declared.place.Place.TheVariants as places;
 ghost use Rattle.trace_model.specs.declared.trace.Group as model;
 ghost use Rattle.trace_model.specs.declared.value.Value.TheVariants as values;
 ghost use Rattle.map_zipkin.specs.NotedGroups.{left_out_remarks, noted_group, noted_groups_of, with_left_out};
-ghost use Rattle.map_zipkin.specs.ReadGroups.{groups_joined, last_alone, moved_to, spans_of_last, with_groups, IsAdded, IsAlone};
+ghost use Rattle.map_zipkin.specs.private.ReadGroups.{groups_joined, last_alone, moved_to, spans_of_last, with_groups, IsAdded, IsAlone};
 ghost use Rattle.map_zipkin.specs.Reading.{groups_of};
 ghost use Rattle.map_zipkin.specs.Regrouped as told;
 

@@ -1,12 +1,11 @@
 //! Keys to which the table gives a meaning of their own.
 ghost use Rattle.std.specs.Prelude.{◌≡◌, option_map};
-ghost use Rattle.std.specs.List.{list_any};
-ghost use Rattle.std.specs.Str.{bytes_eq};
 ghost use Rattle.map_zipkin.specs.Keys as told;
 ghost use Rattle.map_zipkin.specs.OwnColumns as own;
 ghost use Rattle.map_zipkin.specs.Reading as meant;
 ghost use Rattle.map_zipkin.specs.Writing as written;
 
+use crate::columns::is_column;
 use crate::own::{OWN_KEYS, is_key_of};
 
 /// The key of the resource's attribute, behind the prefix.
@@ -14,21 +13,6 @@ pub(crate) fn resource_key(key: &str) -> Option<&str>
     ensures { option_map (λ key. key.now) result ≡ told.resource_key key.now }
 {
     key.strip_prefix("otel.resource.")
-}
-
-fn is_column(key: &str) -> bool
-    ensures { result ≡ list_any (bytes_eq key.now) told.column_keys }
-{
-    key == "error"
-        || key == "otel.dropped_attributes_count"
-        || key == "otel.dropped_events_count"
-        || key == "otel.dropped_links_count"
-        || key == "otel.library.name"
-        || key == "otel.library.version"
-        || key == "otel.scope.name"
-        || key == "otel.scope.version"
-        || key == "otel.status_code"
-        || key == "w3c.tracestate"
 }
 
 /// Whether no attribute of a span may have the key.
@@ -42,6 +26,9 @@ pub(crate) fn is_reserved(key: &str) -> bool
 pub(crate) fn is_own(key: &str) -> bool
     ensures { result ≡ own.is_own key.now }
 {
+    if !key.starts_with("zipkin.") {
+        return false;
+    }
     is_key_of(key, &OWN_KEYS)
 }
 

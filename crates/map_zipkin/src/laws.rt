@@ -1,6 +1,8 @@
 //! Laws of the table, as contracts of functions that do nothing.
 ghost use Rattle.map_zipkin.specs.StatedLaws.{GroupsNoted, NothingLost, Regroupings, SpansReadBack, WrittenIsWritable, ReadIsHeld, ReadIsZipkinNormal, ZipkinNormalForms, ZipkinFaultsFound};
 
+use crate::faults::Zipkin;
+
 /// Spans that are regrouped are the same spans, in order, in plain groups; and they are regrouped as
 /// before.
 pub fn regroupings()
@@ -71,6 +73,7 @@ pub fn zipkin_faults_found()
     ensures { ZipkinFaultsFound }
 {
     trace_model::laws::event_texts_exact();
+    span_tags::laws::faults_found::<Zipkin>();
 }
 
 /// Nothing is lost of sound groups exactly where they are their own normal form.

@@ -1,6 +1,7 @@
 //! Spans of Zipkin as groups of a trace, and back, by the OpenTelemetry exporter page for Zipkin.
 #![tactic(auto)]
 
+mod columns;
 mod count_texts;
 mod faults;
 mod groups;

@@ -53,10 +53,10 @@ pub fn triple_of_span(alloc: Global, span: ZSpan) -> Result<(Run, Span, Items<Re
     let events = events_of(alloc, annotations)?;
     let tag = find(&tags, "peer.service");
     let peer = mem::replace(&mut span.remote.service, Text::new(alloc));
-    let ends = ends_of(alloc, &span, peer, tag)?;
     let service = mem::replace(&mut span.local.service, Text::new(alloc));
-    let parted = parted_by(alloc, service, ends, tags)?;
-    let links = Items::new(alloc);
+    let marks = (span.debug, span.shared);
+    let own = ends_of(alloc, marks, span.local, span.remote, peer, tag)?;
+    let parted = parted_by(alloc, service, own, tags)?;
     let run = Run {
         resource: parted.resource,
         name: told.name,
@@ -75,7 +75,7 @@ pub fn triple_of_span(alloc: Global, span: ZSpan) -> Result<(Run, Span, Items<Re
         dropped_attributes: told.dropped_attributes,
         events,
         dropped_events: told.dropped_events,
-        links,
+        links: Items::new(alloc),
         dropped_links: told.dropped_links,
         status: told.status,
         flags: 0,

@@ -5,12 +5,13 @@ ghost use Rattle.trace_model.specs.Attributes.{Rise, keys};
 ghost use Rattle.trace_model.specs.EventTexts.{holds_double};
 ghost use Rattle.trace_model.specs.Soundness.{IsSoundGroup};
 ghost use Rattle.trace_model.specs.EventTexts as texts;
+ghost use Rattle.span_tags.specs.PlacedFaults.{JudgesFault};
 ghost use Rattle.span_tags.specs.Runs.{scoped, spans_of as scoped_spans, under};
 ghost use Rattle.zipkin_json.specs.Proper.{IsTimelyZSpan};
-ghost use Rattle.map_zipkin.specs.LeastZipkinFault.{JudgesZipkinFault};
-ghost use Rattle.map_zipkin.specs.Unfit.{event_unfit, group_unfit, scope_unfit, span_unfit};
+ghost use Rattle.map_zipkin.specs.Faults.{IsZipkinResourceFault, IsZipkinSpanFault};
+ghost use Rattle.map_zipkin.specs.private.Unfit.{event_unfit, group_unfit, scope_unfit, span_unfit};
 ghost use Rattle.map_zipkin.specs.Writing as told;
-ghost use Rattle.map_zipkin.specs.WritingSoFar.{shared_rows};
+ghost use Rattle.map_zipkin.specs.private.WritingSoFar.{shared_rows};
 
 mod columns;
 mod endpoints;
@@ -182,7 +183,7 @@ fn spans_in(alloc: Global, group: Group) -> Result<Items<ZSpan>, OutOfMemory>
 pub fn spans_of_group(alloc: Global, group: Group) -> Result<Items<ZSpan>, Halt<Fault>>
     requires sound { IsSoundGroup group }
     ensures value { IfOk result (λ spans. spans ≡ told.spans_of_group group) }
-    ensures judged { JudgesZipkinFault result group }
+    ensures judged { JudgesFault IsZipkinResourceFault IsZipkinSpanFault result group }
     ensures timely { IfOk result (All IsTimelyZSpan) }
 {
     match fault_of_group(alloc, &group)? {

@@ -9,10 +9,12 @@ use Rattle.span_io.specs.Paths.{optional, Given, NothingOffends, Halts}
 use Rattle.trace_model.specs.Attributes.{AreRepeated, StandsTwice}
 use Rattle.trace_model.specs.Remarks.{Keys}
 use Rattle.trace_model.specs.declared.value.Value.{Value}
-use Rattle.trace_model.specs.OtlpParts.{KeyValue, keys_inside, AreNotedAttributes}
+use Rattle.trace_model.specs.declared.noted.KeyValue.{KeyValue}
+use Rattle.trace_model.specs.declared.noted.Noted.{Noted}
+use Rattle.trace_model.specs.OtlpParts.{keys_inside, AreNotedAttributes}
 use Rattle.json_members.specs.Members.{AreHeld}
 use Rattle.otlp_json.specs.Attributes.{AreJsonPairs, AreJsonAttributes, pairs_offend}
-use Rattle.otlp_json.specs.Found.{ArePairsGiven}
+use Rattle.otlp_json.specs.Found.{AreGiven, PairsTold}
 use Rattle.otlp_json.specs.Values.{held_offends, json_key_value_in, inner_pair_offends}
 
 same_offences : (d : Data) → held_offends 16 (inner_pair_offends 16) d ≡ pairs_offend d
@@ -34,11 +36,11 @@ unfolding json_key_value_in
 given_pairs pairs None h = h
 given_pairs pairs (Some d) h = record { held = h.held; shape = h.shape; means = h.means }
 
-pub made_attributes : (o : Option Data) (pairs attributes : List (List ℕ × Value)) (noted keys : Keys) → ArePairsGiven 16 o pairs noted → AreNotedAttributes pairs noted attributes keys → AreJsonAttributes attributes keys o
-made_attributes o pairs attributes noted keys h make = record {
-  pairs = h.pairs;
-  each = given_pairs h.pairs o h.each;
-  make = subst (λ (l : List (List ℕ × Value)). AreNotedAttributes l (keys_inside h.pairs) attributes keys) h.told.entries (subst (λ (l : Keys). AreNotedAttributes pairs l attributes keys) h.told.noted make);
+pub made_attributes : (o : Option Data) (rows : Noted (List (List ℕ × Value)) Keys) (attributes : List (List ℕ × Value)) (keys : Keys) → AreGiven (json_key_value_in 16) PairsTold o rows → AreNotedAttributes rows.means rows.notes attributes keys → AreJsonAttributes attributes keys o
+made_attributes o rows attributes keys h make = record {
+  pairs = h.found;
+  each = given_pairs h.found o h.each;
+  make = subst (λ (l : List (List ℕ × Value)). AreNotedAttributes l (keys_inside h.found) attributes keys) h.told.entries (subst (λ (l : Keys). AreNotedAttributes rows.means l attributes keys) h.told.noted make);
 }
 
 module _ (pairs : List (List ℕ × Value)) (repeated inside noted keys : Keys) (twice : AreRepeated repeated pairs) (e : noted ≡ inside ++ repeated) (same : (key : List ℕ) → Contains keys key ↔ Contains noted key) where

@@ -3,8 +3,10 @@ use Rattle.std.proofs.Common.{◌≡◌, ℕ, ◌+◌, ◌<◌, ◌≤◌, ◌^�
 use Rattle.std.proofs.lemmas.List.{length-map}
 use Rattle.serde_json.specs.Data.{Data, array}
 use Rattle.serde_json.specs.View.{items_of}
-use Rattle.trace_model.specs.Notes.{Noted, SpanNotes, ScopeNotes}
+use Rattle.trace_model.specs.declared.noted.Noted.{Noted}
+use Rattle.trace_model.specs.Notes.{SpanNotes, ScopeNotes}
 use Rattle.trace_model.specs.laws.ToldLaws.{spans_all_noted}
+use Rattle.trace_model.specs.declared.remark.Remark.{Remark}
 use Rattle.trace_model.specs.declared.span.Span.{Span}
 use Rattle.trace_model.specs.declared.trace.Scope.{Scope}
 use Rattle.json_members.specs.Counted.{values_in, values_in_items, IsCountedValue}
@@ -12,7 +14,6 @@ use Rattle.json_members.specs.laws.CountedLaws.{one_value, given_within, in_both
 use Rattle.otlp_json.specs.Found.{IsScopeFound}
 use Rattle.otlp_json.specs.Group.{IsJsonScope}
 use Rattle.otlp_json.specs.Span.{IsJsonSpan}
-use Rattle.otlp_json.specs.declared.noted.FoundScope.{FoundScope}
 
 -- ---- elements, as a loop goes through them
 
@@ -41,10 +42,10 @@ fewer_spans s d is =
     let each = length-map is.spans (λ (x : Noted Span SpanNotes). x.notes) in
     omega (arith, listed, notes, each)
 
-pub fewer_read : (number first : ℕ) (r : FoundScope) (d : Data) → IsScopeFound number first r d → length r.scope.spans < values_in d
+pub fewer_read : (number first : ℕ) (r : Noted Scope (List Remark)) (d : Data) → IsScopeFound number first r d → length r.means.spans < values_in d
 fewer_read number first r d h =
     let is = h.is_scope in
-    let this : Noted Scope ScopeNotes = record { means = r.scope; notes = h.notes } in
+    let this : Noted Scope ScopeNotes = record { means = r.means; notes = h.notes } in
     let same = spans_all_noted is.instrumentation is.spans is.url this is.scope in
     let fewer = fewer_spans this d is in
     omega (arith, same, fewer)

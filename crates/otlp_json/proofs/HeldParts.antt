@@ -7,8 +7,12 @@ use Rattle.std.proofs.lemmas.Str.{IsUtf8-nil}
 use Rattle.serde_json.specs.Data.{Data}
 use Rattle.span_ids.specs.Proper.{IsProperTraceId, IsProperSpanId, IsProperParent}
 use Rattle.span_io.specs.Paths.{Given, Never}
-use Rattle.trace_model.specs.Notes.{Noted, SpanNotes, ScopeNotes}
-use Rattle.trace_model.specs.OtlpParts.{LinkParts, link_of, kept_links, no_status, InstrumentationScope, no_instrumentation_scope, Resource, no_resource, NotedGroup}
+use Rattle.trace_model.specs.declared.noted.Noted.{Noted}
+use Rattle.trace_model.specs.Notes.{SpanNotes, ScopeNotes}
+use Rattle.trace_model.specs.declared.noted.LinkParts.{LinkParts}
+use Rattle.trace_model.specs.declared.noted.InstrumentationScope.{InstrumentationScope}
+use Rattle.trace_model.specs.declared.noted.Resource.{Resource}
+use Rattle.trace_model.specs.OtlpParts.{link_of, kept_links, no_status, no_instrumentation_scope, no_resource, NotedGroup}
 use Rattle.trace_model.specs.Proper.{IsProperPair, IsProperStatus, IsProperEvent, IsProperLink, IsProperSpan, IsProperScope}
 use Rattle.trace_model.specs.Remarks.{Keys}
 use Rattle.trace_model.specs.Soundness.{IsSoundEvent, IsSoundLink, IsSoundSpan, IsSoundScope}

@@ -12,7 +12,8 @@ use Rattle.span_io.specs.Paths.{Given}
 use Rattle.trace_model.specs.Attributes.{Rise, keys}
 use Rattle.trace_model.specs.EventTexts.{holds_double}
 use Rattle.trace_model.specs.StatedLaws.{MembersOfValues, MembersOfProperValues, TextsOfValues}
-use Rattle.trace_model.specs.OtlpParts.{levels_below, NotedValue, KeyValue, leaf, entry}
+use Rattle.trace_model.specs.declared.noted.KeyValue.{KeyValue}
+use Rattle.trace_model.specs.OtlpParts.{levels_below, NotedValue, leaf, entry}
 use Rattle.trace_model.specs.Proper.{IsProperValue, IsProperPair, AreProper}
 use Rattle.trace_model.specs.Remarks.{Keys}
 use Rattle.trace_model.specs.Values.{depth, MapsRise, IsSound, AreSound}

@@ -9,7 +9,6 @@ pub mod Walks
 pub mod CountedLists
 pub mod Examples
 pub mod ListLemmas
-pub mod SpanLemmas
 pub mod SpelledOnce
 pub mod SettledMembers
 pub mod SettledValues
@@ -17,10 +16,8 @@ pub mod SettledSpans
 pub mod SettledGroups
 pub mod HeldValues
 pub mod HeldParts
-pub mod ScopeLemmas
 pub mod FreeValues
 pub mod FreeMembers
-pub mod GroupLemmas
 pub mod ReadingLemmas
 pub mod SoundGroups
 pub mod NumbersAgain

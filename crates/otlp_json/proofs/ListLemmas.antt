@@ -1,5 +1,5 @@
--- Lists of parts, one more element each, and the remarks on them.
-use Rattle.std.proofs.Common.{◌≡◌, ℕ, ◌+◌, ◌≤◌, ◌<◌, ◌^◌, List, [], ◌∷◌, ◌++◌, length, true, Option, Some, None, option_map, refl, sym, subst, arith}
+-- Lists of parts, one more element each.
+use Rattle.std.proofs.Common.{◌≡◌, ℕ, ◌+◌, ◌≤◌, ◌<◌, ◌^◌, List, [], ◌∷◌, ◌++◌, Some, None, refl, sym, subst, arith}
 use Rattle.std.specs.List.{AllZip}
 use Rattle.serde_json.specs.Data.{Data}
 use Rattle.serde_json.specs.Find.{as_array}
@@ -8,17 +8,9 @@ use Rattle.span_io.specs.declared.cause.Cause.{Cause}
 use Rattle.span_io.specs.declared.halt.Halt.{Halt}
 use Rattle.span_io.specs.Paths.{Offences, each, NothingOffends, Halts}
 use Rattle.span_io.specs.laws.PathLaws.{clean_nothing, clean_one_more, halts_at}
-use Rattle.trace_model.specs.Remarks.{equal_keys}
-use Rattle.trace_model.specs.declared.place.Place.TheVariants as places
-use Rattle.trace_model.specs.laws.ToldLaws.{event_added, link_left_out, link_added}
 use Rattle.json_members.specs.Counted.{values_in, values_in_items}
 use Rattle.json_members.specs.laws.ElementLaws.{items_listed, each_more}
-use Rattle.otlp_json.specs.Found.{event_found, link_found, AreFound, AreGiven, FindsMore, EventsTold, LinksTold}
-use Rattle.otlp_json.specs.Span.{IsJsonEvent, IsJsonLink}
-use Rattle.otlp_json.specs.declared.events.FoundEvents.{FoundEvents}
-use Rattle.otlp_json.specs.declared.links.FoundLinks.{FoundLinks}
-use Rattle.otlp_json.specs.declared.noted.FoundEvent.{FoundEvent}
-use Rattle.otlp_json.specs.declared.noted.FoundLink.{FoundLink}
+use Rattle.otlp_json.specs.Found.{AreFound, AreGiven, FindsMore}
 use Rattle.otlp_json.proofs.CountedLists.{number_fits, number_on}
 use Rattle.otlp_json.proofs.Walks.{Passed, none_passed, all_passed, stands, passed_on}
 
@@ -26,7 +18,7 @@ use Rattle.otlp_json.proofs.Walks.{Passed, none_passed, all_passed, stands, pass
 
 module _ {X V : Type 0} (Is : X → Data → Type 0) (Told : List X → V → Type 0) where
   -- one more element, told behind the others
-  finds_more : (d : Data) (old new : V) (x : X) → Is x d → ((found : List X) → Told found old → Told (found ++ x ∷ []) new)
+  pub finds_more : (d : Data) (old new : V) (x : X) → Is x d → ((found : List X) → Told found old → Told (found ++ x ∷ []) new)
       → FindsMore Is Told d old new
   finds_more d old new x is more =
       λ ds h. record { found = h.found ++ x ∷ []; each = each_more Is ds h.found d x h.each is; told = more h.found h.told }
@@ -79,32 +71,3 @@ module _ {X V : Type 0} (Is : X → Data → Type 0) (Told : List X → V → Ty
   pub rows_end : (next : ℕ) (rows : V) (left : List Data) → left ≡ [] → RowsPassed next rows left
       → RowsSoFar Is Told Offends first next rows all
   rows_end next rows left none before = all_passed _ all left none before
-
--- ---- events and links
-
-module _ (span : ℕ) where
-  pub event_more : (old new : FoundEvents) (read : FoundEvent) (d : Data) (number : ℕ) → number ≡ 1 + length old.events
-      → new.events ≡ old.events ++ read.event ∷ []
-      → new.remarks ≡ old.remarks ++ equal_keys (places.Event span number) read.keys → IsJsonEvent (event_found read) d
-      → FindsMore IsJsonEvent (EventsTold span) d old new
-  event_more old new read d number next events remarks is =
-      finds_more IsJsonEvent (EventsTold span) d old new (event_found read) is
-      (λ found h. event_added span found old.events new.events old.remarks new.remarks (event_found read) number next events remarks h)
-
-  pub link_none : (old new : FoundLinks) (found : Option FoundLink) (d : Data) → found ≡ None → new.links ≡ old.links
-      → new.dropped ≡ true
-      → new.remarks ≡ old.remarks → IsJsonLink (option_map link_found found) d → FindsMore IsJsonLink (LinksTold span) d old new
-  link_none old new found d none links dropped remarks is =
-      finds_more IsJsonLink (LinksTold span) d old new None
-      (subst (λ (o : Option FoundLink). IsJsonLink (option_map link_found o) d) none is)
-      (λ found h. link_left_out span found old.links new.links old.dropped new.dropped old.remarks new.remarks links dropped remarks h)
-
-  pub link_more : (old new : FoundLinks) (found : Option FoundLink) (read : FoundLink) (d : Data) (number : ℕ) → found ≡ Some read
-      → number ≡ 1 + length old.links
-      → new.links ≡ old.links ++ read.link ∷ [] → new.dropped ≡ old.dropped
-      → new.remarks ≡ old.remarks ++ equal_keys (places.Link span number) read.keys
-      → IsJsonLink (option_map link_found found) d → FindsMore IsJsonLink (LinksTold span) d old new
-  link_more old new found read d number some next links dropped remarks is =
-      finds_more IsJsonLink (LinksTold span) d old new (Some (link_found read))
-      (subst (λ (o : Option FoundLink). IsJsonLink (option_map link_found o) d) some is)
-      (λ found h. link_added span found old.links new.links old.dropped new.dropped old.remarks new.remarks (link_found read) number next links dropped remarks h)

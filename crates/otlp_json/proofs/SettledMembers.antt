@@ -7,9 +7,9 @@ use Rattle.span_io.specs.laws.RowLaws.{EnumLaws}
 use Rattle.span_io.specs.Paths.{here, optional, valued, Given, Never}
 use Rattle.span_io.specs.laws.PathLaws.{clean_here, counts_here, counts_only}
 use Rattle.span_io.specs.laws.PathDecisions.{IsSettled, one, none, decided_optional, decided_plain}
-use Rattle.trace_model.specs.Notes.{Noted}
+use Rattle.trace_model.specs.declared.noted.Noted.{Noted}
 use Rattle.trace_model.specs.OtlpParts.{kind_number, code_number}
-use Rattle.trace_model.specs.OtlpEnums.{code_laws, code_numbered, kind_laws, kind_numbered}
+use Rattle.trace_model.specs.laws.OtlpEnums.{code_laws, code_numbered, kind_laws, kind_numbered}
 use Rattle.trace_model.specs.declared.span.Code.TheVariants as statuses
 use Rattle.trace_model.specs.declared.span.Kind.TheVariants as kinds
 use Rattle.json_members.specs.Members.{member, Spelled, unspelled}

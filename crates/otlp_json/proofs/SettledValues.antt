@@ -13,7 +13,8 @@ use Rattle.trace_model.specs.StatedLaws.{AttributesOnce, AttributesExist}
 use Rattle.trace_model.specs.Remarks.{Keys}
 use Rattle.trace_model.specs.declared.value.Value.{Value}
 use Rattle.trace_model.specs.declared.value.Value.TheVariants as values
-use Rattle.trace_model.specs.OtlpParts.{NotedValue, leaf, KeyValue, entry, keys_inside, levels_below}
+use Rattle.trace_model.specs.declared.noted.KeyValue.{KeyValue}
+use Rattle.trace_model.specs.OtlpParts.{NotedValue, leaf, entry, keys_inside, levels_below}
 use Rattle.json_members.specs.Members.{member, elements, AreHeld}
 use Rattle.json_members.specs.laws.DecisionLaws.{text_decided, truth_decided, spelled_decided, next, last, object_settled, text_settled, array_settled}
 use Rattle.json_members.specs.Parts.{joined}

@@ -8,8 +8,13 @@ use Rattle.serde_json.specs.Data.{Data}
 use Rattle.span_io.specs.Paths.{Given}
 use Rattle.trace_model.specs.Attributes.{Rise, keys}
 use Rattle.trace_model.specs.StatedLaws.{MembersOfValues}
-use Rattle.trace_model.specs.Notes.{Noted, SpanNotes, ScopeNotes}
-use Rattle.trace_model.specs.OtlpParts.{levels_below, NotedValue, KeyValue, leaf, entry, LinkParts, link_of, kept_links, InstrumentationScope, no_instrumentation_scope, Resource, no_resource, NotedGroup}
+use Rattle.trace_model.specs.declared.noted.Noted.{Noted}
+use Rattle.trace_model.specs.Notes.{SpanNotes, ScopeNotes}
+use Rattle.trace_model.specs.declared.noted.KeyValue.{KeyValue}
+use Rattle.trace_model.specs.declared.noted.LinkParts.{LinkParts}
+use Rattle.trace_model.specs.declared.noted.InstrumentationScope.{InstrumentationScope}
+use Rattle.trace_model.specs.declared.noted.Resource.{Resource}
+use Rattle.trace_model.specs.OtlpParts.{levels_below, NotedValue, leaf, entry, link_of, kept_links, no_instrumentation_scope, no_resource, NotedGroup}
 use Rattle.trace_model.specs.laws.PartLaws.{Sound, kept_all, each_in_range}
 use Rattle.trace_model.specs.Remarks.{Keys}
 use Rattle.trace_model.specs.Soundness.{IsSoundEvent, IsSoundLink, IsSoundSpan, IsSoundScope, IsSoundGroup}

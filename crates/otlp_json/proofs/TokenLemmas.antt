@@ -9,7 +9,7 @@ use Rattle.json_members.specs.Canonical.{text_data}
 use Rattle.json_members.specs.Writing.{data_tokens, given_tokens}
 use Rattle.json_members.specs.laws.WritingLaws.{member_rows_written}
 use Rattle.otlp_json.specs.Canonical.{one_member, of_values, any_value_data, each_data, pairs_data, key_value_data, unless_bare, list_data, attributes_data}
-use Rattle.otlp_json.specs.Writing.{value_tokens, key_value_tokens}
+use Rattle.otlp_json.specs.private.Writing.{value_tokens, key_value_tokens}
 
 -- ---- the data of lists and maps, by their members
 

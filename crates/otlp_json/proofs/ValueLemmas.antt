@@ -2,7 +2,6 @@
 use Rattle.std.proofs.Common.{◌≡◌, ℕ, zero, suc, ◌<◌, List, [], ◌∷◌, ◌++◌, Some, Result, Ok, Err, refl, sym, ap, subst, ◌∙◌, arith}
 use Rattle.std.proofs.lemmas.List.Elements.{All-head, All-tail}
 use Rattle.std.specs.Prelude.{All, slice_index}
-use Rattle.std.specs.List.{AllZip}
 use Rattle.serde_json.specs.Data.{Data}
 use Rattle.serde_json.specs.Find.{as_array, as_str}
 use Rattle.serde_json.specs.View.{items_of}
@@ -10,15 +9,14 @@ use Rattle.span_io.specs.declared.cause.Cause.{Cause}
 use Rattle.span_io.specs.declared.halt.Halt.{Halt}
 use Rattle.span_io.specs.Paths.{Offences, nothing, here, each, valued, NothingOffends, Counts, Halts, JudgesValue}
 use Rattle.span_io.specs.laws.PathLaws.{clean_nothing, clean_parts, clean_one_more, quiet_nothing, halts_first, halts_later, halts_at, counts_here, counts_only}
-use Rattle.trace_model.specs.Remarks.{Keys}
-use Rattle.trace_model.specs.declared.value.Value.{Value as Val}
-use Rattle.trace_model.specs.OtlpParts.{NotedValue, KeyValue, entry}
-use Rattle.trace_model.specs.laws.ToldLaws.{value_added, pair_added}
+use Rattle.trace_model.specs.declared.noted.KeyValue.{KeyValue}
+use Rattle.trace_model.specs.OtlpParts.{NotedValue}
 use Rattle.json_members.specs.Members.{elements}
-use Rattle.json_members.specs.laws.ElementLaws.{items_listed, each_more}
-use Rattle.otlp_json.specs.Found.{AreValuesFound, ArePairsFound, AreValuesGiven, ArePairsGiven}
+use Rattle.json_members.specs.laws.ElementLaws.{items_listed}
+use Rattle.otlp_json.specs.Found.{AreFound}
 use Rattle.otlp_json.specs.Numbers.{SpellsBytes, base64_offends}
 use Rattle.otlp_json.specs.Values.{behind, values_offend, held_offends, json_value_in, json_key_value_in, json_value_at, json_key_value_at, inner_value_offends, inner_pair_offends, json_value_offends, json_key_value_offends}
+use Rattle.otlp_json.proofs.ListLemmas.{finds_more}
 use Rattle.otlp_json.proofs.Walks.{Passed, none_passed, stands, passed_on}
 
 -- ---- the only member of a value
@@ -103,102 +101,39 @@ module _ (left below : ℕ) (some : left ≡ suc below) (d : Data) where
   unfolding inner_pair_offends
   pair_halts_deeper halt h = subst (λ (l : ℕ). Halts halt (inner_pair_offends l d)) (sym some) h
 
--- ---- what was found
-
-module _ (left : ℕ) where
-  pub values_next : (seen : List Data) (d : Data) (list : List Val) (keys : Keys) (r : NotedValue) → AreValuesFound left seen list keys
-      → json_value_in left r d
-      → AreValuesFound left (seen ++ d ∷ []) (list ++ r.means ∷ []) (keys ++ r.notes)
-  values_next seen d list keys r h last = record {
-    members = h.members ++ r ∷ [];
-    each = each_more (json_value_in left) seen h.members d r h.each last;
-    told = value_added h.members list (list ++ r.means ∷ []) keys (keys ++ r.notes) r refl refl h.told;
-  }
-
-  pub pairs_next : (seen : List Data) (d : Data) (list : List (List ℕ × Val)) (keys : Keys) (p : KeyValue) → ArePairsFound left seen list keys
-      → json_key_value_in left p d
-      → ArePairsFound left (seen ++ d ∷ []) (list ++ entry p ∷ []) (keys ++ p.value.notes)
-  pairs_next seen d list keys p h last = record {
-    pairs = h.pairs ++ p ∷ [];
-    each = each_more (json_key_value_in left) seen h.pairs d p h.each last;
-    told = pair_added h.pairs list (list ++ entry p ∷ []) keys (keys ++ p.value.notes) p refl refl h.told;
-  }
-
-module _ (left : ℕ) (ds : List Data) (d : Data) (is : Some (items_of ds) ≡ as_array d) where
-  pub values_given : (list : List Val) (keys : Keys) → AreValuesFound left ds list keys → AreValuesGiven left (Some d) list keys
-  values_given list keys h = record {
-    members = h.members;
-    each = record { held = items_of ds; shape = sym is; means = subst (λ es. AllZip (λ x y. json_value_in left y x) es h.members) (sym (items_listed ds)) h.each };
-    told = h.told;
-  }
-
-  pub pairs_given : (list : List (List ℕ × Val)) (keys : Keys) → ArePairsFound left ds list keys → ArePairsGiven left (Some d) list keys
-  pairs_given list keys h = record {
-    pairs = h.pairs;
-    each = record { held = items_of ds; shape = sym is; means = subst (λ es. AllZip (λ x y. json_key_value_in left y x) es h.pairs) (sym (items_listed ds)) h.each };
-    told = h.told;
-  }
-
 -- ---- lists and maps, as a loop goes through them
 
 -- what is found of the elements that were seen
-pub record ValuesSoFar (left : ℕ) (list : List Val) (keys : Keys) (seen : List Data) : Type 0 where
-  pub read : AreValuesFound left seen list keys
-  pub clean : NothingOffends (values_offend left (inner_value_offends left) seen)
+pub record HeldSoFar {X V : Type 0} (Is : X → Data → Type 0) (Told : List X → V → Type 0) (Offends : Data → Offences) (left : ℕ) (rows : V)
+    (seen : List Data) : Type 0 where
+  pub read : AreFound Is Told seen rows
+  pub clean : NothingOffends (values_offend left Offends seen)
 
-pub record PairsSoFar (left : ℕ) (list : List (List ℕ × Val)) (keys : Keys) (seen : List Data) : Type 0 where
-  pub read : ArePairsFound left seen list keys
-  pub clean : NothingOffends (values_offend left (inner_pair_offends left) seen)
+module _ {X V : Type 0} (Is : X → Data → Type 0) (Told : List X → V → Type 0) (Offends : Data → Offences) (left : ℕ) (all : List Data) where
+  abbrev pub HeldPassed : V → List Data → Type 0
+  HeldPassed rows rest = Passed (HeldSoFar Is Told Offends left rows) all rest
 
-module _ (left : ℕ) (all : List Data) where
-  pub values_begin : (list : List Val) (keys : Keys) → list ≡ [] → keys ≡ [] → Passed (ValuesSoFar left list keys) all all
-  values_begin list keys list_none keys_none = none_passed _ all (record {
-    read = record { members = []; each = tt; told = record { values = list_none; noted = keys_none } };
-    clean = none_clean left (inner_value_offends left);
-  })
+  pub held_begin : (rows : V) → Told [] rows → HeldPassed rows all
+  held_begin rows told =
+      none_passed _ all (record { read = record { found = []; each = tt; told = told }; clean = none_clean left Offends })
 
-  pub pairs_begin : (list : List (List ℕ × Val)) (keys : Keys) → list ≡ [] → keys ≡ [] → Passed (PairsSoFar left list keys) all all
-  pairs_begin list keys list_none keys_none = none_passed _ all (record {
-    read = record { pairs = []; each = tt; told = record { entries = list_none; noted = keys_none } };
-    clean = none_clean left (inner_pair_offends left);
-  })
+  module _ (now rest : List Data) (d : Data) (step : now ≡ d ∷ rest) (old : V) (before : HeldPassed old now) where
+    split : all ≡ before.seen ++ d ∷ rest
+    split = stands _ all now rest d step before
 
-  module _ (below : ℕ) (some : left ≡ suc below) (rows rest : List Data) (d : Data) (step : rows ≡ d ∷ rest) where
-    pub value_more : (list new : List Val) (keys noted : Keys) (r : NotedValue) → new ≡ list ++ r.means ∷ [] → noted ≡ keys ++ r.notes
-        → json_value_at below r d → NothingOffends (json_value_offends below d)
-        → Passed (ValuesSoFar left list keys) all rows → Passed (ValuesSoFar left new noted) all rest
-    value_more list new keys noted r list_is keys_is means clean before = passed_on _ all rows rest d step before _ (record {
-      read = rw (list_is, keys_is)
-          (values_next left before.seen d list keys r before.holds.read (value_deeper left below some d r means));
-      clean = clean_next (inner_value_offends left) left below some before.seen d before.holds.clean
-          (value_clean_deeper left below some d clean);
-    })
+    pub too_deep : left ≡ 0 → Counts (values_offend left Offends all) 5
+    too_deep none = none_below Offends all before.seen rest d split left none
 
-    pub pair_more : (list new : List (List ℕ × Val)) (keys noted : Keys) (p : KeyValue) → new ≡ list ++ entry p ∷ [] → noted ≡ keys ++ p.value.notes
-        → json_key_value_at below p d → NothingOffends (json_key_value_offends below d)
-        → Passed (PairsSoFar left list keys) all rows → Passed (PairsSoFar left new noted) all rest
-    pair_more list new keys noted p list_is keys_is means clean before = passed_on _ all rows rest d step before _ (record {
-      read = rw (list_is, keys_is)
-          (pairs_next left before.seen d list keys p before.holds.read (pair_deeper left below some d p means));
-      clean = clean_next (inner_pair_offends left) left below some before.seen d before.holds.clean
-          (pair_clean_deeper left below some d clean);
-    })
+    module _ (below : ℕ) (some : left ≡ suc below) where
+      pub held_more : (new : V) (x : X) → ((found : List X) → Told found old → Told (found ++ x ∷ []) new) → Is x d → NothingOffends (Offends d)
+          → HeldPassed new rest
+      held_more new x more is clean = passed_on _ all now rest d step before _ (record {
+        read = finds_more Is Told d old new x is more before.seen before.holds.read;
+        clean = clean_next Offends left below some before.seen d before.holds.clean clean;
+      })
 
-    pub value_stops : (list : List Val) (keys : Keys) (halt : Halt Cause) → Passed (ValuesSoFar left list keys) all rows
-        → Halts halt (json_value_offends below d) → Halts halt (values_offend left (inner_value_offends left) all)
-    value_stops list keys halt before h =
-        halts_next (inner_value_offends left) left below some all before.seen rest d (stands _ all rows rest d step before) halt
-        before.holds.clean (value_halts_deeper left below some d halt h)
-
-    pub pair_stops : (list : List (List ℕ × Val)) (keys : Keys) (halt : Halt Cause) → Passed (PairsSoFar left list keys) all rows
-        → Halts halt (json_key_value_offends below d) → Halts halt (values_offend left (inner_pair_offends left) all)
-    pair_stops list keys halt before h =
-        halts_next (inner_pair_offends left) left below some all before.seen rest d (stands _ all rows rest d step before) halt
-        before.holds.clean (pair_halts_deeper left below some d halt h)
-
-  module _ (Offends : Data → Offences) {Holds : List Data → Type 0} (rows rest : List Data) (d : Data) (step : rows ≡ d ∷ rest) where
-    pub too_deep : Passed Holds all rows → left ≡ 0 → Counts (values_offend left Offends all) 5
-    too_deep before none = none_below Offends all before.seen rest d (stands _ all rows rest d step before) left none
+      pub held_stops : (halt : Halt Cause) → Halts halt (Offends d) → Halts halt (values_offend left Offends all)
+      held_stops halt h = halts_next Offends left below some all before.seen rest d split halt before.holds.clean h
 
 -- ---- base64
 

@@ -16,7 +16,7 @@ use Rattle.json_members.specs.Canonical.{MemberRow, members_given, unless_empty,
 use Rattle.json_members.specs.Writing.{Appends, GrewFront, data_tokens, given_tokens, rows_tokens, pieces}
 use Rattle.json_members.specs.laws.WritingLaws.{nothing_written, seq, member_rows_written}
 use Rattle.otlp_json.specs.Canonical.{decimal_data, list_data, attributes_data, otlp_span_rows, group_rows, group_data, json_group_text}
-use Rattle.otlp_json.specs.Writing.{part_tokens}
+use Rattle.otlp_json.specs.private.Writing.{part_tokens}
 
 -- ---- what isn't left out
 

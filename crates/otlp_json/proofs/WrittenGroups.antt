@@ -6,8 +6,11 @@ use Rattle.serde_json.specs.Data.{object, no_members}
 use Rattle.span_io.specs.Paths.{Given}
 use Rattle.trace_model.specs.EventTexts.{holds_double}
 use Rattle.trace_model.specs.GroupRemarks.{scopes_remarks}
-use Rattle.trace_model.specs.Notes.{Noted, SpanNotes, ScopeNotes}
-use Rattle.trace_model.specs.OtlpParts.{Resource, no_resource, InstrumentationScope, no_instrumentation_scope}
+use Rattle.trace_model.specs.declared.noted.Noted.{Noted}
+use Rattle.trace_model.specs.Notes.{SpanNotes, ScopeNotes}
+use Rattle.trace_model.specs.declared.noted.Resource.{Resource}
+use Rattle.trace_model.specs.declared.noted.InstrumentationScope.{InstrumentationScope}
+use Rattle.trace_model.specs.OtlpParts.{no_resource, no_instrumentation_scope}
 use Rattle.trace_model.specs.Proper.{IsProperScope}
 use Rattle.trace_model.specs.Soundness.{IsSoundScope}
 use Rattle.trace_model.specs.declared.span.Span.{Span}

@@ -5,7 +5,7 @@ use Rattle.std.proofs.lemmas.Bool.{or_parts}
 use Rattle.serde_json.specs.Data.{string, object, no_members}
 use Rattle.span_io.specs.Paths.{Given, Never}
 use Rattle.trace_model.specs.EventTexts.{holds_double}
-use Rattle.trace_model.specs.Notes.{Noted}
+use Rattle.trace_model.specs.declared.noted.Noted.{Noted}
 use Rattle.trace_model.specs.OtlpParts.{kind_number, code_number, no_status}
 use Rattle.trace_model.specs.Proper.{IsProperEvent, IsProperLink, IsProperSpan}
 use Rattle.trace_model.specs.Remarks.{Keys}

@@ -8,7 +8,8 @@ use Rattle.serde_json.specs.View.{items_of}
 use Rattle.span_io.specs.Paths.{Given}
 use Rattle.trace_model.specs.Attributes.{Rise, keys, AreAttributes, AreRepeated}
 use Rattle.trace_model.specs.EventTexts.{holds_double}
-use Rattle.trace_model.specs.OtlpParts.{levels_below, NotedValue, KeyValue, leaf, entry}
+use Rattle.trace_model.specs.declared.noted.KeyValue.{KeyValue}
+use Rattle.trace_model.specs.OtlpParts.{levels_below, NotedValue, leaf, entry}
 use Rattle.trace_model.specs.Proper.{IsProperValue, AreProper}
 use Rattle.trace_model.specs.Values.{depth, MapsRise, AreSound}
 use Rattle.trace_model.specs.ValueTexts.{has_double}

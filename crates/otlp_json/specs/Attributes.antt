@@ -4,7 +4,8 @@ use Rattle.serde_json.specs.Data.{Data}
 use Rattle.span_io.specs.Paths.{Offences, Given}
 use Rattle.trace_model.specs.Remarks.{Keys}
 use Rattle.trace_model.specs.declared.value.Value.{Value}
-use Rattle.trace_model.specs.OtlpParts.{levels_below, KeyValue, entry, keys_inside, AreNotedAttributes}
+use Rattle.trace_model.specs.declared.noted.KeyValue.{KeyValue}
+use Rattle.trace_model.specs.OtlpParts.{levels_below, entry, keys_inside, AreNotedAttributes}
 use Rattle.json_members.specs.Members.{AreHeld, elements_offend}
 use Rattle.otlp_json.specs.Values.{json_key_value_at, json_key_value_offends}
 

@@ -9,8 +9,11 @@ use Rattle.trace_model.specs.declared.remark.Remark.{Remark}
 use Rattle.trace_model.specs.declared.span.Span.{Span}
 use Rattle.trace_model.specs.declared.trace.Group.{Group}
 use Rattle.trace_model.specs.declared.trace.Scope.{Scope}
-use Rattle.trace_model.specs.Notes.{Noted, SpanNotes, ScopeNotes}
-use Rattle.trace_model.specs.OtlpParts.{Resource, no_resource, NotedGroup, IsGroupOfParts, InstrumentationScope, no_instrumentation_scope, IsScopeOfParts}
+use Rattle.trace_model.specs.declared.noted.Noted.{Noted}
+use Rattle.trace_model.specs.Notes.{SpanNotes, ScopeNotes}
+use Rattle.trace_model.specs.declared.noted.Resource.{Resource}
+use Rattle.trace_model.specs.declared.noted.InstrumentationScope.{InstrumentationScope}
+use Rattle.trace_model.specs.OtlpParts.{no_resource, NotedGroup, IsGroupOfParts, no_instrumentation_scope, IsScopeOfParts}
 use Rattle.json_members.specs.Members.{member, AreHeld, elements_offend, IsText, text_offends}
 use Rattle.json_members.specs.Parts.{object_offends}
 use Rattle.otlp_json.specs.Attributes.{AreJsonAttributes, pairs_offend}

@@ -11,8 +11,10 @@ use Rattle.trace_model.specs.declared.span.Kind.TheVariants as kinds
 use Rattle.trace_model.specs.declared.span.Link.{Link}
 use Rattle.trace_model.specs.declared.span.Span.{Span}
 use Rattle.trace_model.specs.declared.span.Status.{Status}
-use Rattle.trace_model.specs.Notes.{Noted, SpanNotes}
-use Rattle.trace_model.specs.OtlpParts.{LinkParts, link_of, no_status, AreEventsOf, AreLinksOf}
+use Rattle.trace_model.specs.declared.noted.Noted.{Noted}
+use Rattle.trace_model.specs.Notes.{SpanNotes}
+use Rattle.trace_model.specs.declared.noted.LinkParts.{LinkParts}
+use Rattle.trace_model.specs.OtlpParts.{link_of, no_status, AreEventsOf, AreLinksOf}
 use Rattle.json_members.specs.Members.{member, AreHeld, elements_offend, IsText, text_offends, Spelled}
 use Rattle.json_members.specs.Parts.{object_offends}
 use Rattle.otlp_json.specs.Attributes.{AreJsonAttributes, pairs_offend}

@@ -6,7 +6,8 @@ use Rattle.serde_json.specs.Data.{Data}
 use Rattle.serde_json.specs.Find.{as_array, as_object}
 use Rattle.span_io.specs.Paths.{Offences, nothing, here, ◌▹◌, optional, each, valued, Given}
 use Rattle.trace_model.specs.declared.value.Value.TheVariants as values
-use Rattle.trace_model.specs.OtlpParts.{NotedValue, leaf, KeyValue, entry, keys_inside, IsNotedList, IsNotedMap}
+use Rattle.trace_model.specs.declared.noted.KeyValue.{KeyValue}
+use Rattle.trace_model.specs.OtlpParts.{NotedValue, leaf, entry, keys_inside, IsNotedList, IsNotedMap}
 use Rattle.json_members.specs.Members.{member, elements, AreHeld, IsText, text_offends, IsTruth, truth_offends, Spelled}
 use Rattle.json_members.specs.Parts.{object_offends}
 use Rattle.otlp_json.specs.Numbers.{IsJsonSigned, signed_offends, SpellsBytes, base64_offends}

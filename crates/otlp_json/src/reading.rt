@@ -1,77 +1,23 @@
-//! Reading the groups of a value.
-ghost use Rattle.std.specs.Prelude.{IfOk};
-ghost use Rattle.std.specs.List.{AllZip};
-ghost use Rattle.serde_json.specs.Data.{array};
-ghost use Rattle.serde_json.specs.View.{items_of};
-ghost use Rattle.json_nodes.specs.Lents.{lent_view as view, elements_left};
-ghost use Rattle.span_io.specs.Paths.{each, JudgesInput};
-ghost use Rattle.json_members.specs.Counted.{IsCountedValue};
-ghost use Rattle.otlp_json.specs.Group.{IsRemarkedGroup, AreRemarkedGroups, AreJsonGroups, group_offends, groups_offend, json_groups_offend};
+//! Reading groups of OTLP/JSON, with the remarks on them and the cause of the first offence.
+mod attributes;
+mod event;
+mod events;
+mod group;
+mod groups;
+mod identifiers;
+mod input;
+mod instrumentation_scope;
+mod link;
+mod links;
+mod lists;
+mod numbers;
+mod resource;
+mod scope;
+mod scopes;
+mod span;
+mod spans;
+mod standing;
+mod status;
+mod values;
 
-use crate::group::read_group;
-use crate::lists::room_for;
-use json_members::member_of;
-use json_nodes::{Elements, Lent};
-use span_io::{Cause, Halt, Items, Refusal};
-use std::alloc::Global;
-use trace_model::{Group, Remark};
-
-fn read_each(
-    alloc: Global,
-    elements: Elements<'_, '_>,
-) -> Result<Items<(Group, Items<Remark>)>, Halt<Refusal>>
-    requires counted { IsCountedValue (array (items_of (elements_left elements))) }
-    ensures value { IfOk result (λ groups. AllZip (λ d x. IsRemarkedGroup x d) (elements_left elements.entry) groups) }
-    ensures judged { JudgesInput result (each group_offends (elements_left elements.entry)) }
-{
-    let mut groups = Items::with_room(alloc, room_for(elements))?;
-    let mut rest = elements;
-    let mut unit = 0;
-    'elements: while let Some(element) = rest.next() {
-        unit += 1;
-        match read_group(alloc, &element) {
-            Ok(group) => groups.push(group)?,
-            Err(halt) => return Err(halt.in_unit(unit)),
-        }
-    }
-    Ok(groups)
-}
-
-fn read_array(
-    alloc: Global,
-    v: &Lent<'_, '_>,
-) -> Result<Items<(Group, Items<Remark>)>, Halt<Refusal>>
-    requires counted { IsCountedValue (view v.now) }
-    ensures value { IfOk result (λ groups. AreRemarkedGroups groups (view v.now)) }
-    ensures judged { JudgesInput result (groups_offend (view v.now)) }
-{
-    let Some(elements) = v.elements() else {
-        return Err(Halt::Why(Refusal {
-            unit: 0,
-            cause: Cause::BadShape,
-        }));
-    };
-    let groups = read_each(alloc, elements)?;
-    Ok(groups)
-}
-
-/// Reads the groups of a value, an object that has them in a member.
-pub fn read_root(
-    alloc: Global,
-    v: &Lent<'_, '_>,
-) -> Result<Items<(Group, Items<Remark>)>, Halt<Refusal>>
-    requires counted { IsCountedValue (view v.now) }
-    ensures value { IfOk result (λ groups. AreJsonGroups groups (view v.now)) }
-    ensures judged { JudgesInput result (json_groups_offend (view v.now)) }
-{
-    if !v.is_object() {
-        return Err(Halt::Why(Refusal {
-            unit: 0,
-            cause: Cause::BadShape,
-        }));
-    }
-    match member_of(v, "resourceSpans") {
-        None => Ok(Items::new(alloc)),
-        Some(found) => read_array(alloc, &found),
-    }
-}
+pub use input::{read_groups, read_text};

@@ -4,8 +4,9 @@ use Rattle.std.specs.Prelude.{◌↔◌, Contains}
 use Rattle.std.proofs.lemmas.List.Elements.{Contains-append_left, Contains-append_right, Contains-append_cases}
 use Rattle.trace_model.specs.Attributes.{AreAttributes, AreRepeated, Rise, StandsTwice}
 use Rattle.trace_model.specs.declared.value.Value.{Value}
-use Rattle.otlp_proto.specs.declared.attributes.AttributeRows.{AttributeRows}
-use Rattle.trace_model.specs.OtlpParts.{KeyValue, entry, keys_inside}
+use Rattle.otlp_proto.specs.declared.reading.attributes.AttributeRows.{AttributeRows}
+use Rattle.trace_model.specs.declared.noted.KeyValue.{KeyValue}
+use Rattle.trace_model.specs.OtlpParts.{entry, keys_inside}
 use Rattle.trace_model.specs.laws.ToldLaws.{pair_added}
 use Rattle.otlp_proto.specs.Attributes.{attribute_at, AttributesOf}
 use Rattle.otlp_proto.specs.AttributesSoFar.{GatheredAttributes}

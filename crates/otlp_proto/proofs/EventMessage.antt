@@ -10,7 +10,7 @@ use Rattle.otlp_proto.specs.StatedLaws.{ReadingLaws}
 use Rattle.otlp_proto.specs.Attributes.{AttributesOf}
 use Rattle.otlp_proto.specs.Event.{IsEvent, event_table, event_padded}
 use Rattle.trace_model.specs.Remarks.{Keys}
-use Rattle.trace_model.specs.Notes.{Noted}
+use Rattle.trace_model.specs.declared.noted.Noted.{Noted}
 use Rattle.otlp_proto.specs.Rows.{bytes_of, varints_of, fixed64s_of, MeansMessage}
 use Rattle.otlp_proto.specs.Texts.{otlp_event_text}
 use Rattle.otlp_proto.proofs.Bridges.{Bridge, read_back}

@@ -9,7 +9,8 @@ use Rattle.trace_model.specs.declared.value.Value.TheVariants as values
 use Rattle.otlp_proto.specs.StatedLaws.{WireFacts, PassesFreeIn}
 use Rattle.otlp_proto.specs.Rows.{bytes_of}
 use Rattle.otlp_proto.specs.Values.{members_of, IsListText, IsMapText, MeansMember, value_in, key_value_in, value_at, key_value_at, value_offends, key_value_offends, many_table, table_of_value, table_of_key_value}
-use Rattle.trace_model.specs.OtlpParts.{NotedValue, KeyValue, leaf}
+use Rattle.trace_model.specs.declared.noted.KeyValue.{KeyValue}
+use Rattle.trace_model.specs.OtlpParts.{NotedValue, leaf}
 
 module _ (facts : WireFacts) where
   -- a reading that goes from one text to another where the rows are given the same

@@ -14,8 +14,10 @@ use Rattle.otlp_proto.specs.Attributes.{AttributesOf}
 use Rattle.otlp_proto.specs.Group.{IsResource, resource_table, resource_padded, IsGroup, IsGroupText, group_table, group_padded}
 use Rattle.trace_model.specs.Remarks.{Keys}
 use Rattle.trace_model.specs.GroupRemarks.{group_remarks, scopes_remarks}
-use Rattle.trace_model.specs.Notes.{Noted, ScopeNotes}
-use Rattle.trace_model.specs.OtlpParts.{Resource, no_resource, NotedGroup}
+use Rattle.trace_model.specs.declared.noted.Noted.{Noted}
+use Rattle.trace_model.specs.Notes.{ScopeNotes}
+use Rattle.trace_model.specs.declared.noted.Resource.{Resource}
+use Rattle.trace_model.specs.OtlpParts.{no_resource, NotedGroup}
 use Rattle.otlp_proto.specs.Rows.{bytes_of, varints_of, MeansMessage}
 use Rattle.otlp_proto.specs.Scope.{IsScope}
 use Rattle.otlp_proto.specs.Texts.{attributes_text, key_value_text, scope_text, resource_text, group_text}

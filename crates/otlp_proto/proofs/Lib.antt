@@ -13,13 +13,13 @@ pub mod LinkLemmas
 pub mod LinkMessage
 pub mod ListTexts
 pub mod MessageProofs
+pub mod MessageReading
 pub mod NextRecord
 pub mod NumberingLemmas
 pub mod PaddedValues
 pub mod ProperLemmas
 pub mod Ranges
 pub mod ReadGroup
-pub mod Reading
 pub mod RowDecisions
 pub mod RowMeanings
 pub mod RowPaddings

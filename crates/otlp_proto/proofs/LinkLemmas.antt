@@ -5,14 +5,15 @@ use Rattle.proto_wire.specs.Records.{Record}
 use Rattle.span_io.specs.Tables.{givens, MeansText}
 use Rattle.trace_model.specs.declared.span.Link.{Link}
 use Rattle.trace_model.specs.declared.value.Value.{Value}
-use Rattle.otlp_proto.specs.declared.link.LinkRows.{LinkRows}
+use Rattle.otlp_proto.specs.declared.reading.link.LinkRows.{LinkRows}
 use Rattle.otlp_proto.specs.Attributes.{AttributesOf}
 use Rattle.otlp_proto.specs.Identifiers.{MeansTraceId, MeansSpanId}
 use Rattle.otlp_proto.specs.Link.{IsLink, link_table}
 use Rattle.otlp_proto.specs.LinkSoFar.{GatheredLink}
 use Rattle.trace_model.specs.Remarks.{Keys}
-use Rattle.trace_model.specs.Notes.{Noted}
-use Rattle.trace_model.specs.OtlpParts.{LinkParts, link_of}
+use Rattle.trace_model.specs.declared.noted.Noted.{Noted}
+use Rattle.trace_model.specs.declared.noted.LinkParts.{LinkParts}
+use Rattle.trace_model.specs.OtlpParts.{link_of}
 use Rattle.otlp_proto.specs.Rows.{bytes_of, varints_of, fixed32s_of, MeansNumber, MeansCount}
 use Rattle.span_io.specs.laws.RowLaws.{gave_or}
 

@@ -15,7 +15,8 @@ use Rattle.otlp_proto.specs.PaddedValues.{MemberPadded, table_of_list, table_of_
 use Rattle.otlp_proto.specs.Rows.{text}
 use Rattle.otlp_proto.proofs.Shapes.{list_laws, map_laws, value_laws, key_value_laws}
 use Rattle.otlp_proto.specs.Values.{Member, string_value, bool_value, int_value, double_value, array_value, kvlist_value, bytes_value, IsListText, IsMapText, MeansMember, value_in, key_value_in, value_at, key_value_at, BadMember, InMember, many_table, value_offends, key_value_offends, table_of_value, value_rules, table_of_key_value, key_value_rules, list_rules, map_rules}
-use Rattle.trace_model.specs.OtlpParts.{levels_below, NotedValue, KeyValue, leaf}
+use Rattle.trace_model.specs.declared.noted.KeyValue.{KeyValue}
+use Rattle.trace_model.specs.OtlpParts.{levels_below, NotedValue, leaf}
 use Rattle.otlp_proto.proofs.RowDecisions.{text_decides}
 use Rattle.otlp_proto.proofs.RowPaddings.{Keeps, message_padding, moved, endless_same}
 use Rattle.span_io.specs.laws.RowLaws.{same_twice, singular_moves, all_zip_moves}

@@ -17,7 +17,8 @@ use Rattle.otlp_proto.specs.Rows.{bytes_of, MeansCount, MeansNumber}
 use Rattle.otlp_proto.specs.Identifiers.{MeansTraceId, MeansSpanId}
 use Rattle.span_ids.specs.Proper.{IsProperParent}
 use Rattle.otlp_proto.specs.Values.{Member, string_value, bool_value, int_value, double_value, array_value, kvlist_value, bytes_value, member_in, members_of, IsListText, IsMapText, MeansMember, IsValueText, IsKeyValueText, value_in, key_value_in}
-use Rattle.trace_model.specs.OtlpParts.{levels_below, NotedValue, KeyValue, leaf, entry}
+use Rattle.trace_model.specs.declared.noted.KeyValue.{KeyValue}
+use Rattle.trace_model.specs.OtlpParts.{levels_below, NotedValue, leaf, entry}
 use Rattle.otlp_proto.proofs.Ranges.{AreBytes, InRange, AllInRange, wire_in_range, all_bytes, in_each, chosen, span_below, trace_below, span_above, trace_above}
 use Rattle.trace_model.specs.laws.PartLaws.{kept_all, each_in_range, ProperTrace}
 

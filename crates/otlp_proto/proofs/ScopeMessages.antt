@@ -15,8 +15,10 @@ use Rattle.otlp_proto.specs.Attributes.{AttributesOf}
 use Rattle.trace_model.specs.Remarks.{Keys}
 use Rattle.otlp_proto.specs.Rows.{bytes_of, varints_of, MeansMessage}
 use Rattle.otlp_proto.specs.Scope.{IsInstrumentationScope, instrumentation_scope_table, instrumentation_scope_padded, IsScope, scope_table, scope_padded}
-use Rattle.trace_model.specs.Notes.{Noted, SpanNotes, ScopeNotes}
-use Rattle.trace_model.specs.OtlpParts.{InstrumentationScope, no_instrumentation_scope}
+use Rattle.trace_model.specs.declared.noted.Noted.{Noted}
+use Rattle.trace_model.specs.Notes.{SpanNotes, ScopeNotes}
+use Rattle.trace_model.specs.declared.noted.InstrumentationScope.{InstrumentationScope}
+use Rattle.trace_model.specs.OtlpParts.{no_instrumentation_scope}
 use Rattle.otlp_proto.specs.Span.{IsSpan}
 use Rattle.otlp_proto.specs.Texts.{filled_field, attributes_text, key_value_text, span_text, instrumentation_scope_text, scope_text}
 use Rattle.otlp_proto.proofs.Bridges.{Bridge, read_back}

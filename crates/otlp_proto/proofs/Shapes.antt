@@ -10,7 +10,8 @@ use Rattle.proto_wire.specs.Records.{Held, varint, fixed64, bytes, fixed32, Reco
 use Rattle.otlp_proto.specs.Attributes.{attributes, attribute_rules}
 use Rattle.otlp_proto.specs.Rows.{bytes_in, varint_in, fixed64_in, fixed32_in, bytes_row, number_row, text, time, flags, count, enum, trace_id, span_id, message, messages_of}
 use Rattle.otlp_proto.specs.Values.{Member, string_value, bool_value, int_value, double_value, array_value, kvlist_value, bytes_value, member_in, InMember, value_in, key_value_in, value_offends, key_value_offends, many_table, many_rules, value_table, key_value_table, table_of_value, value_rules, table_of_key_value, key_value_rules, list_rules, map_rules}
-use Rattle.trace_model.specs.OtlpParts.{NotedValue, KeyValue}
+use Rattle.trace_model.specs.declared.noted.KeyValue.{KeyValue}
+use Rattle.trace_model.specs.OtlpParts.{NotedValue}
 
 -- what offends in some bytes does so within them, and at their end with no number above `top`
 pub record Bounded (top : ℕ) (Offends : List ℕ → ℕ → ℕ → Type 0) : Type 0 where

@@ -21,8 +21,12 @@ use Rattle.trace_model.specs.Remarks.{Keys}
 use Rattle.otlp_proto.specs.Rows.{bytes_of, MeansMessage}
 use Rattle.otlp_proto.specs.Scope.{IsInstrumentationScope, IsScope}
 use Rattle.otlp_proto.specs.Span.{IsSpan}
-use Rattle.trace_model.specs.Notes.{Noted, SpanNotes, ScopeNotes}
-use Rattle.trace_model.specs.OtlpParts.{Resource, no_resource, LinkParts, link_of, InstrumentationScope, no_instrumentation_scope, kept_links}
+use Rattle.trace_model.specs.declared.noted.Noted.{Noted}
+use Rattle.trace_model.specs.Notes.{SpanNotes, ScopeNotes}
+use Rattle.trace_model.specs.declared.noted.Resource.{Resource}
+use Rattle.trace_model.specs.declared.noted.LinkParts.{LinkParts}
+use Rattle.trace_model.specs.declared.noted.InstrumentationScope.{InstrumentationScope}
+use Rattle.trace_model.specs.OtlpParts.{no_resource, link_of, no_instrumentation_scope, kept_links}
 use Rattle.otlp_proto.proofs.SoundLemmas.{each_all}
 
 -- the value of a singular row has what its default and each that is meant have

@@ -1,35 +1,24 @@
 -- The events and links of a span, one more record each, and its end.
-use Rattle.std.proofs.Common.{◌≡◌, ℕ, ◌+◌, List, [], ◌∷◌, ◌++◌, length, true, false, Some, None, ap, ◌∙◌}
-use Rattle.proto_wire.specs.Records.{Record}
-use Rattle.proto_wire.specs.Wire.{Wire}
+use Rattle.std.proofs.Common.{◌≡◌, ℕ, ◌+◌, List, [], ◌∷◌, ◌++◌, length, true, Some, None, ap, ◌∙◌}
 use Rattle.trace_model.specs.declared.place.Place.TheVariants as places
 use Rattle.trace_model.specs.declared.remark.Remark.{Remark}
 use Rattle.trace_model.specs.declared.span.Event.{Event}
 use Rattle.trace_model.specs.declared.span.Link.{Link}
-use Rattle.otlp_proto.specs.declared.noted.ReadSpan.{ReadSpan}
-use Rattle.otlp_proto.specs.declared.span.events.EventList.{EventList}
-use Rattle.otlp_proto.specs.declared.span.links.LinkList.{LinkList}
+use Rattle.otlp_proto.specs.declared.reading.span.events.EventList.{EventList}
+use Rattle.otlp_proto.specs.declared.reading.span.links.LinkList.{LinkList}
 use Rattle.otlp_proto.specs.Event.{IsEvent}
 use Rattle.otlp_proto.specs.Link.{IsLink}
-use Rattle.trace_model.specs.Remarks.{Keys, equal_keys, link_dropped, numbered}
-use Rattle.otlp_proto.specs.ReadParts.{IsReadSpan}
+use Rattle.trace_model.specs.Remarks.{Keys, equal_keys, link_dropped}
 use Rattle.trace_model.specs.GroupRemarks.{event_remarks, link_remarks, span_remarks}
-use Rattle.trace_model.specs.Notes.{Noted, SpanNotes}
+use Rattle.trace_model.specs.declared.noted.Noted.{Noted}
+use Rattle.trace_model.specs.Notes.{SpanNotes}
 use Rattle.trace_model.specs.laws.ToldLaws.{event_added, link_left_out, link_added}
-use Rattle.otlp_proto.specs.SpanSoFar.{GatheredEvents, GatheredLinks, ReadsSpan}
+use Rattle.otlp_proto.specs.SpanSoFar.{GatheredEvents, GatheredLinks}
 use Rattle.otlp_proto.specs.Rows.{MeansMessage}
 use Rattle.span_io.specs.laws.RowLaws.{all_zip_push}
 
--- the records are those of the bytes
-pub span_read : (number : ℕ) (read : ReadSpan) (records : List Record) (text : List ℕ) → Wire records text → ReadsSpan number read records → IsReadSpan number read text
-span_read number read records text wire reads = record { notes = reads.notes; is_span = record { items = records; are = wire; is = reads.is_span }; remarks = reads.remarks }
-
 module _ (span : ℕ) where
   -- ---- events
-
-  pub no_events : (list : EventList) → list.events ≡ [] → list.remarks ≡ [] → GatheredEvents span [] list
-  unfolding numbered
-  no_events list events remarks = record { members = []; each = tt; told = record { events = events; remarked = remarks } }
 
   pub event_push : (earlier : List (List ℕ)) (held : List ℕ) (old new : EventList) (e : Noted Event Keys) (number : ℕ) → MeansMessage IsEvent held e → number ≡ 1 + length old.events → new.events ≡ old.events ++ e.means ∷ []
       → new.remarks ≡ old.remarks ++ equal_keys (places.Event span number) e.notes → GatheredEvents span earlier old → GatheredEvents span (earlier ++ held ∷ []) new
@@ -40,10 +29,6 @@ module _ (span : ℕ) where
   }
 
   -- ---- links
-
-  pub no_links : (list : LinkList) → list.links ≡ [] → list.dropped ≡ false → list.remarks ≡ [] → GatheredLinks span [] list
-  unfolding numbered
-  no_links list links dropped remarks = record { members = []; each = tt; told = record { links = links; any_dropped = dropped; remarked = remarks } }
 
   -- one more link is dropped
   pub link_drop : (earlier : List (List ℕ)) (held : List ℕ) (old new : LinkList) → MeansMessage IsLink held None → new.links ≡ old.links → new.dropped ≡ true → new.remarks ≡ old.remarks → GatheredLinks span earlier old

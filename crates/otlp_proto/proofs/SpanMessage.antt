@@ -24,11 +24,12 @@ use Rattle.otlp_proto.specs.Rows.{bytes_of, varints_of, fixed64s_of, fixed32s_of
 use Rattle.otlp_proto.specs.Span.{IsSpan, span_table, span_padded, span_ends}
 use Rattle.otlp_proto.specs.Status.{IsStatus}
 use Rattle.otlp_proto.specs.Texts.{status_text, otlp_event_text, link_text, span_text}
-use Rattle.trace_model.specs.Notes.{Noted, SpanNotes}
+use Rattle.trace_model.specs.declared.noted.Noted.{Noted}
+use Rattle.trace_model.specs.Notes.{SpanNotes}
 use Rattle.trace_model.specs.OtlpParts.{kept_links, no_status, kind_number}
 use Rattle.otlp_proto.proofs.Bridges.{Bridge, read_back}
 use Rattle.otlp_proto.proofs.CanonicalLaws.{Laws}
-use Rattle.trace_model.specs.OtlpEnums.{kind_laws, kind_numbered}
+use Rattle.trace_model.specs.laws.OtlpEnums.{kind_laws, kind_numbered}
 use Rattle.otlp_proto.proofs.EventMessage.{event_proof, event_again, event_proper}
 use Rattle.otlp_proto.proofs.FieldLemmas.{Fits}
 use Rattle.otlp_proto.proofs.LinkMessage.{link_proof, link_again, links_proper}

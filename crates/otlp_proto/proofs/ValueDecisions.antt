@@ -26,8 +26,9 @@ use Rattle.trace_model.specs.Remarks.{Keys}
 use Rattle.otlp_proto.specs.Rows.{bytes_in, varint_in, fixed64_in, fixed32_in, bytes_of, bytes_row}
 use Rattle.otlp_proto.proofs.Shapes.{shape_of_value, shape_of_key_value, many_shape, value_bounded, key_value_bounded, list_laws, map_laws, value_laws, key_value_laws}
 use Rattle.otlp_proto.specs.Values.{Member, string_value, bool_value, int_value, double_value, array_value, kvlist_value, bytes_value, member_in, IsListText, IsMapText, MeansMember, value_in, key_value_in, value_at, key_value_at, BadMember, InMember, many_table, value_offends, key_value_offends, table_of_value, value_rules, table_of_key_value, key_value_rules, list_rules, map_rules}
-use Rattle.trace_model.specs.Notes.{Noted}
-use Rattle.trace_model.specs.OtlpParts.{NotedValue, KeyValue, leaf, entry, keys_inside}
+use Rattle.trace_model.specs.declared.noted.Noted.{Noted}
+use Rattle.trace_model.specs.declared.noted.KeyValue.{KeyValue}
+use Rattle.trace_model.specs.OtlpParts.{NotedValue, leaf, entry, keys_inside}
 use Rattle.otlp_proto.proofs.RowDecisions.{Chosen, chosen_decided, text_decides, message_decides, all_of}
 use Rattle.span_io.specs.laws.RowLaws.{twice_or, one_number, not_text, utf8_or, singular_exists}
 use Rattle.otlp_proto.proofs.ValueReadings.{list_reads, map_reads, value_at_reads, key_value_at_reads, attribute_reads}

@@ -1,7 +1,8 @@
 -- The messages of values, record by record.
-use Rattle.std.proofs.Common.{◌≡◌, ℕ, zero, suc, List, [], ◌∷◌, ◌++◌, ◌⊎◌, inl, inr, Option, Some, None, Result, Err, refl, sym, ap, subst, ◌∙◌, arith}
+use Rattle.std.proofs.Common.{◌≡◌, ℕ, zero, suc, List, [], ◌∷◌, ◌++◌, ◌⊎◌, inl, inr, Option, None, Result, Err, refl, sym, ap, subst, ◌∙◌, arith}
 use Rattle.std.specs.Result.{IsErrAnd}
 use Rattle.std.proofs.lemmas.Result.{err_from_is_err_and}
+use Rattle.std.specs.Prelude.{IsNone}
 use Rattle.std.specs.List.{AllZip}
 use Rattle.span_io.specs.declared.cause.Cause.{Cause}
 use Rattle.span_io.specs.declared.halt.Halt.{Halt}
@@ -10,32 +11,24 @@ use Rattle.span_io.specs.laws.OffenceLaws.{judged_inside}
 use Rattle.span_io.specs.Tables.{Row, Twice, table_here, table_inside}
 use Rattle.proto_wire.specs.Messages.{messages}
 use Rattle.proto_wire.specs.Records.{bytes, Record}
-use Rattle.otlp_proto.specs.declared.noted.ReadValue.{ReadValue}
-use Rattle.otlp_proto.specs.declared.value_rows.ListRows.{ListRows}
-use Rattle.otlp_proto.specs.declared.value_rows.MapRows.{MapRows}
-use Rattle.otlp_proto.specs.ReadParts.{value_read}
+use Rattle.otlp_proto.specs.declared.reading.value_rows.ListRows.{ListRows}
+use Rattle.otlp_proto.specs.declared.reading.value_rows.MapRows.{MapRows}
 use Rattle.otlp_proto.specs.Rows.{bytes_in, bytes_of}
-use Rattle.span_io.specs.RowsSoFar.{Gave}
 use Rattle.otlp_proto.specs.Values.{Member, MeansMember, value_in, key_value_in, value_at, key_value_at, value_offends, key_value_offends, value_rules, key_value_rules}
-use Rattle.trace_model.specs.OtlpParts.{NotedValue, KeyValue, entry}
+use Rattle.trace_model.specs.declared.noted.KeyValue.{KeyValue}
+use Rattle.trace_model.specs.OtlpParts.{NotedValue, entry}
 use Rattle.trace_model.specs.laws.ToldLaws.{value_added, pair_added}
 use Rattle.otlp_proto.specs.ValuesSoFar.{GatheredMembers, GatheredField, GatheredList, GatheredMap}
-use Rattle.span_io.specs.laws.RowLaws.{all_zip_push}
+use Rattle.span_io.specs.laws.RowLaws.{all_zip_push, first_item}
 use Rattle.span_io.specs.laws.TableLaws.{flat_more}
 
 -- nothing was given to a row that is not set
-first_given : {A B : Type 0} (Means : A → B → Type 0) (earlier : List A) (row : Option B) → row ≡ None → Gave Means earlier row → (n : ℕ) → Twice earlier n → ⊥
-first_given Means [] row unset gave n twice = twice.1 refl
-first_given Means (one ∷ []) None unset gave n twice = gave
-first_given Means (one ∷ []) (Some value) unset gave n twice = cc
-first_given Means (one ∷ other ∷ more) row unset gave n twice = gave
-
-pub no_member : (left : ℕ) (earlier : List Member) (row : Option ReadValue) → row ≡ None → GatheredMembers left earlier row → (n : ℕ) → Twice earlier n ⊎ ⊥ → ⊥
-no_member left earlier row unset gave n (inl twice) = first_given (λ member read. MeansMember (value_in left) (key_value_in left) member (value_read read)) earlier row unset gave n twice
+pub no_member : (left : ℕ) (earlier : List Member) (row : Option NotedValue) → row ≡ None → GatheredMembers left earlier row → (n : ℕ) → Twice earlier n ⊎ ⊥ → ⊥
+no_member left earlier row unset gave n (inl twice) = first_item (λ member read. MeansMember (value_in left) (key_value_in left) member read) earlier row (subst IsNone (sym unset) refl) gave n twice
 no_member left earlier row unset gave n (inr never) = never
 
-pub no_field : (left : ℕ) (earlier : List (List ℕ)) (row : Option ReadValue) → row ≡ None → GatheredField left earlier row → (n : ℕ) → Twice earlier n → ⊥
-no_field left earlier row unset gave = first_given (λ held read. value_at left held (value_read read)) earlier row unset gave
+pub no_field : (left : ℕ) (earlier : List (List ℕ)) (row : Option NotedValue) → row ≡ None → GatheredField left earlier row → (n : ℕ) → Twice earlier n → ⊥
+no_field left earlier row unset gave = first_item (λ held read. value_at left held read) earlier row (subst IsNone (sym unset) refl) gave
 
 -- what was answered of a record that is this one
 pub judged_as : (K : Rules Record) (seen : List Record) (r s : Record) → r ≡ s → (answer : Result Unit (Halt Cause)) → Judges answer (ItemOffends Record K seen s) → Judges answer (ItemOffends Record K seen r)

@@ -17,8 +17,9 @@ use Rattle.trace_model.specs.Remarks.{Keys}
 use Rattle.otlp_proto.specs.Rows.{bytes_of}
 use Rattle.otlp_proto.proofs.Shapes.{shape_of_value, shape_of_key_value, many_shape, value_bounded, key_value_bounded}
 use Rattle.otlp_proto.specs.Values.{Member, string_value, bool_value, int_value, double_value, array_value, kvlist_value, bytes_value, members_of, IsListText, IsMapText, MeansMember, value_in, key_value_in, value_at, key_value_at, BadMember, InMember, value_table, many_table, many_rules, value_offends, key_value_offends, table_of_value, value_rules, table_of_key_value, key_value_rules, list_rules, map_rules}
-use Rattle.trace_model.specs.Notes.{Noted}
-use Rattle.trace_model.specs.OtlpParts.{NotedValue, KeyValue, leaf, entry, keys_inside, IsNotedMap, AreNotedAttributes}
+use Rattle.trace_model.specs.declared.noted.Noted.{Noted}
+use Rattle.trace_model.specs.declared.noted.KeyValue.{KeyValue}
+use Rattle.trace_model.specs.OtlpParts.{NotedValue, leaf, entry, keys_inside, IsNotedMap, AreNotedAttributes}
 use Rattle.span_io.specs.laws.RowLaws.{all_zip_split, all_zip_once, singular_split, singular_once}
 use Rattle.otlp_proto.proofs.RowMeanings.{Reads, text_meaning, message_meaning, repeated_meaning}
 

@@ -9,8 +9,9 @@ use Rattle.trace_model.specs.declared.value.Value.{Value}
 use Rattle.trace_model.specs.Remarks.{Keys}
 use Rattle.otlp_proto.specs.Rows.{bytes_row}
 use Rattle.otlp_proto.specs.Values.{key_value_at, key_value_rules}
-use Rattle.trace_model.specs.Notes.{Noted}
-use Rattle.trace_model.specs.OtlpParts.{KeyValue, entry, keys_inside, AreNotedAttributes, levels_below}
+use Rattle.trace_model.specs.declared.noted.Noted.{Noted}
+use Rattle.trace_model.specs.declared.noted.KeyValue.{KeyValue}
+use Rattle.trace_model.specs.OtlpParts.{entry, keys_inside, AreNotedAttributes, levels_below}
 
 abbrev pub attribute_at : List ℕ → KeyValue → Type 0
 attribute_at held p = key_value_at levels_below held p

@@ -1,9 +1,9 @@
 -- What the reader of attributes has gathered.
 use Rattle.std.specs.Prelude.{ℕ, List}
 use Rattle.std.specs.List.{AllZip}
-use Rattle.otlp_proto.specs.declared.attributes.AttributeRows.{AttributeRows}
+use Rattle.otlp_proto.specs.declared.reading.attributes.AttributeRows.{AttributeRows}
 use Rattle.otlp_proto.specs.Attributes.{attribute_at}
-use Rattle.trace_model.specs.OtlpParts.{KeyValue}
+use Rattle.trace_model.specs.declared.noted.KeyValue.{KeyValue}
 use Rattle.trace_model.specs.OtlpTold.{AreToldPairs}
 
 -- of these bytes of `KeyValue`s

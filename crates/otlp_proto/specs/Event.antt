@@ -8,7 +8,7 @@ use Rattle.proto_wire.specs.Records.{Record}
 use Rattle.trace_model.specs.declared.span.Event.{Event}
 use Rattle.otlp_proto.specs.Attributes.{AttributesOf, attributes}
 use Rattle.trace_model.specs.Remarks.{Keys}
-use Rattle.trace_model.specs.Notes.{Noted}
+use Rattle.trace_model.specs.declared.noted.Noted.{Noted}
 use Rattle.otlp_proto.specs.PaddedValues.{AttributePadded}
 use Rattle.otlp_proto.specs.Rows.{bytes_of, varints_of, fixed64s_of, MeansNumber, MeansCount, text, time, count}
 

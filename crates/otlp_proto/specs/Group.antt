@@ -12,11 +12,13 @@ use Rattle.trace_model.specs.declared.trace.Group.{Group}
 use Rattle.trace_model.specs.declared.trace.Scope.{Scope}
 use Rattle.otlp_proto.specs.Attributes.{AttributesOf, attributes}
 use Rattle.trace_model.specs.Remarks.{Keys}
-use Rattle.trace_model.specs.Notes.{Noted, ScopeNotes}
+use Rattle.trace_model.specs.declared.noted.Noted.{Noted}
+use Rattle.trace_model.specs.Notes.{ScopeNotes}
 use Rattle.otlp_proto.specs.PaddedValues.{AttributePadded}
 use Rattle.otlp_proto.specs.Rows.{bytes_of, varints_of, MeansCount, text, count, message, messages_of, MeansMessage}
 use Rattle.otlp_proto.specs.Scope.{IsScope, scope_rules, ScopePadded}
-use Rattle.trace_model.specs.OtlpParts.{Resource, no_resource, NotedGroup, IsGroupOfParts}
+use Rattle.trace_model.specs.declared.noted.Resource.{Resource}
+use Rattle.trace_model.specs.OtlpParts.{no_resource, NotedGroup, IsGroupOfParts}
 
 -- ---- `Resource`
 

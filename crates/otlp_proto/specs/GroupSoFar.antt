@@ -6,14 +6,15 @@ use Rattle.proto_wire.specs.Records.{Record}
 use Rattle.trace_model.specs.declared.remark.Remark.{Remark}
 use Rattle.trace_model.specs.declared.trace.Group.{Group}
 use Rattle.trace_model.specs.declared.trace.Scope.{Scope}
-use Rattle.otlp_proto.specs.declared.group.GroupRows.{GroupRows}
-use Rattle.otlp_proto.specs.declared.group.ScopeList.{ScopeList}
-use Rattle.otlp_proto.specs.declared.noted.ReadResource.{ReadResource}
-use Rattle.otlp_proto.specs.declared.resource.ResourceRows.{ResourceRows}
+use Rattle.otlp_proto.specs.declared.reading.group.GroupRows.{GroupRows}
+use Rattle.otlp_proto.specs.declared.reading.group.ScopeList.{ScopeList}
+use Rattle.otlp_proto.specs.declared.reading.resource.ResourceRows.{ResourceRows}
 use Rattle.otlp_proto.specs.AttributesSoFar.{GatheredAttributes}
 use Rattle.otlp_proto.specs.Group.{IsResource, resource_table, IsGroup, group_table}
-use Rattle.otlp_proto.specs.ReadParts.{resource_read}
-use Rattle.trace_model.specs.Notes.{Noted, ScopeNotes}
+use Rattle.trace_model.specs.declared.noted.Resource.{Resource}
+use Rattle.trace_model.specs.Remarks.{Keys}
+use Rattle.trace_model.specs.declared.noted.Noted.{Noted}
+use Rattle.trace_model.specs.Notes.{ScopeNotes}
 use Rattle.trace_model.specs.OtlpTold.{AreToldScopes}
 use Rattle.otlp_proto.specs.Rows.{MeansCount, MeansMessage}
 use Rattle.span_io.specs.RowsSoFar.{Gave}
@@ -24,11 +25,8 @@ pub record GatheredResource (rows : ResourceRows) (given : Givens resource_table
   pub dropped : Gave MeansCount given.1.0 rows.dropped
 
 -- the rows make it: whatever records gave them mean it
-abbrev pub MakesResource : ResourceRows → ReadResource → Type 0
-MakesResource rows read = (records : List Record) → GatheredResource rows (givens resource_table records) → IsResource (resource_read read) records
-
-abbrev pub MeansResource : List ℕ → ReadResource → Type 0
-MeansResource held read = MeansMessage IsResource held (resource_read read)
+abbrev pub MakesResource : ResourceRows → Noted Resource Keys → Type 0
+MakesResource rows read = (records : List Record) → GatheredResource rows (givens resource_table records) → IsResource read records
 
 -- the scopes of a group, the remarks on them, and the number of the span that comes next
 pub record GatheredScopes (texts : List (List ℕ)) (list : ScopeList) : Type 0 where
@@ -37,7 +35,7 @@ pub record GatheredScopes (texts : List (List ℕ)) (list : ScopeList) : Type 0 
   pub told : AreToldScopes read list.scopes list.remarks list.next_span
 
 pub record GatheredGroup (rows : GroupRows) (given : Givens group_table) : Type 0 where
-  pub resource : Gave MeansResource given.0 rows.resource
+  pub resource : Gave (MeansMessage IsResource) given.0 rows.resource
   pub scopes : GatheredScopes given.1.0 rows.scopes
   pub schema_url : Gave MeansText given.1.1.0 rows.schema_url
 

@@ -10,10 +10,11 @@ use Rattle.trace_model.specs.declared.span.Link.{Link}
 use Rattle.otlp_proto.specs.Attributes.{AttributesOf, attributes}
 use Rattle.otlp_proto.specs.Identifiers.{MeansTraceId, MeansSpanId}
 use Rattle.trace_model.specs.Remarks.{Keys}
-use Rattle.trace_model.specs.Notes.{Noted}
+use Rattle.trace_model.specs.declared.noted.Noted.{Noted}
 use Rattle.otlp_proto.specs.PaddedValues.{AttributePadded}
 use Rattle.otlp_proto.specs.Rows.{bytes_of, varints_of, fixed32s_of, MeansNumber, MeansCount, text, count, flags, trace_id, span_id}
-use Rattle.trace_model.specs.OtlpParts.{LinkParts, link_of}
+use Rattle.trace_model.specs.declared.noted.LinkParts.{LinkParts}
+use Rattle.trace_model.specs.OtlpParts.{link_of}
 
 -- the records, in any order, are those of this link, or of one that is dropped
 pub record IsLink (l : Option (Noted Link Keys)) (records : List Record) : Type 0 where

@@ -2,12 +2,13 @@
 use Rattle.std.specs.Prelude.{List, Option, Result, IfOk}
 use Rattle.span_io.specs.Tables.{Givens, givens, MeansText}
 use Rattle.proto_wire.specs.Records.{Record}
-use Rattle.otlp_proto.specs.declared.noted.ReadLink.{ReadLink}
-use Rattle.otlp_proto.specs.declared.link.LinkRows.{LinkRows}
+use Rattle.trace_model.specs.declared.noted.Noted.{Noted}
+use Rattle.trace_model.specs.declared.span.Link.{Link}
+use Rattle.trace_model.specs.Remarks.{Keys}
+use Rattle.otlp_proto.specs.declared.reading.link.LinkRows.{LinkRows}
 use Rattle.otlp_proto.specs.AttributesSoFar.{GatheredAttributes}
 use Rattle.otlp_proto.specs.Identifiers.{MeansTraceId, MeansSpanId}
 use Rattle.otlp_proto.specs.Link.{IsLink, link_table}
-use Rattle.otlp_proto.specs.ReadParts.{link_read}
 use Rattle.otlp_proto.specs.Rows.{MeansNumber, MeansCount}
 use Rattle.span_io.specs.RowsSoFar.{Gave}
 
@@ -20,6 +21,6 @@ pub record GatheredLink (rows : LinkRows) (given : Givens link_table) : Type 0 w
   pub flags : Gave MeansNumber given.1.1.1.1.1.0 rows.flags
 
 -- the rows make it: whatever records gave them mean it
-abbrev pub MakesLink : {E : Type 0} → LinkRows → Result (Option ReadLink) E → Type 0
+abbrev pub MakesLink : {E : Type 0} → LinkRows → Result (Option (Noted Link Keys)) E → Type 0
 MakesLink rows result =
-    (records : List Record) → GatheredLink rows (givens link_table records) → IfOk result (λ read. IsLink (link_read read) records)
+    (records : List Record) → GatheredLink rows (givens link_table records) → IfOk result (λ read. IsLink read records)

@@ -5,7 +5,8 @@ use Rattle.span_io.specs.Tables.{Row}
 use Rattle.proto_wire.specs.Messages.{messages}
 use Rattle.proto_wire.specs.Records.{Record}
 use Rattle.otlp_proto.specs.Values.{Member, array_value, kvlist_value, value_in, key_value_in, value_offends, key_value_offends, many_table, table_of_value, table_of_key_value}
-use Rattle.trace_model.specs.OtlpParts.{levels_below, NotedValue, KeyValue}
+use Rattle.trace_model.specs.declared.noted.KeyValue.{KeyValue}
+use Rattle.trace_model.specs.OtlpParts.{levels_below, NotedValue}
 
 -- a list or map with records added, and every other member as it is
 abbrev pub MemberPadded : (List ℕ → List ℕ → Type 0) → (List ℕ → List ℕ → Type 0) → Member → Member → Type 0

@@ -11,11 +11,13 @@ use Rattle.trace_model.specs.declared.span.Span.{Span}
 use Rattle.trace_model.specs.declared.trace.Scope.{Scope}
 use Rattle.otlp_proto.specs.Attributes.{AttributesOf, attributes}
 use Rattle.trace_model.specs.Remarks.{Keys}
-use Rattle.trace_model.specs.Notes.{Noted, SpanNotes, ScopeNotes}
+use Rattle.trace_model.specs.declared.noted.Noted.{Noted}
+use Rattle.trace_model.specs.Notes.{SpanNotes, ScopeNotes}
 use Rattle.otlp_proto.specs.PaddedValues.{AttributePadded}
 use Rattle.otlp_proto.specs.Rows.{bytes_of, varints_of, MeansCount, text, count, message, messages_of, MeansMessage}
 use Rattle.otlp_proto.specs.Span.{IsSpan, span_rules, SpanPadded}
-use Rattle.trace_model.specs.OtlpParts.{InstrumentationScope, no_instrumentation_scope, IsScopeOfParts}
+use Rattle.trace_model.specs.declared.noted.InstrumentationScope.{InstrumentationScope}
+use Rattle.trace_model.specs.OtlpParts.{no_instrumentation_scope, IsScopeOfParts}
 
 -- ---- `InstrumentationScope`
 

@@ -5,15 +5,18 @@ use Rattle.span_io.specs.Tables.{Givens, givens, MeansText}
 use Rattle.proto_wire.specs.Records.{Record}
 use Rattle.proto_wire.specs.Wire.{Wire}
 use Rattle.trace_model.specs.declared.span.Span.{Span}
-use Rattle.otlp_proto.specs.declared.instrumentation_scope.InstrumentationScopeRows.{InstrumentationScopeRows}
-use Rattle.otlp_proto.specs.declared.noted.ReadInstrumentationScope.{ReadInstrumentationScope}
-use Rattle.otlp_proto.specs.declared.noted.ReadScope.{ReadScope}
-use Rattle.otlp_proto.specs.declared.scope.ScopeRows.{ScopeRows}
-use Rattle.otlp_proto.specs.declared.scope.SpanList.{SpanList}
+use Rattle.otlp_proto.specs.declared.reading.instrumentation_scope.InstrumentationScopeRows.{InstrumentationScopeRows}
+use Rattle.otlp_proto.specs.declared.reading.scope.ScopeRows.{ScopeRows}
+use Rattle.otlp_proto.specs.declared.reading.scope.SpanList.{SpanList}
 use Rattle.otlp_proto.specs.AttributesSoFar.{GatheredAttributes}
-use Rattle.otlp_proto.specs.ReadParts.{IsReadScope, instrumentation_scope_read}
-use Rattle.trace_model.specs.Notes.{Noted, SpanNotes}
+use Rattle.otlp_proto.specs.ReadParts.{IsReadScope}
+use Rattle.trace_model.specs.declared.noted.InstrumentationScope.{InstrumentationScope}
+use Rattle.trace_model.specs.declared.noted.Noted.{Noted}
+use Rattle.trace_model.specs.Notes.{SpanNotes}
 use Rattle.trace_model.specs.OtlpTold.{AreToldSpans}
+use Rattle.trace_model.specs.Remarks.{Keys}
+use Rattle.trace_model.specs.declared.remark.Remark.{Remark}
+use Rattle.trace_model.specs.declared.trace.Scope.{Scope}
 use Rattle.otlp_proto.specs.Rows.{MeansCount, MeansMessage}
 use Rattle.span_io.specs.RowsSoFar.{Gave}
 use Rattle.otlp_proto.specs.Scope.{IsInstrumentationScope, instrumentation_scope_table, scope_table}
@@ -26,12 +29,9 @@ pub record GatheredInstrumentationScope (rows : InstrumentationScopeRows) (given
   pub dropped : Gave MeansCount given.1.1.1.0 rows.dropped
 
 -- the rows make it: whatever records gave them mean it
-abbrev pub MakesInstrumentationScope : InstrumentationScopeRows → ReadInstrumentationScope → Type 0
+abbrev pub MakesInstrumentationScope : InstrumentationScopeRows → Noted InstrumentationScope Keys → Type 0
 MakesInstrumentationScope rows read =
-    (records : List Record) → GatheredInstrumentationScope rows (givens instrumentation_scope_table records) → IsInstrumentationScope (instrumentation_scope_read read) records
-
-abbrev pub MeansInstrumentationScope : List ℕ → ReadInstrumentationScope → Type 0
-MeansInstrumentationScope held read = MeansMessage IsInstrumentationScope held (instrumentation_scope_read read)
+    (records : List Record) → GatheredInstrumentationScope rows (givens instrumentation_scope_table records) → IsInstrumentationScope read records
 
 -- spans, of which the first has this number, and the remarks on them
 pub record GatheredSpans (first : ℕ) (texts : List (List ℕ)) (list : SpanList) : Type 0 where
@@ -42,11 +42,11 @@ pub record GatheredSpans (first : ℕ) (texts : List (List ℕ)) (list : SpanLis
 
 -- of a scope whose first span has this number
 pub record GatheredScope (first : ℕ) (rows : ScopeRows) (given : Givens scope_table) : Type 0 where
-  pub instrumentation : Gave MeansInstrumentationScope given.0 rows.instrumentation
+  pub instrumentation : Gave (MeansMessage IsInstrumentationScope) given.0 rows.instrumentation
   pub spans : GatheredSpans first given.1.0 rows.spans
   pub schema_url : Gave MeansText given.1.1.0 rows.schema_url
 
 -- the rows make this scope, which has that number: whatever text gave them is one of it
-abbrev pub MakesScope : ℕ → ScopeRows → ReadScope → Type 0
+abbrev pub MakesScope : ℕ → ScopeRows → Noted Scope (List Remark) → Type 0
 MakesScope number rows read =
     (first : ℕ) (records : List Record) (text : List ℕ) → Wire records text → GatheredScope first rows (givens scope_table records) → IsReadScope number first read text

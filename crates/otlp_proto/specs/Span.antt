@@ -22,7 +22,8 @@ use Rattle.trace_model.specs.Remarks.{Keys}
 use Rattle.otlp_proto.specs.PaddedValues.{AttributePadded}
 use Rattle.otlp_proto.specs.Rows.{bytes_of, varints_of, fixed64s_of, fixed32s_of, MeansNumber, MeansCount, text, time, count, flags, enum, trace_id, span_id, message, messages_of, MeansMessage}
 use Rattle.otlp_proto.specs.Status.{IsStatus, status_rules, StatusPadded}
-use Rattle.trace_model.specs.Notes.{Noted, SpanNotes}
+use Rattle.trace_model.specs.declared.noted.Noted.{Noted}
+use Rattle.trace_model.specs.Notes.{SpanNotes}
 use Rattle.trace_model.specs.OtlpParts.{no_status, kind_number, AreEventsOf, AreLinksOf}
 
 abbrev pub MeansKind : ℕ → Kind → Type 0

@@ -5,13 +5,14 @@ use Rattle.span_io.specs.declared.cause.Cause.{Cause}
 use Rattle.span_io.specs.declared.halt.Halt.{Halt}
 use Rattle.span_io.specs.Tables.{Givens, givens, Singular, MeansText}
 use Rattle.proto_wire.specs.Records.{Record}
+use Rattle.proto_wire.specs.Wire.{Wire}
 use Rattle.trace_model.specs.declared.span.Event.{Event}
 use Rattle.trace_model.specs.declared.span.Link.{Link}
-use Rattle.trace_model.specs.declared.span.Status.{Status}
-use Rattle.otlp_proto.specs.declared.noted.ReadSpan.{ReadSpan}
-use Rattle.otlp_proto.specs.declared.span.SpanRows.{SpanRows}
-use Rattle.otlp_proto.specs.declared.span.events.EventList.{EventList}
-use Rattle.otlp_proto.specs.declared.span.links.LinkList.{LinkList}
+use Rattle.trace_model.specs.declared.remark.Remark.{Remark}
+use Rattle.trace_model.specs.declared.span.Span.{Span}
+use Rattle.otlp_proto.specs.declared.reading.span.SpanRows.{SpanRows}
+use Rattle.otlp_proto.specs.declared.reading.span.events.EventList.{EventList}
+use Rattle.otlp_proto.specs.declared.reading.span.links.LinkList.{LinkList}
 use Rattle.otlp_proto.specs.AttributesSoFar.{GatheredAttributes}
 use Rattle.otlp_proto.specs.Event.{IsEvent}
 use Rattle.otlp_proto.specs.Identifiers.{MeansTraceId, MeansSpanId}
@@ -19,9 +20,9 @@ use Rattle.otlp_proto.specs.Link.{IsLink}
 use Rattle.trace_model.specs.Remarks.{Keys}
 use Rattle.otlp_proto.specs.Rows.{MeansNumber, MeansCount, MeansMessage}
 use Rattle.span_io.specs.RowsSoFar.{Gave}
-use Rattle.otlp_proto.specs.Span.{IsSpan, MeansKind, span_table}
-use Rattle.trace_model.specs.GroupRemarks.{span_remarks}
-use Rattle.trace_model.specs.Notes.{Noted, SpanNotes}
+use Rattle.otlp_proto.specs.ReadParts.{IsReadSpan}
+use Rattle.otlp_proto.specs.Span.{MeansKind, span_table}
+use Rattle.trace_model.specs.declared.noted.Noted.{Noted}
 use Rattle.trace_model.specs.OtlpTold.{AreToldEvents, AreToldLinks}
 use Rattle.otlp_proto.specs.Status.{IsStatus}
 
@@ -36,9 +37,6 @@ pub record GatheredLinks (span : ℕ) (texts : List (List ℕ)) (list : LinkList
   pub members : List (Option (Noted Link Keys))
   pub each : AllZip (MeansMessage IsLink) texts members
   pub told : AreToldLinks span members list.links list.dropped list.remarks
-
-abbrev pub MeansStatus : List ℕ → Status → Type 0
-MeansStatus held status = MeansMessage IsStatus held status
 
 pub record GatheredSpan (span : ℕ) (rows : SpanRows) (given : Givens span_table) : Type 0 where
   pub number : rows.number ≡ span
@@ -56,7 +54,7 @@ pub record GatheredSpan (span : ℕ) (rows : SpanRows) (given : Givens span_tabl
   pub dropped_events : Gave MeansCount given.1.1.1.1.1.1.1.1.1.1.1.0 rows.dropped_events
   pub links : GatheredLinks span given.1.1.1.1.1.1.1.1.1.1.1.1.0 rows.links
   pub dropped_links : Gave MeansCount given.1.1.1.1.1.1.1.1.1.1.1.1.1.0 rows.dropped_links
-  pub status : Gave MeansStatus given.1.1.1.1.1.1.1.1.1.1.1.1.1.1.0 rows.status
+  pub status : Gave (MeansMessage IsStatus) given.1.1.1.1.1.1.1.1.1.1.1.1.1.1.0 rows.status
   pub flags : Gave MeansNumber given.1.1.1.1.1.1.1.1.1.1.1.1.1.1.1.0 rows.flags
 
 -- these records gave the rows of the span of this number
@@ -76,13 +74,7 @@ TakesTraceId row result = (seen : List (List ℕ)) → Gave MeansTraceId seen ro
 abbrev pub TakesSpanId : Option (Option ℕ) → Result (ℕ × ℕ) Cause → Type 0
 TakesSpanId row result = (seen : List (List ℕ)) → Gave MeansSpanId seen row → IfOk result (λ ids. GaveSpanId seen ids.1)
 
--- the records are those of the span that was read, which has this number, and these are the remarks on it
-pub record ReadsSpan (number : ℕ) (read : ReadSpan) (records : List Record) : Type 0 where
-  pub notes : SpanNotes
-  pub is_span : IsSpan (record { means = read.span; notes = notes }) records
-  pub remarks : read.remarks ≡ span_remarks number notes
-
--- the rows make the span: whatever records gave them are its records
-abbrev pub MakesSpan : SpanRows → Result ReadSpan (Halt Cause) → Type 0
+-- the rows make the span: whatever text gave them is one of it
+abbrev pub MakesSpan : SpanRows → Result (Noted Span (List Remark)) (Halt Cause) → Type 0
 MakesSpan rows result =
-    (span : ℕ) (records : List Record) → GaveSpan span rows records → IfOk result (λ read. ReadsSpan span read records)
+    (span : ℕ) (records : List Record) (text : List ℕ) → Wire records text → GaveSpan span rows records → IfOk result (λ read. IsReadSpan span read text)

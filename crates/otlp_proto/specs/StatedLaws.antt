@@ -21,7 +21,8 @@ use Rattle.otlp_proto.specs.Scope.{IsInstrumentationScope, instrumentation_scope
 use Rattle.otlp_proto.specs.Span.{IsSpan, span_table, span_rules}
 use Rattle.otlp_proto.specs.Status.{IsStatus, status_table, status_rules}
 use Rattle.otlp_proto.specs.Values.{IsListText, IsMapText, value_in, key_value_in, value_at, key_value_at, value_offends, key_value_offends, many_table, table_of_value, table_of_key_value}
-use Rattle.trace_model.specs.OtlpParts.{NotedValue, KeyValue}
+use Rattle.trace_model.specs.declared.noted.KeyValue.{KeyValue}
+use Rattle.trace_model.specs.OtlpParts.{NotedValue}
 
 -- Bytes are a text of one group at most, with one list of remarks; nothing offends in such a text, and the group is sound.
 pub record OneGroup : Type 0 where

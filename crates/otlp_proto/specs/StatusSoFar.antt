@@ -1,6 +1,6 @@
 -- What the reader of a status has gathered.
 use Rattle.span_io.specs.Tables.{Givens, MeansText}
-use Rattle.otlp_proto.specs.declared.status.StatusRows.{StatusRows}
+use Rattle.otlp_proto.specs.declared.reading.status.StatusRows.{StatusRows}
 use Rattle.span_io.specs.RowsSoFar.{Gave}
 use Rattle.otlp_proto.specs.Status.{MeansCode, status_table}
 

@@ -11,7 +11,8 @@ use Rattle.proto_wire.specs.Records.{Held, varint, fixed64, bytes, fixed32, Reco
 use Rattle.proto_wire.specs.Wire.{Wire}
 use Rattle.trace_model.specs.declared.value.Value.TheVariants as values
 use Rattle.otlp_proto.specs.Rows.{bytes_of, bytes_row, text, message}
-use Rattle.trace_model.specs.OtlpParts.{NotedValue, leaf, KeyValue, entry, keys_inside, IsNotedList, IsNotedMap}
+use Rattle.trace_model.specs.declared.noted.KeyValue.{KeyValue}
+use Rattle.trace_model.specs.OtlpParts.{NotedValue, leaf, entry, keys_inside, IsNotedList, IsNotedMap}
 
 -- a member of a value
 pub data Member : Type 0 where

@@ -10,15 +10,14 @@ use Rattle.proto_wire.specs.Records.{Record}
 use Rattle.proto_wire.specs.Wire.{Wire}
 use Rattle.trace_model.specs.declared.value.Value.{Value}
 use Rattle.trace_model.specs.declared.value.Value.TheVariants as values
-use Rattle.otlp_proto.specs.declared.noted.ReadValue.{ReadValue}
-use Rattle.otlp_proto.specs.declared.value_rows.ListRows.{ListRows}
-use Rattle.otlp_proto.specs.declared.value_rows.MapRows.{MapRows}
-use Rattle.otlp_proto.specs.declared.value_rows.KeyValueRows.{KeyValueRows}
-use Rattle.otlp_proto.specs.ReadParts.{value_read}
+use Rattle.otlp_proto.specs.declared.reading.value_rows.ListRows.{ListRows}
+use Rattle.otlp_proto.specs.declared.reading.value_rows.MapRows.{MapRows}
+use Rattle.otlp_proto.specs.declared.reading.value_rows.KeyValueRows.{KeyValueRows}
 use Rattle.otlp_proto.specs.Rows.{bytes_of}
 use Rattle.span_io.specs.RowsSoFar.{Gave, Adds}
 use Rattle.otlp_proto.specs.Values.{Member, members_of, MeansMember, BadMember, InMember, value_in, key_value_in, value_at, list_rules, map_rules}
-use Rattle.trace_model.specs.OtlpParts.{NotedValue, KeyValue, leaf}
+use Rattle.trace_model.specs.declared.noted.KeyValue.{KeyValue}
+use Rattle.trace_model.specs.OtlpParts.{NotedValue, leaf}
 use Rattle.trace_model.specs.OtlpTold.{AreToldValues, AreToldPairs}
 
 -- ---- of these records
@@ -34,15 +33,15 @@ pub record GatheredMap (left : ℕ) (records : List Record) (rows : MapRows) : T
   pub told : AreToldPairs members rows.pairs rows.noted
 
 -- of these members
-abbrev pub GatheredMembers : ℕ → List Member → Option ReadValue → Type 0
-GatheredMembers left members row = Gave (λ member read. MeansMember (value_in left) (key_value_in left) member (value_read read)) members row
+abbrev pub GatheredMembers : ℕ → List Member → Option NotedValue → Type 0
+GatheredMembers left members row = Gave (λ member read. MeansMember (value_in left) (key_value_in left) member read) members row
 
-abbrev pub GatheredValue : ℕ → List Record → Option ReadValue → Type 0
+abbrev pub GatheredValue : ℕ → List Record → Option NotedValue → Type 0
 GatheredValue left records row = GatheredMembers left (members_of records) row
 
 -- of a row of bytes that hold a value
-abbrev pub GatheredField : ℕ → List (List ℕ) → Option ReadValue → Type 0
-GatheredField left texts row = Gave (λ held read. value_at left held (value_read read)) texts row
+abbrev pub GatheredField : ℕ → List (List ℕ) → Option NotedValue → Type 0
+GatheredField left texts row = Gave (λ held read. value_at left held read) texts row
 
 pub record GatheredKeyValue (left : ℕ) (records : List Record) (rows : KeyValueRows) : Type 0 where
   pub key : Gave MeansText (bytes_of 1 records) rows.key
@@ -56,11 +55,11 @@ MemberOffends left earlier member place number = HereOrInside (λ n. Twice earli
     (λ p n. InMember (λ held q m. Offence messages (list_rules left) held q m) (λ held q m. Offence messages (map_rules left) held q m) member p n) place number
 
 -- of one member more
-abbrev pub JudgesMember : ℕ → Option ReadValue → Member → Result Unit (Halt Cause) → Type 0
+abbrev pub JudgesMember : ℕ → Option NotedValue → Member → Result Unit (Halt Cause) → Type 0
 JudgesMember left row member answer = (earlier : List Member) → GatheredMembers left earlier row → Judges answer (MemberOffends left earlier member)
 
 -- a row is set by a member that means this value
-abbrev pub SetsLeaf : Value → Option ReadValue → Option ReadValue → Type 0
+abbrev pub SetsLeaf : Value → Option NotedValue → Option NotedValue → Type 0
 SetsLeaf value old new = (left : ℕ) (member : Member) → MeansMember (value_in left) (key_value_in left) member (leaf value) → Adds (GatheredMembers left) member old new
 
 -- ---- what the rows give
@@ -70,5 +69,5 @@ abbrev pub GivesRead : {B C : Type 0} → (ℕ → List Record → B → Type 0)
 GivesRead Gathered Is rows read = (left : ℕ) (records : List Record) (text : List ℕ) → Wire records text → Gathered left records rows → Is left text read
 
 -- the value of a row of bytes, which is empty if there are none
-abbrev pub GivesField : Option ReadValue → NotedValue → Type 0
+abbrev pub GivesField : Option NotedValue → NotedValue → Type 0
 GivesField row read = (left : ℕ) (texts : List (List ℕ)) → GatheredField left texts row → Singular (λ held r. value_at left held r) (λ r. r ≡ leaf values.Nothing) texts read

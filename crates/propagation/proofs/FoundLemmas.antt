@@ -8,7 +8,7 @@ use Rattle.std.proofs.lemmas.List.{append-nil, map-append}
 use Rattle.std.proofs.lemmas.List.Elements.{filter-append}
 use Rattle.propagation.specs.Blocks.{Header}
 use Rattle.std.specs.Borrow.{Bor}
-use Rattle.propagation.specs.FoundHeaders.{HoldsOnce}
+use Rattle.propagation.specs.private.FoundHeaders.{HoldsOnce}
 use Rattle.propagation.specs.Heads.{is_named, header_values}
 use Rattle.propagation.specs.declared.found.Once.{Once}
 use Rattle.propagation.specs.declared.found.Once.TheVariants.{At, Twice}

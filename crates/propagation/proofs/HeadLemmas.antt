@@ -3,7 +3,7 @@ use Rattle.std.proofs.Common.{◌≡◌, ℕ, List, sym, subst, ◌∙◌}
 use Rattle.std.specs.Prelude.{Result, IfErr, IsErrAnd}
 use Rattle.std.proofs.lemmas.Result.{err_from_is_err_and}
 use Rattle.propagation.specs.Blocks.{Header}
-use Rattle.propagation.specs.HeaderLines.{HeadersThen, RefusesLine}
+use Rattle.propagation.specs.private.HeaderLines.{HeadersThen, RefusesLine}
 use Rattle.propagation.specs.declared.header_cause.HeaderCause.{HeaderCause}
 use Rattle.propagation.proofs.OneBlock.{then_none}
 

@@ -4,7 +4,7 @@ use Rattle.propagation.specs.Fronts.{Leads}
 use Rattle.propagation.specs.Tracestate.{Trims}
 use Rattle.propagation.specs.Blocks.{Header, HeaderLine, HasHeaders, IsNameByte, IsHeaderLine, header_line_text}
 use Rattle.propagation.specs.Blocks.HeaderLine.{empty, told}
-use Rattle.propagation.specs.HeaderLines.{CutsLine, HeadersThen, IsToldLine}
+use Rattle.propagation.specs.private.HeaderLines.{CutsLine, HeadersThen, IsToldLine}
 use Rattle.propagation.proofs.FrontLemmas.{leads_to}
 use Rattle.propagation.proofs.TrimLemmas.{trims_once}
 use Rattle.propagation.proofs.OneBlock.{no_name_colon, line_trims, first_line, line_then, then_on, then_none, then_all, nothing_has}

@@ -9,7 +9,7 @@ use Rattle.propagation.specs.Tracestate.{IsBlank, Trims}
 use Rattle.propagation.specs.Blocks.{Header, HeaderLine, HeaderEnd, IsNameByte, IsValueByte, IsHeaderLine, HasHeaders, header_line_text, ended_line_text, line_headers}
 use Rattle.propagation.specs.Blocks.HeaderLine.{empty, told}
 use Rattle.propagation.specs.Blocks.HeaderEnd.{crlf, lf}
-use Rattle.propagation.specs.HeaderLines.{CutsLine, EndsLine, HeadersThen}
+use Rattle.propagation.specs.private.HeaderLines.{CutsLine, EndsLine, HeadersThen}
 use Rattle.propagation.proofs.FrontLemmas.{lead_once}
 use Rattle.propagation.proofs.TrimLemmas.{trims_once}
 

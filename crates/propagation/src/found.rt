@@ -3,7 +3,7 @@ ghost use Rattle.std.specs.Prelude.{◌≡◌, ◌≢◌, ◌↔◌, ◌++◌, �
 ghost use Rattle.std.specs.Option.{option_copied, option_to_list};
 ghost use Rattle.propagation.specs.Blocks.{Header};
 ghost use Rattle.propagation.specs.Heads.{is_named, header_values, MissesMulti, HasNoForm, IsFirstForm};
-ghost use Rattle.propagation.specs.FoundHeaders.{HoldsOnce, FoundMulti, FoundIn};
+ghost use Rattle.propagation.specs.private.FoundHeaders.{HoldsOnce, FoundMulti, FoundIn};
 
 use crate::header_form::HeaderForm;
 

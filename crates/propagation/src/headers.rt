@@ -2,9 +2,9 @@
 ghost use Rattle.std.specs.Prelude.{◌≡◌, ◌↔◌, [], ◌∷◌, ◌++◌, List, false, Option, Some, Ok, Err, IsTrue, IfOk, IfErr, IfSome, IfNone, OnOk, OnErr};
 ghost use Rattle.span_io.specs.declared.halt.Halt.TheVariants as halts;
 ghost use Rattle.propagation.specs.Blocks.{Header, HasHeaders};
-ghost use Rattle.propagation.specs.HeaderLines.{RefusesLine};
+ghost use Rattle.propagation.specs.private.HeaderLines.{RefusesLine};
 ghost use Rattle.propagation.specs.Heads.{Head, Misses, IsFirstForm, IsHeaderCause, TellsState, header_values, tracestate_name};
-ghost use Rattle.propagation.specs.FoundHeaders.{FoundIn};
+ghost use Rattle.propagation.specs.private.FoundHeaders.{FoundIn};
 ghost use Rattle.propagation.specs.HeadAnswers.{stateless, behind_commas, IsStateOf, AnswersForm, AnswersStateless, OnCause, IfOutOfMemory};
 ghost use Rattle.propagation.specs.declared.header_form.HeaderForm.TheVariants as forms;
 

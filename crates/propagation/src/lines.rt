@@ -3,7 +3,7 @@ ghost use Rattle.std.specs.Prelude.{◌≡◌, ◌≢◌, ◌<◌, ◌↔◌, Li
 ghost use Rattle.propagation.specs.Fronts.{Leads};
 ghost use Rattle.propagation.specs.Blocks.{Header, HeaderLine, HasHeaders, IsNameByte, IsValueByte, IsHeaderLine, header_line_text};
 ghost use Rattle.propagation.specs.Blocks.HeaderLine.{told};
-ghost use Rattle.propagation.specs.HeaderLines.{CutsLine, HeadersThen, IsToldLine, RefusesLine};
+ghost use Rattle.propagation.specs.private.HeaderLines.{CutsLine, HeadersThen, IsToldLine, RefusesLine};
 
 use crate::digits::behind;
 use crate::header_cause::HeaderCause;

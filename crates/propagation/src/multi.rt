@@ -3,7 +3,7 @@ ghost use Rattle.std.specs.Prelude.{◌≡◌, ◌↔◌, ℕ, List, Option, Som
 ghost use Rattle.std.specs.Option.{option_copied};
 ghost use Rattle.propagation.specs.Blocks.{Header};
 ghost use Rattle.propagation.specs.Heads.{TellsMultiIds, TellsSampled, TellsMultiSampling};
-ghost use Rattle.propagation.specs.FoundHeaders.{FoundMulti};
+ghost use Rattle.propagation.specs.private.FoundHeaders.{FoundMulti};
 ghost use Rattle.propagation.specs.HeadAnswers.{AnswersStateless};
 ghost use Rattle.propagation.specs.declared.header_form.HeaderForm.TheVariants as forms;
 ghost use Rattle.propagation.specs.declared.ids.Ids.{Ids};

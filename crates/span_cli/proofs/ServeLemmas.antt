@@ -14,7 +14,7 @@ use Rattle.span_gateway.specs.declared.ended.ServeFault.{ServeFault}
 use Rattle.span_gateway.specs.declared.ended.ServeFault.TheVariants as faults
 use Rattle.span_cli.specs.Lines.{Notes}
 use Rattle.span_cli.specs.Servings.{Visit, IsVisit, AreVisits, WantsMemory, NoneWants, LosesFirsts, ServesConnections, end_line, end_status, visit_line, visit_lines}
-use Rattle.span_cli.specs.ServingSteps.{NotesSo, NotesMore, ServesNext, HasServed, VisitsSoFar, ServesEach, ServesAt}
+use Rattle.span_cli.specs.private.ServingSteps.{NotesSo, NotesMore, ServesNext, HasServed, VisitsSoFar, ServesEach, ServesAt}
 use Rattle.span_cli.specs.declared.serve.ServeEnd.{ServeEnd}
 use Rattle.span_cli.specs.declared.serve.ServeEnd.TheVariants.{DoorFailed, NoMemory}
 use Rattle.span_cli.proofs.EndingLaws.{gains_nothing, holds_nothing}

@@ -5,5 +5,5 @@ pub mod Jobs
 pub mod Lines
 pub mod Outcomes
 pub mod Runs
-pub mod ServingSteps
 pub mod Servings
+pub mod private

@@ -7,6 +7,7 @@ use Rattle.propagation.specs.declared.header_form.HeaderForm.{HeaderForm}
 use Rattle.span_io.specs.Limits.{shipped_limits}
 use Rattle.span_io.specs.Outside.{Inlet, Outlet, Gains, GainsFront, InputFails, NoReadInVain}
 use Rattle.span_io.specs.declared.form.Form.{Form}
+use Rattle.span_convert.specs.Converters.{end_of}
 use Rattle.span_convert.specs.Outlooks.{IfDocument, SinkTold}
 use Rattle.span_convert.specs.Reports.{WritesFrontAs, written_target}
 use Rattle.span_convert.specs.Units.{input_form}
@@ -55,7 +56,7 @@ IsEndingAt endings.OutputFailed stop state = stop ≡ stops.Write
 IsEndingAt endings.NoMemory stop state = (stop ≡ stops.OutOfMemory) ⊎ IsKeyAt stop state
 
 abbrev pub IsEndingOf : Ending → Stop → Walker → Type 0
-IsEndingOf ending stop c = IsEndingAt ending stop c.state
+IsEndingOf ending stop c = IsEndingAt ending stop (end_of c)
 
 -- What a run that ends with this status did to its input. The input failed where its count rose, and only there, and no read
 -- was in vain.

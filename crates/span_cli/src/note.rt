@@ -1,7 +1,7 @@
 //! What is noted: the line that tells how a run ended, and other lines in pieces.
 ghost use Rattle.std.specs.Prelude.{◌≡◌, ◌++◌, [], codes, OnOk, OnErr};
 ghost use Rattle.span_io.specs.Outside.{FailsAt, Gains, OutputHolds};
-ghost use Rattle.span_cli.specs.ServingSteps.{NotesMore};
+ghost use Rattle.span_cli.specs.private.ServingSteps.{NotesMore};
 ghost use Rattle.span_cli.specs.Lines.{Notes, ending_line, named_cause_line, pieces_text, noted_line, refusal_line, usage_line};
 
 use crate::ending::Ending;

@@ -3,7 +3,7 @@ ghost use Rattle.std.specs.Prelude.{◌≡◌, ◌↔◌, ◌≤◌, ◌++◌, c
 ghost use Rattle.span_io.specs.Doors.{IsListening, refused};
 ghost use Rattle.span_io.specs.Outside.{Rose};
 ghost use Rattle.span_cli.specs.Servings.{ServesConnections, end_line, end_status, visit_line};
-ghost use Rattle.span_cli.specs.ServingSteps.{NotesMore, ServesAt, ServesEach, ServesNext};
+ghost use Rattle.span_cli.specs.private.ServingSteps.{NotesMore, ServesAt, ServesEach, ServesNext};
 
 use crate::note::note_more;
 use itoa::Buffer;

@@ -17,7 +17,7 @@ use Rattle.map_jaeger.specs.Reading.{group_of}
 use Rattle.map_jaeger.specs.Remarks.{AreRemarks}
 use Rattle.span_convert.specs.BatchFiles.{ProtocolWords, batches, RefusedBatch, HoldsBatches, IsBatchUnit, ReadsBatches}
 use Rattle.span_convert.specs.FramedForms.{FramedForm}
-use Rattle.span_convert.specs.InputLaws.{BatchLaws}
+use Rattle.span_convert.specs.private.InputLaws.{BatchLaws}
 use Rattle.span_convert.specs.Units.{batch_form}
 use Rattle.span_convert.proofs.BatchRemarks.{remarks_once, some_remarks}
 use Rattle.span_convert.proofs.FrameLemmas.{none_framed, no_items, FirstItems, first_items, framed_longer, same_items}

@@ -26,7 +26,7 @@ use Rattle.map_jaeger.specs.Writing.{jaeger_span, batch_of}
 use Rattle.map_zipkin.specs.NotedGroups.{plain_noted}
 use Rattle.span_convert.specs.BatchFiles.{ProtocolWords, batches, group_batch, batches_text, IsBatchUnit, ReadsBatches}
 use Rattle.span_convert.specs.Canonical.{IsHeldBy}
-use Rattle.span_convert.specs.InputLaws.{BatchLaws, TextLaws}
+use Rattle.span_convert.specs.private.InputLaws.{BatchLaws, TextLaws}
 use Rattle.span_convert.specs.Units.{groups_in, CanHold, IsSizedGroup, span_count}
 use Rattle.span_convert.specs.Verdicts.{IsProperTrace}
 use Rattle.span_convert.proofs.BatchTimes.{all_timely}

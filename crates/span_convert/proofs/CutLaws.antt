@@ -10,7 +10,7 @@ use Rattle.trace_model.specs.OtlpParts.{NotedGroup}
 use Rattle.span_convert.specs.BatchFiles.{ProtocolWords, binary, compact}
 use Rattle.span_convert.specs.CutBatches.{EndsInBatch, IfJaeger}
 use Rattle.span_convert.specs.FramedForms.{FramedForm, RestCause, UnitOffends, RestStops}
-use Rattle.span_convert.specs.InputLaws.{BatchLaws, InputLaws}
+use Rattle.span_convert.specs.private.InputLaws.{BatchLaws, InputLaws}
 use Rattle.span_convert.specs.Units.{batch_form}
 use Rattle.span_convert.specs.Verdicts.{IsVerdict, refused}
 use Rattle.span_convert.proofs.CutCauses.{RefusesNoCut, binary_cut, compact_cut, no_frame_cut}

@@ -12,7 +12,7 @@ use Rattle.trace_model.specs.declared.fault.Fault.TheVariants.{EndBeforeStart, R
 use Rattle.trace_model.specs.declared.span.Span.{Span}
 use Rattle.trace_model.specs.declared.trace.Group.{Group}
 use Rattle.trace_model.specs.declared.value.Value.{Value}
-use Rattle.span_tags.specs.PlacedFaults.{key_in, CountsBy}
+use Rattle.span_tags.specs.PlacedFaults.{FaultAtMost, key_in, CountsBy}
 
 -- ---- one fault of each number and key
 
@@ -32,10 +32,6 @@ same_key a b one other = by (slice_cmp nat_cmp a b) refl
     by Less e = absurd (other (nat_list_cmp_total.antisymm b a ∙ ap ordering_reverse e))
     by Equal e = slice_cmp-IsAntisymmetric nat_cmp-IsAntisymmetric a b e
     by Greater e = absurd (one e)
-
--- by number, by key
-abbrev FaultAtMost : Fault → Fault → Type 0
-FaultAtMost a b = (fault_number a < fault_number b) ⊎ ((fault_number a ≡ fault_number b) × (slice_cmp nat_cmp (key_in a) (key_in b) ≢ Greater))
 
 at_most_both : (a b : Fault) → FaultAtMost a b → FaultAtMost b a → a ≡ b
 at_most_both a b (inl less) (inl more) = absurd (omega (arith, less, more))

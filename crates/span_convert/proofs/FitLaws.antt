@@ -13,7 +13,7 @@ use Rattle.trace_model.specs.OtlpParts.{NotedGroup}
 use Rattle.span_convert.specs.BatchFiles.{ProtocolWords, binary, compact, batches, RefusedBatch, ReadsBatches}
 use Rattle.span_convert.specs.Canonical.{AreFramesWithin, Fits, ReadsNoted}
 use Rattle.span_convert.specs.FramedForms.{AreAllUnits}
-use Rattle.span_convert.specs.InputLaws.{BatchLaws, InputLaws, RequestLaws}
+use Rattle.span_convert.specs.private.InputLaws.{BatchLaws, InputLaws, RequestLaws}
 use Rattle.span_convert.specs.Requests.{HoldsRequestUnits, ReadsRequest}
 use Rattle.span_convert.specs.Units.{batch_form, input_form, request_form}
 use Rattle.span_convert.proofs.FrameLemmas.{same_items}

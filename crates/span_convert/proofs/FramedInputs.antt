@@ -19,7 +19,7 @@ use Rattle.otlp_proto.specs.StatedLaws.{SomeGroup}
 use Rattle.map_jaeger.specs.StatedLaws.{ReadIsSound, ReadIsProper}
 use Rattle.span_convert.specs.BatchFiles.{ProtocolWords}
 use Rattle.span_convert.specs.FramedForms.{FramedForm, RestCause, UnitsThen, UnitsBegin, AreAllUnits, UnitOffends, RestStopsBy, UnitsRefusedBy}
-use Rattle.span_convert.specs.InputLaws.{RequestLaws, BatchLaws}
+use Rattle.span_convert.specs.private.InputLaws.{RequestLaws, BatchLaws}
 use Rattle.span_convert.specs.Units.{InputForm, request_form, batch_form, framed_input, input_form, groups_in}
 use Rattle.span_convert.specs.Verdicts.{IsProperTrace}
 use Rattle.span_convert.proofs.BatchLaws.{batch_laws}

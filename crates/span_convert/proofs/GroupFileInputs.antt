@@ -17,7 +17,7 @@ use Rattle.otlp_json.specs.Held.{IsHeldByJson}
 use Rattle.otlp_json.specs.Texts.{AreGroupsText, groups_document_offends}
 use Rattle.map_zipkin.specs.NotedGroups.{noted_group}
 use Rattle.span_convert.specs.GroupFiles.{remarked_group, ReadsGroups, group_document}
-use Rattle.span_convert.specs.InputLaws.{GroupFileLaws}
+use Rattle.span_convert.specs.private.InputLaws.{GroupFileLaws}
 use Rattle.span_convert.specs.Units.{groups_in}
 use Rattle.span_convert.specs.Verdicts.{IsProperTrace}
 use Rattle.span_convert.proofs.DocumentInputs.{DocumentLaws, IsDecidedText}

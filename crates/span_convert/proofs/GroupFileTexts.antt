@@ -17,7 +17,7 @@ use Rattle.map_zipkin.specs.NotedGroups.{plain_noted}
 use Rattle.span_convert.specs.Canonical.{IsHeldBy}
 use Rattle.span_convert.specs.Documents.{partial_document, closing_document}
 use Rattle.span_convert.specs.GroupFiles.{remarked_group, ReadsGroups, group_file}
-use Rattle.span_convert.specs.InputLaws.{GroupFileLaws}
+use Rattle.span_convert.specs.private.InputLaws.{GroupFileLaws}
 use Rattle.span_convert.specs.Units.{CanHold, groups_in}
 use Rattle.span_convert.specs.Verdicts.{CanHoldTrace, IsFaultless, IsProperTrace}
 use Rattle.span_convert.proofs.DocumentTexts.{document_front, document_closed}

@@ -16,7 +16,7 @@ use Rattle.map_zipkin.specs.NotedGroups.{plain_noted}
 use Rattle.span_moves.specs.Keeps.{EachSpan, NoDoubleMade, SpansKept}
 use Rattle.span_moves.specs.Pairs.{FromJaegerToZipkin, FromZipkinToJaeger}
 use Rattle.span_convert.specs.Canonical.{ConvertsTo, Fits, ReadsPlainly}
-use Rattle.span_convert.specs.InputLaws.{InputLaws}
+use Rattle.span_convert.specs.private.InputLaws.{InputLaws}
 use Rattle.span_convert.specs.Moves.{IsKeptBy, IsNormalTrace}
 use Rattle.span_convert.specs.Units.{CanHold, groups_in, normal_form, canonical_text, span_count}
 use Rattle.span_convert.specs.Verdicts.{CanHoldTrace, tally_of}

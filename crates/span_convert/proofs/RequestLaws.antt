@@ -9,7 +9,7 @@ use Rattle.proto_wire.specs.Records.{Held, varint, fixed64, bytes, fixed32, Reco
 use Rattle.proto_wire.specs.Wire.{SpellsRecord, records, RefusedBy}
 use Rattle.trace_model.specs.OtlpParts.{NotedGroup}
 use Rattle.otlp_proto.specs.Rows.{bytes_in}
-use Rattle.span_convert.specs.InputLaws.{RequestLaws}
+use Rattle.span_convert.specs.private.InputLaws.{RequestLaws}
 use Rattle.span_convert.specs.Requests.{AreRequestUnits, HoldsRequestUnits, IsRequestUnit}
 use Rattle.span_convert.specs.Units.{request_form}
 use Rattle.span_convert.proofs.FrameLemmas.{none_framed, no_items, framed_longer}

@@ -6,7 +6,7 @@ use Rattle.span_io.specs.Framings.{Framed}
 use Rattle.span_io.specs.declared.limits.Limits.{Limits}
 use Rattle.proto_wire.specs.Wire.{records, RefusedBy}
 use Rattle.otlp_proto.specs.Rows.{bytes_in}
-use Rattle.span_convert.specs.InputLaws.{RequestLaws}
+use Rattle.span_convert.specs.private.InputLaws.{RequestLaws}
 use Rattle.span_convert.specs.Requests.{AreRequestUnits}
 use Rattle.span_convert.specs.Units.{request_form}
 use Rattle.span_convert.proofs.SourceLaws.{AllUnits}

@@ -15,7 +15,7 @@ use Rattle.trace_model.specs.OtlpParts.{NotedGroup}
 use Rattle.jaeger_model.specs.StatedLaws.{OneTree}
 use Rattle.span_convert.specs.BatchFiles.{ProtocolWords, binary, compact, batches, HoldsBatches}
 use Rattle.span_convert.specs.FramedForms.{FramedForm, RestCause, UnitsBegin, AreAllUnits, UnitOffends, RestStops, UnitsRefused}
-use Rattle.span_convert.specs.InputLaws.{BatchLaws, InputLaws, TreeLaws}
+use Rattle.span_convert.specs.private.InputLaws.{BatchLaws, InputLaws, TreeLaws}
 use Rattle.span_convert.specs.SameBatches.{SaysTheSame, AreAllBatches, HoldSameBatches, SameBatches}
 use Rattle.span_convert.specs.Units.{batch_form, framed_input, input_form}
 use Rattle.span_convert.specs.Targets.{Target}

@@ -11,7 +11,7 @@ use Rattle.map_jaeger.specs.StatedLaws.{ReadIsSound, ReadIsProper}
 use Rattle.span_convert.specs.BatchFiles.{binary, compact}
 use Rattle.span_convert.specs.Canonical.{Reads, ReadsNoted}
 use Rattle.span_convert.specs.GroupFiles.{group_document}
-use Rattle.span_convert.specs.InputLaws.{InputLaws}
+use Rattle.span_convert.specs.private.InputLaws.{InputLaws}
 use Rattle.span_convert.specs.SpanFiles.{span_document}
 use Rattle.span_convert.specs.Units.{groups_in, request_form, batch_form, input_form, open_form}
 use Rattle.span_convert.proofs.BatchLaws.{batch_laws, one_file}

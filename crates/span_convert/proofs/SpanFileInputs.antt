@@ -17,7 +17,7 @@ use Rattle.zipkin_json.specs.Texts.{AreSpansText}
 use Rattle.zipkin_json.specs.declared.span.ZSpan.{ZSpan}
 use Rattle.map_zipkin.specs.NotedGroups.{noted_groups_of}
 use Rattle.map_zipkin.specs.Reading.{groups_of}
-use Rattle.span_convert.specs.InputLaws.{SpanFileLaws}
+use Rattle.span_convert.specs.private.InputLaws.{SpanFileLaws}
 use Rattle.span_convert.specs.Units.{groups_in}
 use Rattle.span_convert.specs.SpanFiles.{ReadsSpans, span_document}
 use Rattle.span_convert.specs.Verdicts.{IsProperTrace}

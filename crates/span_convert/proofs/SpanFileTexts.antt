@@ -26,7 +26,7 @@ use Rattle.map_zipkin.specs.Regrouped.{RunSpan, run_of}
 use Rattle.map_zipkin.specs.Writing.{spans_of_group}
 use Rattle.span_convert.specs.Canonical.{IsHeldBy}
 use Rattle.span_convert.specs.Documents.{partial_document, closing_document}
-use Rattle.span_convert.specs.InputLaws.{SpanFileLaws}
+use Rattle.span_convert.specs.private.InputLaws.{SpanFileLaws}
 use Rattle.span_convert.specs.SpanFiles.{ReadsSpans, spans_of_groups, span_file, span_file_text}
 use Rattle.span_convert.specs.Units.{groups_in, IsSizedGroup, normal_form, canonical_text, span_count}
 use Rattle.span_convert.specs.Verdicts.{CanHoldTrace, IsFaultless, IsProperTrace}

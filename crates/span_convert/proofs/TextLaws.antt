@@ -22,7 +22,7 @@ use Rattle.map_jaeger.specs.Normal.{normal}
 use Rattle.map_zipkin.specs.NotedGroups.{plain_noted}
 use Rattle.span_convert.specs.BatchFiles.{binary, compact}
 use Rattle.span_convert.specs.Canonical.{Reads, ReadsNoted, ReadsPlainly, IsHeldBy, Fits, ConvertsToItself}
-use Rattle.span_convert.specs.InputLaws.{RequestLaws, SpanFileLaws, InputLaws, TextLaws}
+use Rattle.span_convert.specs.private.InputLaws.{RequestLaws, SpanFileLaws, InputLaws, TextLaws}
 use Rattle.span_convert.specs.Requests.{AreRequestUnits, IsRequestUnit, request_text, ReadsRequest}
 use Rattle.span_convert.specs.Units.{groups_in, CanHold, normal_form, trace_text, canonical_text, span_count}
 use Rattle.span_convert.specs.Verdicts.{CanHoldTrace, IsProperTrace, IsFaultless, tally_of}

@@ -20,7 +20,7 @@ use Rattle.otlp_proto.specs.StatedLaws.{SomeGroup}
 use Rattle.otlp_proto.specs.Rows.{bytes_in}
 use Rattle.map_jaeger.specs.StatedLaws.{ReadIsSound, ReadIsProper}
 use Rattle.span_convert.specs.BatchFiles.{ProtocolWords, batches, HoldsBatches, IsBatchUnit}
-use Rattle.span_convert.specs.InputLaws.{RequestLaws, BatchLaws}
+use Rattle.span_convert.specs.private.InputLaws.{RequestLaws, BatchLaws}
 use Rattle.span_convert.specs.Requests.{AreRequestUnits, HoldsRequestUnits}
 use Rattle.span_convert.specs.Units.{request_form, batch_form}
 use Rattle.span_convert.proofs.BatchLaws.{batch_units, decided_batch}

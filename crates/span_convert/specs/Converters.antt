@@ -61,12 +61,16 @@ is_ended (states.Faulted found) = false
 is_ended states.Write = false
 is_ended states.OutOfMemory = false
 
+-- how far it has come
+abbrev pub end_of : Walker → State
+end_of c = c.state
+
 -- the stop that it answered, if one was, and whether the whole text was written
 abbrev pub stop_of : Walker → Option Stop
-stop_of c = stop_in c.state
+stop_of c = stop_in (end_of c)
 
 abbrev pub has_ended : Walker → Bool
-has_ended c = is_ended c.state
+has_ended c = is_ended (end_of c)
 
 -- ---- what it was made for
 
@@ -84,7 +88,7 @@ work_of c = record { from = form_in c.intake; what = written_by c.progress.pen; 
 -- It answered no stop, isn't ended, and was fed these bytes. Nothing in them stops it, and this text of the units that ended in them was
 -- written.
 pub record Fed (c : Walker) (work : Work) (bytes said : List ℕ) : Type 0 where
-  pub going : c.state ≡ states.Open
+  pub going : end_of c ≡ states.Open
   pub works : work_of c ≡ work
   pub limits : AreLimits work.limits
   pub size : c.fed ≡ length bytes
@@ -108,7 +112,7 @@ pub record Feeds (work : Work) (new : Walker) (said bytes : List ℕ) (result : 
   pub fed : OnOk result (Reaches (Fed new work bytes) said before now)
   pub exists : IsJudgedOn (open_form work.from) (open_target (written_target work.what)) work.limits bytes result
   pub outlook : (outlook : Verdict) → IsOutlookAs work.from work.what work.limits bytes outlook
-      → ReachesFrom said outlook result before now × KeepsWhy outlook new.state
+      → ReachesFrom said outlook result before now × KeepsWhy outlook (end_of new)
   pub front : WritesFrontFrom (input_form work.from) (written_target work.what) work.limits bytes said before now
 
 -- The same of the end of these bytes, and the verdict on them. What is whole is the text of units of which no part is longer than the target
@@ -116,7 +120,7 @@ pub record Feeds (work : Work) (new : Walker) (said bytes : List ℕ) (result : 
 pub record Finishes (work : Work) (new : Walker) (said bytes : List ℕ) (result : Result Tally Stop) (before now : Outlet) : Type 0 where
   pub judged : IsJudgedAs work.from work.what work.limits bytes result
   pub verdict : (verdict : Verdict) → IsVerdictAs work.from work.what work.limits bytes verdict
-      → CarriesFrom said verdict result before now × KeepsWhy verdict new.state
+      → CarriesFrom said verdict result before now × KeepsWhy verdict (end_of new)
   pub front : WritesFrontFrom (input_form work.from) (written_target work.what) work.limits bytes said before now
   pub whole : IfOk result (λ counts. WritesWhole (input_form work.from) (written_target work.what) work.limits bytes counts said before now)
 
@@ -156,6 +160,6 @@ bad_in states.OutOfMemory = bads.OutOfMemory
 
 -- what is told is the refusal or fault that is kept
 abbrev pub IsWhy : Why → Walker → Type 0
-IsWhy whys.Nothing c = (refusal_in c.state ≡ None) × (fault_in c.state ≡ None)
-IsWhy (whys.Refusal kept) c = refusal_in c.state ≡ Some kept.now
-IsWhy (whys.Fault kept) c = fault_in c.state ≡ Some kept.now
+IsWhy whys.Nothing c = (refusal_in (end_of c) ≡ None) × (fault_in (end_of c) ≡ None)
+IsWhy (whys.Refusal kept) c = refusal_in (end_of c) ≡ Some kept.now
+IsWhy (whys.Fault kept) c = fault_in (end_of c) ≡ Some kept.now

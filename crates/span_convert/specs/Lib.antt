@@ -5,7 +5,6 @@ pub mod CutBatches
 pub mod Documents
 pub mod FramedForms
 pub mod GroupFiles
-pub mod InputLaws
 pub mod Intakes
 pub mod Moves
 pub mod Outlooks
@@ -20,3 +19,4 @@ pub mod Targets
 pub mod Units
 pub mod Verdicts
 pub mod Walks
+pub mod private

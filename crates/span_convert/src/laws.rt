@@ -10,7 +10,7 @@ ghost use Rattle.trace_model.specs.declared.trace.Group.{Group};
 ghost use Rattle.span_convert.specs.Canonical.{ConvertsToItself, Reads, ReadsNoted, ReadsPlainly, ReadsBack, Fits, IsHeldBy};
 ghost use Rattle.span_convert.specs.BatchFiles.{words};
 ghost use Rattle.span_convert.specs.CutBatches.{EndsInBatch, IfJaeger};
-ghost use Rattle.span_convert.specs.InputLaws.{BatchLaws, GroupFileLaws, InputLaws, SpanFileLaws, TextLaws, TreeLaws};
+ghost use Rattle.span_convert.specs.private.InputLaws.{BatchLaws, GroupFileLaws, InputLaws, SpanFileLaws, TextLaws, TreeLaws};
 ghost use Rattle.span_convert.specs.SameBatches.{SameBatches};
 ghost use Rattle.span_convert.specs.SameDocuments.{AgreeingDocuments, SameDocuments};
 ghost use Rattle.span_convert.specs.Outlooks.{IsOutlookAs, IsLasting, IfFrames, EndsSo};

@@ -15,7 +15,7 @@ use Rattle.http_conn.specs.StatedLaws.{OneNextRequest, WholeRequests}
 use Rattle.http_conn.specs.NextRequests.{IsNext}
 use Rattle.http_conn.specs.declared.next.Next.TheVariants.{Need}
 use Rattle.span_gateway.specs.Serving.{KeepsMark, Serves, Takes, WantsMemory, stream_of}
-use Rattle.span_gateway.specs.Steps.{AnswersAll, AnswersFront, AnswersLast, AnswersSome, AnswersWhole, EndsHere, ReadFails, Reads, ReadsMore, ReadsPiece, SameInlet}
+use Rattle.span_gateway.specs.private.Steps.{AnswersAll, AnswersFront, AnswersLast, AnswersSome, AnswersWhole, EndsHere, ReadFails, Reads, ReadsMore, ReadsPiece, SameInlet}
 use Rattle.span_gateway.specs.Streams.{AllAnswered, EndsAs, IsReplies, Reply, Served, some, texts}
 use Rattle.span_gateway.specs.declared.ended.Ended.{Ended}
 use Rattle.span_gateway.specs.declared.ended.Ended.TheVariants.{Closed, Cut, Refused}

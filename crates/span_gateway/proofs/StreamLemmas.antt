@@ -9,7 +9,7 @@ use Rattle.http_conn.specs.NextRequests.{IsNext}
 use Rattle.http_conn.specs.declared.next.Next.TheVariants.{Need, Whole, Refuse}
 use Rattle.http_conn.specs.declared.next.Request.{Request}
 use Rattle.span_gateway.specs.Answers.{IsAnswer}
-use Rattle.span_gateway.specs.Steps.{EndsEarly}
+use Rattle.span_gateway.specs.private.Steps.{EndsEarly}
 use Rattle.span_gateway.specs.Streams.{EndsAs, FirstReplies, IsReplies, Reply, Served, all, some, texts}
 use Rattle.span_gateway.specs.declared.ended.Ended.{Ended}
 use Rattle.span_gateway.specs.declared.ended.Ended.TheVariants.{Closed, Cut, Refused}

@@ -8,7 +8,7 @@ use Rattle.http_conn.specs.NextRequests.{IsNext}
 use Rattle.http_conn.specs.declared.next.Next.TheVariants.{Whole, Refuse}
 use Rattle.http_conn.specs.declared.next.Request.{Request}
 use Rattle.span_gateway.specs.Answers.{IsAnswer, bare_answer}
-use Rattle.span_gateway.specs.Steps.{AnswersFront, AnswersLast, AnswersSome, AnswersWhole, EndsEarly, SameInlet, Sends, Writes, WritesFront}
+use Rattle.span_gateway.specs.private.Steps.{AnswersFront, AnswersLast, AnswersSome, AnswersWhole, EndsEarly, SameInlet, Sends, Writes, WritesFront}
 use Rattle.span_gateway.specs.Streams.{EndsByRequest, FirstReplies, Reply, Served, all, some, texts}
 use Rattle.span_gateway.specs.declared.ended.Ended.{Ended}
 use Rattle.span_gateway.specs.declared.ended.Ended.TheVariants.{Closed, Refused}

@@ -1,6 +1,6 @@
 pub mod Answers
-pub mod StatedLaws
 pub mod NoteLines
 pub mod Serving
-pub mod Steps
+pub mod StatedLaws
 pub mod Streams
+pub mod private

@@ -1,6 +1,6 @@
 //! Reading the next bytes of a connection.
 ghost use Rattle.std.specs.Prelude.{◌≡◌, ◌<◌, length, min};
-ghost use Rattle.span_gateway.specs.Steps.{Reads};
+ghost use Rattle.span_gateway.specs.private.Steps.{Reads};
 
 use crate::ended::ServeFault;
 use crate::pending::Pending;

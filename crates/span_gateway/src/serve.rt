@@ -2,7 +2,7 @@
 ghost use Rattle.std.specs.Prelude.{◌<◌, length, vec_len, IfOk};
 ghost use Rattle.span_io.specs.Limits.{AreLimits};
 ghost use Rattle.span_gateway.specs.Serving.{KeepsMark, Serves};
-ghost use Rattle.span_gateway.specs.Steps.{EndsHere};
+ghost use Rattle.span_gateway.specs.private.Steps.{EndsHere};
 
 use crate::ended::{Ended, ServeFault};
 use crate::pending::Pending;

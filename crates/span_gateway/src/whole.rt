@@ -4,7 +4,7 @@ ghost use Rattle.span_io.specs.Limits.{AreLimits};
 ghost use Rattle.http_conn.specs.NextRequests.{Knows};
 ghost use Rattle.http_conn.specs.Replies.{is_status};
 ghost use Rattle.span_gateway.specs.Answers.{IsAnswer, bare_answer};
-ghost use Rattle.span_gateway.specs.Steps.{AnswersWhole, Sends};
+ghost use Rattle.span_gateway.specs.private.Steps.{AnswersWhole, Sends};
 
 use crate::answering::answer_request;
 use crate::ended::{Ended, ServeFault};

@@ -15,6 +15,7 @@ use Rattle.span_tags.specs.laws.AttributeLaws.{keys_map}
 use Rattle.span_tags.specs.laws.LeastRows.{any_none}
 use Rattle.span_tags.specs.TagKeys.{service_key}
 use Rattle.span_tags.specs.TagWords.{Pairs}
+use Rattle.span_tags.specs.laws.FaultLaws.{plain_span}
 use Rattle.map_jaeger.specs.ColumnWords.{flags_in}
 use Rattle.map_jaeger.specs.Faults.{HasReserved, in_span, in_event, IsOwnParent, HasDoubleInside, HasDouble, HasDoubleAt, IsSpanFault, IsResourceFault}
 use Rattle.map_jaeger.specs.Keys.{flags_key}
@@ -22,7 +23,7 @@ use Rattle.map_zipkin.specs.Faults.{HasDoubleIn, IsZipkinSpanFault}
 use Rattle.map_zipkin.specs.Keys.{peer_key}
 use Rattle.map_zipkin.specs.Normal.{normal_pairs, zipkin_normal_event, zipkin_normal_span}
 use Rattle.span_moves.proofs.Lists.{any_back}
-use Rattle.span_moves.proofs.NoFault.{blank, PlainResource, PlainSpan}
+use Rattle.span_moves.proofs.NoFault.{PlainResource}
 use Rattle.span_moves.proofs.TextPairs.{to_text, left_texts, left_at_other, left_key, texts_plain_at, texts_plain_inside}
 
 -- a law of the model
@@ -101,15 +102,14 @@ resource_no_jaeger_fault resource other is = is
 
 -- ---- where there is nothing
 
-pub blank_for_jaeger : PlainSpan IsSpanFault blank
-unfolding blank
-blank_for_jaeger EndBeforeStart is = omega (arith, is)
-blank_for_jaeger (Reserved key) (in_span is there) = omega (arith, there.1)
-blank_for_jaeger (Reserved key) (in_event same any) = any_none (λ (event : Event). Contains (keys event.attributes) key) any
-blank_for_jaeger (OwnKey key) is = omega (arith, is.1.1)
-blank_for_jaeger EventText is = is
-blank_for_jaeger ChildOfLink is = any_none (IsOwnParent blank.span) is
-blank_for_jaeger DoubleInText is = ⊎_elim
+pub plain_for_jaeger : (fault : Fault) → IsSpanFault plain_span fault → ⊥
+plain_for_jaeger EndBeforeStart is = omega (arith, is)
+plain_for_jaeger (Reserved key) (in_span is there) = omega (arith, there.1)
+plain_for_jaeger (Reserved key) (in_event same any) = any_none (λ (event : Event). Contains (keys event.attributes) key) any
+plain_for_jaeger (OwnKey key) is = omega (arith, is.1.1)
+plain_for_jaeger EventText is = is
+plain_for_jaeger ChildOfLink is = any_none (IsOwnParent plain_span) is
+plain_for_jaeger DoubleInText is = ⊎_elim
     (λ (h : HasDouble []). any_none (λ (pair : List ℕ × Value). HasDoubleInside pair.1) h)
     (λ (h : Any (λ (event : Event). HasDouble event.attributes) []). any_none (λ (event : Event). HasDouble event.attributes) h)
     is

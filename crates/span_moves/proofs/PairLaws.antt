@@ -8,6 +8,7 @@ use Rattle.trace_model.specs.declared.trace.Group.{Group}
 use Rattle.trace_model.specs.declared.trace.Scope.{Scope}
 use Rattle.span_tags.specs.laws.RunLaws.{scoped_runs, scoped_all}
 use Rattle.span_tags.specs.Runs.{Scoped, under, scoped}
+use Rattle.span_tags.specs.laws.FaultLaws.{plain_resource, plain_spans, none_counts}
 use Rattle.map_jaeger.specs.Faults.{IsResourceFault, IsSpanFault, HasNoFault}
 use Rattle.map_jaeger.specs.StatedLaws.{IsHeld, NormalForms}
 use Rattle.map_jaeger.specs.Normal.{normal_scoped, normal_group, normal}
@@ -16,12 +17,12 @@ use Rattle.map_zipkin.specs.StatedLaws.{IsHeldByZipkin, Regroupings, ZipkinNorma
 use Rattle.map_zipkin.specs.Normal.{zipkin_normal}
 use Rattle.map_zipkin.specs.Regrouped.{RunSpan, in_scope, run_of, runs_of, regrouped}
 use Rattle.span_moves.specs.Pairs.{FromJaegerToZipkin, FromZipkinToJaeger}
-use Rattle.span_moves.proofs.JaegerFaults.{DoublesStay, no_jaeger_fault, resource_no_jaeger_fault, blank_for_jaeger}
+use Rattle.span_moves.proofs.JaegerFaults.{DoublesStay, no_jaeger_fault, resource_no_jaeger_fault, plain_for_jaeger}
 use Rattle.span_moves.proofs.Lists.{third_stays}
-use Rattle.span_moves.proofs.NoFault.{PlainResource, PlainSpan, plain_resource, plain_spans, none_counts}
+use Rattle.span_moves.proofs.NoFault.{PlainResource, PlainSpan}
 use Rattle.span_moves.proofs.RunSpans.{jaeger_run, zipkin_run, spans_in, run_of_zipkin, run_of_jaeger, zipkin_spans, jaeger_spans, IsRunOf, regrouped_all, Stays, regrouped_left}
 use Rattle.span_moves.proofs.TextPairs.{resource_stays}
-use Rattle.span_moves.proofs.ZipkinFaults.{no_zipkin_fault, resource_no_zipkin_fault, blank_for_zipkin}
+use Rattle.span_moves.proofs.ZipkinFaults.{no_zipkin_fault, resource_no_zipkin_fault, plain_for_zipkin}
 
 -- ---- the groups stay
 
@@ -99,10 +100,10 @@ module _ (stay : DoublesStay) where
       let l = map zipkin_run (spans_in groups) in
       let all = regrouped_all (PlainResource IsResourceFault) (PlainSpan IsSpanFault) l (plain_runs (spans_in groups) (held_in groups jaeger zipkin)) in
       subst (All HasNoFault) (sym (zipkin_by_spans groups))
-      (λ k d lt. let its = all k d lt in none_counts IsResourceFault IsSpanFault blank_for_jaeger (get_or (regrouped l) k d) its.0 its.1)
+      (λ k d lt. let its = all k d lt in none_counts IsResourceFault IsSpanFault plain_for_jaeger (get_or (regrouped l) k d) its.0 its.1)
 
 without_zipkin_fault : (group : Group) → HasNoZipkinFault group → HasNoZipkinFault (normal_group group)
-without_zipkin_fault group none = none_counts IsZipkinResourceFault IsZipkinSpanFault blank_for_zipkin (normal_group group)
+without_zipkin_fault group none = none_counts IsZipkinResourceFault IsZipkinSpanFault plain_for_zipkin (normal_group group)
     (resource_no_zipkin_fault group.resource (plain_resource IsZipkinResourceFault IsZipkinSpanFault group none))
     (subst (All (PlainSpan IsZipkinSpanFault)) (sym (scoped_runs (map normal_scoped (scoped group.scopes))))
     (All-map (PlainSpan IsZipkinSpanFault) normal_scoped (scoped group.scopes)

@@ -14,13 +14,14 @@ use Rattle.span_tags.specs.laws.AttributeLaws.{all_attrs, at_map, keys_map}
 use Rattle.span_tags.specs.laws.LeastRows.{any_none}
 use Rattle.span_tags.specs.TagKeys.{service_key}
 use Rattle.span_tags.specs.TagWords.{Pairs, row, without, text_given, text_or_none}
+use Rattle.span_tags.specs.laws.FaultLaws.{plain_span}
 use Rattle.map_jaeger.specs.Normal.{normal_attributes, normal_resource, normal_event, normal_span}
 use Rattle.map_jaeger.specs.TagValues.{normal_value, normal_attribute}
 use Rattle.map_zipkin.specs.Faults.{IsOutOfForm, HasOwnKey, IsToldWrong, HasDoubleIn, IsZipkinSpanFault, IsZipkinResourceFault}
 use Rattle.map_zipkin.specs.OwnColumns.{is_true_text, is_address, is_port_text, own_forms}
 use Rattle.span_moves.proofs.JaegerFaults.{floor_below}
 use Rattle.span_moves.proofs.Lists.{any_back, none_of}
-use Rattle.span_moves.proofs.NoFault.{blank, PlainResource, PlainSpan}
+use Rattle.span_moves.proofs.NoFault.{PlainResource}
 
 -- ---- keys of Zipkin's own: their forms are of texts, which stay
 
@@ -142,14 +143,13 @@ resource_no_zipkin_fault resource plain other is = is
 
 -- ---- where there is nothing
 
-pub blank_for_zipkin : PlainSpan IsZipkinSpanFault blank
-unfolding blank
-blank_for_zipkin EndBeforeStart is = omega (arith, is)
-blank_for_zipkin (Reserved key) is = let there = is.there in omega (arith, there.1)
-blank_for_zipkin (OwnKey key) (k, own, lt, there, here) = here.1
-blank_for_zipkin EventText is = any_none IsToldWrong is
-blank_for_zipkin ChildOfLink is = is
-blank_for_zipkin DoubleInText is = ⊎_elim
+pub plain_for_zipkin : (fault : Fault) → IsZipkinSpanFault plain_span fault → ⊥
+plain_for_zipkin EndBeforeStart is = omega (arith, is)
+plain_for_zipkin (Reserved key) is = let there = is.there in omega (arith, there.1)
+plain_for_zipkin (OwnKey key) (k, own, lt, there, here) = here.1
+plain_for_zipkin EventText is = any_none IsToldWrong is
+plain_for_zipkin ChildOfLink is = is
+plain_for_zipkin DoubleInText is = ⊎_elim
     (λ (h : HasDoubleIn []). any_none IsDoublePair h)
     (λ (h : Any (λ (event : Event). HasDoubleIn event.attributes) []). any_none (λ (event : Event). HasDoubleIn event.attributes) h)
     is

@@ -1,3 +1,4 @@
 pub mod RunsAtBack
 pub mod Decimals
 pub mod PlacedRows
+pub mod FirstFault

@@ -1,11 +1,11 @@
 pub mod Columns
 pub mod Doubles
-pub mod FirstFault
+pub mod FaultTables
 pub mod Losses
 pub mod PlacedFaults
-pub mod Places
 pub mod ReadRuns
 pub mod Runs
 pub mod TagKeys
 pub mod TagWords
 pub mod laws
+pub mod private

@@ -1,9 +1,11 @@
 -- The faults of a group for which a target can't hold it, each at a place: the resource has place 0, the spans are counted from 1 through all
 -- scopes. The least by place, number and key counts. Which faults a resource and a span have is the target's table.
-use Rattle.std.specs.Prelude.{◌≡◌, ◌≢◌, ℕ, ◌+◌, ◌<◌, ◌⊎◌, List, [], HoldsAt, Option, Some, None}
+use Rattle.std.specs.Prelude.{◌≡◌, ◌≢◌, ℕ, ◌+◌, ◌<◌, ◌⊎◌, List, [], HoldsAt, Option, Some, None, Result, Ok, Err, ⊤}
 use Rattle.std.specs.Cmp.Lexicographic.{slice_cmp}
 use Rattle.std.specs.Ordering.{nat_cmp}
 use Rattle.std.specs.declared.cmp.Ordering.TheVariants.{Greater}
+use Rattle.span_io.specs.declared.halt.Halt.{Halt}
+use Rattle.span_io.specs.declared.halt.Halt.TheVariants as halts
 use Rattle.trace_model.specs.Faults.{fault_number}
 use Rattle.trace_model.specs.LeastOf.{IsLeastOf}
 use Rattle.trace_model.specs.declared.fault.Fault.{Fault}
@@ -23,17 +25,32 @@ key_in (Reserved key) = key
 key_in (OwnKey key) = key
 key_in other = []
 
--- by place, by number, by key
+abbrev pub KeyAtMost : List ℕ → List ℕ → Type 0
+KeyAtMost a b = slice_cmp nat_cmp a b ≢ Greater
+
+-- by number, by key
+abbrev pub FaultAtMost : Fault → Fault → Type 0
+FaultAtMost a b = (fault_number a < fault_number b) ⊎ ((fault_number a ≡ fault_number b) × KeyAtMost (key_in a) (key_in b))
+
+-- by place, and then so
 abbrev pub AtMost : Placed → Placed → Type 0
-AtMost a b = (a.place < b.place) ⊎ ((a.place ≡ b.place) × ((fault_number a.fault < fault_number b.fault)
-    ⊎ ((fault_number a.fault ≡ fault_number b.fault) × (slice_cmp nat_cmp (key_in a.fault) (key_in b.fault) ≢ Greater))))
+AtMost a b = (a.place < b.place) ⊎ ((a.place ≡ b.place) × FaultAtMost a.fault b.fault)
+
+-- of faults at their places the one that counts, if there is any
+abbrev pub Counts : (Placed → Type 0) → Option Fault → Type 0
+Counts Told None = (found : Placed) → Told found → ⊥
+Counts Told (Some fault) = (place : ℕ) × IsLeastOf AtMost Told (Some (record { place = place; fault = fault }))
 
 module _ (IsResourceFault : List (List ℕ × Value) → Fault → Type 0) (IsSpanFault : Span → Fault → Type 0) where
   pub data IsFaultBy (group : Group) (found : Placed) : Type 0 where
     in_resource : found.place ≡ 0 → IsResourceFault group.resource found.fault → IsFaultBy group found
     in_span : (n : ℕ) → found.place ≡ n + 1 → HoldsAt (λ one. IsSpanFault one.span found.fault) (scoped group.scopes) n → IsFaultBy group found
 
-  -- the fault that counts, if there is any
   abbrev pub CountsBy : Group → Option Fault → Type 0
-  CountsBy group None = (found : Placed) → IsFaultBy group found → ⊥
-  CountsBy group (Some fault) = (place : ℕ) × IsLeastOf AtMost (IsFaultBy group) (Some (record { place = place; fault = fault }))
+  CountsBy group fault = Counts (IsFaultBy group) fault
+
+  -- a value where there is no fault, else the fault; want of memory says nothing
+  abbrev pub JudgesFault : {A : Type 0} → Result A (Halt Fault) → Group → Type 0
+  JudgesFault (Ok value) group = CountsBy group None
+  JudgesFault (Err (halts.Why fault)) group = CountsBy group (Some fault)
+  JudgesFault (Err halts.OutOfMemory) group = ⊤

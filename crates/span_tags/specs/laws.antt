@@ -1,6 +1,6 @@
 pub mod AttributeLaws
 pub mod ColumnLaws
-pub mod FirstFaultLaws
+pub mod FaultLaws
 pub mod LeastRows
 pub mod LossSteps
 pub mod Moved

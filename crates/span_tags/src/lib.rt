@@ -3,6 +3,8 @@
 #![tactic(auto)]
 
 mod decimal_texts;
+mod first_fault;
+pub mod laws;
 mod left_out;
 mod losses;
 mod placed_rows;
@@ -11,6 +13,7 @@ mod runs;
 mod words;
 
 pub use decimal_texts::decimal_in;
+pub use first_fault::{Faults, fault_in_group};
 pub use left_out::{
     is_idle_code, is_idle_count, is_idle_library, is_idle_text, is_there, remark_if,
 };

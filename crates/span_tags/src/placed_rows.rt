@@ -1,7 +1,7 @@
 //! Pairs in their places among attributes.
 ghost use Rattle.std.specs.Prelude.{◌≡◌, ◌∷◌, ◌++◌, ℕ, List, OnOk};
 ghost use Rattle.trace_model.specs.Attributes.{attrs};
-ghost use Rattle.span_tags.specs.Places.{IsPlaceOf};
+ghost use Rattle.span_tags.specs.private.Places.{IsPlaceOf};
 ghost use Rattle.span_tags.specs.TagWords as told;
 
 use span_io::{OutOfMemory, Text};

@@ -18,7 +18,7 @@ use Rattle.span_convert.specs.declared.stop.Stop.{Stop}
 use Rattle.span_convert.specs.declared.stop.Stop.TheVariants as stops
 use Rattle.span_convert.specs.declared.tally.Tally.{Tally}
 use Rattle.span_convert.specs.declared.written.Written.TheVariants as written
-use Rattle.span_vectors.specs.Feeds.{FeedsGroups, groups_text, to_form}
+use Rattle.span_vectors.specs.private.Feeds.{FeedsGroups, groups_text, to_form}
 use Rattle.span_vectors.specs.Gauge.{gauge, gauge_group, group_count}
 use Rattle.span_vectors.specs.StatedLaws.{GaugeIsConverted}
 use Rattle.span_vectors.proofs.Frames.{groups_more}

@@ -1,3 +1,3 @@
-pub mod Feeds
 pub mod Gauge
 pub mod StatedLaws
+pub mod private

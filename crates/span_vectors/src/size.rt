@@ -4,7 +4,7 @@ ghost use Rattle.span_io.specs.Outside.{last_count};
 ghost use Rattle.span_convert.specs.Converters.{work_of};
 ghost use Rattle.span_convert.specs.Units.{canonical_text};
 ghost use Rattle.span_convert.specs.declared.stop.Stop.TheVariants as stops;
-ghost use Rattle.span_vectors.specs.Feeds.{FeedsGroups};
+ghost use Rattle.span_vectors.specs.private.Feeds.{FeedsGroups};
 ghost use Rattle.span_vectors.specs.Gauge.{gauge, group_count};
 
 use crate::group::{groups_of, write_gauge_group};

@@ -14,7 +14,7 @@ use Rattle.thrift_core.specs.Places.{StackLacks, at_part, in_binary}
 use Rattle.thrift_core.specs.Positions.{unfinished_part, PlaceOf, IsAtPart, IsEnough, KeepsOf, Halting, Resumed, Joined}
 use Rattle.thrift_core.specs.Protocols.{ReadsExactly, UnfinishedWithin, most_unfinished}
 use Rattle.thrift_core.specs.Reading.{ReadingOf}
-use Rattle.thrift_core.specs.StackWalks.{open_of, HaltsThere}
+use Rattle.thrift_core.specs.private.StackWalks.{open_of, HaltsThere}
 use Rattle.thrift_core.specs.Stops.{StopsBy, StopsFor}
 use Rattle.thrift_core.specs.Walks.{First, a_part, some_bytes, made_of, no_level, first_of, outer_struct, Passes}
 use Rattle.thrift_core.proofs.Determined.{front_of, passes_more, passes_on}

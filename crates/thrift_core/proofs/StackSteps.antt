@@ -19,7 +19,7 @@ use Rattle.thrift_core.specs.Parts.{Part, header, truth, byte, short, int, long,
 use Rattle.thrift_core.specs.Places.{open_level, around, stack_of}
 use Rattle.thrift_core.specs.Protocols.{ReadsExactly, PartLaws, HasBytes}
 use Rattle.thrift_core.specs.Reading.{ReadingOf, Stays}
-use Rattle.thrift_core.specs.StackWalks.{open_of, still_open, levels_in, list_first, map_first, IsLeaf, weight, ComesFirst, steps_left, IsNearer, ValueStepped, HaltsThere, Stepped, Walked}
+use Rattle.thrift_core.specs.private.StackWalks.{open_of, still_open, levels_in, list_first, map_first, IsLeaf, weight, ComesFirst, steps_left, IsNearer, ValueStepped, HaltsThere, Stepped, Walked}
 use Rattle.thrift_core.specs.Stops.{StopsBy, StopsFor, Lacks, HaltsAs}
 use Rattle.thrift_core.specs.Trees.{outer_levels}
 use Rattle.thrift_core.specs.Walks.{Open, in_struct, in_value, in_elements, in_pairs, in_bytes, a_part, some_bytes, made_of, nothing_more, opened_by_header, first_of, first_of_value, first_of_list, first_of_map, Turn, Turns, Passes}

@@ -6,7 +6,6 @@ pub mod Places
 pub mod Positions
 pub mod Protocols
 pub mod Reading
-pub mod StackWalks
 pub mod StatedLaws
 pub mod Stops
 pub mod Trees
@@ -14,5 +13,5 @@ pub mod Unfinished
 pub mod Values
 pub mod Walks
 pub mod Written
-pub mod WrittenLaws
 pub mod laws
+pub mod private

@@ -14,7 +14,7 @@ use Rattle.thrift_core.specs.Parts.{Part, Spelling}
 use Rattle.thrift_core.specs.Places.{Place}
 use Rattle.thrift_core.specs.Protocols.{most_unfinished}
 use Rattle.thrift_core.specs.Reading.{ReadingOf}
-use Rattle.thrift_core.specs.StackWalks.{open_of, HaltsThere}
+use Rattle.thrift_core.specs.private.StackWalks.{open_of, HaltsThere}
 use Rattle.thrift_core.specs.Stops.{HaltsAs, cause_of}
 use Rattle.thrift_core.specs.Values.{struct_frames}
 use Rattle.thrift_core.specs.Walks.{outer_struct, Passes}

@@ -1,5 +1,5 @@
 -- What is known of the texts of every protocol.
-use Rattle.std.specs.Prelude.{◌≡◌, ◌⊎◌, ℕ, ℤ, Bool, Option, List, [], ◌∷◌, ◌++◌, Ok}
+use Rattle.std.specs.Prelude.{◌≡◌, ◌⊎◌, ℕ, ℤ, pos, Bool, Option, List, [], ◌∷◌, ◌++◌, Ok}
 use Rattle.span_io.specs.declared.cause.Cause.{Cause}
 use Rattle.span_io.specs.declared.cause.Cause.TheVariants as causes
 use Rattle.span_io.specs.Frames.{Framing, IsOpen, BeginsWhole, IsRefusedAt, CanBeCompleted}
@@ -8,6 +8,7 @@ use Rattle.thrift_core.specs.Reading.{ReadingOf}
 use Rattle.thrift_core.specs.Protocols.{WritingOf, MayWrite}
 use Rattle.thrift_core.specs.Trees.{Tree, Fields, kind_of, ValueThen, FieldsThen, StructText}
 use Rattle.thrift_core.specs.Walks.{Open, Passes, outer_struct}
+use Rattle.thrift_core.specs.Written.{Keeping, fields_written, MayWriteFields}
 use Rattle.thrift_core.specs.Stops.{StopsFor, Lacks}
 
 -- A part has one word, a value of some type one tree, and a struct one list of fields, whatever follows; and no struct's text is a
@@ -40,3 +41,11 @@ pub record OpenFronts (Spells : Spelling) (reads : ReadingOf) (F : Framing) (End
   -- there is no other place
   pub all : (text : List ℕ) → IsOpen F text ⊎ (BeginsWhole F text ⊎ ((cause : Cause) × IsRefusedAt F (EndsIn cause) text))
   pub fronts : (front more : List ℕ) → IsOpen F (front ++ more) → IsOpen F front
+
+-- What is written of the fields of a struct is their text, whatever follows.
+pub record WrittenStructs (Spells : Spelling) (keeps : Keeping) (writes : WritingOf) : Type 0 where
+  -- whatever follows
+  pub fields : (fields : Fields) (left : ℕ) (last : ℤ) (rest : List ℕ) → MayWriteFields keeps fields left last
+      → FieldsThen Spells fields left last (fields_written keeps writes fields left last ++ rest) rest
+  pub struct_text : (fields : Fields) (left : ℕ) → MayWriteFields keeps fields left (pos 0)
+      → StructText Spells left fields (fields_written keeps writes fields left (pos 0))

@@ -3,3 +3,4 @@ pub mod JudgedSteps
 pub mod OneReading
 pub mod Standing
 pub mod StructLaws
+pub mod WrittenLaws

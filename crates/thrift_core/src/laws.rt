@@ -1,10 +1,9 @@
 //! Laws of the wire format over any protocol, as contracts of functions that do nothing.
 ghost use Rattle.span_io.specs.Framings.{OneFraming, OneStep};
 ghost use Rattle.span_io.specs.Pieces.{PieceLaws};
-ghost use Rattle.thrift_core.specs.StatedLaws.{OneReading, OpenFronts, PartsReadBack};
+ghost use Rattle.thrift_core.specs.StatedLaws.{OneReading, OpenFronts, PartsReadBack, WrittenStructs};
 ghost use Rattle.thrift_core.specs.Protocols.{UnfinishedWithin, most_unfinished};
 ghost use Rattle.thrift_core.specs.Values.{struct_frames, RefusedStruct};
-ghost use Rattle.thrift_core.specs.WrittenLaws.{WrittenStructs};
 
 use crate::parts::Parts;
 

@@ -2,7 +2,7 @@ ghost use Rattle.std.specs.Prelude.{◌≡◌, ◌+◌, ℕ, pos, Bool, Option, 
 ghost use Rattle.thrift_core.specs.Parts.{list_head, map_head};
 ghost use Rattle.thrift_core.specs.Reading.{Stays};
 ghost use Rattle.thrift_core.specs.Walks.{Open, in_struct, in_value, in_elements, in_pairs, first_of, first_of_binary, first_of_list, first_of_map};
-ghost use Rattle.thrift_core.specs.StackWalks.{IsLeaf};
+ghost use Rattle.thrift_core.specs.private.StackWalks.{IsLeaf};
 ghost use Rattle.thrift_core.specs.Stops.{Passed, PassedAs, cause_of};
 ghost use Rattle.thrift_core.specs.declared.passing.Halted.TheVariants as halts;
 ghost use Rattle.thrift_core.specs.declared.type_code.TypeCode.TheVariants as kinds;

@@ -1,7 +1,7 @@
 //! What is open where a walk over a struct stands, as a value: the walk can stop there and go on later.
 ghost use Rattle.std.specs.Prelude.{◌≡◌, ◌+◌, ◌<◌, ◌++◌, ◌∷◌, [], length, true};
 ghost use Rattle.thrift_core.specs.Places.{most_below, around};
-ghost use Rattle.thrift_core.specs.StackWalks.{open_of, still_open};
+ghost use Rattle.thrift_core.specs.private.StackWalks.{open_of, still_open};
 ghost use Rattle.thrift_core.specs.Trees.{outer_levels};
 ghost use Rattle.thrift_core.specs.Walks.{outer_struct};
 

@@ -1,9 +1,9 @@
 //! A walk over a struct, part by part, that stops where its bytes end and can go on from there.
 ghost use Rattle.std.specs.Prelude.{◌≡◌, ◌⊎◌, ℕ, None, IfOk};
 ghost use Rattle.thrift_core.specs.Reading.{Stays};
-ghost use Rattle.thrift_core.specs.StackWalks.{levels_in, open_of_level, list_first, map_first, weight};
-ghost use Rattle.thrift_core.specs.StackWalks.{AsFirst, IsLeaf, IsNearer, ComesFirst, IsHeldBefore};
-ghost use Rattle.thrift_core.specs.StackWalks.{ValueStepped, Stepped, Walked};
+ghost use Rattle.thrift_core.specs.private.StackWalks.{levels_in, open_of_level, list_first, map_first, weight};
+ghost use Rattle.thrift_core.specs.private.StackWalks.{AsFirst, IsLeaf, IsNearer, ComesFirst, IsHeldBefore};
+ghost use Rattle.thrift_core.specs.private.StackWalks.{ValueStepped, Stepped, Walked};
 ghost use Rattle.thrift_core.specs.Walks.{in_value, first_of_binary, opened_pairs};
 ghost use Rattle.thrift_core.specs.declared.stack.Level.{Level};
 

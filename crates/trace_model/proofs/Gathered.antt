@@ -12,7 +12,7 @@ use Rattle.std.proofs.lemmas.List.{map-append}
 use Rattle.std.proofs.lemmas.List.Elements.{All-head, All-tail, All-contains, All-map, Contains-append_left, Contains-push, Contains-push_cases, filter-append, filter_agree}
 use Rattle.std.proofs.lemmas.List.Sorted.{IsStrictWeakOrder-flip, ranks_by, sorted_far}
 use Rattle.trace_model.specs.Attributes.{Rise, keys, IsLast, StandsTwice, AreAttributes, AreRepeated}
-use Rattle.trace_model.specs.Gathering.{ends_with, key_above, kept_with, repeated_with}
+use Rattle.trace_model.specs.private.Gathering.{ends_with, key_above, kept_with, repeated_with}
 use Rattle.trace_model.proofs.Order.{apart_keys, same_key, key_itself, other_key, never_below_itself, ties_is, AllUpTo, AllBelow, all_below, Rise-push}
 use Rattle.trace_model.proofs.Places.{contains_here, contains_cons, contains_cases, contains_none, All-from_contains, absent, not_in, last_cons, last_here, last_cases, last_is_in, twice_cons, twice_here, twice_cases, twice_is_in}
 

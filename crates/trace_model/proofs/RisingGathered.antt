@@ -10,7 +10,7 @@ use Rattle.std.proofs.lemmas.Grind.{reverse_onto}
 use Rattle.std.proofs.lemmas.List.{map-append}
 use Rattle.std.proofs.lemmas.Map.Text.{is_eq-slice_cmp}
 use Rattle.trace_model.specs.Attributes.{Rise, keys}
-use Rattle.trace_model.specs.Gathering.{ends_with}
+use Rattle.trace_model.specs.private.Gathering.{ends_with}
 use Rattle.trace_model.proofs.Gathered.{kept_of, repeated_of}
 
 AreBelow : List ℕ → List (List ℕ) → Type 0

@@ -4,12 +4,10 @@ pub mod EventReading
 pub mod EventTexts
 pub mod Faults
 pub mod Flat
-pub mod Gathering
 pub mod GroupRemarks
 pub mod LeastOf
 pub mod Losses
 pub mod Notes
-pub mod OtlpEnums
 pub mod OtlpParts
 pub mod OtlpTold
 pub mod Proper
@@ -20,3 +18,4 @@ pub mod ValueTexts
 pub mod Values
 pub mod WrittenTokens
 pub mod laws
+pub mod private

@@ -1,11 +1,7 @@
--- What bytes mean, with what is noted beside it: keys that stand more than once, and links that were dropped. The numbers of a remark's
--- place are found in the whole group (GroupRemarks.antt).
+-- What is noted of spans and of scopes: keys that stand more than once, and links that were dropped. The numbers of a remark's place are
+-- found in the whole group (GroupRemarks.antt).
 use Rattle.std.specs.Prelude.{Bool, List}
 use Rattle.trace_model.specs.Remarks.{Keys}
-
-pub record Noted (A N : Type 0) : Type 0 where
-  pub means : A
-  pub notes : N
 
 -- of a span: its own keys, whether a link was dropped, and the keys of each event and of each link that was kept
 pub record SpanNotes : Type 0 where

@@ -4,8 +4,13 @@ use Rattle.std.specs.Prelude.{◌≡◌, ◌↔◌, ◌⊎◌, ℕ, List, [], �
 use Rattle.std.specs.List.{flat_map, list_any}
 use Rattle.trace_model.specs.Attributes.{AreAttributes, AreRepeated, Rise, StandsTwice}
 use Rattle.trace_model.specs.GroupRemarks.{group_remarks}
-use Rattle.trace_model.specs.Notes.{Noted, SpanNotes, ScopeNotes}
+use Rattle.trace_model.specs.declared.noted.Noted.{Noted}
+use Rattle.trace_model.specs.Notes.{SpanNotes, ScopeNotes}
 use Rattle.trace_model.specs.Remarks.{Keys}
+use Rattle.trace_model.specs.declared.noted.InstrumentationScope.{InstrumentationScope}
+use Rattle.trace_model.specs.declared.noted.KeyValue.{KeyValue}
+use Rattle.trace_model.specs.declared.noted.LinkParts.{LinkParts}
+use Rattle.trace_model.specs.declared.noted.Resource.{Resource}
 use Rattle.trace_model.specs.declared.remark.Remark.{Remark}
 use Rattle.trace_model.specs.declared.span.Code.{Code}
 use Rattle.trace_model.specs.declared.span.Code.TheVariants as codes
@@ -32,10 +37,6 @@ NotedValue = Noted Value Keys
 
 abbrev pub leaf : Value → NotedValue
 leaf v = record { means = v; notes = [] }
-
-pub record KeyValue : Type 0 where
-  pub key : List ℕ
-  pub value : NotedValue
 
 -- what it gives to attributes
 abbrev pub entry : KeyValue → List ℕ × Value
@@ -79,14 +80,6 @@ IsIdentifierOrNone Spells nought size text (Some id) = Spells text id
 
 -- ---- links (trace.proto)
 
--- what stands in a link beside its identifiers
-pub record LinkParts : Type 0 where
-  pub state : List ℕ
-  pub attributes : List (List ℕ × Value)
-  pub keys : Keys
-  pub dropped : ℕ
-  pub flags : ℕ
-
 -- the link of these identifiers, if both are there
 abbrev pub link_of : Option ℕ → Option ℕ → LinkParts → Option (Noted Link Keys)
 link_of (Some trace) (Some span) parts = Some (record {
@@ -123,14 +116,7 @@ pub record AreLinksOf (links : List (Option (Noted Link Keys))) (s : Noted Span 
 abbrev pub no_status : Status
 no_status = record { code = codes.Unset; message = [] }
 
--- what one gives to the spans of its scope
-pub record InstrumentationScope : Type 0 where
-  pub name : List ℕ
-  pub version : List ℕ
-  pub attributes : List (List ℕ × Value)
-  pub dropped : ℕ
-
--- what stands for one that is absent
+-- what stands for an `InstrumentationScope` that is absent
 abbrev pub no_instrumentation_scope : Noted InstrumentationScope Keys
 no_instrumentation_scope = record { means = record { name = []; version = []; attributes = []; dropped = 0 }; notes = [] }
 
@@ -146,12 +132,7 @@ pub record IsScopeOfParts (instrumentation : Noted InstrumentationScope Keys) (s
   }
   pub noted : s.notes ≡ record { keys = instrumentation.notes; spans = map (λ x. x.notes) spans }
 
--- what one gives to its group
-pub record Resource : Type 0 where
-  pub attributes : List (List ℕ × Value)
-  pub dropped : ℕ
-
--- what stands for one that is absent
+-- what stands for a `Resource` that is absent
 abbrev pub no_resource : Noted Resource Keys
 no_resource = record { means = record { attributes = []; dropped = 0 }; notes = [] }
 

@@ -3,8 +3,10 @@
 use Rattle.std.specs.Prelude.{◌≡◌, ℕ, ◌+◌, Bool, List, length, map, Option, is_none}
 use Rattle.std.specs.List.{flat_map, list_any, sum_by}
 use Rattle.trace_model.specs.GroupRemarks.{event_remarks, link_remarks, span_remarks, scopes_remarks}
-use Rattle.trace_model.specs.Notes.{Noted, SpanNotes, ScopeNotes}
-use Rattle.trace_model.specs.OtlpParts.{NotedValue, KeyValue, entry, keys_inside, kept_links}
+use Rattle.trace_model.specs.declared.noted.Noted.{Noted}
+use Rattle.trace_model.specs.Notes.{SpanNotes, ScopeNotes}
+use Rattle.trace_model.specs.declared.noted.KeyValue.{KeyValue}
+use Rattle.trace_model.specs.OtlpParts.{NotedValue, entry, keys_inside, kept_links}
 use Rattle.trace_model.specs.Remarks.{Keys, numbered}
 use Rattle.trace_model.specs.declared.remark.Remark.{Remark}
 use Rattle.trace_model.specs.declared.span.Event.{Event}

@@ -1,3 +1,4 @@
+pub mod OtlpEnums
 pub mod PartLaws
 pub mod RemarkLaws
 pub mod ToldLaws

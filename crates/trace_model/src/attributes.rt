@@ -2,7 +2,7 @@ ghost use Rattle.std.specs.Prelude.{◌≡◌, All, IfOk, OnOk, IsSortedBy, IsTr
 ghost use Rattle.std.specs.List.Sorted.{IsStableBy};
 ghost use Rattle.span_io.specs.Sizes.{IsShort};
 ghost use Rattle.trace_model.specs.Attributes.{AreAttributes, AreKeysInOrder, AreRepeated, Rise, attrs, keys};
-ghost use Rattle.trace_model.specs.Gathering.{key_above, ends_with, kept_with, repeated_with};
+ghost use Rattle.trace_model.specs.private.Gathering.{key_above, ends_with, kept_with, repeated_with};
 ghost use Rattle.trace_model.specs.Values.{IsSound, AreSound};
 
 use crate::laws::rising_attributes;

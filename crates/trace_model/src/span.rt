@@ -1,3 +1,6 @@
+ghost use Rattle.std.specs.Prelude.{◌≡◌, ◌<◌, ◌↔◌, None, IfSome};
+ghost use Rattle.trace_model.specs.OtlpParts.{code_number, kind_number};
+
 use crate::value::Attrs;
 use span_ids::{Nanos, SpanId, TraceId};
 use span_io::{Items, Text};
@@ -13,12 +16,70 @@ pub enum Kind {
     Consumer,
 }
 
+impl Kind {
+    /// Its number in OTLP.
+    pub fn number(self) -> u32
+        ensures { result ≡ kind_number self }
+    {
+        match self {
+            Kind::Unspecified => 0,
+            Kind::Internal => 1,
+            Kind::Server => 2,
+            Kind::Client => 3,
+            Kind::Producer => 4,
+            Kind::Consumer => 5,
+        }
+    }
+
+    /// The kind of this number, unless the number is beyond the last.
+    pub fn of_number(number: u64) -> Option<Kind>
+        ensures kind { IfSome result (λ kind. number ≡ kind_number kind) }
+        ensures none { (result ≡ None) ↔ (5 < number) }
+    {
+        match number {
+            0 => Some(Kind::Unspecified),
+            1 => Some(Kind::Internal),
+            2 => Some(Kind::Server),
+            3 => Some(Kind::Client),
+            4 => Some(Kind::Producer),
+            5 => Some(Kind::Consumer),
+            _ => None,
+        }
+    }
+}
+
 /// How a span ended (OTLP `Status.StatusCode`).
 #[derive(Clone, Copy, Debug, PartialEq, Eq)]
 pub enum Code {
     Unset,
     Okay,
     Fail,
+}
+
+impl Code {
+    /// Its number in OTLP.
+    pub fn number(self) -> u32
+        ensures { result ≡ code_number self }
+    {
+        match self {
+            Code::Unset => 0,
+            Code::Okay => 1,
+            Code::Fail => 2,
+        }
+    }
+
+    /// The code of this number, unless the number is beyond the last.
+    pub fn of_number(number: u64) -> Option<Code>
+        ensures code { IfSome result (λ code. number ≡ code_number code) }
+        ensures none { (result ≡ None) ↔ (2 < number) }
+    {
+        match number {
+            0 => Some(Code::Unset),
+            1 => Some(Code::Okay),
+            2 => Some(Code::Fail),
+            _ => None,
+        }
+    }
 }
 
 /// How a span ended, and why (OTLP `Status`).

@@ -20,7 +20,7 @@ use Rattle.zipkin_json.specs.Proper.{IsProperEndpoint, IsProperAnnotation, IsPro
 use Rattle.zipkin_json.specs.Span.{IsEndpoint, no_endpoint, IsAnnotation, AreAnnotations, texts_in, AreTags, IsZSpan, HasRisingTags, TagsRise}
 use Rattle.zipkin_json.specs.declared.span.Endpoint.{Endpoint}
 use Rattle.zipkin_json.specs.declared.span.ZSpan.{ZSpan}
-use Rattle.json_members.specs.ReadBackLaws.{Follow}
+use Rattle.json_members.specs.laws.ReadBackLaws.{Follow}
 use Rattle.json_members.specs.laws.Utf8Laws.{HoldsOf}
 
 -- ---- identifiers

@@ -18,7 +18,7 @@ use Rattle.span_io.specs.Paths.{each, valued, NothingOffends, Halts, OfKind}
 use Rattle.span_io.specs.laws.PathLaws.{clean_nothing, clean_one_more, halts_at}
 use Rattle.json_members.specs.Members.{member_values, text_offends}
 use Rattle.zipkin_json.specs.Span.{texts_in, tag_offends, TagsRise}
-use Rattle.zipkin_json.specs.Tags.{listed, pairs_in, NamesRise, AddsTag}
+use Rattle.zipkin_json.specs.private.Tags.{listed, pairs_in, NamesRise, AddsTag}
 
 abbrev Pair : Type 0
 Pair = List ℕ × Data

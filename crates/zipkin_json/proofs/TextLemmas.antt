@@ -22,7 +22,7 @@ use Rattle.zipkin_json.specs.declared.span.ZKind.TheVariants as kinds
 use Rattle.zipkin_json.specs.declared.span.ZSpan.{ZSpan}
 use Rattle.json.proofs.Printed.Utf8.{IsUtf8-are_ascii}
 use Rattle.zipkin_json.proofs.MeaningLemmas.{span_again, spans_again}
-use Rattle.json_members.specs.ReadBackLaws.{GivesBack, ItemsGiveBack, MembersGiveBack, GivenGivesBack, Follow, gives_deeper, reads_back, string_back, count_back, no_items_back, item_back, array_back, no_members_back, member_back, object_back, rows_back, unless_empty_back, behind_before}
+use Rattle.json_members.specs.laws.ReadBackLaws.{GivesBack, ItemsGiveBack, MembersGiveBack, GivenGivesBack, Follow, gives_deeper, reads_back, string_back, count_back, no_items_back, item_back, array_back, no_members_back, member_back, object_back, rows_back, unless_empty_back, behind_before}
 
 -- ---- members
 

@@ -1,10 +1,9 @@
+pub mod Canonical
 pub mod Identifiers
-pub mod Members
-pub mod Span
-pub mod Tags
-pub mod Proper
 pub mod Known
+pub mod Members
+pub mod Proper
+pub mod Span
 pub mod StatedLaws
 pub mod Texts
-pub mod Canonical
-pub mod Writing
+pub mod private

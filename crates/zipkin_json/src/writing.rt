@@ -6,7 +6,7 @@ ghost use Rattle.span_ids.specs.Times.{micros};
 ghost use Rattle.json_members.specs.Canonical.{count_data};
 ghost use Rattle.json_members.specs.Writing.{Appends, GrewFront, given_tokens, rows_tokens, pieces};
 ghost use Rattle.zipkin_json.specs.Canonical.{kind_data, endpoint_rows, endpoint_data, annotations_data, tags_data, zspan_rows, zspan_text};
-ghost use Rattle.zipkin_json.specs.Writing.{tag_piece, annotation_piece};
+ghost use Rattle.zipkin_json.specs.private.Writing.{tag_piece, annotation_piece};
 
 use crate::span::{Endpoint, ZKind, ZSpan};
 use json::Writer;

@@ -2,7 +2,7 @@
 ghost use Rattle.std.specs.Prelude.{◌≡◌, ◌++◌, pos, OnOk, OnErr};
 ghost use Rattle.span_io.specs.Outside.{GrowsFront};
 ghost use Rattle.jaeger_model.specs.Canonical.{process_rows, process_tree, batch_text};
-ghost use Rattle.jaeger_model.specs.Growing.{WritesField, WritesRows};
+ghost use Rattle.jaeger_model.specs.private.Growing.{WritesField, WritesRows};
 ghost use Rattle.jaeger_model.specs.Writable.{IsWritable};
 
 use crate::batch::Batch;

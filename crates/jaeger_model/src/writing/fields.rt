@@ -3,7 +3,7 @@ ghost use Rattle.std.specs.Prelude.{◌<ℤ◌, ◌≤◌};
 ghost use Rattle.span_ids.specs.Times.{micros, last_micros};
 ghost use Rattle.thrift_core.specs.Trees.{truth_value, i32, i64, double, leaf, binary};
 ghost use Rattle.jaeger_model.specs.Canonical.{id_tree, micros_tree};
-ghost use Rattle.jaeger_model.specs.Growing.{WritesField};
+ghost use Rattle.jaeger_model.specs.private.Growing.{WritesField};
 ghost use Rattle.span_io.specs.Sizes.{IsShort};
 
 use span_ids::{Nanos, SpanId};

@@ -3,7 +3,7 @@ ghost use Rattle.std.specs.Prelude.{◌≡◌, ◌<ℤ◌, ◌-◌, pos};
 ghost use Rattle.span_ids.specs.Times.{micros};
 ghost use Rattle.thrift_core.specs.Trees.{i32, leaf};
 ghost use Rattle.jaeger_model.specs.Canonical.{enum_tree, micros_tree, low_tree, high_tree, parent_tree, identity_rows, reference_and_flag_rows, time_rows, tag_and_log_rows};
-ghost use Rattle.jaeger_model.specs.Growing.{WritesField, WritesRows};
+ghost use Rattle.jaeger_model.specs.private.Growing.{WritesField, WritesRows};
 ghost use Rattle.jaeger_model.specs.References.{reference_number};
 ghost use Rattle.jaeger_model.specs.Writable.{IsWritableSpan};
 

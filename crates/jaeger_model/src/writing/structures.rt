@@ -2,7 +2,7 @@
 ghost use Rattle.std.specs.Prelude.{◌<ℤ◌, ℕ, pos, List, All};
 ghost use Rattle.thrift_core.specs.Written.{FieldRow, elements_written, struct_trees};
 ghost use Rattle.jaeger_model.specs.Canonical.{list_tree, filled_list};
-ghost use Rattle.jaeger_model.specs.Growing.{GrowsBy, WritesField, WritesRows, WritesStruct};
+ghost use Rattle.jaeger_model.specs.private.Growing.{GrowsBy, WritesField, WritesRows, WritesStruct};
 ghost use Rattle.jaeger_model.specs.Writable.{AreWritable};
 
 use span_io::{Blob, Items, OutOfMemory};

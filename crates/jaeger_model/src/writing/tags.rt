@@ -1,7 +1,7 @@
 //! Tags, and logs, which hold them.
 ghost use Rattle.std.specs.Prelude.{◌≡◌, pos};
 ghost use Rattle.jaeger_model.specs.Canonical.{enum_tree, value_row};
-ghost use Rattle.jaeger_model.specs.Growing.{WritesField};
+ghost use Rattle.jaeger_model.specs.private.Growing.{WritesField};
 ghost use Rattle.jaeger_model.specs.Tags.{type_of};
 ghost use Rattle.jaeger_model.specs.Writable.{IsShortValue};
 

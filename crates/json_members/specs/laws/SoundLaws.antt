@@ -15,7 +15,7 @@ use Rattle.serde_json.specs.Find.{get_member, as_str, as_array, as_object}
 use Rattle.serde_json.specs.Read.{read, number_of, of_json, of_items, of_members, max_depth}
 use Rattle.span_io.specs.Paths.{Given, Never}
 use Rattle.json_members.specs.Members.{unless_null, member, IsText}
-use Rattle.json_members.specs.ReadBackLaws.{Follow, behind_before}
+use Rattle.json_members.specs.laws.ReadBackLaws.{Follow, behind_before}
 use Rattle.json_members.specs.laws.Utf8Laws.{HoldsOf, HasUtf8, tokens_utf8}
 
 -- ---- trees of tokens

@@ -15,7 +15,7 @@ use Rattle.span_ids.specs.StatedLaws.{IdentifiersReadBack}
 use Rattle.span_ids.specs.Proper.{IsProperTraceId, IsProperSpanId, IsProperParent}
 use Rattle.span_ids.specs.declared.hex_text.IdRule.TheVariants.{Padded}
 use Rattle.json_members.specs.Canonical.{text_data, count_data, truth_data, trace_id_text, span_id_text}
-use Rattle.json_members.specs.ReadBackLaws.{GivesBack, GivenGivesBack, string_back, count_back, truth_back}
+use Rattle.json_members.specs.laws.ReadBackLaws.{GivesBack, GivenGivesBack, string_back, count_back, truth_back}
 
 -- ---- members that may be left out
 

@@ -4,7 +4,7 @@ ghost use Rattle.trace_model.specs.Attributes.{Rise, attrs, keys};
 ghost use Rattle.span_tags.specs.TagWords as told;
 ghost use Rattle.map_jaeger.specs.Keys.{flags_key};
 ghost use Rattle.map_jaeger.specs.Reading as meant;
-ghost use Rattle.map_jaeger.specs.ReadColumns.{ArePartsOf, own_tags};
+ghost use Rattle.map_jaeger.specs.private.ReadColumns.{ArePartsOf};
 
 use crate::columns::is_free;
 use crate::writing::attributes_but;
@@ -72,28 +72,22 @@ pub(crate) struct Parted {
     pub free: Attrs,
 }
 
-/// Parts the tags of a span.
+/// Parts the tags of a span. Those of the table are taken out of their list, at most thirteen.
 pub(crate) fn part_tags(alloc: Global, tags: Attrs) -> Result<Parted, OutOfMemory>
     ensures { IfOk result (λ parts. ArePartsOf tags parts) }
 {
-    let own = own_of(alloc, &tags)?;
-    let mut free = tags.into_vec();
-    free.retain(|tag| is_free(tag.0.as_str()));
-    let free = Items::from_vec(free);
-    Ok(Parted { own, free })
-}
-
-// Copies of the tags of the table.
-fn own_of(alloc: Global, tags: &Attrs) -> Result<Attrs, OutOfMemory>
-    ensures { IfOk result (λ own. own ≡ own_tags tags.now) }
-{
     let mut own = Items::new(alloc);
-    'tags: for tag in tags.as_slice() {
-        if !is_free(tag.0.as_str()) {
-            own.push((tag.0.copy()?, tag.1.copy(alloc)?))?;
+    let mut left = tags.into_vec();
+    let mut i = 0;
+    'tags: while i < left.len() {
+        if is_free(left[i].0.as_str()) {
+            i += 1;
+        } else {
+            own.push(left.remove(i))?;
         }
     }
-    Ok(own)
+    let free = Items::from_vec(left);
+    Ok(Parted { own, free })
 }
 
 // The flags but the first bit, where there are any.

@@ -1,7 +1,7 @@
 //! Logs as events.
 ghost use Rattle.std.specs.Prelude.{◌≡◌, [], ◌∷◌, ◌++◌, map, IfOk, OnOk};
 ghost use Rattle.jaeger_model.specs.Counted.{IsCounted};
-ghost use Rattle.map_jaeger.specs.Noted.{AddsNoted, AreNumbered};
+ghost use Rattle.map_jaeger.specs.private.Noted.{AddsNoted, AreNumbered};
 ghost use Rattle.map_jaeger.specs.Reading as meant;
 ghost use Rattle.map_jaeger.specs.Remarks.{RepeatsOf, is_idle_event, log_remarks};
 
@@ -10,48 +10,43 @@ use jaeger_model::Log;
 use span_io::{Items, OutOfMemory, Text};
 use span_tags::{is_idle_text, others, remark_if, text_or_empty};
 use std::alloc::Global;
-use trace_model::{Event, Place, Remark, find, remark_keys};
+use trace_model::{Event, Noted, Place, Remark, find, remark_keys};
 
-/// The events of a span, and the remarks on them.
-#[derive(Debug, Drop)]
-pub(crate) struct ReadEvents {
-    pub events: Items<Event>,
-    pub remarks: Items<Remark>,
+// Adds the event of the log of this number, of the span of that number, and the remarks on it.
+fn add_event(
+    alloc: Global,
+    read: &mut Noted<Items<Event>, Items<Remark>>,
+    span: u32,
+    number: u32,
+    log: Log,
+) -> Result<(), OutOfMemory>
+    ensures event { OnOk result (read.new.means ≡ read.old.means ++ meant.event_of log ∷ []) }
+    ensures remarks { OnOk result (AddsNoted RepeatsOf (log_remarks span) number log read.old.notes read.new.notes) }
+{
+    let one = event_of(alloc, log)?;
+    let place = Place::Event(span, number);
+    remark_keys(&mut read.notes, place, one.keys)?;
+    remark_if(alloc, &mut read.notes, place, "event", one.idle)?;
+    read.means.push(one.event)
 }
 
-impl ReadEvents {
-    // Adds the event of the log of this number, of the span of that number.
-    fn add(&mut self, alloc: Global, span: u32, number: u32, log: Log) -> Result<(), OutOfMemory>
-        ensures event { OnOk result (self.new.events ≡ self.old.events ++ meant.event_of log ∷ []) }
-        ensures remarks { OnOk result (AddsNoted RepeatsOf (log_remarks span) number log self.old.remarks self.new.remarks) }
-    {
-        let read = event_of(alloc, log)?;
-        let place = Place::Event(span, number);
-        remark_keys(&mut self.remarks, place, read.keys)?;
-        remark_if(alloc, &mut self.remarks, place, "event", read.idle)?;
-        self.events.push(read.event)
-    }
-}
-
-/// The events of the logs of the span of this number.
+/// The events of the logs of the span of this number, and the remarks on them.
 pub(crate) fn events_of(
     alloc: Global,
     span: u32,
     logs: Items<Log>,
-) -> Result<ReadEvents, OutOfMemory>
+) -> Result<Noted<Items<Event>, Items<Remark>>, OutOfMemory>
     requires counted { IsCounted logs }
-    ensures events { IfOk result (λ read. read.events ≡ map meant.event_of logs) }
-    ensures remarks { IfOk result (λ read. AreNumbered RepeatsOf (log_remarks span) 1 logs read.remarks) }
+    ensures events { IfOk result (λ read. read.means ≡ map meant.event_of logs) }
+    ensures remarks { IfOk result (λ read. AreNumbered RepeatsOf (log_remarks span) 1 logs read.notes) }
 {
-    let events = Items::with_room(alloc, logs.len())?;
-    let mut read = ReadEvents {
-        events,
-        remarks: Items::new(alloc),
-    };
+    let means = Items::with_room(alloc, logs.len())?;
+    let notes = Items::new(alloc);
+    let mut read = Noted { means, notes };
     let mut number: u32 = 0;
     'logs: for log in logs.into_vec() {
         number += 1;
-        read.add(alloc, span, number, log)?;
+        add_event(alloc, &mut read, span, number, log)?;
     }
     Ok(read)
 }

@@ -3,9 +3,9 @@ ghost use Rattle.std.specs.Prelude.{◌≡◌, map, All, IfOk, OnOk};
 ghost use Rattle.jaeger_model.specs.Counted.{IsCounted, IsCountedSpan};
 ghost use Rattle.span_tags.specs.ReadRuns.{one_of};
 ghost use Rattle.span_tags.specs.Runs.{runs};
-ghost use Rattle.map_jaeger.specs.Noted.{AddsNoted, AreNumbered};
+ghost use Rattle.map_jaeger.specs.private.Noted.{AddsNoted, AreNumbered};
 ghost use Rattle.map_jaeger.specs.Reading as meant;
-ghost use Rattle.map_jaeger.specs.ReadColumns.{scoped_by_parts};
+ghost use Rattle.map_jaeger.specs.private.ReadColumns.{scoped_by_parts};
 ghost use Rattle.map_jaeger.specs.Remarks.{RepeatsOfSpan, jspan_remarks};
 
 use crate::columns::{COLUMNS, Column};
@@ -22,33 +22,29 @@ use span_tags::{ReadSpan, Runs};
 use std::alloc::Global;
 use std::mem;
 use trace_model::{
-    Attrs, Event, Kind, Place, Remark, Scope, Span, remark_all, remark_dropped, remark_keys,
+    Attrs, Event, Kind, Noted, Place, Remark, Scope, Span, remark_all, remark_dropped, remark_keys,
 };
 
-/// The scopes of spans, and the remarks on them.
-#[derive(Debug, Drop)]
-pub(crate) struct ReadScopes {
-    pub scopes: Items<Scope>,
-    pub remarks: Items<Remark>,
-}
-
-/// The scopes of these spans.
-pub(crate) fn scopes_of(alloc: Global, spans: Items<JSpan>) -> Result<ReadScopes, OutOfMemory>
+/// The scopes of these spans, and the remarks on them.
+pub(crate) fn scopes_of(
+    alloc: Global,
+    spans: Items<JSpan>,
+) -> Result<Noted<Items<Scope>, Items<Remark>>, OutOfMemory>
     requires counted { IsCounted spans }
     requires each { All IsCountedSpan spans }
-    ensures scopes { IfOk result (λ read. read.scopes ≡ runs (map meant.scoped_of spans)) }
-    ensures remarks { IfOk result (λ read. AreNumbered RepeatsOfSpan jspan_remarks 1 spans read.remarks) }
+    ensures scopes { IfOk result (λ read. read.means ≡ runs (map meant.scoped_of spans)) }
+    ensures remarks { IfOk result (λ read. AreNumbered RepeatsOfSpan jspan_remarks 1 spans read.notes) }
 {
     let mut so_far = Runs::none(alloc);
-    let mut remarks = Items::new(alloc);
+    let mut notes = Items::new(alloc);
     let mut number: u32 = 0;
     'spans: for span in spans.into_vec() {
         number += 1;
-        let one = read_span(alloc, &mut remarks, number, span)?;
+        let one = read_span(alloc, &mut notes, number, span)?;
         so_far = so_far.add(alloc, one)?;
     }
-    let scopes = so_far.finish(alloc)?;
-    Ok(ReadScopes { scopes, remarks })
+    let means = so_far.finish(alloc)?;
+    Ok(Noted { means, notes })
 }
 
 // The span of this number; the remarks on it are added.
@@ -73,8 +69,8 @@ fn read_span(
     let dropped = 0 < span.invalid_refs;
     remark_dropped(alloc, remarks, Place::Span(number), dropped)?;
     remark_columns(alloc, remarks, Place::Span(number), &parts.own, &COLUMNS)?;
-    remark_all(remarks, read.remarks)?;
-    span_by(alloc, span, &parts.own, attributes, read.events)
+    remark_all(remarks, read.notes)?;
+    span_by(alloc, span, &parts.own, attributes, read.means)
 }
 
 // The span that has these tags of the table, attributes and events.

@@ -25,11 +25,11 @@ pub(crate) fn attributes_of(
 fn pairs_of(alloc: Global, tags: Items<Tag>) -> Result<Attrs, OutOfMemory>
     ensures { IfOk result (λ pairs. pairs ≡ map told.attribute_of tags) }
 {
-    let mut pairs = Items::with_room(alloc, tags.len())?;
+    let mut pairs = Vec::with_capacity(alloc, tags.len())?;
     'tags: for tag in tags.into_vec() {
         pairs.push((tag.key, value_of(tag.value)))?;
     }
-    Ok(pairs)
+    Ok(Items::from_vec(pairs))
 }
 
 fn value_of(value: TagValue) -> Value

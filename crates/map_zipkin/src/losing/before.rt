@@ -9,7 +9,7 @@ ghost use Rattle.trace_model.specs.EventTexts.{holds_double};
 ghost use Rattle.trace_model.specs.ValueTexts as texts;
 ghost use Rattle.trace_model.specs.declared.value.Value.TheVariants as values;
 ghost use Rattle.map_zipkin.specs.Losses as told;
-ghost use Rattle.map_zipkin.specs.LossWalks as walks;
+ghost use Rattle.map_zipkin.specs.private.LossWalks as walks;
 ghost use Rattle.map_zipkin.specs.Normal.{normal_pairs};
 ghost use Rattle.map_zipkin.specs.Regrouped as groups;
 

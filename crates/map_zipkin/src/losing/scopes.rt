@@ -2,7 +2,7 @@
 ghost use Rattle.std.specs.Prelude.{◌≡◌, ◌++◌, None, option_map, OnOk};
 ghost use Rattle.span_tags.specs.Losses as meant;
 ghost use Rattle.map_zipkin.specs.Losses as told;
-ghost use Rattle.map_zipkin.specs.LossWalks.{names_at_end};
+ghost use Rattle.map_zipkin.specs.private.LossWalks.{names_at_end};
 
 use crate::losing::spans::lose_spans;
 use span_io::{Items, OutOfMemory};

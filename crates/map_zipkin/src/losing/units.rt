@@ -2,7 +2,7 @@
 ghost use Rattle.std.specs.Prelude.{◌≡◌, ◌++◌, OnOk};
 ghost use Rattle.span_tags.specs.Losses.{is_empty};
 ghost use Rattle.span_tags.specs.Runs.{scoped};
-ghost use Rattle.map_zipkin.specs.LossWalks.{joined_losses};
+ghost use Rattle.map_zipkin.specs.private.LossWalks.{joined_losses};
 
 use span_io::{Items, OutOfMemory};
 use span_tags::{has_items, lose};

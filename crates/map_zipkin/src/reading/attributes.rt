@@ -1,38 +1,55 @@
 //! The attributes of a span and of its resource.
 ghost use Rattle.std.specs.Prelude.{◌≡◌, [], ◌∷◌, ◌++◌, filter, option_map, IfOk, OnOk};
-ghost use Rattle.span_tags.specs.Columns.{rows_by};
 ghost use Rattle.span_tags.specs.TagKeys.{service_key};
 ghost use Rattle.span_tags.specs.TagWords.{row, without};
 ghost use Rattle.map_zipkin.specs.Keys.{peer_key};
 ghost use Rattle.map_zipkin.specs.OwnColumns as told;
-ghost use Rattle.map_zipkin.specs.OwnColumns.{own_of, own_row, own_rows};
-ghost use Rattle.map_zipkin.specs.ReadColumns.{ArePartedBy};
+ghost use Rattle.map_zipkin.specs.OwnColumns.{end_rows, own_rows, own_told};
+ghost use Rattle.map_zipkin.specs.private.ReadColumns.{ArePartedBy};
 ghost use Rattle.map_zipkin.specs.Reading as meant;
 
 use crate::count_texts::count_text;
 use crate::keys::{is_free, resource_key};
-use crate::own::{OWN_KEYS, Own};
+use crate::own::Own;
 use span_io::{Items, OutOfMemory, Text};
-use span_tags::{add_row, text_given, text_in, text_kept, word_given};
+use span_tags::{add_row, text_in, text_kept, word_given};
 use std::alloc::Global;
 use trace_model::{Attrs, Value, attrs_of};
-use zipkin_json::ZSpan;
+use zipkin_json::Endpoint;
 
-/// The attributes that the endpoints and marks of a span tell, where its service at the other end is
-/// this and that tag names one.
+/// What a span tells under keys of Zipkin's own.
+#[derive(Debug, Drop)]
+struct Ends {
+    pub debug: bool,
+    pub shared: bool,
+    pub local: Endpoint,
+    pub remote: Endpoint,
+}
+
+/// The attributes that the marks and the endpoints of a span tell, where the service at the other end
+/// is this and that tag names one. Its marks are whether it is for debugging and whether it is shared.
 pub(crate) fn ends_of(
     alloc: Global,
-    span: &ZSpan,
+    marks: (bool, bool),
+    local: Endpoint,
+    remote: Endpoint,
     service: Text,
     tag: Option<&Value>,
 ) -> Result<Attrs, OutOfMemory>
     ensures { IfOk result (λ pairs. pairs
-        ≡ row peer_key (meant.peer_of service (option_map (λ v. v.now) tag.entry)) ++ own_rows (own_of span.now)) }
+        ≡ row peer_key (meant.peer_of service (option_map (λ v. v.now) tag.entry))
+        ++ own_rows (own_told (record { debug = marks.0; shared = marks.1; local = local; remote = remote }))) }
 {
+    let ends = Ends {
+        debug: marks.0,
+        shared: marks.1,
+        local,
+        remote,
+    };
     let mut pairs = Items::new(alloc);
     let peer = peer_of(alloc, service, tag)?;
     add_row(alloc, &mut pairs, "peer.service", peer)?;
-    add_own(alloc, &mut pairs, span, &OWN_KEYS)?;
+    add_own(alloc, &mut pairs, ends)?;
     Ok(pairs)
 }
 
@@ -58,37 +75,33 @@ fn truth_given(alloc: Global, truth: bool) -> Result<Option<Value>, OutOfMemory>
     Ok(None)
 }
 
-// What a span tells under a key of Zipkin's own.
-fn given(alloc: Global, span: &ZSpan, own: Own) -> Result<Option<Value>, OutOfMemory>
-    ensures { IfOk result (λ value. value ≡ own_of span.now own) }
+// Adds the addresses and the port of an endpoint under these keys.
+fn add_end(
+    alloc: Global,
+    pairs: &mut Attrs,
+    end: Endpoint,
+    keys: (Own, Own, Own),
+) -> Result<(), OutOfMemory>
+    ensures { OnOk result (pairs.new ≡ pairs.old ++ end_rows keys end) }
 {
-    match own {
-        Own::Debug => truth_given(alloc, span.debug),
-        Own::LocalIpv4 => text_given(&span.local.ipv4),
-        Own::LocalIpv6 => text_given(&span.local.ipv6),
-        Own::LocalPort => count_text(alloc, u32::from(span.local.port)),
-        Own::RemoteIpv4 => text_given(&span.remote.ipv4),
-        Own::RemoteIpv6 => text_given(&span.remote.ipv6),
-        Own::RemotePort => count_text(alloc, u32::from(span.remote.port)),
-        Own::Shared => truth_given(alloc, span.shared),
-    }
+    add_row(alloc, pairs, keys.0.key(), text_kept(end.ipv4))?;
+    add_row(alloc, pairs, keys.1.key(), text_kept(end.ipv6))?;
+    let port = count_text(alloc, u32::from(end.port))?;
+    add_row(alloc, pairs, keys.2.key(), port)
 }
 
-fn add_one(alloc: Global, pairs: &mut Attrs, span: &ZSpan, own: Own) -> Result<(), OutOfMemory>
-    ensures { OnOk result (pairs.new ≡ pairs.old ++ row (own_row own).key (own_of span.now own)) }
+// Adds the attributes under keys of Zipkin's own.
+fn add_own(alloc: Global, pairs: &mut Attrs, ends: Ends) -> Result<(), OutOfMemory>
+    ensures { OnOk result (pairs.new ≡ pairs.old ++ own_rows (own_told ends)) }
 {
-    let value = given(alloc, span, own)?;
-    add_row(alloc, pairs, own.key(), value)
-}
-
-// Adds the attributes under these keys of Zipkin's own.
-fn add_own(alloc: Global, pairs: &mut Attrs, span: &ZSpan, keys: &[Own]) -> Result<(), OutOfMemory>
-    ensures { OnOk result (pairs.new ≡ pairs.old ++ rows_by own_row keys.now (own_of span.now)) }
-{
-    'keys: for own in keys {
-        add_one(alloc, pairs, span, *own)?;
-    }
-    Ok(())
+    let debug = truth_given(alloc, ends.debug)?;
+    let shared = truth_given(alloc, ends.shared)?;
+    let local = (Own::LocalIpv4, Own::LocalIpv6, Own::LocalPort);
+    let remote = (Own::RemoteIpv4, Own::RemoteIpv6, Own::RemotePort);
+    add_row(alloc, pairs, Own::Debug.key(), debug)?;
+    add_end(alloc, pairs, ends.local, local)?;
+    add_end(alloc, pairs, ends.remote, remote)?;
+    add_row(alloc, pairs, Own::Shared.key(), shared)
 }
 
 /// Tags as attributes of the resource and of the span.

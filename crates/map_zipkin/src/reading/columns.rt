@@ -1,12 +1,13 @@
 //! What the tags under the reserved keys say of a span and its scope.
 ghost use Rattle.std.specs.Prelude.{◌≡◌, if◌then◌else◌, option_map, IfOk};
 ghost use Rattle.trace_model.specs.declared.span.Code.TheVariants as statuses;
-ghost use Rattle.map_zipkin.specs.ReadColumns.{IsZipkinToldBy};
+ghost use Rattle.map_zipkin.specs.private.ReadColumns.{IsZipkinToldBy};
 ghost use Rattle.map_zipkin.specs.Reading as meant;
 ghost use Rattle.map_zipkin.specs.TagColumns.{columns_in};
 
+use crate::columns::Column;
 use span_io::{OutOfMemory, Text};
-use span_tags::{code_in, count_in, is_there, name_in, text_or_empty};
+use span_tags::{code_in, count_in, name_in, text_or_empty};
 use std::alloc::Global;
 use trace_model::{Attrs, Code, Status, Value, find};
 
@@ -22,49 +23,56 @@ pub(crate) struct Told {
     pub status: Status,
 }
 
+/// What the tags hold in a column.
+pub(crate) fn held(tags: &Attrs, column: Column) -> Option<&Value>
+    ensures { option_map (λ value. value.now) result ≡ columns_in tags.now column }
+{
+    find(tags, column.key())
+}
+
 /// What these tags tell.
 pub(crate) fn told_by(alloc: Global, tags: &Attrs) -> Result<Told, OutOfMemory>
     ensures { IfOk result (λ told. IsZipkinToldBy tags.now told) }
 {
     let name = name_in(
         alloc,
-        find(tags, "otel.scope.name"),
-        find(tags, "otel.library.name"),
+        held(tags, Column::ScopeName),
+        held(tags, Column::LibraryName),
     )?;
     let version = name_in(
         alloc,
-        find(tags, "otel.scope.version"),
-        find(tags, "otel.library.version"),
+        held(tags, Column::ScopeVersion),
+        held(tags, Column::LibraryVersion),
     )?;
-    let state = text_or_empty(alloc, find(tags, "w3c.tracestate"))?;
+    let state = text_or_empty(alloc, held(tags, Column::State))?;
     let status = status_of(alloc, tags)?;
     Ok(Told {
         name,
         version,
         state,
-        dropped_attributes: count_in(find(tags, "otel.dropped_attributes_count")).unwrap_or(0),
-        dropped_events: count_in(find(tags, "otel.dropped_events_count")).unwrap_or(0),
-        dropped_links: count_in(find(tags, "otel.dropped_links_count")).unwrap_or(0),
+        dropped_attributes: count_in(held(tags, Column::DroppedAttributes)).unwrap_or(0),
+        dropped_events: count_in(held(tags, Column::DroppedEvents)).unwrap_or(0),
+        dropped_links: count_in(held(tags, Column::DroppedLinks)).unwrap_or(0),
         status,
     })
 }
 
 fn status_of(alloc: Global, tags: &Attrs) -> Result<Status, OutOfMemory>
     ensures code { IfOk result (λ status. status.code ≡ meant.status_code (columns_in tags.now)) }
-    ensures message { IfOk result (λ status.
-        status.message ≡ meant.message_of (meant.status_code (columns_in tags.now)) (columns_in tags.now).error) }
+    ensures message { IfOk result (λ status. status.message
+        ≡ meant.message_of (meant.status_code (columns_in tags.now)) (columns_in tags.now Column.Error)) }
 {
     let code = code_of(tags);
-    let message = message_of(alloc, code, find(tags, "error"))?;
+    let message = message_of(alloc, code, held(tags, Column::Error))?;
     Ok(Status { code, message })
 }
 
 fn code_of(tags: &Attrs) -> Code
     ensures { result ≡ meant.status_code (columns_in tags.now) }
 {
-    match code_in(find(tags, "otel.status_code")) {
+    match code_in(held(tags, Column::Code)) {
         Some(code) => code,
-        None => code_by_error(is_there(tags, "error")),
+        None => code_by_error(held(tags, Column::Error).is_some()),
     }
 }
 

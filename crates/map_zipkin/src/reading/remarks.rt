@@ -1,18 +1,18 @@
 //! Remarks on tags of a span that say nothing, or other than what stands in a place of its own.
 ghost use Rattle.std.specs.Prelude.{◌≡◌, ◌++◌, is_some, Some, IfOk, OnOk};
 ghost use Rattle.span_tags.specs.Columns.{left_out_by};
-ghost use Rattle.span_tags.specs.TagKeys.{code_key, error_key};
 ghost use Rattle.span_tags.specs.TagWords as words;
 ghost use Rattle.trace_model.specs.Attributes.{at};
-ghost use Rattle.trace_model.specs.Remarks.{Keys, tags_dropped};
+ghost use Rattle.trace_model.specs.Remarks.{tags_dropped};
 ghost use Rattle.trace_model.specs.declared.place.Place.TheVariants as places;
 ghost use Rattle.map_zipkin.specs.Keys.{peer_key};
 ghost use Rattle.map_zipkin.specs.OwnColumns.{own_in, own_row};
-ghost use Rattle.map_zipkin.specs.ReadColumns as parts;
 ghost use Rattle.map_zipkin.specs.Remarks as told;
-ghost use Rattle.map_zipkin.specs.TagColumns.{columns_in};
+ghost use Rattle.map_zipkin.specs.TagColumns.{columns_in, is_idle_in, row_of};
 
+use crate::columns::Column;
 use crate::own::{OWN_KEYS, Own, has_own};
+use crate::reading::columns::held;
 use span_io::{Items, OutOfMemory, Text};
 use span_tags::{
     code_in, is_idle_code, is_idle_count, is_idle_library, is_there, remark_if, text_in,
@@ -20,12 +20,39 @@ use span_tags::{
 use std::alloc::Global;
 use trace_model::{Attrs, Code, Place, Remark, find};
 
+/// The columns in front of the service of the resource, by rising keys.
+const FIRST: [Column; 6] = [
+    Column::Error,
+    Column::DroppedAttributes,
+    Column::DroppedEvents,
+    Column::DroppedLinks,
+    Column::LibraryName,
+    Column::LibraryVersion,
+];
+
 fn is_idle_message(tags: &Attrs) -> bool
-    ensures { result ≡ told.is_idle_message (at error_key tags.now) (words.code_in (at code_key tags.now)) }
+    ensures { result ≡ is_idle_in (columns_in tags.now) Column.Error }
 {
-    match code_in(find(tags, "otel.status_code")) {
-        Some(Code::Okay) => is_there(tags, "error"),
+    match code_in(held(tags, Column::Code)) {
+        Some(Code::Okay) => held(tags, Column::Error).is_some(),
         _ => false,
+    }
+}
+
+// Whether the tag of a column is there and says nothing.
+fn is_idle(tags: &Attrs, column: Column) -> bool
+    ensures { result ≡ is_idle_in (columns_in tags.now) column }
+{
+    let key = column.key();
+    match column {
+        Column::Error => is_idle_message(tags),
+        Column::DroppedAttributes | Column::DroppedEvents | Column::DroppedLinks => {
+            is_idle_count(tags, key)
+        }
+        Column::LibraryName => is_idle_library(tags, key, Column::ScopeName.key()),
+        Column::LibraryVersion => is_idle_library(tags, key, Column::ScopeVersion.key()),
+        Column::ScopeName | Column::ScopeVersion | Column::State => false,
+        Column::Code => is_idle_code(tags),
     }
 }
 
@@ -59,52 +86,44 @@ pub(crate) fn remarks_of(
 {
     let mut remarks = Items::new(alloc);
     let place = Place::Span(1);
-    remark_first(alloc, &mut remarks, place, tags)?;
-    remark_next(alloc, &mut remarks, place, service, tags)?;
+    remark_columns(alloc, &mut remarks, place, tags, &FIRST)?;
+    let key = "otel.resource.service.name";
+    remark_if(alloc, &mut remarks, place, key, is_there(tags, key))?;
+    remark_column(alloc, &mut remarks, place, tags, Column::Code)?;
+    let idle = is_idle_peer(service, tags);
+    remark_if(alloc, &mut remarks, place, "peer.service", idle)?;
     remark_own(alloc, &mut remarks, place, tags, &OWN_KEYS)?;
     Ok(remarks)
 }
 
-fn remark_first(
+fn remark_column(
     alloc: Global,
     remarks: &mut Items<Remark>,
     place: Place,
     tags: &Attrs,
+    column: Column,
 ) -> Result<(), OutOfMemory>
-    ensures { OnOk result ((behind : Keys) → remarks.new ++ tags_dropped place behind
-        ≡ remarks.old ++ tags_dropped place (parts.first_zipkin_left_out (columns_in tags.now) behind)) }
+    ensures { OnOk result (remarks.new ≡ remarks.old
+        ++ tags_dropped place (words.if_left (row_of column).key (is_idle_in (columns_in tags.now) column))) }
 {
-    remark_if(alloc, remarks, place, "error", is_idle_message(tags))?;
-    let key = "otel.dropped_attributes_count";
-    remark_if(alloc, remarks, place, key, is_idle_count(tags, key))?;
-    let key = "otel.dropped_events_count";
-    remark_if(alloc, remarks, place, key, is_idle_count(tags, key))?;
-    let key = "otel.dropped_links_count";
-    remark_if(alloc, remarks, place, key, is_idle_count(tags, key))
+    remark_if(alloc, remarks, place, column.key(), is_idle(tags, column))
 }
 
-fn remark_next(
+// Adds which of the tags of these columns were left out.
+fn remark_columns(
     alloc: Global,
     remarks: &mut Items<Remark>,
     place: Place,
-    service: &Text,
     tags: &Attrs,
+    columns: &[Column],
 ) -> Result<(), OutOfMemory>
-    ensures { OnOk result ((behind : Keys) → remarks.new ++ tags_dropped place behind
-        ≡ remarks.old ++ tags_dropped place (parts.next_left_out service.now (columns_in tags.now) tags.now behind)) }
+    ensures { OnOk result (remarks.new ≡ remarks.old
+        ++ tags_dropped place (left_out_by row_of columns.now (columns_in tags.now))) }
 {
-    let key = "otel.library.name";
-    let left = is_idle_library(tags, key, "otel.scope.name");
-    remark_if(alloc, remarks, place, key, left)?;
-    let key = "otel.library.version";
-    let left = is_idle_library(tags, key, "otel.scope.version");
-    remark_if(alloc, remarks, place, key, left)?;
-    let key = "otel.resource.service.name";
-    remark_if(alloc, remarks, place, key, is_there(tags, key))?;
-    let key = "otel.status_code";
-    remark_if(alloc, remarks, place, key, is_idle_code(tags))?;
-    let key = "peer.service";
-    remark_if(alloc, remarks, place, key, is_idle_peer(service, tags))
+    'columns: for column in columns {
+        remark_column(alloc, remarks, place, tags, *column)?;
+    }
+    Ok(())
 }
 
 // Adds that a tag of this key was left out, if there is one.

@@ -8,7 +8,7 @@ ghost use Rattle.trace_model.specs.EventTexts.{holds_double};
 ghost use Rattle.map_zipkin.specs.Keys.{peer_key};
 ghost use Rattle.map_zipkin.specs.OwnColumns.{own_in};
 ghost use Rattle.map_zipkin.specs.TagColumns as columns;
-ghost use Rattle.map_zipkin.specs.Unfit.{port_unfit, ports_unfit};
+ghost use Rattle.map_zipkin.specs.private.Unfit.{port_unfit, ports_unfit};
 ghost use Rattle.map_zipkin.specs.Writing as told;
 
 use crate::own::{Own, own_held};

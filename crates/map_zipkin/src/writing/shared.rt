@@ -4,8 +4,9 @@ ghost use Rattle.trace_model.specs.EventTexts.{holds_double};
 ghost use Rattle.trace_model.specs.ValueTexts as texts;
 ghost use Rattle.map_zipkin.specs.Keys.{resource_prefix};
 ghost use Rattle.map_zipkin.specs.Writing as told;
-ghost use Rattle.map_zipkin.specs.WritingSoFar.{shared_rows};
+ghost use Rattle.map_zipkin.specs.private.WritingSoFar.{shared_rows};
 
+use crate::columns::Column;
 use span_io::{Items, OutOfMemory, Text};
 use span_tags::{add_row, text_given, text_told};
 use std::alloc::Global;
@@ -27,8 +28,8 @@ pub(crate) fn rows_of_scope(
     let name = text_given(name)?;
     let version = text_given(version)?;
     let mut rows = Items::with_room(alloc, resource.len().saturating_add(COLUMNS))?;
-    add_row(alloc, &mut rows, "otel.scope.name", name)?;
-    add_row(alloc, &mut rows, "otel.scope.version", version)?;
+    add_row(alloc, &mut rows, Column::ScopeName.key(), name)?;
+    add_row(alloc, &mut rows, Column::ScopeVersion.key(), version)?;
     add_resource(alloc, &mut rows, resource)?;
     let (rows, _) = attrs_of(alloc, rows)?;
     Ok(rows)

@@ -6,7 +6,7 @@ ghost use Rattle.trace_model.specs.EventTexts.{holds_double};
 ghost use Rattle.trace_model.specs.ValueTexts as texts;
 ghost use Rattle.span_tags.specs.TagWords.{Pairs};
 ghost use Rattle.map_zipkin.specs.Writing as told;
-ghost use Rattle.map_zipkin.specs.WritingSoFar.{rows_above, rows_below, tags_by};
+ghost use Rattle.map_zipkin.specs.private.WritingSoFar.{rows_above, rows_below, tags_by};
 
 use crate::keys::is_told;
 use span_io::{Items, OutOfMemory, Text};

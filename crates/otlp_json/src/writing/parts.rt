@@ -2,7 +2,7 @@
 ghost use Rattle.std.specs.Prelude.{◌≡◌, ◌↔◌, ◌∷◌, [], IsTrue, codes};
 ghost use Rattle.json.specs.Token.{begin_object, key};
 ghost use Rattle.trace_model.specs.OtlpParts.{code_number};
-ghost use Rattle.json_members.specs.Canonical.{count_data, members_given, unless_empty};
+ghost use Rattle.json_members.specs.Canonical.{members_given, unless_empty};
 ghost use Rattle.json_members.specs.Writing.{Appends, given_tokens, rows_tokens};
 ghost use Rattle.otlp_json.specs.Canonical.{status_rows};
 
@@ -15,28 +15,12 @@ use json_members::{
 };
 use span_io::OutOfMemory;
 use std::alloc::Global;
-use trace_model::{Code, Event, Link, Status};
-
-fn number_of(code: Code) -> u32
-    ensures { result ≡ code_number code }
-{
-    match code {
-        Code::Unset => 0,
-        Code::Okay => 1,
-        Code::Fail => 2,
-    }
-}
-
-fn code_member(out: &mut Writer, name: &str, code: Code) -> Result<(), OutOfMemory>
-    ensures { Appends result out.old out.new (given_tokens name.now (count_data (code_number code))) }
-{
-    number_member(out, name, number_of(code))
-}
+use trace_model::{Event, Link, Status};
 
 fn is_unset(status: &Status) -> bool
     ensures { IsTrue result ↔ ((code_number status.now.code ≡ 0) × (status.now.message ≡ [])) }
 {
-    number_of(status.code) == 0 && status.message.as_str().is_empty()
+    status.code.number() == 0 && status.message.as_str().is_empty()
 }
 
 fn named_status(out: &mut Writer, status: &Status) -> Result<(), OutOfMemory>
@@ -45,7 +29,7 @@ fn named_status(out: &mut Writer, status: &Status) -> Result<(), OutOfMemory>
 {
     name_of(out, "status")?;
     open_object(out)?;
-    code_member(out, "code", status.code)?;
+    number_member(out, "code", status.code.number())?;
     given_text_member(out, "message", &status.message)?;
     close_object(out)
 }

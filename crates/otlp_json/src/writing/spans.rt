@@ -1,10 +1,8 @@
 //! Spans. Their sixteen members are written by four functions with four each.
-ghost use Rattle.std.specs.Prelude.{◌≡◌, take, drop};
-ghost use Rattle.trace_model.specs.OtlpParts.{kind_number};
-ghost use Rattle.json_members.specs.Canonical.{count_data};
-ghost use Rattle.json_members.specs.Writing.{Appends, given_tokens};
+ghost use Rattle.std.specs.Prelude.{take, drop};
+ghost use Rattle.json_members.specs.Writing.{Appends};
 ghost use Rattle.otlp_json.specs.Canonical.{otlp_span_rows};
-ghost use Rattle.otlp_json.specs.Writing.{part_tokens};
+ghost use Rattle.otlp_json.specs.private.Writing.{part_tokens};
 
 use crate::writing::elements::{Element, list_member};
 use crate::writing::members::{number_member, time_member};
@@ -16,26 +14,7 @@ use json_members::{
 };
 use span_io::OutOfMemory;
 use std::alloc::Global;
-use trace_model::{Kind, Span};
-
-fn number_of(kind: Kind) -> u32
-    ensures { result ≡ kind_number kind }
-{
-    match kind {
-        Kind::Unspecified => 0,
-        Kind::Internal => 1,
-        Kind::Server => 2,
-        Kind::Client => 3,
-        Kind::Producer => 4,
-        Kind::Consumer => 5,
-    }
-}
-
-fn kind_member(out: &mut Writer, name: &str, kind: Kind) -> Result<(), OutOfMemory>
-    ensures { Appends result out.old out.new (given_tokens name.now (count_data (kind_number kind))) }
-{
-    number_member(out, name, number_of(kind))
-}
+use trace_model::Span;
 
 fn write_members_1_to_4(alloc: Global, out: &mut Writer, span: &Span) -> Result<(), OutOfMemory>
     ensures { Appends result out.old out.new (part_tokens (take 4 (otlp_span_rows span.now))) }
@@ -54,7 +33,7 @@ fn write_members_5_to_8(alloc: Global, out: &mut Writer, span: &Span) -> Result<
     time_member(out, "endTimeUnixNano", span.end)?;
     list_member(alloc, out, "events", &span.events)?;
     number_member(out, "flags", span.flags)?;
-    kind_member(out, "kind", span.kind)?;
+    number_member(out, "kind", span.kind.number())?;
     Ok(())
 }
 

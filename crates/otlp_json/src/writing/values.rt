@@ -7,7 +7,7 @@ ghost use Rattle.json.specs.Token.{begin_object, end_object, begin_array, end_ar
 ghost use Rattle.serde_json.specs.Data.{string, boolean, null};
 ghost use Rattle.json_members.specs.Writing.{Appends, data_tokens, given_tokens, pieces};
 ghost use Rattle.otlp_json.specs.Canonical.{one_member, any_value_data, unless_bare, list_data, attributes_data};
-ghost use Rattle.otlp_json.specs.Writing.{value_tokens, key_value_tokens};
+ghost use Rattle.otlp_json.specs.private.Writing.{value_tokens, key_value_tokens};
 
 use crate::writing::members::open_list;
 use base64::engine::general_purpose::STANDARD;

@@ -1,24 +1,11 @@
 //! Statuses, events and links.
-ghost use Rattle.std.specs.Prelude.{◌≡◌};
-ghost use Rattle.trace_model.specs.OtlpParts.{code_number};
-
 use crate::writing::elements::Message;
 use crate::writing::fields::{
     write_count, write_flags, write_span_id, write_text, write_time, write_trace,
 };
 use crate::writing::values::write_attributes;
 use span_io::{Blob, OutOfMemory};
-use trace_model::{Code, Event, Link, Status};
-
-fn number_of(code: Code) -> u32
-    ensures { result ≡ code_number code }
-{
-    match code {
-        Code::Unset => 0,
-        Code::Okay => 1,
-        Code::Fail => 2,
-    }
-}
+use trace_model::{Event, Link, Status};
 
 impl Message for Status {
     ghost use Rattle.otlp_proto.specs.Texts.{status_text};
@@ -28,7 +15,7 @@ impl Message for Status {
     #[tactic(auto, using(crate::proofs::Growth::in_pieces))]
     fn write(&self, out: &mut Blob) -> Result<(), OutOfMemory> {
         write_text(out, 2, &self.message)?;
-        write_count(out, 3, number_of(self.code))
+        write_count(out, 3, self.code.number())
     }
 }
 

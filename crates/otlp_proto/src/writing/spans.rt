@@ -10,20 +10,7 @@ use crate::writing::fields::{
 };
 use crate::writing::values::write_attributes;
 use span_io::{Blob, OutOfMemory};
-use trace_model::{Kind, Span};
-
-fn number_of(kind: Kind) -> u32
-    ensures { result ≡ kind_number kind }
-{
-    match kind {
-        Kind::Unspecified => 0,
-        Kind::Internal => 1,
-        Kind::Server => 2,
-        Kind::Client => 3,
-        Kind::Producer => 4,
-        Kind::Consumer => 5,
-    }
-}
+use trace_model::Span;
 
 // The sixteen fields of a span, in their order: four functions with four each, since the prover doesn't
 // take sixteen `?` at once.
@@ -55,7 +42,7 @@ fn write_fields_5_to_8(out: &mut Blob, span: &Span) -> Result<(), OutOfMemory>
         ++ (time_field 7 span.now.start ++ time_field 8 span.now.end)))) }
 {
     write_text(out, 5, &span.name)?;
-    write_count(out, 6, number_of(span.kind))?;
+    write_count(out, 6, span.kind.number())?;
     write_time(out, 7, span.start)?;
     write_time(out, 8, span.end)
 }

@@ -1,5 +1,5 @@
 -- Laws of columns, over any table.
-use Rattle.std.proofs.Common.{◌≡◌, ℕ, Bool, true, false, ◌||◌, List, [], ◌∷◌, ◌++◌, All, refl, sym, subst, true≢false}
+use Rattle.std.proofs.Common.{◌≡◌, ◌==◌, ℕ, Bool, true, false, ◌||◌, List, [], ◌∷◌, ◌++◌, All, length, find, Option, Some, None, refl, sym, subst, true≢false}
 use Rattle.std.specs.Str.{bytes_eq}
 use Rattle.std.proofs.lemmas.List.Elements.{All-nil, All-append}
 use Rattle.trace_model.specs.declared.value.Value.{Value}
@@ -26,3 +26,28 @@ module _ {C A : Type 0} (row_of : C → Row C A) where
       by : (is_key row_of more k ≡ true → P k) → (b : Bool) → bytes_eq k (row_of column).key ≡ b → (b || is_key row_of more k) ≡ true → P k
       by later true same found = subst P (sym (same_key k (row_of column).key same)) (each column)
       by later false apart found = later found
+
+  -- ---- keys of which no two have one length
+
+  -- whether it is the key of this column
+  abbrev pub is_key_of : List ℕ → Option C → Bool
+  is_key_of key None = false
+  is_key_of key (Some column) = bytes_eq key (row_of column).key
+
+  abbrev pub of_length : List C → ℕ → Option C
+  of_length columns bytes = find (λ column. length (row_of column).key == bytes) columns
+
+  -- a key is compared with the column of its length alone
+  pub key_by_length : (columns : List C) → ((column : C) → is_key_of (row_of column).key (of_length columns (length (row_of column).key)) ≡ true)
+      → ((column : C) → is_key row_of columns (row_of column).key ≡ true) → (key : List ℕ) → is_key_of key (of_length columns (length key)) ≡ is_key row_of columns key
+  key_by_length columns found its key = by (is_key_of key (of_length columns (length key))) (is_key row_of columns key) (back (of_length columns (length key)))
+      (each_key (λ k. is_key_of k (of_length columns (length k)) ≡ true) columns found key)
+    where
+      back : (column : Option C) → is_key_of key column ≡ true → is_key row_of columns key ≡ true
+      back None e = absurd (true≢false (sym e))
+      back (Some column) e = subst (λ k. is_key row_of columns k ≡ true) (sym (same_key key (row_of column).key e)) (its column)
+
+      by : (a b : Bool) → (a ≡ true → b ≡ true) → (b ≡ true → a ≡ true) → a ≡ b
+      by true b there here = sym (there refl)
+      by false true there here = here refl
+      by false false there here = refl

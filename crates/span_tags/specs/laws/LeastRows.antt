@@ -1,9 +1,8 @@
--- The least of what is told, row by row, and the order of keys and of faults.
-use Rattle.std.proofs.Common.{◌≡◌, ℕ, ◌<◌, Bool, true, false, cond, List, [], ◌∷◌, Option, Some, None, option_map, find, refl, sym, ap, ◌∙◌, subst, ⊎_elim, inl, inr, zero, suc, true≢false, arith}
-use Rattle.std.specs.Prelude.{◌≢◌, ◌⊎◌, Any, Contains}
+-- The least of what is told, and the least key.
+use Rattle.std.proofs.Common.{◌≡◌, ℕ, Bool, true, false, cond, List, [], ◌∷◌, Option, Some, None, option_map, find, refl, sym, ap, ◌∙◌, subst, ⊎_elim, inl, inr, zero, suc, true≢false, arith}
+use Rattle.std.specs.Prelude.{◌⊎◌, Any, Contains}
 use Rattle.std.specs.Bool.{Decides}
 use Rattle.std.specs.List.{list_any, AllByRecursion}
-use Rattle.std.specs.Option.{option_or}
 use Rattle.std.specs.Ordering.{nat_cmp, is_eq, ordering_reverse}
 use Rattle.std.specs.declared.cmp.Ordering.{Ordering}
 use Rattle.std.specs.declared.cmp.Ordering.TheVariants.{Less, Equal, Greater}
@@ -16,42 +15,26 @@ use Rattle.std.proofs.lemmas.Map.Keys.{sorted_head, sorted_tail}
 use Rattle.std.proofs.lemmas.Map.Text.{is_eq-slice_cmp}
 use Rattle.std.proofs.lemmas.Slice.Eq.{bytes_eq-Decides}
 use Rattle.trace_model.specs.Attributes.{by_order}
-use Rattle.trace_model.specs.Faults.{fault_number}
 use Rattle.trace_model.specs.LeastOf.{IsLeastOf}
-use Rattle.trace_model.specs.declared.fault.Fault.{Fault}
-use Rattle.span_tags.specs.PlacedFaults.{key_in}
-
--- the lesser of two keys
-abbrev pub least_key : Option (List ℕ) → Option (List ℕ) → Option (List ℕ)
-least_key None other = other
-least_key (Some key) None = Some key
-least_key (Some key) (Some other) = Some (by_order (slice_cmp nat_cmp key other) key key other)
-
--- a fault, where a test says so
-abbrev pub if_so : Bool → Fault → Option Fault
-if_so so fault = cond so (Some fault) None
-
--- ---- the least of two kinds
+use Rattle.span_tags.specs.FaultTables.{if_so, least_key}
+use Rattle.span_tags.specs.PlacedFaults.{KeyAtMost}
 
 module _ {X : Type 0} (AtMost : X → X → Type 0) (First Second : X → Type 0) where
-  pub least_or : (one other : Option X) → IsLeastOf AtMost First one → IsLeastOf AtMost Second other → ((x y : X) → First x → Second y → AtMost x y)
-      → IsLeastOf AtMost (λ x. First x ⊎ Second x) (option_or one other)
-  least_or None None one other before = λ x h. ⊎_elim (one x) (other x) h
-  least_or None (Some y) one other before = (inr other.0, λ x h. ⊎_elim (λ (f : First x). absurd (one x f)) (other.1 x) h)
-  least_or (Some x) other one rest before = (inl one.0, λ y h. ⊎_elim (one.1 y) (λ (s : Second y). before x y one.0 s) h)
-
   -- what is told in other words
   pub least_same : ((x : X) → First x → Second x) → ((x : X) → Second x → First x) → (found : Option X) → IsLeastOf AtMost First found → IsLeastOf AtMost Second found
   least_same to from None none = λ x h. none x (from x h)
   least_same to from (Some y) least = (to y least.0, λ x h. least.1 x (from x h))
 
+-- one alone, where a test says so
+pub least_if : {X : Type 0} (AtMost : X → X → Type 0) → ((x : X) → AtMost x x) → (found : X) (P : Type 0) (so : Bool) → Decides so P
+    → IsLeastOf AtMost (λ x. (x ≡ found) × P) (if_so so found)
+least_if AtMost itself found P true d = ((refl, d.0 refl), λ x h. subst (AtMost found) (sym h.0) (itself found))
+least_if AtMost itself found P false d = λ x h. true≢false (sym (d.1 h.1))
+
 -- ---- keys
 
 abbrev cmp : List ℕ → List ℕ → Ordering
 cmp = slice_cmp nat_cmp
-
-abbrev pub KeyAtMost : List ℕ → List ℕ → Type 0
-KeyAtMost a b = slice_cmp nat_cmp a b ≢ Greater
 
 same_from_Equal : (x y : List ℕ) → cmp x y ≡ Equal → x ≡ y
 same_from_Equal x y e = (bytes_eq-Decides x y).0 (sym (is_eq-slice_cmp x y) ∙ ap is_eq e)
@@ -62,7 +45,7 @@ not_above_itself k e =
     let differs : is_eq (cmp k k) ≡ false = ap is_eq e in
     true≢false (sym same ∙ differs)
 
-pub below_is_at_most : (a b : List ℕ) → cmp a b ≡ Less → KeyAtMost a b
+below_is_at_most : (a b : List ℕ) → cmp a b ≡ Less → KeyAtMost a b
 below_is_at_most a b less greater = let never : Less ≡ Greater = sym less ∙ greater in cc
 
 after_below : (a b c : List ℕ) → cmp a b ≡ Less → KeyAtMost b c → KeyAtMost a c
@@ -121,78 +104,67 @@ any_cases P x xs (suc k, y, lt, e, p) = inr (k, y, omega (arith, lt), e, p)
 pub itself : (b : Bool) → Decides b (b ≡ true)
 itself b = (λ e. e, λ e. e)
 
+pub never : Decides false ⊥
+never = (λ e. true≢false (sym e), λ h. absurd h)
+
 -- ---- members
 
-pub contains_here : {X : Type 0} (x : X) (xs : List X) → Contains (x ∷ xs) x
+contains_here : {X : Type 0} (x : X) (xs : List X) → Contains (x ∷ xs) x
 contains_here x xs = (0, omega arith, refl)
 
-pub contains_behind : {X : Type 0} (x : X) (xs : List X) (y : X) → Contains xs y → Contains (x ∷ xs) y
+contains_behind : {X : Type 0} (x : X) (xs : List X) (y : X) → Contains xs y → Contains (x ∷ xs) y
 contains_behind x xs y there = Contains-append_right (x ∷ []) xs y there
 
-pub contains_cases : {X : Type 0} (x : X) (xs : List X) (y : X) → Contains (x ∷ xs) y → (y ≡ x) ⊎ Contains xs y
+contains_cases : {X : Type 0} (x : X) (xs : List X) (y : X) → Contains (x ∷ xs) y → (y ≡ x) ⊎ Contains xs y
 contains_cases x xs y (zero, lt, e) = inl (sym e)
 contains_cases x xs y (suc k, lt, e) = inr (k, omega arith, e)
 
-pub contains_none : {X : Type 0} (y : X) → Contains [] y → ⊥
+contains_none : {X : Type 0} (y : X) → Contains [] y → ⊥
 contains_none y there = omega (arith, there.1)
 
-above_first : (k : List ℕ) (ks : List (List ℕ)) → AllByRecursion (λ x. cmp k x ≡ Less) ks → (y : List ℕ) → Contains ks y → cmp k y ≡ Less
-above_first k [] all y there = absurd (contains_none y there)
-above_first k (x ∷ ks) all y there = ⊎_elim
-    (λ (same : y ≡ x). subst (λ (z : List ℕ). cmp k z ≡ Less) (sym same) all.0)
-    (λ (h : Contains ks y). above_first k ks all.1 y h)
-    (contains_cases x ks y there)
+-- ---- members with rising keys
 
--- of rising keys the first that passes a test is the least
-module _ (test : List ℕ → Bool) where
-  abbrev Passes : List (List ℕ) → List ℕ → Type 0
-  Passes ks k = (test k ≡ true) × Contains ks k
+module _ {X : Type 0} (key_of : X → List ℕ) where
+  abbrev by_key : X → X → Ordering
+  by_key x y = cmp (key_of x) (key_of y)
 
-  first_passes : (k : List ℕ) (ks : List (List ℕ)) → IsStrictlySortedBy cmp (k ∷ ks) → IsLeastOf KeyAtMost (Passes ks) (find test ks)
-      → (b : Bool) → test k ≡ b → IsLeastOf KeyAtMost (Passes (k ∷ ks)) (cond b (Some k) (find test ks))
-  first_passes k ks up rest true e = (
-    (e, contains_here k ks),
-    λ x h. ⊎_elim
-        (λ (same : x ≡ k). subst (λ (z : List ℕ). KeyAtMost k z) (sym same) (not_above_itself k))
-        (λ (there : Contains ks x). below_is_at_most k x (above_first k ks (sorted_head cmp k ks up) x there))
-        (contains_cases k ks x h.1),
-  )
-  first_passes k ks up rest false e = least_same KeyAtMost (Passes ks) (Passes (k ∷ ks))
-      (λ x h. (h.0, contains_behind k ks x h.1))
-      (λ x h. (h.0, ⊎_elim (λ (same : x ≡ k). absurd (true≢false (sym h.0 ∙ ap test same ∙ e))) (λ (there : Contains ks x). there) (contains_cases k ks x h.1)))
-      (find test ks) rest
+  abbrev pub Rising : List X → Type 0
+  Rising xs = IsStrictlySortedBy by_key xs
 
-  pub least_found : (ks : List (List ℕ)) → IsStrictlySortedBy cmp ks → IsLeastOf KeyAtMost (Passes ks) (find test ks)
-  least_found [] up = λ x h. contains_none x h.1
-  least_found (k ∷ ks) up = first_passes k ks up (least_found ks (sorted_tail cmp k ks up)) (test k) refl
+  abbrev pub ByKey : X → X → Type 0
+  ByKey x y = KeyAtMost (key_of x) (key_of y)
 
--- ---- faults at a place
+  above_first : (x : X) (xs : List X) → AllByRecursion (λ y. by_key x y ≡ Less) xs → (y : X) → Contains xs y → by_key x y ≡ Less
+  above_first x [] all y there = absurd (contains_none y there)
+  above_first x (z ∷ xs) all y there = ⊎_elim
+      (λ (same : y ≡ z). subst (λ (w : X). by_key x w ≡ Less) (sym same) all.0)
+      (λ (h : Contains xs y). above_first x xs all.1 y h)
+      (contains_cases z xs y there)
 
-abbrev pub FaultAtMost : Fault → Fault → Type 0
-FaultAtMost a b = (fault_number a < fault_number b) ⊎ ((fault_number a ≡ fault_number b) × KeyAtMost (key_in a) (key_in b))
+  -- the first that passes a test has the least key
+  module _ (test : X → Bool) where
+    abbrev Passes : List X → X → Type 0
+    Passes xs x = (test x ≡ true) × Contains xs x
 
-pub at_most_same : (a b : Fault) → a ≡ b → FaultAtMost a b
-at_most_same a b same = inr (ap fault_number same, subst (λ (f : Fault). KeyAtMost (key_in a) (key_in f)) same (not_above_itself (key_in a)))
+    first_passes : (x : X) (xs : List X) → Rising (x ∷ xs) → IsLeastOf ByKey (Passes xs) (find test xs)
+        → (b : Bool) → test x ≡ b → IsLeastOf ByKey (Passes (x ∷ xs)) (cond b (Some x) (find test xs))
+    first_passes x xs up rest true e = (
+      (e, contains_here x xs),
+      λ y h. ⊎_elim
+          (λ (same : y ≡ x). subst (ByKey x) (sym same) (not_above_itself (key_of x)))
+          (λ (there : Contains xs y). below_is_at_most (key_of x) (key_of y) (above_first x xs (sorted_head by_key x xs up) y there))
+          (contains_cases x xs y h.1),
+    )
+    first_passes x xs up rest false e = least_same ByKey (Passes xs) (Passes (x ∷ xs))
+        (λ y h. (h.0, contains_behind x xs y h.1))
+        (λ y h. (h.0, ⊎_elim (λ (same : y ≡ x). absurd (true≢false (sym h.0 ∙ ap test same ∙ e))) (λ (there : Contains xs y). there) (contains_cases x xs y h.1)))
+        (find test xs) rest
 
--- one fault, where a test says so
-pub least_if : (fault : Fault) (P : Type 0) (so : Bool) → Decides so P → IsLeastOf FaultAtMost (λ f. (f ≡ fault) × P) (if_so so fault)
-least_if fault P true d = ((refl, d.0 refl), λ f h. at_most_same fault f (sym h.0))
-least_if fault P false d = λ f h. true≢false (sym (d.1 h.1))
+    pub least_found : (xs : List X) → Rising xs → IsLeastOf ByKey (Passes xs) (find test xs)
+    least_found [] up = λ x h. contains_none x h.1
+    least_found (x ∷ xs) up = first_passes x xs up (least_found xs (sorted_tail by_key x xs up)) (test x) refl
 
--- faults of one number, by the least of their keys
-pub least_named : (named : List ℕ → Fault) (n : ℕ) → ((k : List ℕ) → fault_number (named k) ≡ n) → ((k : List ℕ) → key_in (named k) ≡ k)
-    → (P : List ℕ → Type 0) (found : Option (List ℕ)) → IsLeastOf KeyAtMost P found
-    → IsLeastOf FaultAtMost (λ f. (k : List ℕ) × (f ≡ named k) × P k) (option_map named found)
-least_named named n numbered keyed P None none = λ f h. none h.0 h.2
-least_named named n numbered keyed P (Some k) least = (
-  (k, refl, least.0),
-  λ f h. inr (
-    numbered k ∙ sym (numbered h.0) ∙ ap fault_number (sym h.1),
-    subst (λ (z : List ℕ). KeyAtMost z (key_in f)) (sym (keyed k))
-        (subst (λ (z : List ℕ). KeyAtMost k z) (sym (keyed h.0) ∙ ap key_in (sym h.1)) (least.1 h.0 h.2)),
-  ),
-)
-
--- faults of lesser numbers come before others
-pub numbered_before : (a b : Fault) (m n : ℕ) → fault_number a ≡ m → fault_number b ≡ n → m < n → FaultAtMost a b
-numbered_before a b m n first second lt = inl (omega arith)
+  -- and its key is the least
+  pub least_key_of : (P : X → Type 0) (found : Option X) → IsLeastOf ByKey P found → IsLeastOf KeyAtMost (λ key. (x : X) × (key ≡ key_of x) × P x) (option_map key_of found)
+  least_key_of P None none = λ key h. none h.0 h.2
+  least_key_of P (Some x) least = ((x, refl, least.0), λ key h. subst (KeyAtMost (key_of x)) (sym h.1) (least.1 h.0 h.2))

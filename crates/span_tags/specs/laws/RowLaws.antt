@@ -1,25 +1,14 @@
 -- What is known of rows, keys that stand with a value or not at all, and of what stands last at a key.
 --     Told            each key with its value, or with none
 --     rows_of told    the pairs that they are
-use Rattle.std.proofs.Common.{◌≡◌, ℕ, Bool, true, false, cond, ◌||◌, List, [], ◌∷◌, ◌++◌, map, filter, Option, Some, None, option_map, refl, sym, ap, ◌∙◌, subst, true≢false}
-use Rattle.std.specs.List.{list_any, AllByRecursion}
+use Rattle.std.proofs.Common.{◌≡◌, ℕ, Bool, true, false, cond, ◌||◌, List, [], ◌∷◌, ◌++◌, map, filter, Option, Some, None, option_map, refl, sym, ap, ◌∙◌, true≢false}
+use Rattle.std.specs.List.{list_any}
 use Rattle.std.specs.Option.{option_or}
 use Rattle.std.specs.Str.{bytes_eq}
 use Rattle.trace_model.specs.Attributes.{at}
 use Rattle.trace_model.specs.declared.value.Value.{Value}
 use Rattle.span_tags.specs.laws.AttributeLaws.{same_key, option_or-none, last_at, last_at-append, on_values}
 use Rattle.span_tags.specs.TagWords.{Pairs, row}
-
--- ---- keys of a list
-
--- what holds for each key of a list holds for a key that is found there
-pub each_of : (P : List ℕ → Type 0) (ks : List (List ℕ)) → AllByRecursion P ks → (k : List ℕ) → list_any (bytes_eq k) ks ≡ true → P k
-each_of P [] all k e = absurd (true≢false (sym e))
-each_of P (q ∷ qs) all k e = by (each_of P qs all.1 k) (bytes_eq k q) refl e
-  where
-    by : (list_any (bytes_eq k) qs ≡ true → P k) → (b : Bool) → bytes_eq k q ≡ b → (b || list_any (bytes_eq k) qs) ≡ true → P k
-    by later true same found = subst P (sym (same_key k q same)) all.0
-    by later false apart found = later found
 
 -- ---- a row
 

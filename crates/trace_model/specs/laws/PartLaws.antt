@@ -15,7 +15,8 @@ use Rattle.std.proofs.lemmas.Map.Text.{is_eq-slice_cmp}
 use Rattle.std.proofs.lemmas.Slice.Eq.{bytes_eq-Decides}
 use Rattle.span_ids.specs.Proper.{IsProperTraceId}
 use Rattle.trace_model.specs.Attributes.{IsLast, AreAttributes}
-use Rattle.trace_model.specs.OtlpParts.{NotedValue, KeyValue, leaf, entry}
+use Rattle.trace_model.specs.declared.noted.KeyValue.{KeyValue}
+use Rattle.trace_model.specs.OtlpParts.{NotedValue, leaf, entry}
 use Rattle.trace_model.specs.Values.{depth, MapsRise}
 use Rattle.trace_model.specs.declared.value.Value.{Value, Value-F, roll-Value, out-Value, roll-out-Value}
 use Rattle.trace_model.specs.declared.value.Value.TheOpen as layers

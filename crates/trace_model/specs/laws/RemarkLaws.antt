@@ -13,7 +13,8 @@ use Rattle.trace_model.specs.declared.span.Span.{Span}
 use Rattle.trace_model.specs.declared.trace.Scope.{Scope}
 use Rattle.trace_model.specs.Remarks.{Keys, equal_keys, numbered}
 use Rattle.trace_model.specs.GroupRemarks.{link_remarks, span_remarks, scope_remarks, scopes_remarks}
-use Rattle.trace_model.specs.Notes.{Noted, SpanNotes, ScopeNotes}
+use Rattle.trace_model.specs.declared.noted.Noted.{Noted}
+use Rattle.trace_model.specs.Notes.{SpanNotes, ScopeNotes}
 use Rattle.trace_model.specs.OtlpParts.{kept_link, kept_links}
 
 -- ---- one member more

@@ -6,8 +6,11 @@ use Rattle.std.proofs.lemmas.List.{map-append, length-map}
 use Rattle.std.proofs.lemmas.List.Sums.{sum_by_push}
 use Rattle.span_io.specs.laws.TableLaws.{flat_more}
 use Rattle.trace_model.specs.GroupRemarks.{link_remarks, span_remarks, scope_remarks, scopes_remarks}
-use Rattle.trace_model.specs.Notes.{Noted, SpanNotes, ScopeNotes}
-use Rattle.trace_model.specs.OtlpParts.{NotedValue, KeyValue, entry, kept_link, kept_links, InstrumentationScope, IsScopeOfParts}
+use Rattle.trace_model.specs.declared.noted.Noted.{Noted}
+use Rattle.trace_model.specs.Notes.{SpanNotes, ScopeNotes}
+use Rattle.trace_model.specs.declared.noted.KeyValue.{KeyValue}
+use Rattle.trace_model.specs.declared.noted.InstrumentationScope.{InstrumentationScope}
+use Rattle.trace_model.specs.OtlpParts.{NotedValue, entry, kept_link, kept_links, IsScopeOfParts}
 use Rattle.trace_model.specs.OtlpTold.{AreToldValues, AreToldPairs, AreToldEvents, AreToldLinks, AreToldSpans, AreToldScopes}
 use Rattle.trace_model.specs.laws.RemarkLaws.{numbered_push, spans_noted, scopes_push}
 use Rattle.trace_model.specs.Remarks.{Keys, equal_keys, numbered}

@@ -1,7 +1,7 @@
 use Rattle.std.proofs.Common.{◌≡◌, ◌++◌, List, length, map}
 use Rattle.httparse.specs.Spans.{header_bytes}
 use Rattle.httparse.specs.declared.spans.HeaderSpan.{HeaderSpan}
-use Rattle.http_conn.specs.FoundFields.{FoundIn}
+use Rattle.http_conn.specs.private.FoundFields.{FoundIn}
 use Rattle.http_conn.specs.declared.fields.Fields.{Fields}
 use Rattle.http_conn.proofs.head.find_fields.Given as goal
 

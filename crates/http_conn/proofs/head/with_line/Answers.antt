@@ -1,7 +1,7 @@
 use Rattle.std.proofs.Common.{◌≡◌, [], ◌∷◌, ◌++◌, subst}
 use Rattle.httparse.specs.Spans.{header_bytes}
 use Rattle.http_conn.specs.Fields.{Line}
-use Rattle.http_conn.specs.FoundFields.{FoundIn}
+use Rattle.http_conn.specs.private.FoundFields.{FoundIn}
 use Rattle.http_conn.proofs.head.with_line.Goals as goal
 
 pub returns : goal.returns

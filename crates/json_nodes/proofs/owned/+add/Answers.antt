@@ -8,7 +8,7 @@ use Rattle.serde_json.specs.View.{view, number_view, items_of, members_view}
 use Rattle.serde_json.specs.declared.value.Value.{the_lemmas}
 use Rattle.serde_json.proofs.Views.{Entry, view-Array, view-Object}
 use Rattle.serde_json.proofs.Views as views
-use Rattle.json_nodes.specs.Building.{Spells, Adds, member_entries}
+use Rattle.json_nodes.specs.private.Building.{Spells, Adds, member_entries}
 use Rattle.json_nodes.specs.Nodes.{key, value as held, put_all}
 use Rattle.json_nodes.specs.declared.node.Node.TheVariants as nodes
 use Rattle.json_nodes.proofs.BuildingLemmas.{spells_null, spells_truth, spells_number, spells_text, spells_key, adds_none, adds_node, adds_then, place_within, array_closed, object_closed, members_told, one_more_member, put_last, held_values, held_more}

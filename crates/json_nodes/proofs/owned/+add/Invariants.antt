@@ -2,7 +2,7 @@ use Rattle.std.proofs.Common.{◌≡◌, ℕ, List, ◌++◌, take, map}
 use Rattle.serde_json.specs.Data.{Data, no_members}
 use Rattle.serde_json.specs.View.{view, members_view}
 use Rattle.serde_json.proofs.Views.{Entry}
-use Rattle.json_nodes.specs.Building.{Adds, member_entries}
+use Rattle.json_nodes.specs.private.Building.{Adds, member_entries}
 use Rattle.json_nodes.specs.Nodes.{value as held, put_all}
 use Rattle.json_nodes.proofs.owned.+add.Given as goal
 

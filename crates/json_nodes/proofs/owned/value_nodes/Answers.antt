@@ -1,6 +1,6 @@
 use Rattle.std.proofs.Common.{◌≡◌, [], ◌∷◌, List, subst, rules}
 use Rattle.serde_json.specs.View.{view}
-use Rattle.json_nodes.specs.Building.{Adds}
+use Rattle.json_nodes.specs.private.Building.{Adds}
 use Rattle.json_nodes.specs.Nodes.{value as held}
 use Rattle.json_nodes.specs.declared.node.Node.{Node}
 use Rattle.json_nodes.proofs.BuildingLemmas.{one_whole}

@@ -6,7 +6,7 @@ use Rattle.json.proofs.Grammar.{value_is, value-begin_array, value-begin_object,
 use Rattle.serde_json.specs.Data.{null, boolean, number, string, array, object, no_members}
 use Rattle.serde_json.specs.Read.{of_json, of_items, of_members, converted}
 use Rattle.serde_json.specs.View.{items_of}
-use Rattle.json_nodes.specs.Building.{Adds, member_entries}
+use Rattle.json_nodes.specs.private.Building.{Adds, member_entries}
 use Rattle.json_nodes.specs.Nodes.{num_of, key, value as held, put_all}
 use Rattle.json_nodes.specs.declared.node.Node.TheVariants as nodes
 use Rattle.json_nodes.proofs.BuildingLemmas.{spells_null, spells_truth, spells_number, spells_text, spells_key, adds_none, adds_node, adds_then, place_within, array_closed, object_closed, values_told, members_told, one_more_value, one_more_member, put_last}

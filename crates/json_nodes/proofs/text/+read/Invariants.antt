@@ -2,7 +2,7 @@ use Rattle.std.proofs.Common.{◌≡◌, ℕ, ◌+◌, ◌*◌, ◌≤◌, List,
 use Rattle.json.specs.Json.{items, members, value, parse_map}
 use Rattle.serde_json.specs.Data.{Data, no_members}
 use Rattle.serde_json.specs.Read.{of_items, of_members, converted}
-use Rattle.json_nodes.specs.Building.{Adds, member_entries}
+use Rattle.json_nodes.specs.private.Building.{Adds, member_entries}
 use Rattle.json_nodes.specs.Nodes.{value as held, put_all}
 use Rattle.json_nodes.proofs.TokenLemmas.{items_before}
 use Rattle.json_nodes.proofs.text.+read.Given as goal

@@ -2,7 +2,7 @@ use Rattle.std.proofs.Common.{◌≡◌, [], ◌∷◌, List, Some, sym, ap, ◌
 use Rattle.json.specs.Json.{value}
 use Rattle.json.specs.Lex.{tokens}
 use Rattle.serde_json.specs.Read.{of_json, converted}
-use Rattle.json_nodes.specs.Building.{Adds}
+use Rattle.json_nodes.specs.private.Building.{Adds}
 use Rattle.json_nodes.specs.Nodes.{value as held}
 use Rattle.json_nodes.specs.declared.node.Node.{Node}
 use Rattle.json_nodes.proofs.BuildingLemmas.{one_whole}

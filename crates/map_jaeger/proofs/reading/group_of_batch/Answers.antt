@@ -21,7 +21,7 @@ returns-clause-remarks c =
     let left : c.remark_if.new.remarks ≡ c.remark_keys.new.remarks ++ tags_dropped places.Resource (if_left service_key (is_some (at service_key c.in_ok-tags.tags))) =
     c.in_ok-remark_if.ensures ∙ ap (λ left. c.remark_keys.new.remarks ++ tags_dropped places.Resource (if_left service_key left)) c.is_there.ensures in
     batch_noted c.args.batch c.in_ok-tags.tags c.in_ok-tags.keys c.new-remarks.result
-    c.remark_keys.new.remarks c.remark_if.new.remarks c.remark_all.new.remarks c.in_ok-read.read.remarks
+    c.remark_keys.new.remarks c.remark_if.new.remarks c.remark_all.new.remarks c.in_ok-read.read.notes
     c.in_ok-tags.ensures.value c.in_ok-tags.ensures.repeated c.in_ok-read.ensures.remarks
     c.new-remarks.ensures c.in_ok-remark_keys.ensures left c.in_ok-remark_all.ensures
 

@@ -3,7 +3,6 @@ use Rattle.jaeger_model.specs.declared.batch.Batch.{Batch}
 use Rattle.map_jaeger.specs.Faults.{IsFaultOf}
 use Rattle.map_jaeger.specs.StatedLaws.{IsTimely}
 use Rattle.map_jaeger.proofs.NoDoubles.{group_plain}
-use Rattle.map_jaeger.proofs.NoFault.{none_found}
 use Rattle.map_jaeger.proofs.TimelySpans.{spans_timely}
 use Rattle.map_jaeger.proofs.writing.batch_of_group.Goals as goal
 
@@ -15,10 +14,10 @@ returns-in_ok-batch_of-in-None-clause-judged c = subst (IsFaultOf c.args.group) 
 
 pub returns-in_ok-batch_of-in-None-clause-timely : goal.returns-in_ok-batch_of-in-None-clause-timely
 returns-in_ok-batch_of-in-None-clause-timely c = subst (λ (batch : Batch). All IsTimely batch.spans) (sym c.in_ok-batch_of-in-None.ensures)
-    (spans_timely c.args.group (none_found c.args.group c.requires.sound (c.in_ok-fault.ensures.none.0 c.in-None.is)))
+    (spans_timely c.args.group (subst (IsFaultOf c.args.group) c.in-None.is c.in_ok-fault.ensures.judged))
 
 pub batch_of-requires : goal.batch_of-requires
 batch_of-requires c = record {
-  plain = group_plain c.args.group (none_found c.args.group c.requires.sound (c.in_ok-fault.ensures.none.0 c.in-None.is));
+  plain = group_plain c.args.group (subst (IsFaultOf c.args.group) c.in-None.is c.in_ok-fault.ensures.judged);
   sound = c.requires.sound;
 }

@@ -1,7 +1,7 @@
 use Rattle.std.proofs.Common.{◌≡◌, ◌++◌, false, map, All}
 use Rattle.std.specs.List.{list_any}
 use Rattle.trace_model.specs.Soundness.{IsSoundEvent}
-use Rattle.map_jaeger.specs.Doubles.{event_has_double}
+use Rattle.map_jaeger.specs.private.Doubles.{event_has_double}
 use Rattle.map_jaeger.specs.Writing.{log_of}
 use Rattle.map_jaeger.proofs.writing.logs_of.Given as goal
 

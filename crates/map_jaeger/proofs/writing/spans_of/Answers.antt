@@ -2,7 +2,7 @@ use Rattle.std.proofs.Common.{ap, map, ◌∙◌}
 use Rattle.std.proofs.lemmas.List.{map-append}
 use Rattle.trace_model.specs.Soundness.{IsSoundScope}
 use Rattle.span_tags.specs.Runs.{scoped, spans_of}
-use Rattle.map_jaeger.specs.Doubles.{scope_has_double}
+use Rattle.map_jaeger.specs.private.Doubles.{scope_has_double}
 use Rattle.map_jaeger.specs.Writing.{jaeger_span}
 use Rattle.span_tags.specs.laws.Moved.{several_more, still_none, still_all}
 use Rattle.map_jaeger.proofs.writing.spans_of.Goals as goal

@@ -2,7 +2,7 @@ use Rattle.std.proofs.Common.{◌≡◌, ◌++◌, false, map, All}
 use Rattle.std.specs.List.{list_any}
 use Rattle.trace_model.specs.Soundness.{IsSoundScope}
 use Rattle.span_tags.specs.Runs.{scoped}
-use Rattle.map_jaeger.specs.Doubles.{scope_has_double}
+use Rattle.map_jaeger.specs.private.Doubles.{scope_has_double}
 use Rattle.map_jaeger.specs.Writing.{jaeger_span}
 use Rattle.map_jaeger.proofs.writing.spans_of.Given as goal
 

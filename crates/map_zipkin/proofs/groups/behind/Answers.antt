@@ -1,6 +1,6 @@
 use Rattle.std.proofs.Common.{◌++◌, map, sym, ap, ◌∙◌}
 use Rattle.map_zipkin.specs.NotedGroups.{noted_group}
-use Rattle.map_zipkin.specs.ReadGroups.{last_alone}
+use Rattle.map_zipkin.specs.private.ReadGroups.{last_alone}
 use Rattle.map_zipkin.proofs.GroupsAtBack.{added_behind, joins_more, pushed}
 use Rattle.map_zipkin.proofs.groups.behind.Goals as goal
 

@@ -1,6 +1,6 @@
 use Rattle.std.proofs.Common.{◌≡◌, ◌+◌, ◌<◌, ◌^◌, length, map}
 use Rattle.map_zipkin.specs.NotedGroups.{noted_groups_of}
-use Rattle.map_zipkin.specs.ReadGroups.{spans_of_last, with_groups}
+use Rattle.map_zipkin.specs.private.ReadGroups.{spans_of_last, with_groups}
 use Rattle.map_zipkin.specs.Reading.{groups_of}
 use Rattle.map_zipkin.specs.Remarks.{zipkin_left_out}
 use Rattle.map_zipkin.proofs.groups.gathered.Given as goal

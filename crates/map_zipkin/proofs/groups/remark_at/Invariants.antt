@@ -1,5 +1,5 @@
 use Rattle.std.proofs.Common.{◌≡◌, ◌++◌, map}
-use Rattle.map_zipkin.specs.ReadGroups.{moved_to}
+use Rattle.map_zipkin.specs.private.ReadGroups.{moved_to}
 use Rattle.map_zipkin.proofs.groups.remark_at.Given as goal
 
 abbrev pub invariant-remarks : goal.invariant-remarks

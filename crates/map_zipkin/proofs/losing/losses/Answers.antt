@@ -1,6 +1,6 @@
 use Rattle.std.proofs.Common.{ℕ, List, ◌++◌, option_map, Bor, ap, ◌∙◌}
 use Rattle.span_tags.specs.Losses.{named}
-use Rattle.map_zipkin.specs.LossWalks.{joined_losses}
+use Rattle.map_zipkin.specs.private.LossWalks.{joined_losses}
 use Rattle.map_zipkin.specs.declared.run.Run.{Run}
 use Rattle.map_zipkin.proofs.FitGroups.{resource_fit}
 use Rattle.map_zipkin.proofs.LossLoops.{group_told}

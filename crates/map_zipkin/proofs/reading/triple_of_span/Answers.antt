@@ -21,12 +21,12 @@ pub returns-clause-value : goal.returns-clause-value
 returns-clause-value c =
     let span : ZSpan = c.args.span in
     let tag : Option Value = option_map (λ v. v.now) c.find-tag.result in
-    span_joined span c.in_ok-told.told c.in_ok-parted.parted c.in_ok-events.events c.new-links.result c.kind_of.result
-    c.in_ok-tags.tags c.in_ok-ends.ends c.replace-service.result tag
+    span_joined span c.in_ok-told.told c.in_ok-parted.parted c.in_ok-events.events c.new-5.result c.kind_of.result
+    c.in_ok-tags.tags c.in_ok-own.own c.replace-service.result tag
     (c.in_ok-tags.ensures ∙ ap (map pair_of) c.replace-own_tags.ensures.value) c.in_ok-told.ensures
     (c.in_ok-events.ensures ∙ ap (map zipkin_event_of) c.replace-annotations.ensures.value) c.replace-service.ensures.value c.find-tag.ensures
-    (c.in_ok-ends.ensures ∙ ap (λ s. row peer_key (peer_of s tag) ++ own_rows (own_of span)) c.replace-peer.ensures.value)
-    c.in_ok-parted.ensures c.kind_of.ensures c.new-links.ensures
+    (c.in_ok-own.ensures ∙ ap (λ s. row peer_key (peer_of s tag) ++ own_rows (own_of span)) c.replace-peer.ensures.value)
+    c.in_ok-parted.ensures c.kind_of.ensures c.new-5.ensures
 
 pub returns-clause-remarks : goal.returns-clause-remarks
 returns-clause-remarks c =

@@ -1,4 +1,4 @@
-use Rattle.map_zipkin.specs.Unfit.{span_unfit}
+use Rattle.map_zipkin.specs.private.Unfit.{span_unfit}
 use Rattle.map_zipkin.specs.Writing.{zipkin_span}
 use Rattle.span_tags.specs.laws.Moved.{one_more_of, still_none}
 use Rattle.span_tags.specs.Runs.{under}

@@ -1,9 +1,9 @@
 use Rattle.std.proofs.Common.{◌≡◌, ℕ, List, ◌++◌, false, map}
 use Rattle.std.specs.List.{list_any}
 use Rattle.span_tags.specs.Runs.{under}
-use Rattle.map_zipkin.specs.Unfit.{span_unfit}
+use Rattle.map_zipkin.specs.private.Unfit.{span_unfit}
 use Rattle.map_zipkin.specs.Writing.{zipkin_span}
-use Rattle.map_zipkin.specs.WritingSoFar.{shared_rows}
+use Rattle.map_zipkin.specs.private.WritingSoFar.{shared_rows}
 use Rattle.map_zipkin.proofs.writing.push_spans.Given as goal
 
 abbrev pub invariant-spans : goal.invariant-spans

@@ -17,7 +17,7 @@ returns c = λ name version is.
     let tags : c.in_ok-tags.tags ≡ zipkin_tags_of c.args.resource.now one =
     c.in_ok-tags.ensures
     ∙ ap (λ l. map zipkin_tag_of (attrs l)) (λ i. c.in_ok-own.ensures i ++ ((c.as_slice.ensures ∙ is) i ++ told))
-    ∙ ap (map zipkin_tag_of) (rows_are_columns c.args.resource.now one told) in
+    ∙ ap (map zipkin_tag_of) (rows_are_columns one c.args.resource.now told) in
     λ i. record {
       trace = c.args.span.trace;
       id = c.args.span.id;

@@ -1,7 +1,7 @@
 use Rattle.std.proofs.Common.{◌≡◌, ◌++◌, false, map}
 use Rattle.std.specs.List.{list_any}
 use Rattle.span_tags.specs.Runs.{scoped}
-use Rattle.map_zipkin.specs.Unfit.{scope_unfit}
+use Rattle.map_zipkin.specs.private.Unfit.{scope_unfit}
 use Rattle.map_zipkin.specs.Writing.{zipkin_span}
 use Rattle.map_zipkin.proofs.writing.spans_of.Given as goal
 

@@ -1,7 +1,7 @@
 use Rattle.std.proofs.Common.{List, length}
 use Rattle.propagation.specs.Blocks.{Header}
-use Rattle.propagation.specs.FoundHeaders.{FoundIn}
-use Rattle.propagation.specs.HeaderLines.{HeadersThen}
+use Rattle.propagation.specs.private.FoundHeaders.{FoundIn}
+use Rattle.propagation.specs.private.HeaderLines.{HeadersThen}
 use Rattle.propagation.specs.declared.found.Found.{Found}
 use Rattle.propagation.proofs.headers.find_headers.Given as goal
 

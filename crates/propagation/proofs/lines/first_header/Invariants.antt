@@ -1,5 +1,5 @@
 use Rattle.std.proofs.Common.{◌≤◌, [], length}
-use Rattle.propagation.specs.HeaderLines.{HeadersThen}
+use Rattle.propagation.specs.private.HeaderLines.{HeadersThen}
 use Rattle.propagation.proofs.lines.first_header.Given as goal
 
 abbrev pub invariant-lines : goal.invariant-lines

@@ -1,4 +1,4 @@
-use Rattle.span_cli.specs.ServingSteps.{VisitsSoFar}
+use Rattle.span_cli.specs.private.ServingSteps.{VisitsSoFar}
 use Rattle.span_cli.proofs.serve.serve_each.Given as goal
 
 abbrev pub invariant-visits : goal.invariant-visits

@@ -1,5 +1,5 @@
 use Rattle.span_io.specs.declared.form.Form.{Form}
-use Rattle.span_convert.specs.InputLaws.{InputLaws}
+use Rattle.span_convert.specs.private.InputLaws.{InputLaws}
 use Rattle.span_convert.specs.Reports.{written_target}
 use Rattle.span_convert.specs.Units.{input_form}
 use Rattle.span_convert.proofs.InputForms.{SomeInput}

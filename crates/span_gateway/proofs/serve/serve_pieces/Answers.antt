@@ -1,7 +1,7 @@
 use Rattle.std.proofs.Common.{ℕ, List, Ok, Err, Option, sym, ap, subst, ◌∙◌, arith}
 use Rattle.std.proofs.lemmas.Result.{err_from_is_err_and}
 use Rattle.http_conn.specs.NextRequests.{Knows}
-use Rattle.span_gateway.specs.Steps.{AnswersAll, AnswersLast, AnswersWhole, EndsHere}
+use Rattle.span_gateway.specs.private.Steps.{AnswersAll, AnswersLast, AnswersWhole, EndsHere}
 use Rattle.span_gateway.specs.declared.ended.Ended.{Ended}
 use Rattle.span_gateway.proofs.ServeLemmas.{Progress, exit_answers, exit_last, exit_nothing, exit_reads, goes_none, goes_piece, progress_more, progress_start, waits_answers}
 use Rattle.span_gateway.proofs.serve.serve_pieces.Goals as goal

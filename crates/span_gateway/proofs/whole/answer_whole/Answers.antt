@@ -3,7 +3,7 @@ use Rattle.std.proofs.lemmas.Result.{err_from_is_err_and}
 use Rattle.http_conn.specs.NextRequests.{IsNext, Knows}
 use Rattle.http_conn.specs.declared.next.Next.TheVariants.{Whole, Refuse}
 use Rattle.span_gateway.specs.Answers.{IsAnswer}
-use Rattle.span_gateway.specs.Steps.{Sends}
+use Rattle.span_gateway.specs.private.Steps.{Sends}
 use Rattle.span_gateway.proofs.WholeLemmas.{SoFar, closed, refusal_fault, refused_last, replied, reply_fault}
 use Rattle.span_gateway.proofs.whole.answer_whole.Goals as goal
 

@@ -5,7 +5,7 @@ use Rattle.span_io.specs.Limits.{shipped_limits}
 use Rattle.span_io.specs.declared.form.Form.TheVariants.{OtlpProto}
 use Rattle.span_convert.specs.Converters.{Feeds, stop_in}
 use Rattle.span_convert.specs.declared.written.Written.TheVariants as written
-use Rattle.span_vectors.specs.Feeds.{groups_text, to_form}
+use Rattle.span_vectors.specs.private.Feeds.{groups_text, to_form}
 use Rattle.span_vectors.specs.Gauge.{gauge_group}
 use Rattle.span_vectors.proofs.Feeding.{feed_wants, feeds_more}
 use Rattle.span_vectors.proofs.Frames.{groups_more}

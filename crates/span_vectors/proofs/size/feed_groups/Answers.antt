@@ -5,7 +5,7 @@ use Rattle.span_io.specs.declared.form.Form.TheVariants.{OtlpProto}
 use Rattle.span_io.specs.declared.limits.Limits.{Limits}
 use Rattle.span_convert.specs.Converters.{Fed, Work}
 use Rattle.span_convert.specs.declared.written.Written.TheVariants as written
-use Rattle.span_vectors.specs.Feeds.{to_form}
+use Rattle.span_vectors.specs.private.Feeds.{to_form}
 use Rattle.span_vectors.proofs.Frames.{no_groups}
 use Rattle.span_vectors.proofs.size.feed_groups.Goals as goal
 

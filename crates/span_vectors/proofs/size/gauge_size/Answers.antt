@@ -6,7 +6,7 @@ use Rattle.span_convert.specs.Converters.{Work, stop_in}
 use Rattle.span_convert.specs.Units.{canonical_text}
 use Rattle.span_convert.specs.Verdicts.{tally_of}
 use Rattle.span_convert.specs.declared.stop.Stop.{Stop}
-use Rattle.span_vectors.specs.Feeds.{groups_text}
+use Rattle.span_vectors.specs.private.Feeds.{groups_text}
 use Rattle.span_vectors.specs.Gauge.{gauge, group_count}
 use Rattle.span_vectors.specs.StatedLaws.{GaugeIsConverted}
 use Rattle.span_vectors.proofs.Feeding.{counts_all, only_memory, same_to, verdict}

@@ -1,6 +1,6 @@
 use Rattle.std.proofs.Common.{◌≡◌, ◌+◌, ◌≤◌, ◌++◌, ◌∷◌, ◌∙◌, [], length, take, ap, sym, subst, arith}
 use Rattle.std.proofs.lemmas.List.{length-append, length-take}
-use Rattle.thrift_core.specs.StackWalks.{open_of, HaltsThere}
+use Rattle.thrift_core.specs.private.StackWalks.{open_of, HaltsThere}
 use Rattle.thrift_core.specs.Walks.{outer_struct, Passes}
 use Rattle.thrift_core.proofs.Resuming.{joined_passes, joined_over, resumed_joined, enough_taken, on_ok}
 use Rattle.thrift_core.proofs.StackSteps.{halts_on}

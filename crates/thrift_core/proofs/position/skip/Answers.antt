@@ -1,6 +1,6 @@
 use Rattle.std.proofs.Common.{◌-◌, ◌≤◌, ◌++◌, ◌∷◌, [], length, take, drop, refl, sym, subst, arith}
 use Rattle.std.proofs.lemmas.List.{length-take, length-drop}
-use Rattle.thrift_core.specs.StackWalks.{open_of}
+use Rattle.thrift_core.specs.private.StackWalks.{open_of}
 use Rattle.thrift_core.specs.Walks.{outer_struct, Passes}
 use Rattle.thrift_core.proofs.Resuming.{rest_part, binary_short, behind_binary, counted_on}
 use Rattle.thrift_core.proofs.position.skip.Goals as goal

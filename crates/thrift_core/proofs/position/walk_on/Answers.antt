@@ -1,7 +1,7 @@
 use Rattle.std.proofs.Common.{[], ◌∷◌, length, ap, sym, subst, arith}
 use Rattle.thrift_core.specs.declared.position.Position.{Position}
 use Rattle.thrift_core.specs.Positions.{KeepsOf}
-use Rattle.thrift_core.specs.StackWalks.{open_of, HaltsThere}
+use Rattle.thrift_core.specs.private.StackWalks.{open_of, HaltsThere}
 use Rattle.thrift_core.specs.Walks.{outer_struct, Passes}
 use Rattle.thrift_core.proofs.Determined.{passes_on}
 use Rattle.thrift_core.proofs.Resuming.{halting}

@@ -1,6 +1,6 @@
 use Rattle.std.proofs.Common.{◌∷◌, [], Err, subst, sym, arith}
 use Rattle.thrift_core.specs.Places.{stack_of}
-use Rattle.thrift_core.specs.StackWalks.{levels_in, ValueStepped}
+use Rattle.thrift_core.specs.private.StackWalks.{levels_in, ValueStepped}
 use Rattle.thrift_core.specs.Walks.{in_value}
 use Rattle.thrift_core.proofs.Determined.{passes_above}
 use Rattle.thrift_core.proofs.StackSteps.{leaf_halted, leaf_nearer}

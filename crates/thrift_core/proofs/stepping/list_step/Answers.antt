@@ -3,7 +3,7 @@ use Rattle.std.proofs.lemmas.List.{length-append}
 use Rattle.thrift_core.specs.declared.stack.Level.TheVariants as levels
 use Rattle.thrift_core.specs.Parts.{list_head}
 use Rattle.thrift_core.specs.Places.{stack_of}
-use Rattle.thrift_core.specs.StackWalks.{levels_in}
+use Rattle.thrift_core.specs.private.StackWalks.{levels_in}
 use Rattle.thrift_core.specs.Walks.{opened_elements, in_elements, Passes}
 use Rattle.thrift_core.proofs.StackSteps.{list_level, levels_are, level_under, head_refused, entered_by, weight_most}
 use Rattle.thrift_core.proofs.WalkSteps.{part_read, part_shortens}

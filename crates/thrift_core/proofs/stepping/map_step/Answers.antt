@@ -2,7 +2,7 @@ use Rattle.std.proofs.Common.{◌≡◌, ◌<◌, ◌∷◌, ◌++◌, [], lengt
 use Rattle.std.proofs.lemmas.List.{length-append}
 use Rattle.thrift_core.specs.Parts.{map_head}
 use Rattle.thrift_core.specs.Places.{open_level, stack_of}
-use Rattle.thrift_core.specs.StackWalks.{levels_in}
+use Rattle.thrift_core.specs.private.StackWalks.{levels_in}
 use Rattle.thrift_core.specs.Walks.{opened_pairs, Passes}
 use Rattle.thrift_core.proofs.StackSteps.{map_level, levels_are, level_under, head_refused, entered_by, weight_most}
 use Rattle.thrift_core.proofs.WalkSteps.{part_read, part_shortens}

@@ -1,5 +1,5 @@
 use Rattle.std.proofs.Common.{[], refl, arith}
-use Rattle.thrift_core.specs.StackWalks.{open_of}
+use Rattle.thrift_core.specs.private.StackWalks.{open_of}
 use Rattle.thrift_core.proofs.Determined.{no_turns, passes_on}
 use Rattle.thrift_core.proofs.StackSteps.{walk_halted, over, not_over}
 use Rattle.thrift_core.proofs.stepping.walk.Goals as goal

@@ -1,5 +1,5 @@
 use Rattle.thrift_core.proofs.StackSteps.{Onward}
-use Rattle.thrift_core.specs.StackWalks.{steps_left}
+use Rattle.thrift_core.specs.private.StackWalks.{steps_left}
 use Rattle.thrift_core.proofs.stepping.walk.Given as goal
 
 abbrev pub invariant-steps : goal.invariant-steps

@@ -1,6 +1,6 @@
 use Rattle.std.proofs.Common.{rules, length, ap, arith}
 use Rattle.std.proofs.lemmas.List.Sorted.{answers_always, length_permutation}
-use Rattle.trace_model.specs.Gathering.{key_above}
+use Rattle.trace_model.specs.private.Gathering.{key_above}
 use Rattle.trace_model.proofs.Gathered.{falling_order}
 use Rattle.trace_model.proofs.attributes.falling.Goals as goal
 

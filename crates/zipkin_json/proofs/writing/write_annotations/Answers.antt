@@ -1,5 +1,5 @@
 use Rattle.std.proofs.Common.{rules}
-use Rattle.zipkin_json.specs.Writing.{annotation_piece}
+use Rattle.zipkin_json.specs.private.Writing.{annotation_piece}
 use Rattle.json_members.specs.laws.WritingLaws.{goes_on, stops, exits_written}
 use Rattle.zipkin_json.proofs.writing.write_annotations.Goals as goal
 

@@ -1,6 +1,6 @@
 use Rattle.std.proofs.Common.{sym, subst, ◌∙◌}
 use Rattle.http_conn.specs.Fields.{values}
-use Rattle.http_conn.specs.FoundFields.{HoldsOnce}
+use Rattle.http_conn.specs.private.FoundFields.{HoldsOnce}
 use Rattle.http_conn.proofs.FieldLemmas.{named_more, other_more}
 use Rattle.http_conn.proofs.fields.Once.noted.Goals as goal
 

@@ -1,7 +1,7 @@
 use Rattle.std.proofs.Common.{subst, w32}
 use Rattle.std.proofs.lemmas.Int.{to_z-of_z}
 use Rattle.thrift_core.specs.Parts.{int}
-use Rattle.jaeger_model.specs.Growing.{GrowsBy}
+use Rattle.jaeger_model.specs.private.Growing.{GrowsBy}
 use Rattle.thrift_core.specs.Trees.{i32, leaf}
 use Rattle.thrift_core.specs.Written.{value_written}
 use Rattle.jaeger_model.proofs.Growth.{field_seq, clauses}

@@ -1,5 +1,5 @@
 use Rattle.std.proofs.Common.{ap, ◌∙◌}
-use Rattle.json_nodes.specs.Parts.{truth_in}
+use Rattle.json_nodes.specs.private.Parts.{truth_in}
 use Rattle.json_nodes.proofs.NodeLemmas.{truth_at}
 use Rattle.json_nodes.proofs.lent.Lent.as_bool.Goals as goal
 

@@ -1,5 +1,5 @@
 use Rattle.std.proofs.Common.{ap, ◌∙◌}
-use Rattle.json_nodes.specs.Parts.{text_in}
+use Rattle.json_nodes.specs.private.Parts.{text_in}
 use Rattle.json_nodes.proofs.NodeLemmas.{text_at}
 use Rattle.json_nodes.proofs.lent.Lent.as_str.Goals as goal
 

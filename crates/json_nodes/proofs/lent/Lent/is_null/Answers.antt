@@ -1,5 +1,5 @@
 use Rattle.std.proofs.Common.{ap, ◌∙◌}
-use Rattle.json_nodes.specs.Parts.{is_null_node}
+use Rattle.json_nodes.specs.private.Parts.{is_null_node}
 use Rattle.json_nodes.proofs.NodeLemmas.{null_at}
 use Rattle.json_nodes.proofs.lent.Lent.is_null.Goals as goal
 

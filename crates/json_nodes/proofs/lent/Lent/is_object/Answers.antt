@@ -1,5 +1,5 @@
 use Rattle.std.proofs.Common.{is_some, ap, ◌∙◌}
-use Rattle.json_nodes.specs.Parts.{object_in}
+use Rattle.json_nodes.specs.private.Parts.{object_in}
 use Rattle.json_nodes.proofs.NodeLemmas.{object_at}
 use Rattle.json_nodes.proofs.lent.Lent.is_object.Goals as goal
 

@@ -1,6 +1,6 @@
 use Rattle.std.proofs.Common.{◌≡◌, ◌∷◌, None, rules}
 use Rattle.json_nodes.specs.Nodes.{spelled, next_value}
-use Rattle.json_nodes.specs.Parts.{key_in}
+use Rattle.json_nodes.specs.private.Parts.{key_in}
 use Rattle.json_nodes.proofs.NodeLemmas.{no_pairs, no_key_at, key_alone, pair_at}
 use Rattle.json_nodes.proofs.members.Members.next.Goals as goal
 

@@ -1,6 +1,6 @@
 use Rattle.std.proofs.Common.{◌+◌, ◌++◌, map, refl, ap, ◌∙◌}
 use Rattle.trace_model.specs.declared.place.Place.TheVariants as places
-use Rattle.map_zipkin.specs.ReadGroups.{moved_to}
+use Rattle.map_zipkin.specs.private.ReadGroups.{moved_to}
 use Rattle.map_zipkin.proofs.GroupsAtBack.{moved_tags}
 use Rattle.map_zipkin.proofs.groups.Last.with.Goals as goal
 

@@ -1,6 +1,6 @@
 use Rattle.std.proofs.Common.{◌≡◌, ◌<◌, ◌≤◌, length, ap, sym, subst, ◌∙◌}
 use Rattle.span_tags.specs.TagKeys.{service_key}
-use Rattle.map_zipkin.specs.LossWalks.{still_same, Advances, IsWithin}
+use Rattle.map_zipkin.specs.private.LossWalks.{still_same, Advances, IsWithin}
 use Rattle.map_zipkin.specs.Normal.{normal_pairs}
 use Rattle.map_zipkin.specs.Regrouped.{same_resource}
 use Rattle.map_zipkin.proofs.KeptTexts.{normal_kept}

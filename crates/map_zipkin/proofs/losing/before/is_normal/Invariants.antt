@@ -1,5 +1,5 @@
 use Rattle.std.proofs.Common.{◌≡◌, ◌≤◌, drop, length}
-use Rattle.map_zipkin.specs.LossWalks.{still_same}
+use Rattle.map_zipkin.specs.private.LossWalks.{still_same}
 use Rattle.map_zipkin.proofs.losing.before.is_normal.Given as goal
 
 abbrev pub invariant-pairs : goal.invariant-pairs

@@ -1,6 +1,6 @@
 use Rattle.std.proofs.Common.{◌<◌, ◌≤◌, length, ◌∙◌, sym}
 use Rattle.span_tags.specs.TagKeys.{service_key}
-use Rattle.map_zipkin.specs.LossWalks.{kept_texts}
+use Rattle.map_zipkin.specs.private.LossWalks.{kept_texts}
 use Rattle.map_zipkin.proofs.KeptTexts.{normal_kept}
 use Rattle.map_zipkin.proofs.LossLoops.{kept_step, kept_end}
 use Rattle.map_zipkin.proofs.losing.before.normal_resource.Goals as goal

@@ -1,6 +1,6 @@
 use Rattle.std.proofs.Common.{◌≡◌, ℕ, List, drop, None, option_map, Bor}
 use Rattle.span_tags.specs.Losses.{named}
-use Rattle.map_zipkin.specs.LossWalks.{names_at_end}
+use Rattle.map_zipkin.specs.private.LossWalks.{names_at_end}
 use Rattle.map_zipkin.proofs.losing.scopes.last_names.Given as goal
 
 abbrev pub invariant-scopes : goal.invariant-scopes

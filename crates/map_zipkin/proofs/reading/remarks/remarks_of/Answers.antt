@@ -1,16 +1,23 @@
 use Rattle.std.proofs.Common.{◌++◌, ap, ◌∙◌}
-use Rattle.map_zipkin.specs.ReadColumns.{next_left_out}
-use Rattle.map_zipkin.specs.Remarks.{left_out_by, own_left}
-use Rattle.map_zipkin.specs.TagColumns.{columns_in}
 use Rattle.trace_model.specs.Remarks.{tags_dropped}
 use Rattle.trace_model.specs.declared.place.Place.TheVariants as places
+use Rattle.span_tags.specs.TagKeys.{service_key}
+use Rattle.span_tags.specs.TagWords.{if_left}
+use Rattle.map_zipkin.specs.Keys.{peer_key, resource_prefix}
+use Rattle.map_zipkin.specs.Remarks.{left_out_by}
+use Rattle.map_zipkin.specs.TagColumns.{columns_in}
+use Rattle.map_zipkin.proofs.LeftOut.{joined}
 use Rattle.map_zipkin.proofs.reading.remarks.remarks_of.Goals as goal
 
 pub returns : goal.returns
 returns c =
+    let place = places.Span 1 in
     let tags = c.args.tags.now in
-    let own = own_left tags in
-    c.in_ok-remark_own.ensures
-    ∙ c.in_ok-remark_next.ensures own
-    ∙ c.in_ok-remark_first.ensures (next_left_out c.args.service.now (columns_in tags) tags own)
-    ∙ ap (λ l. l ++ tags_dropped (places.Span 1) (left_out_by c.args.service.now (columns_in tags) tags)) c.new-remarks.ensures
+    let new = c.remark_own.new.remarks in
+    joined place _ _ c.new-remarks.result c.remark_columns.new.remarks new c.in_ok-remark_columns.ensures
+    (joined place _ _ c.remark_columns.new.remarks c.remark_if.new.remarks new
+    (c.in_ok-remark_if.ensures ∙ ap (λ b. c.remark_columns.new.remarks ++ tags_dropped place (if_left (resource_prefix ++ service_key) b)) c.is_there.ensures)
+    (joined place _ _ c.remark_if.new.remarks c.remark_column.new.remarks new c.in_ok-remark_column.ensures
+    (joined place _ _ c.remark_column.new.remarks c.remark_if-2.new.remarks new
+    (c.in_ok-remark_if-2.ensures ∙ ap (λ b. c.remark_column.new.remarks ++ tags_dropped place (if_left peer_key b)) c.is_idle_peer-idle.ensures) c.in_ok-remark_own.ensures)))
+    ∙ ap (λ l. l ++ tags_dropped place (left_out_by c.args.service.now (columns_in tags) tags)) c.new-remarks.ensures

@@ -2,7 +2,7 @@ use Rattle.std.proofs.Common.{◌≡◌, ◌∷◌, ◌++◌, [], true, ap, map,
 use Rattle.trace_model.specs.Attributes.{Rise, attrs, keys}
 use Rattle.trace_model.specs.EventTexts.{holds_double}
 use Rattle.map_zipkin.specs.Writing.{is_told, told_pairs, zipkin_tag_of}
-use Rattle.map_zipkin.specs.WritingSoFar.{rows_above, rows_below}
+use Rattle.map_zipkin.specs.private.WritingSoFar.{rows_above, rows_below}
 use Rattle.map_zipkin.proofs.MergedRows.{added_between, rise_above}
 use Rattle.map_zipkin.proofs.PlainTags.{plain_above, plain_below}
 use Rattle.map_zipkin.proofs.writing.tags.add_between.Goals as goal

@@ -4,7 +4,7 @@ use Rattle.trace_model.specs.Attributes.{Rise, keys}
 use Rattle.span_tags.specs.laws.AttributeLaws.{attrs_rise}
 use Rattle.span_tags.specs.laws.Moved.{none_left}
 use Rattle.map_zipkin.specs.Writing.{zipkin_tag_of}
-use Rattle.map_zipkin.specs.WritingSoFar.{tags_by}
+use Rattle.map_zipkin.specs.private.WritingSoFar.{tags_by}
 use Rattle.map_zipkin.proofs.MergedRows.{all_in_order, joined_before}
 use Rattle.map_zipkin.proofs.PlainTags.{attrs_plain, rows_plain}
 use Rattle.map_zipkin.proofs.writing.tags.tags_of.Goals as goal

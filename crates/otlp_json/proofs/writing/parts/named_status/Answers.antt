@@ -8,11 +8,11 @@ returns-in_err-name_of c = exits_written _ c.in_err-name_of.field-0.0 _ _ _ _ (s
 pub returns-in_err-open_object : goal.returns-in_err-open_object
 returns-in_err-open_object c = exits_written _ c.in_err-open_object.field-0.0 _ _ _ _ (search rules) (seq _ _ _ _ _ _ c.in_ok-name_of.ensures (stop _ _ _ _ _ c.in_err-open_object.ensures))
 
-pub returns-in_err-code_member : goal.returns-in_err-code_member
-returns-in_err-code_member c = exits_written _ c.in_err-code_member.field-0.0 _ _ _ _ (search rules) (seq _ _ _ _ _ _ c.in_ok-name_of.ensures (seq _ _ _ _ _ _ c.in_ok-open_object.ensures (stop _ _ _ _ _ c.in_err-code_member.ensures)))
+pub returns-in_err-number_member : goal.returns-in_err-number_member
+returns-in_err-number_member c = exits_written _ c.in_err-number_member.field-0.0 _ _ _ _ (search rules) (seq _ _ _ _ _ _ c.in_ok-name_of.ensures (seq _ _ _ _ _ _ c.in_ok-open_object.ensures (stop _ _ _ _ _ (rw c.number.ensures at c.in_err-number_member.ensures))))
 
 pub returns-in_err-given_text_member : goal.returns-in_err-given_text_member
-returns-in_err-given_text_member c = exits_written _ c.in_err-given_text_member.field-0.0 _ _ _ _ (search rules) (seq _ _ _ _ _ _ c.in_ok-name_of.ensures (seq _ _ _ _ _ _ c.in_ok-open_object.ensures (seq _ _ _ _ _ _ c.in_ok-code_member.ensures (stop _ _ _ _ _ c.in_err-given_text_member.ensures))))
+returns-in_err-given_text_member c = exits_written _ c.in_err-given_text_member.field-0.0 _ _ _ _ (search rules) (seq _ _ _ _ _ _ c.in_ok-name_of.ensures (seq _ _ _ _ _ _ c.in_ok-open_object.ensures (seq _ _ _ _ _ _ (rw c.number.ensures at c.in_ok-number_member.ensures) (stop _ _ _ _ _ c.in_err-given_text_member.ensures))))
 
 pub returns : goal.returns
-returns c = seq _ _ _ _ _ _ c.in_ok-name_of.ensures (seq _ _ _ _ _ _ c.in_ok-open_object.ensures (seq _ _ _ _ _ _ c.in_ok-code_member.ensures (seq _ _ _ _ _ _ c.in_ok-given_text_member.ensures (c.close_object.ensures))))
+returns c = seq _ _ _ _ _ _ c.in_ok-name_of.ensures (seq _ _ _ _ _ _ c.in_ok-open_object.ensures (seq _ _ _ _ _ _ (rw c.number.ensures at c.in_ok-number_member.ensures) (seq _ _ _ _ _ _ c.in_ok-given_text_member.ensures (c.close_object.ensures))))

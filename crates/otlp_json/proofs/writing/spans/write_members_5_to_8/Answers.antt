@@ -11,8 +11,8 @@ returns-in_err-list_member c = exits_written _ c.in_err-list_member.field-0.0 _ 
 pub returns-in_err-number_member : goal.returns-in_err-number_member
 returns-in_err-number_member c = exits_written _ c.in_err-number_member.field-0.0 _ _ _ _ (search rules) (seq _ _ _ _ _ _ c.in_ok-time_member.ensures (seq _ _ _ _ _ _ c.in_ok-list_member.ensures (stop _ _ _ _ _ c.in_err-number_member.ensures)))
 
-pub returns-in_err-kind_member : goal.returns-in_err-kind_member
-returns-in_err-kind_member c = exits_written _ c.in_err-kind_member.field-0.0 _ _ _ _ (search rules) (seq _ _ _ _ _ _ c.in_ok-time_member.ensures (seq _ _ _ _ _ _ c.in_ok-list_member.ensures (seq _ _ _ _ _ _ c.in_ok-number_member.ensures (stop _ _ _ _ _ c.in_err-kind_member.ensures))))
+pub returns-in_err-number_member-2 : goal.returns-in_err-number_member-2
+returns-in_err-number_member-2 c = exits_written _ c.in_err-number_member-2.field-0.0 _ _ _ _ (search rules) (seq _ _ _ _ _ _ c.in_ok-time_member.ensures (seq _ _ _ _ _ _ c.in_ok-list_member.ensures (seq _ _ _ _ _ _ c.in_ok-number_member.ensures (stop _ _ _ _ _ (rw c.number.ensures at c.in_err-number_member-2.ensures)))))
 
 pub returns : goal.returns
-returns c = seq _ _ _ _ _ _ c.in_ok-time_member.ensures (seq _ _ _ _ _ _ c.in_ok-list_member.ensures (seq _ _ _ _ _ _ c.in_ok-number_member.ensures (seq _ _ _ _ _ _ c.in_ok-kind_member.ensures (nothing_written _))))
+returns c = seq _ _ _ _ _ _ c.in_ok-time_member.ensures (seq _ _ _ _ _ _ c.in_ok-list_member.ensures (seq _ _ _ _ _ _ c.in_ok-number_member.ensures (seq _ _ _ _ _ _ (rw c.number.ensures at c.in_ok-number_member-2.ensures) (nothing_written _))))

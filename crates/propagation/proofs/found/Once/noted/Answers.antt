@@ -1,5 +1,5 @@
 use Rattle.std.proofs.Common.{sym, subst, ◌∙◌}
-use Rattle.propagation.specs.FoundHeaders.{HoldsOnce}
+use Rattle.propagation.specs.private.FoundHeaders.{HoldsOnce}
 use Rattle.propagation.specs.Heads.{header_values}
 use Rattle.propagation.proofs.FoundLemmas.{named_more, other_more}
 use Rattle.propagation.proofs.found.Once.noted.Goals as goal

@@ -1,6 +1,6 @@
 use Rattle.std.proofs.Common.{rules, sym, subst}
 use Rattle.span_io.specs.Outside.{GrowsFront}
-use Rattle.jaeger_model.specs.Growing.{GrowsBy}
+use Rattle.jaeger_model.specs.private.Growing.{GrowsBy}
 use Rattle.jaeger_model.proofs.Growth.{exits, front_behind, seq, stop}
 use Rattle.jaeger_model.proofs.SpanPieces.{span_pieces}
 use Rattle.jaeger_model.proofs.writing.spans.JSpanStructure.write_fields.Goals as goal

@@ -1,0 +1,4 @@
+pub mod Doubles
+pub mod Noted
+pub mod ReadColumns
+pub mod WritingSoFar

@@ -1,7 +1,0 @@
-use Rattle.std.proofs.Common.{◌≡◌, false, take}
-use Rattle.std.specs.List.{list_any}
-use Rattle.trace_model.specs.ValueTexts.{has_double}
-use Rattle.map_zipkin.proofs.faults.doubles_in.Given as goal
-
-abbrev pub invariant-attributes : goal.invariant-attributes
-invariant-attributes l = list_any (λ pair. has_double pair.1) (take l.pair-index l.attributes) ≡ false

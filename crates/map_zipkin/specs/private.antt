@@ -1,0 +1,5 @@
+pub mod LossWalks
+pub mod ReadColumns
+pub mod ReadGroups
+pub mod Unfit
+pub mod WritingSoFar

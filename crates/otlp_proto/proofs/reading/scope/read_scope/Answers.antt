@@ -1,0 +1,4 @@
+use Rattle.otlp_proto.proofs.reading.scope.read_scope.Goals as goal
+
+pub returns-clause-judged : goal.returns-clause-judged
+returns-clause-judged c = c.in_ok-rows.ensures.all.fine (λ n h. h)

@@ -1,4 +1,0 @@
-use Rattle.otlp_proto.proofs.scope.read_scope.Goals as goal
-
-pub returns-clause-judged : goal.returns-clause-judged
-returns-clause-judged c = c.in_ok-rows.ensures.all.fine (λ n h. h)

@@ -1,0 +1,2 @@
+pub mod FoundHeaders
+pub mod HeaderLines

@@ -1,0 +1,18 @@
+//! Laws of the tables, as contracts of functions that do nothing.
+ghost use Rattle.std.specs.Prelude.{Option};
+ghost use Rattle.trace_model.specs.Soundness.{IsSoundGroup};
+ghost use Rattle.trace_model.specs.declared.fault.Fault.{Fault};
+ghost use Rattle.trace_model.specs.declared.trace.Group.{Group};
+ghost use Rattle.span_tags.specs.PlacedFaults.{CountsBy};
+ghost use Rattle.span_tags.specs.laws.FaultLaws.{FindsFaults};
+
+use crate::first_fault::Faults;
+
+/// A sound group has a fault that counts, or none. No memory is wanted for it.
+pub fn faults_found<F: Faults>()
+    requires lawful { FindsFaults F.table F.of_resource F.of_span }
+    ensures { (group : Group) → IsSoundGroup group
+        → (found : Option Fault) × CountsBy F.of_resource F.of_span group found }
+{
+    // The clause is the law.
+}

@@ -1,0 +1,22 @@
+use Rattle.std.proofs.Common.{sym, rules}
+use Rattle.serde_json.specs.View.{items_of}
+use Rattle.span_io.specs.laws.PathLaws.{exits}
+use Rattle.json_members.specs.laws.ElementLaws.{items_listed, clean_array, halts_array}
+use Rattle.json_nodes.specs.Lents.{elements_left}
+use Rattle.zipkin_json.specs.Span.{annotation_offends}
+use Rattle.zipkin_json.proofs.reading.annotation.annotations_in.Goals as goal
+
+pub returns-in_err-list-clause-judged : goal.returns-in_err-list-clause-judged
+returns-in_err-list-clause-judged c =
+    exits c.in_err-list.field-0.0 _ _ (search rules)
+    (halts_array annotation_offends (elements_left c.in-Some.elements) _ c.in-Some.ensures c.in_err-list.field-0.0 c.in_err-list.ensures.judged)
+
+pub returns-clause-value : goal.returns-clause-value
+returns-clause-value c = record {
+  held = items_of (elements_left c.in-Some.elements);
+  shape = sym c.in-Some.ensures;
+  means = rw items_listed c.in_ok-list.ensures.value;
+}
+
+pub returns-clause-judged : goal.returns-clause-judged
+returns-clause-judged c = clean_array annotation_offends (elements_left c.in-Some.elements) _ c.in-Some.ensures c.in_ok-list.ensures.judged
