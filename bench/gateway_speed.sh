@@ -68,5 +68,5 @@ for form in otlp-proto otlp-json jaeger-binary jaeger-compact zipkin-json; do
     kill "$!"
     wait "$!" 2> /dev/null
     TIMEFORMAT="convert to $form: the same body in %R s"
-    time (spanx convert --from zipkin-json --to "$form") < "$folder/large" > /dev/null
+    time env GLIBC_TUNABLES="$settings" "$program" convert --from zipkin-json --to "$form" < "$folder/large" > /dev/null
 done
