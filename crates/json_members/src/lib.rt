@@ -6,7 +6,7 @@ mod parts;
 mod reading;
 mod writing;
 
-pub use members::{member_of, text, text_of, truth_of};
+pub use members::{member_of, members_of, text, text_found, text_of, truth_of};
 pub use parts::{Table, bare_member, member, object};
 pub use reading::unread;
 pub use writing::{

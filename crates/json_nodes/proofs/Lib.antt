@@ -1,3 +1,4 @@
+mod AskedLemmas
 mod BuildingLemmas
 mod MemberLemmas
 mod NodeLemmas

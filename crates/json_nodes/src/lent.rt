@@ -1,4 +1,5 @@
-ghost use Rattle.std.specs.Prelude.{◌≡◌, is_some, option_map, option_and_then};
+ghost use Rattle.std.specs.Prelude.{◌≡◌, map, is_some, option_map, option_and_then};
+ghost use Rattle.std.specs.List.{AllZip};
 ghost use Rattle.serde_json.specs.Data.{no_members};
 ghost use Rattle.serde_json.specs.Find.{get, as_null, as_bool, as_number, as_str, as_array, as_object, as_i64, as_u64};
 ghost use Rattle.serde_json.specs.View.{items_of};
@@ -132,6 +133,16 @@ impl<'v, 'a> Lent<'v, 'a> {
         match self.members() {
             None => None,
             Some(members) => members.last_named(name),
+        }
+    }
+
+    /// The members of these names, each put at the place of its name, by one walk over all of them.
+    pub fn get_each(&self, names: &[&str], found: &mut [Option<Lent<'v, 'a>>])
+        requires { found.old ≡ map (λ name. None) names.now }
+        ensures { AllZip (λ name o. option_map view o ≡ get name.now (view self.now)) names.now found.new }
+    {
+        if let Some(members) = self.members() {
+            members.last_of_each(names, found);
         }
     }
 }

@@ -1,4 +1,6 @@
-ghost use Rattle.std.specs.Prelude.{◌≡◌, ◌∷◌, [], MatchOption, IfOk, option_map};
+ghost use Rattle.std.specs.Prelude.{◌≡◌, ◌≤◌, ◌∷◌, [], length, map, MatchOption, IfOk, option_map};
+ghost use Rattle.std.specs.List.{AllZip};
+ghost use Rattle.json_nodes.specs.private.Asked.{put_where};
 ghost use Rattle.serde_json.specs.Data.{no_members};
 
 use crate::lent::Lent;
@@ -11,6 +13,23 @@ use std::collections::BTreeMap;
 #[derive(Clone, Copy, Debug)]
 pub struct Members<'v, 'a> {
     pub(crate) nodes: &'v [Node<'a>],
+}
+
+// Puts the value at each place whose name this is.
+fn put_named<'v, 'a>(
+    names: &[&str],
+    name: &str,
+    value: Lent<'v, 'a>,
+    found: &mut [Option<Lent<'v, 'a>>],
+)
+    requires { length found.old ≡ length names.now }
+    ensures { found.new ≡ put_where name.now value.entry names.now found.old }
+{
+    'names: for (i, asked) in names.iter().enumerate() {
+        if name == *asked {
+            found[i] = Some(value);
+        }
+    }
 }
 
 impl<'v, 'a> Members<'v, 'a> {
@@ -48,6 +67,17 @@ impl<'v, 'a> Members<'v, 'a> {
             }
         }
         found
+    }
+
+    // The last value of each of these names.
+    pub(crate) fn last_of_each(self, names: &[&str], found: &mut [Option<Lent<'v, 'a>>])
+        requires { found.old ≡ map (λ name. None) names.now }
+        ensures { AllZip (λ name o. option_map lent_view o ≡ last_value name.now (members_left self.entry)) names.now found.new }
+    {
+        let mut left = self;
+        'members: while let Some((name, value)) = left.next() {
+            put_named(names, name, value, found);
+        }
     }
 
     /// All of them by their names, each once, in the order of the names' bytes.

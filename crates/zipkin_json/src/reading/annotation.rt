@@ -1,9 +1,8 @@
 //! `Annotation` of Zipkin v2.
-ghost use Rattle.std.specs.Prelude.{◌≡◌, [], IfOk};
+ghost use Rattle.std.specs.Prelude.{◌≡◌, [], IfOk, option_map};
 ghost use Rattle.json_nodes.specs.Lents.{lent_view as view, elements_left};
 ghost use Rattle.span_io.specs.Paths.{optional, each, JudgesValue, Given};
 ghost use Rattle.std.specs.List.{AllZip};
-ghost use Rattle.json_members.specs.Members.{member};
 ghost use Rattle.zipkin_json.specs.Span.{IsAnnotation, annotation_members, annotation_offends, AreAnnotations, annotations_offend};
 
 use crate::reading::members::{required_micros, required_text};
@@ -26,8 +25,12 @@ fn read_annotation(alloc: Global, v: &Lent<'_, '_>) -> Result<(Nanos, Text), Hal
     ensures judged { JudgesValue result (annotation_offends (view v.now)) }
 {
     object::<AnnotationTable>(v)?;
-    let timestamp = bare_member::<AnnotationTable, _>(v, 0, required_micros(v, "timestamp"))?;
-    let value = member::<AnnotationTable, _>(v, 1, required_text(alloc, v, "value"))?;
+    let timestamp = bare_member::<AnnotationTable, _>(
+        v,
+        0,
+        required_micros(member_of(v, "timestamp")),
+    )?;
+    let value = member::<AnnotationTable, _>(v, 1, required_text(alloc, member_of(v, "value")))?;
     Ok((Nanos(timestamp * 1000), value))
 }
 
@@ -61,15 +64,14 @@ fn annotations_in(alloc: Global, v: &Lent<'_, '_>) -> Result<Items<(Nanos, Text)
 // Annotations that may be absent.
 pub fn annotations(
     alloc: Global,
-    v: &Lent<'_, '_>,
-    name: &str,
+    found: Option<Lent<'_, '_>>,
 ) -> Result<Items<(Nanos, Text)>, Halt<Cause>>
     ensures value { IfOk result (λ list. Given AreAnnotations (λ l. l ≡ []) list
-        (member name.now (view v.now))) }
+        (option_map view found.entry)) }
     ensures judged { JudgesValue result
-        (optional annotations_offend (member name.now (view v.now))) }
+        (optional annotations_offend (option_map view found.entry)) }
 {
-    match member_of(v, name) {
+    match found {
         None => Ok(Items::new(alloc)),
         Some(found) => annotations_in(alloc, &found),
     }

@@ -1,15 +1,14 @@
 //! Identifiers and the kind, which are texts.
-ghost use Rattle.std.specs.Prelude.{◌≡◌, ◌↔◌, ℕ, Option, IfSome, IfOk, OnErr, IfNone, IsTrue};
+ghost use Rattle.std.specs.Prelude.{◌≡◌, ◌↔◌, ℕ, Option, IfSome, IfOk, OnErr, IfNone, IsTrue, option_map};
 ghost use Rattle.json_nodes.specs.Lents.{lent_view as view};
 ghost use Rattle.span_io.specs.Paths.{required, optional, JudgesByCause, Given, Never};
 ghost use Rattle.zipkin_json.specs.Identifiers.{AreZeros, SpellsTrace, SpellsSpan, SpellsParent};
-ghost use Rattle.json_members.specs.Members.{member, Spelled};
+ghost use Rattle.json_members.specs.Members.{Spelled};
 ghost use Rattle.zipkin_json.specs.Span.{SpellsKind, trace_offends, id_offends, parent_offends, kind_offends};
 ghost use Rattle.zipkin_json.specs.declared.span.ZKind.TheVariants as kinds;
 ghost use Rattle.zipkin_json.specs.declared.span.ZKind.{ZKind};
 
 use crate::span::ZKind;
-use json_members::member_of;
 use json_nodes::Lent;
 use span_ids::{BadId, IdRule, SpanId, TraceId};
 use span_io::Cause;
@@ -114,47 +113,47 @@ fn kind_in(v: &Lent<'_, '_>) -> Result<ZKind, Cause>
     }
 }
 
-pub fn required_trace(v: &Lent<'_, '_>, name: &str) -> Result<TraceId, Cause>
+pub fn required_trace(found: Option<Lent<'_, '_>>) -> Result<TraceId, Cause>
     ensures value { IfOk result (λ id. Given (Spelled SpellsTrace) Never id
-        (member name.now (view v.now))) }
-    ensures judged { JudgesByCause result (required trace_offends (member name.now (view v.now))) }
+        (option_map view found.entry)) }
+    ensures judged { JudgesByCause result (required trace_offends (option_map view found.entry)) }
 {
-    match member_of(v, name) {
+    match found {
         None => Err(Cause::Missing),
         Some(found) => trace_in(&found),
     }
 }
 
-pub fn required_span(v: &Lent<'_, '_>, name: &str) -> Result<SpanId, Cause>
+pub fn required_span(found: Option<Lent<'_, '_>>) -> Result<SpanId, Cause>
     ensures value { IfOk result (λ id. Given (Spelled SpellsSpan) Never id
-        (member name.now (view v.now))) }
-    ensures judged { JudgesByCause result (required id_offends (member name.now (view v.now))) }
+        (option_map view found.entry)) }
+    ensures judged { JudgesByCause result (required id_offends (option_map view found.entry)) }
 {
-    match member_of(v, name) {
+    match found {
         None => Err(Cause::Missing),
         Some(found) => span_in(&found),
     }
 }
 
 // A parent that may be absent.
-pub fn parent(v: &Lent<'_, '_>, name: &str) -> Result<Option<SpanId>, Cause>
+pub fn parent(found: Option<Lent<'_, '_>>) -> Result<Option<SpanId>, Cause>
     ensures value { IfOk result (λ id. Given (Spelled SpellsParent) (λ p. p ≡ None) id
-        (member name.now (view v.now))) }
-    ensures judged { JudgesByCause result (optional parent_offends (member name.now (view v.now))) }
+        (option_map view found.entry)) }
+    ensures judged { JudgesByCause result (optional parent_offends (option_map view found.entry)) }
 {
-    match member_of(v, name) {
+    match found {
         None => Ok(None),
         Some(found) => parent_in(&found),
     }
 }
 
 // A kind that may be absent.
-pub fn kind(v: &Lent<'_, '_>, name: &str) -> Result<ZKind, Cause>
+pub fn kind(found: Option<Lent<'_, '_>>) -> Result<ZKind, Cause>
     ensures value { IfOk result (λ kind. Given (Spelled SpellsKind) (λ k. k ≡ kinds.Absent) kind
-        (member name.now (view v.now))) }
-    ensures judged { JudgesByCause result (optional kind_offends (member name.now (view v.now))) }
+        (option_map view found.entry)) }
+    ensures judged { JudgesByCause result (optional kind_offends (option_map view found.entry)) }
 {
-    match member_of(v, name) {
+    match found {
         None => Ok(ZKind::Absent),
         Some(found) => kind_in(&found),
     }

@@ -1,12 +1,12 @@
 //! The tags of a span.
-ghost use Rattle.std.specs.Prelude.{◌≡◌, [], true, Some, IfOk, OnOk};
+ghost use Rattle.std.specs.Prelude.{◌≡◌, [], true, Some, IfOk, OnOk, option_map};
 ghost use Rattle.json_nodes.specs.Lents.{lent_view as view, members_left};
 ghost use Rattle.span_io.specs.Paths.{optional, each, JudgesValue, Given};
-ghost use Rattle.json_members.specs.Members.{member, member_values};
+ghost use Rattle.json_members.specs.Members.{member_values};
 ghost use Rattle.zipkin_json.specs.Span.{texts_in, AreTags, TagsRise, tag_offends, tags_offend};
 ghost use Rattle.zipkin_json.specs.private.Tags.{listed, pairs_in, NamesRise, AddsTag};
 
-use json_members::{member_of, text_of};
+use json_members::text_of;
 use json_nodes::{Lent, Members};
 use span_io::{Cause, Halt, Items, Text};
 use std::alloc::Global;
@@ -107,15 +107,14 @@ fn tags_in(alloc: Global, v: &Lent<'_, '_>) -> Result<Items<(Text, Text)>, Halt<
 #[tactic(auto, using(crate::proofs::TagLemmas::none_rise))]
 pub fn tags_of(
     alloc: Global,
-    v: &Lent<'_, '_>,
-    name: &str,
+    found: Option<Lent<'_, '_>>,
 ) -> Result<Items<(Text, Text)>, Halt<Cause>>
     ensures value { IfOk result (λ tags. Given AreTags (λ t. t ≡ []) tags
-        (member name.now (view v.now))) }
+        (option_map view found.entry)) }
     ensures rising { IfOk result TagsRise }
-    ensures judged { JudgesValue result (optional tags_offend (member name.now (view v.now))) }
+    ensures judged { JudgesValue result (optional tags_offend (option_map view found.entry)) }
 {
-    match member_of(v, name) {
+    match found {
         None => Ok(Items::new(alloc)),
         Some(found) => tags_in(alloc, &found),
     }
