@@ -19,6 +19,7 @@ pub mod NormalProper
 pub mod NotedLaws
 pub mod NothingLost
 pub mod OwnForms
+pub mod OwnParts
 pub mod PlainTags
 pub mod Ports
 pub mod ProperSpans

@@ -8,7 +8,7 @@ ghost use Rattle.map_zipkin.specs.LeastZipkinFault as least;
 ghost use Rattle.map_zipkin.specs.OwnColumns as columns;
 
 use crate::keys;
-use crate::own::{OWN_KEYS, Own, own_held};
+use crate::own::{OWN_KEYS, Own, own_held, own_part};
 use span_io::{Items, OutOfMemory, Text};
 use span_tags::{Faults, decimal_in, fault_in_group};
 use std::alloc::Global;
@@ -64,21 +64,21 @@ fn is_of_form(own: Own, value: &Value) -> bool
 }
 
 // Whether the attribute of the key, if there is one, isn't of its form.
-fn is_out_of_form(attributes: &Attrs, own: Own) -> bool
-    ensures { result ≡ least.is_out_of_form (columns.own_form own) (columns.own_in attributes.now own) }
+fn is_out_of_form(pairs: &[(Text, Value)], own: Own) -> bool
+    ensures { result ≡ least.is_out_of_form (columns.own_form own) (columns.own_in pairs.now own) }
 {
-    match own_held(attributes, own) {
+    match own_held(pairs, own) {
         Some(value) => !is_of_form(own, value),
         None => false,
     }
 }
 
 // The first of these keys of which the attribute isn't of its form.
-fn out_of_form(attributes: &Attrs, keys: &[Own]) -> Option<&'static str>
-    ensures { option_map (λ key. key.now) result ≡ least.out_of_form attributes.now (columns.forms_of keys.now) }
+fn out_of_form(pairs: &[(Text, Value)], keys: &[Own]) -> Option<&'static str>
+    ensures { option_map (λ key. key.now) result ≡ least.out_of_form pairs.now (columns.forms_of keys.now) }
 {
     'keys: for own in keys {
-        if is_out_of_form(attributes, *own) {
+        if is_out_of_form(pairs, *own) {
             return Some(own.key());
         }
     }
@@ -126,7 +126,11 @@ impl Faults for Zipkin {
     }
 
     fn own_key(attributes: &Attrs) -> Option<&'static str> {
-        out_of_form(attributes, &OWN_KEYS)
+        let part = own_part(attributes);
+        if part.len() == 0 {
+            return None;
+        }
+        out_of_form(part, &OWN_KEYS)
     }
 
     fn has_event_fault(alloc: Global, events: &Items<Event>) -> Result<bool, OutOfMemory> {

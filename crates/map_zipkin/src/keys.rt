@@ -6,7 +6,7 @@ ghost use Rattle.map_zipkin.specs.Reading as meant;
 ghost use Rattle.map_zipkin.specs.Writing as written;
 
 use crate::columns::is_column;
-use crate::own::{OWN_KEYS, is_key_of};
+use crate::own::{OWN_KEYS, is_key_of, may_be_own};
 
 /// The key of the resource's attribute, behind the prefix.
 pub(crate) fn resource_key(key: &str) -> Option<&str>
@@ -26,10 +26,7 @@ pub(crate) fn is_reserved(key: &str) -> bool
 pub(crate) fn is_own(key: &str) -> bool
     ensures { result ≡ own.is_own key.now }
 {
-    if !key.starts_with("zipkin.") {
-        return false;
-    }
-    is_key_of(key, &OWN_KEYS)
+    may_be_own(key) && is_key_of(key, &OWN_KEYS)
 }
 
 /// Whether an attribute of the key is written as a tag.

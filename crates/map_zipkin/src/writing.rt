@@ -19,7 +19,7 @@ mod shared;
 mod tags;
 
 use crate::faults::fault_of_group;
-use crate::own::{Own, has_own};
+use crate::own::{Own, has_own, own_part};
 use columns::rows_of_span;
 use endpoints::endpoints_of;
 use shared::rows_of_scope;
@@ -91,11 +91,12 @@ fn span_of(
     ensures { (name version : List ℕ) → shared.now ≡ shared_rows resource.now name version
         → IfOk result (λ written. written ≡ told.zipkin_span resource.now (under name version span)) }
 {
-    let (local, remote) = endpoints_of(alloc, resource, &span.attributes)?;
+    let part = own_part(&span.attributes);
+    let (local, remote) = endpoints_of(alloc, resource, &span.attributes, part)?;
+    let debug = has_own(part, Own::Debug);
+    let shared_with = has_own(part, Own::Shared);
     let annotations = annotations_of(alloc, &span.events)?;
     let own = rows_of_span(alloc, &span)?;
-    let debug = has_own(&span.attributes, Own::Debug);
-    let shared_with = has_own(&span.attributes, Own::Shared);
     let tags = tags_of(alloc, own, shared.as_slice(), span.attributes)?;
     Ok(ZSpan {
         trace: span.trace,

@@ -11,14 +11,14 @@ ghost use Rattle.map_zipkin.specs.Remarks as told;
 ghost use Rattle.map_zipkin.specs.TagColumns.{columns_in, is_idle_in, row_of};
 
 use crate::columns::Column;
-use crate::own::{OWN_KEYS, Own, has_own};
+use crate::own::{OWN_KEYS, Own, has_own, own_part};
 use crate::reading::columns::held;
 use span_io::{Items, OutOfMemory, Text};
 use span_tags::{
     code_in, is_idle_code, is_idle_count, is_idle_library, is_there, remark_if, text_in,
 };
 use std::alloc::Global;
-use trace_model::{Attrs, Code, Place, Remark, find};
+use trace_model::{Attrs, Code, Place, Remark, Value, find};
 
 /// The columns in front of the service of the resource, by rising keys.
 const FIRST: [Column; 6] = [
@@ -92,7 +92,7 @@ pub(crate) fn remarks_of(
     remark_column(alloc, &mut remarks, place, tags, Column::Code)?;
     let idle = is_idle_peer(service, tags);
     remark_if(alloc, &mut remarks, place, "peer.service", idle)?;
-    remark_own(alloc, &mut remarks, place, tags, &OWN_KEYS)?;
+    remark_own(alloc, &mut remarks, place, own_part(tags), &OWN_KEYS)?;
     Ok(remarks)
 }
 
@@ -131,13 +131,13 @@ fn remark_one(
     alloc: Global,
     remarks: &mut Items<Remark>,
     place: Place,
-    tags: &Attrs,
+    pairs: &[(Text, Value)],
     own: Own,
 ) -> Result<(), OutOfMemory>
     ensures { OnOk result (remarks.new ≡ remarks.old
-        ++ tags_dropped place (words.if_left (own_row own).key (is_some (own_in tags.now own)))) }
+        ++ tags_dropped place (words.if_left (own_row own).key (is_some (own_in pairs.now own)))) }
 {
-    remark_if(alloc, remarks, place, own.key(), has_own(tags, own))
+    remark_if(alloc, remarks, place, own.key(), has_own(pairs, own))
 }
 
 // Adds which of the tags of these keys of Zipkin's own were left out: all that are there.
@@ -145,14 +145,14 @@ fn remark_own(
     alloc: Global,
     remarks: &mut Items<Remark>,
     place: Place,
-    tags: &Attrs,
+    pairs: &[(Text, Value)],
     keys: &[Own],
 ) -> Result<(), OutOfMemory>
     ensures { OnOk result (remarks.new ≡ remarks.old
-        ++ tags_dropped place (left_out_by own_row keys.now (own_in tags.now))) }
+        ++ tags_dropped place (left_out_by own_row keys.now (own_in pairs.now))) }
 {
     'keys: for own in keys {
-        remark_one(alloc, remarks, place, tags, *own)?;
+        remark_one(alloc, remarks, place, pairs, *own)?;
     }
     Ok(())
 }

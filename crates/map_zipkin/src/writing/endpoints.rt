@@ -12,7 +12,7 @@ ghost use Rattle.map_zipkin.specs.private.Unfit.{port_unfit, ports_unfit};
 ghost use Rattle.map_zipkin.specs.Writing as told;
 
 use crate::own::{Own, own_held};
-use span_io::OutOfMemory;
+use span_io::{OutOfMemory, Text};
 use span_tags::{decimal_in, text_in, text_or_empty, text_or_none};
 use std::alloc::Global;
 use trace_model::{Attrs, Value, find};
@@ -42,48 +42,54 @@ fn port_told(value: Option<&Value>) -> u16
 fn local_endpoint(
     alloc: Global,
     resource: &Attrs,
-    attributes: &Attrs,
+    part: &[(Text, Value)],
 ) -> Result<Endpoint, OutOfMemory>
     requires plain { double_at (at service_key resource.now) ≡ false }
-    requires ports { ports_unfit attributes.now ≡ false }
-    ensures { IfOk result (λ endpoint. endpoint ≡ told.local_endpoint resource.now (own_in attributes.now)) }
+    requires ports { ports_unfit part.now ≡ false }
+    ensures { IfOk result (λ endpoint. endpoint ≡ told.local_endpoint resource.now (own_in part.now)) }
 {
     Ok(Endpoint {
         service: text_or_none(alloc, find(resource, "service.name"))?,
-        ipv4: text_or_empty(alloc, own_held(attributes, Own::LocalIpv4))?,
-        ipv6: text_or_empty(alloc, own_held(attributes, Own::LocalIpv6))?,
-        port: port_told(own_held(attributes, Own::LocalPort)),
+        ipv4: text_or_empty(alloc, own_held(part, Own::LocalIpv4))?,
+        ipv6: text_or_empty(alloc, own_held(part, Own::LocalIpv6))?,
+        port: port_told(own_held(part, Own::LocalPort)),
     })
 }
 
 // The endpoint at the other end.
-fn remote_endpoint(alloc: Global, attributes: &Attrs) -> Result<Endpoint, OutOfMemory>
+fn remote_endpoint(
+    alloc: Global,
+    attributes: &Attrs,
+    part: &[(Text, Value)],
+) -> Result<Endpoint, OutOfMemory>
     requires plain { double_at (at peer_key attributes.now) ≡ false }
-    requires ports { ports_unfit attributes.now ≡ false }
-    ensures { IfOk result (λ endpoint. endpoint ≡ told.remote_endpoint attributes.now (own_in attributes.now)) }
+    requires ports { ports_unfit part.now ≡ false }
+    ensures { IfOk result (λ endpoint. endpoint ≡ told.remote_endpoint attributes.now (own_in part.now)) }
 {
     Ok(Endpoint {
         service: text_or_none(alloc, find(attributes, "peer.service"))?,
-        ipv4: text_or_empty(alloc, own_held(attributes, Own::RemoteIpv4))?,
-        ipv6: text_or_empty(alloc, own_held(attributes, Own::RemoteIpv6))?,
-        port: port_told(own_held(attributes, Own::RemotePort)),
+        ipv4: text_or_empty(alloc, own_held(part, Own::RemoteIpv4))?,
+        ipv6: text_or_empty(alloc, own_held(part, Own::RemoteIpv6))?,
+        port: port_told(own_held(part, Own::RemotePort)),
     })
 }
 
-/// The endpoint of the span, and the one at the other end.
+/// The endpoint of the span, and the one at the other end, by its attributes and the part of them that
+/// holds what stands under keys of Zipkin's own.
 #[tactic(auto, using(crate::proofs::PlainTags::at_plain))]
 pub(crate) fn endpoints_of(
     alloc: Global,
     resource: &Attrs,
     attributes: &Attrs,
+    part: &[(Text, Value)],
 ) -> Result<(Endpoint, Endpoint), OutOfMemory>
     requires resource { holds_double resource.now ≡ false }
     requires attributes { holds_double attributes.now ≡ false }
-    requires ports { ports_unfit attributes.now ≡ false }
-    ensures local { IfOk result (λ ends. ends.0 ≡ told.local_endpoint resource.now (own_in attributes.now)) }
-    ensures remote { IfOk result (λ ends. ends.1 ≡ told.remote_endpoint attributes.now (own_in attributes.now)) }
+    requires ports { ports_unfit part.now ≡ false }
+    ensures local { IfOk result (λ ends. ends.0 ≡ told.local_endpoint resource.now (own_in part.now)) }
+    ensures remote { IfOk result (λ ends. ends.1 ≡ told.remote_endpoint attributes.now (own_in part.now)) }
 {
-    let local = local_endpoint(alloc, resource, attributes)?;
-    let remote = remote_endpoint(alloc, attributes)?;
+    let local = local_endpoint(alloc, resource, part)?;
+    let remote = remote_endpoint(alloc, attributes, part)?;
     Ok((local, remote))
 }

@@ -5,5 +5,5 @@ use Rattle.map_zipkin.specs.OwnColumns.{own_row, own_in}
 use Rattle.map_zipkin.proofs.reading.remarks.remark_own.Given as goal
 
 abbrev pub invariant-keys : goal.invariant-keys
-invariant-keys l = l.remarks ++ tags_dropped l.place (left_out_by own_row (drop l.own-index l.keys) (own_in l.tags))
-    ≡ l.initial.remarks ++ tags_dropped l.place (left_out_by own_row l.keys (own_in l.tags))
+invariant-keys l = l.remarks ++ tags_dropped l.place (left_out_by own_row (drop l.own-index l.keys) (own_in l.pairs))
+    ≡ l.initial.remarks ++ tags_dropped l.place (left_out_by own_row l.keys (own_in l.pairs))
