@@ -206,16 +206,3 @@ gave_or Means IsDefault (held ∷ other ∷ more) (Some value) default is gave =
 pub singular_or : {A B : Type 0} (Means : A → B → Type 0) (IsDefault : B → Type 0) (xs : List A) (row : Option B) (default value : B) → value ≡ unwrap_or row default → IsDefault default → Gave Means xs row
     → Singular Means IsDefault xs value
 singular_or Means IsDefault xs row default value e is gave = subst (λ v. Singular Means IsDefault xs v) (sym e) (gave_or Means IsDefault xs row default is gave)
-
--- the same of what a reader's answer stands for
-pub singular_read : {A R B : Type 0} (Means : A → B → Type 0) (stands_for : R → B) (absent : B) (texts : List A) (row : Option R) (default read : R) → read ≡ unwrap_or row default → stands_for default ≡ absent
-    → Gave (λ held r. Means held (stands_for r)) texts row → Singular Means (λ x. x ≡ absent) texts (stands_for read)
-singular_read {A} {R} Means stands_for absent texts row default read e none gave =
-    subst (λ (r : R). Singular Means (λ x. x ≡ absent) texts (stands_for r)) (sym e) (of texts row gave)
-  where
-    of : (texts : List A) (row : Option R) → Gave (λ held r. Means held (stands_for r)) texts row → Singular Means (λ x. x ≡ absent) texts (stands_for (unwrap_or row default))
-    of [] None gave = none
-    of [] (Some r) gave = absurd gave
-    of (held ∷ []) None gave = absurd gave
-    of (held ∷ []) (Some r) gave = gave
-    of (held ∷ other ∷ more) row gave = absurd gave
