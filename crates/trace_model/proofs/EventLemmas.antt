@@ -101,7 +101,7 @@ none_empty pairs some e = let z : length pairs ≡ 0 = ap (λ (l : List (List �
 abbrev NoEvent : Data → Type 0
 NoEvent json = (name : List ℕ) (attributes : List (List ℕ × Value)) → ¬ IsEventJson json name attributes
 
-abbrev NoEventText : List ℕ → Type 0
+abbrev pub NoEventText : List ℕ → Type 0
 NoEventText text = (name : List ℕ) (attributes : List (List ℕ × Value)) → ¬ IsEventText text name attributes
 
 pub no_text : {T E : Type 0} (text : List ℕ) (json : Data) (result : Result (Option T) E) → read (in_braces text) ≡ Some json

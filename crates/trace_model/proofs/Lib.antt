@@ -4,6 +4,7 @@ pub mod ByteRows
 pub mod DoubleRows
 pub mod EmptyTexts
 pub mod EventBack
+pub mod EventBegins
 pub mod EventBytes
 pub mod EventDepths
 pub mod EventExact

@@ -4,6 +4,7 @@ ghost use Rattle.serde_json.specs.Data.{array, object};
 ghost use Rattle.serde_json.specs.Find.{as_i64};
 ghost use Rattle.serde_json.specs.View.{view, number_view, items_view, members_view};
 ghost use Rattle.trace_model.specs.EventReading.{IsRead, AreRead, value_within, values_within, pairs_within};
+ghost use Rattle.trace_model.specs.EventReading as told;
 ghost use Rattle.trace_model.specs.EventTexts.{IsEventJson, IsEventText, in_braces};
 ghost use Rattle.trace_model.specs.Proper.{IsProperValue, AreProper};
 ghost use Rattle.trace_model.specs.Values.{AreSound, MapsRise};
@@ -26,11 +27,24 @@ pub fn read_event_text(alloc: Global, text: &Text) -> Result<Option<(Text, Attrs
         → ¬ IsEventText text.now name attributes)) }
     ensures proper { IfOk result (λ o. IfSome o (λ parts. IsUtf8 parts.0 × AreProper parts.1)) }
 {
+    if !begins_as_member(text.as_str()) {
+        return Ok(None);
+    }
     let braced = braced(alloc, text.as_str())?;
     match Json::from_str(alloc, braced.as_str()) {
         Ok(json) => event_in(alloc, &json),
         Err(error) if error.is_memory() => Err(OutOfMemory),
         Err(_) => Ok(None),
+    }
+}
+
+/// Whether the text can be a member of a JSON object, by its first byte, so that a name alone isn't read.
+fn begins_as_member(text: &str) -> bool
+    ensures { result ≡ told.begins_as_member text.now }
+{
+    match text.as_bytes() {
+        [first, ..] => matches!(first, b'"' | b' ' | b'\t' | b'\n' | b'\r'),
+        [] => false,
     }
 }
 
