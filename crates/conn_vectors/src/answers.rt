@@ -92,7 +92,10 @@ fn writes_parts(rt: &impl Abort, alloc: Global, status: u16, line: &str) -> Resu
     for (kind, body, close, rest) in PARTS {
         let out = answered(alloc, "", status, kind, body, close)?;
         let wanted = format!(in alloc; "{line}{rest}")?;
-        assert_eq!(rt; out.as_slice(), wanted.as_bytes(), "{status} and {rest:?}");
+        assert!(rt;
+            out.as_slice() == wanted.as_bytes(),
+            "{status} and {rest:?}"
+        );
     }
     Ok(())
 }
@@ -141,7 +144,7 @@ fn writes_answers(rt: HostRuntime) -> Result<(), Fail> {
     for (front, status, kind, body, close, wanted) in ANSWERS {
         assert!(rt; is_status(status));
         let out = answered(rt.alloc(), front, status, kind, body, close)?;
-        assert_eq!(rt; out.as_slice(), wanted.as_bytes(), "{status}");
+        assert!(rt; out.as_slice() == wanted.as_bytes(), "{status}");
     }
     Ok(())
 }

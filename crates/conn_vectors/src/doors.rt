@@ -82,7 +82,7 @@ fn expect_pieces(rt: &impl Abort, alloc: Global, cut: usize, pieces: &[&str]) ->
     let mut conn = connection(alloc, b"abcde", course)?;
     for piece in pieces {
         let came = read_piece(alloc, &mut conn)?;
-        assert_eq!(rt; came.as_slice(), piece.as_bytes(), "{cut}");
+        assert!(rt; came.as_slice() == piece.as_bytes(), "{cut}");
     }
     Ok(())
 }
@@ -118,7 +118,7 @@ fn fails_to_read_in_memory(rt: HostRuntime) -> Result<(), Fail> {
     let mut conn = connection(rt.alloc(), b"abcde", SECOND_FAILS)?;
     for wanted in READS {
         let piece = read_piece(rt.alloc(), &mut conn);
-        assert_eq!(rt; bytes_of(&piece), wanted);
+        assert!(rt; bytes_of(&piece) == wanted);
     }
     Ok(())
 }
@@ -137,9 +137,9 @@ const WRITES: [(&str, Result<(), Failed>); 6] = [
 fn fails_to_write_in_memory(rt: HostRuntime) -> Result<(), Fail> {
     let mut conn = connection(rt.alloc(), b"", SECOND_FAILS)?;
     for (text, taken) in WRITES {
-        assert_eq!(rt; send(&mut conn, text.as_bytes()), taken, "{text:?}");
+        assert!(rt; send(&mut conn, text.as_bytes()) == taken, "{text:?}");
     }
-    assert_eq!(rt; conn.written(), b"xyz12".as_slice());
+    assert!(rt; conn.written() == b"xyz12".as_slice());
     Ok(())
 }
 
@@ -173,7 +173,7 @@ const ADDRESSES: [(&str, Result<(), Failed>); 5] = [
 fn listens_at_its_address_alone(rt: HostRuntime) -> Result<(), Fail> {
     let mut door = door_of_two(rt.alloc(), &[])?;
     for (address, told) in ADDRESSES {
-        assert_eq!(rt; door.listen(address), told, "{address}");
+        assert!(rt; door.listen(address) == told, "{address}");
     }
     Ok(())
 }
@@ -196,9 +196,9 @@ fn echo<C: Duplex>(alloc: Global, conn: &mut C) -> Result<(), Failed> {
 // Holds what was written to the connections that were given back against these texts.
 fn expect_closed(rt: &impl Abort, door: &MemDoor, texts: &[&str]) {
     let closed = door.closed();
-    assert_eq!(rt; closed.len(), texts.len());
+    assert!(rt; closed.len() == texts.len());
     for (conn, text) in closed.iter().zip(texts) {
-        assert_eq!(rt; conn.written(), text.as_bytes());
+        assert!(rt; conn.written() == text.as_bytes());
     }
 }
 
@@ -210,7 +210,7 @@ const TURNS: [bool; 6] = [false, false, true, false, true, false];
 fn fails_at_the_door(rt: HostRuntime) -> Result<(), Fail> {
     let mut door = door_of_two(rt.alloc(), &[1, 3, 6])?;
     for well in TURNS {
-        assert_eq!(rt; echo_next(rt.alloc(), &mut door).is_ok(), well);
+        assert!(rt; echo_next(rt.alloc(), &mut door).is_ok() == well);
     }
     expect_closed(&rt, &door, &["first", "second"]);
     Ok(())
@@ -241,7 +241,7 @@ fn lends_connections_as_they_were_closed(rt: HostRuntime) -> Result<(), Fail> {
 fn expect_read<S: Read>(rt: &impl Abort, client: &mut S, bytes: &[u8]) -> Result<(), Fail> {
     let mut buf = [0; 8];
     let given = client.read(&mut buf)?;
-    assert_eq!(rt; &buf[..given], bytes);
+    assert!(rt; &buf[..given] == bytes);
     Ok(())
 }
 
@@ -276,7 +276,7 @@ fn echo_client<N: Net>(alloc: Global, door: &mut ListenerDoor<N>) -> Result<(), 
 fn accepts_from_a_socket(rt: HostRuntime) -> Result<(), Fail> {
     let address = free_address(&rt)?;
     let mut door = ListenerDoor::new(&rt);
-    assert_eq!(rt; door.listen("127.0.0.1"), Err(Failed));
+    assert!(rt; door.listen("127.0.0.1") == Err(Failed));
     door.listen(address.as_str())?;
     let mut client = TcpStream::connect(&rt, address.as_str())?;
     client.write_all(b"ask")?;

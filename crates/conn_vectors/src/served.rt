@@ -467,10 +467,9 @@ fn expect_served(
             writes: &[],
         };
         let answer = serve(alloc, to, stream, course)?;
-        assert_eq!(rt; answer.ended, Ok(ended), "{name} in pieces of {cut}");
-        assert_eq!(rt;
-            answer.written.as_slice(),
-            written,
+        assert!(rt; answer.ended == Ok(ended), "{name} in pieces of {cut}");
+        assert!(rt;
+            answer.written.as_slice() == written,
             "{name} in pieces of {cut}"
         );
     }
@@ -646,8 +645,8 @@ fn expect_fault(
     let stream = joined(alloc, &[POSTED, POSTED])?;
     let written = joined(alloc, texts)?;
     let answer = serve(alloc, Form::ZipkinJson, stream.as_slice(), course)?;
-    assert_eq!(rt; answer.ended, Err(fault));
-    assert_eq!(rt; answer.written.as_slice(), written.as_slice());
+    assert!(rt; answer.ended == Err(fault));
+    assert!(rt; answer.written.as_slice() == written.as_slice());
     Ok(())
 }
 
@@ -676,8 +675,8 @@ fn expect_reply(rt: &impl Abort, alloc: Global, reply: usize, written: &str) -> 
     limits.reply = reply;
     let mut conn = connection(alloc, POSTED.as_bytes(), WHOLE)?;
     let ended = serve_connection(alloc, &mut conn, Form::ZipkinJson, &limits);
-    assert_eq!(rt; ended, Ok(Ended::Closed), "{reply}");
-    assert_eq!(rt; conn.written(), written.as_bytes(), "{reply}");
+    assert!(rt; ended == Ok(Ended::Closed), "{reply}");
+    assert!(rt; conn.written() == written.as_bytes(), "{reply}");
     Ok(())
 }
 

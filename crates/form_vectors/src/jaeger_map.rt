@@ -213,9 +213,8 @@ fn reads_tags(rt: HostRuntime) -> Result<(), Fail> {
         );
         let span = first_span(&group).ok_or(OutOfMemory)?;
         assert!(rt; are_texts(&span.attributes, row.attributes), "{}", row.name);
-        assert_eq!(rt;
-            (span.kind, span.status.code),
-            (row.kind, row.code),
+        assert!(rt;
+            (span.kind, span.status.code) == (row.kind, row.code),
             "{}",
             row.name
         );

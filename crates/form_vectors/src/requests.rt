@@ -284,7 +284,7 @@ fn reads_groups(rt: HostRuntime) -> Result<(), Fail> {
         write_group(&mut out, &group)?;
         let unit = enclosed(rt.alloc(), row.around, row.written)?;
         let wanted = enclosed(rt.alloc(), WRITTEN, unit.as_slice())?;
-        assert_eq!(rt; out.as_slice(), wanted.as_slice(), "of {:?}", row.held);
+        assert!(rt; out.as_slice() == wanted.as_slice(), "of {:?}", row.held);
     }
     Ok(())
 }
@@ -328,9 +328,9 @@ fn reads_values(rt: HostRuntime) -> Result<(), Fail> {
     for (pair, wanted) in VALUES {
         let unit = enclosed(rt.alloc(), PAIR, pair)?;
         let (group, _) = group_in(rt.alloc(), unit.as_slice())?;
-        assert_eq!(rt; group.resource.len(), 1);
+        assert!(rt; group.resource.len() == 1);
         for (_, found) in group.resource.as_slice() {
-            assert_eq!(rt; format!(in rt.alloc(); "{found:?}")?.as_str(), wanted);
+            assert!(rt; format!(in rt.alloc(); "{found:?}")?.as_str() == wanted);
         }
     }
     Ok(())
@@ -448,9 +448,8 @@ fn refusal(alloc: Global, unit: &[u8]) -> Option<Cause> {
 fn refuses_groups(rt: HostRuntime) -> Result<(), Fail> {
     for (around, held, cause) in REFUSED {
         let unit = enclosed(rt.alloc(), around, held)?;
-        assert_eq!(rt;
-            refusal(rt.alloc(), unit.as_slice()),
-            Some(cause),
+        assert!(rt;
+            refusal(rt.alloc(), unit.as_slice()) == Some(cause),
             "{held:?}"
         );
     }
@@ -470,7 +469,7 @@ fn lists_end_at_level_16(rt: HostRuntime) -> Result<(), Fail> {
     assert!(rt; group_in(rt.alloc(), unit.as_slice()).is_ok());
     value = enclosed(rt.alloc(), LIST, value.as_slice())?;
     let unit = enclosed(rt.alloc(), VALUE, value.as_slice())?;
-    assert_eq!(rt; refusal(rt.alloc(), unit.as_slice()), Some(Cause::TooDeep));
+    assert!(rt; refusal(rt.alloc(), unit.as_slice()) == Some(Cause::TooDeep));
     Ok(())
 }
 
@@ -486,7 +485,7 @@ fn spans_have_many_events_and_links(rt: HostRuntime) -> Result<(), Fail> {
     let (group, _) = group_in(rt.alloc(), unit.as_slice())?;
     for scope in group.scopes.as_slice() {
         for span in scope.spans.as_slice() {
-            assert_eq!(rt; (span.events.len(), span.links.len()), (130, 130));
+            assert!(rt; (span.events.len(), span.links.len()) == (130, 130));
         }
     }
     Ok(())

@@ -148,7 +148,7 @@ fn writes_every_field(rt: HostRuntime) -> Result<(), Fail> {
     let mut out = Blob::new(alloc);
     write_group(&mut out, &group)?;
     let wanted = hex::decode(alloc, FULL_REQUEST)?;
-    assert_eq!(rt; out.as_slice(), wanted.as_slice());
+    assert!(rt; out.as_slice() == wanted.as_slice());
     Ok(())
 }
 
@@ -162,12 +162,12 @@ fn leaves_defaults_out(rt: HostRuntime) -> Result<(), Fail> {
     let mut out = Blob::new(alloc);
     write_group(&mut out, &sparse)?;
     let wanted = hex::decode(alloc, BARE_REQUEST)?;
-    assert_eq!(rt; out.as_slice(), wanted.as_slice());
+    assert!(rt; out.as_slice() == wanted.as_slice());
     // What is there stays in front.
     let mut out = Blob::new(alloc);
     out.append(b"x")?;
     write_group(&mut out, &group_of(alloc, Items::new(alloc)))?;
-    assert_eq!(rt; out.as_slice(), b"x\x0a\x00".as_slice());
+    assert!(rt; out.as_slice() == b"x\x0a\x00".as_slice());
     Ok(())
 }
 
@@ -207,6 +207,6 @@ fn writes_values(rt: HostRuntime) -> Result<(), Fail> {
     group.resource = pairs;
     let mut out = Blob::new(alloc);
     write_group(&mut out, &group)?;
-    assert_eq!(rt; out.as_slice(), VALUES);
+    assert!(rt; out.as_slice() == VALUES);
     Ok(())
 }

@@ -8,13 +8,13 @@ use zipkin_json::read_text;
 #[test]
 fn drops_a_tag(rt: HostRuntime) -> Result<(), Fail> {
     let spans = read_text(rt.alloc(), MARKED_SPANS.as_bytes())?;
-    assert_eq!(rt; spans.len(), 1);
+    assert!(rt; spans.len() == 1);
     for span in spans.into_vec() {
         let (_run, _read, remarks) = triple_of_span(rt.alloc(), span)?;
-        assert_eq!(rt; remarks.len(), 1);
+        assert!(rt; remarks.len() == 1);
         for remark in remarks.as_slice() {
-            assert_eq!(rt; remark.kind, RemarkKind::TagDropped);
-            assert_eq!(rt; remark.key.as_str(), "zipkin.shared");
+            assert!(rt; remark.kind == RemarkKind::TagDropped);
+            assert!(rt; remark.key.as_str() == "zipkin.shared");
         }
     }
     Ok(())

@@ -30,7 +30,7 @@ fn finds_members(rt: HostRuntime) -> Result<(), Fail> {
             Some(member) => member.as_u64(),
             None => None,
         };
-        assert_eq!(rt; found, number, "{given}");
+        assert!(rt; found == number, "{given}");
     }
     Ok(())
 }
@@ -75,8 +75,8 @@ fn reads_texts_and_truth_values(rt: HostRuntime) -> Result<(), Fail> {
         let nodes = text_nodes(rt.alloc(), given, &mut scratch)?;
         let v = Lent::of(nodes.as_slice());
         let read = if_shaped(text_of(rt.alloc(), &v))?;
-        assert_eq!(rt; str_of(&read), wanted, "{given}");
-        assert_eq!(rt; if_shaped(read_truth(&v))?, truth, "{given}");
+        let read_truth = if_shaped(read_truth(&v))?;
+        assert!(rt; str_of(&read) == wanted && read_truth == truth, "{given}");
     }
     Ok(())
 }
@@ -96,7 +96,7 @@ fn reads_texts_that_may_be_absent(rt: HostRuntime) -> Result<(), Fail> {
         let nodes = text_nodes(rt.alloc(), given, &mut scratch)?;
         let v = Lent::of(nodes.as_slice());
         let read = if_shaped(text(rt.alloc(), &v, "a"))?;
-        assert_eq!(rt; str_of(&read), wanted, "{given}");
+        assert!(rt; str_of(&read) == wanted, "{given}");
     }
     Ok(())
 }
@@ -114,7 +114,7 @@ fn refuses_what_is_no_value(rt: HostRuntime) {
         let mut scratch = Scratch::new(rt.alloc());
         match bytes_nodes(rt.alloc(), bytes, &mut scratch) {
             Ok(_) => panic!(rt; "a value: {bytes:?}"),
-            Err(why) => assert_eq!(rt; unread(why), Halt::Why(refusal), "{bytes:?}"),
+            Err(why) => assert!(rt; unread(why) == Halt::Why(refusal), "{bytes:?}"),
         }
     }
 }
@@ -157,7 +157,7 @@ fn writes_values(rt: HostRuntime) -> Result<(), Fail> {
         let text = Text::of(rt.alloc(), text)?;
         let mut out = Writer::new(Vec::new(rt.alloc()));
         write_values(&mut out, &text, number, truth)?;
-        assert_eq!(rt; out.into_inner().as_slice(), written.as_bytes());
+        assert!(rt; out.into_inner().as_slice() == written.as_bytes());
     }
     Ok(())
 }
@@ -189,7 +189,7 @@ fn writes_identifiers(rt: HostRuntime) -> Result<(), Fail> {
     for (parent, written) in [(None, WITHOUT_PARENT), (Some(id), WITH_PARENT)] {
         let mut out = Writer::new(Vec::new(rt.alloc()));
         write_identifiers(&mut out, trace, id, parent)?;
-        assert_eq!(rt; out.into_inner().as_slice(), written.as_bytes());
+        assert!(rt; out.into_inner().as_slice() == written.as_bytes());
     }
     Ok(())
 }

@@ -12,11 +12,15 @@ use thrift_core::StructScanner;
 /// A text, the limit of a unit, and the first step over the text.
 pub(crate) type FrameRow = (&'static [u8], usize, Step);
 
+fn refuses<S: Scan>(rt: &impl Abort, scanner: &mut S, piece: &[u8], cause: Cause) {
+    assert!(rt; scanner.push(piece) == Step::Refused(cause));
+}
+
 // A refusal stays, whatever comes.
 fn stays_refused<S: Scan>(rt: &impl Abort, scanner: &mut S, piece: &[u8], cause: Cause) {
-    for next in [piece, b"".as_slice(), piece] {
-        assert_eq!(rt; scanner.push(next), Step::Refused(cause));
-    }
+    refuses(rt, scanner, piece, cause);
+    refuses(rt, scanner, b"", cause);
+    refuses(rt, scanner, piece, cause);
 }
 
 // The step of two pieces, counted from where the first begins.
@@ -38,9 +42,8 @@ fn step_of<S: Scan + Drop>(rt: &impl Abort, limit: usize, first: &[u8], second: 
 fn cuts_a_frame<S: Scan + Drop>(rt: &impl Abort, text: &[u8], limit: usize, step: Step) {
     for cut in 0..text.len() + 1 {
         let (first, second) = text.split_at(cut);
-        assert_eq!(rt;
-            step_of::<S>(rt, limit, first, second),
-            step,
+        assert!(rt;
+            step_of::<S>(rt, limit, first, second) == step,
             "{text:?} cut at {cut}"
         );
     }
@@ -57,7 +60,7 @@ fn refuses_the_last_byte<S: Scan + Drop>(rt: &impl Abort, text: &[u8], limit: us
     for cut in 0..text.len() {
         let (first, second) = text.split_at(cut);
         let mut scanner = S::new(limit);
-        assert_eq!(rt; scanner.push(first), Step::Need, "{text:?} cut at {cut}");
+        assert!(rt; scanner.push(first) == Step::Need, "{text:?} cut at {cut}");
         stays_refused(rt, &mut scanner, second, cause);
     }
 }
@@ -77,10 +80,10 @@ fn finds_the_next<S: Scan + Drop>(rt: &impl Abort, text: &[u8]) {
     let (first, rest) = text.split_at(1);
     let mut scanner = S::new(text.len());
     for _ in 0..3_u32 {
-        assert_eq!(rt; scanner.push(b""), Step::Need);
-        assert_eq!(rt; scanner.push(first), Step::Need);
-        assert_eq!(rt; scanner.push(b""), Step::Need);
-        assert_eq!(rt; scanner.push(rest), Step::Unit(rest.len()));
+        assert!(rt; scanner.push(b"") == Step::Need);
+        assert!(rt; scanner.push(first) == Step::Need);
+        assert!(rt; scanner.push(b"") == Step::Need);
+        assert!(rt; scanner.push(rest) == Step::Unit(rest.len()));
     }
 }
 

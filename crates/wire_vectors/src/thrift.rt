@@ -194,8 +194,8 @@ const COMPACT_FIELDS: [FieldRow; 18] = [
 fn reads_fields<P: Parts>(rt: &impl Abort, rows: &[FieldRow]) {
     for (text, last, left, wanted, place) in rows {
         let mut c = Cursor::new(text);
-        assert_eq!(rt; P::field(&mut c, *last, *left), *wanted, "at {text:?}");
-        assert_eq!(rt; c.place(), *place, "at {text:?}");
+        let found = P::field(&mut c, *last, *left);
+        assert!(rt; found == *wanted && c.place() == *place, "{text:?}");
     }
 }
 
@@ -296,7 +296,7 @@ const COMPACT_LISTS: [ListRow; 14] = [
 fn reads_lists<P: Parts>(rt: &impl Abort, rows: &[ListRow]) {
     for (text, left, wanted) in rows {
         let read = P::list(&mut Cursor::new(text), *left);
-        assert_eq!(rt; read, *wanted, "at {text:?}");
+        assert!(rt; read == *wanted, "{text:?}");
     }
 }
 
@@ -370,8 +370,8 @@ const COMPACT_MAPS: [MapRow; 8] = [
 fn reads_maps<P: Parts>(rt: &impl Abort, rows: &[MapRow]) {
     for (text, left, wanted, place) in rows {
         let mut c = Cursor::new(text);
-        assert_eq!(rt; P::map(&mut c, *left), *wanted, "at {text:?}");
-        assert_eq!(rt; c.place(), *place, "at {text:?}");
+        let found = P::map(&mut c, *left);
+        assert!(rt; found == *wanted && c.place() == *place, "{text:?}");
     }
 }
 
@@ -505,8 +505,8 @@ const COMPACT_WORDS: [WordRow; 17] = [
 fn reads_words<P: Parts>(rt: &impl Abort, rows: &[WordRow]) {
     for (kind, text, wanted, place) in rows {
         let mut c = Cursor::new(text);
-        assert_eq!(rt; read_word::<P>(&mut c, kind), *wanted, "at {text:?}");
-        assert_eq!(rt; c.place(), *place, "at {text:?}");
+        let found = read_word::<P>(&mut c, kind);
+        assert!(rt; found == *wanted && c.place() == *place, "{text:?}");
     }
 }
 
@@ -556,12 +556,11 @@ fn skips<P: Parts>(rt: &impl Abort, rows: &[SkipRow]) {
         let mut c = Cursor::new(text);
         assert!(rt; c.take(*begins).is_ok());
         assert!(rt; *left <= OUTER_LEVELS + 1);
-        assert_eq!(rt;
-            skip::<P>(&mut c, *kind, None, *left),
-            *wanted,
+        assert!(rt;
+            skip::<P>(&mut c, *kind, None, *left) == *wanted,
             "at {text:?}"
         );
-        assert_eq!(rt; c.place(), *place, "at {text:?}");
+        assert!(rt; c.place() == *place, "at {text:?}");
     }
 }
 
@@ -570,7 +569,7 @@ fn reads_values_of_the_binary_protocol(rt: HostRuntime) {
     reads_words::<Binary>(&rt, &BINARY_WORDS);
     skips::<Binary>(&rt, &BINARY_VALUES);
     let read = bytes::<Binary>(&mut Cursor::new(b"\0\0\0\x02abc"));
-    assert_eq!(rt; read, Ok(b"ab".as_slice()));
+    assert!(rt; read == Ok(b"ab".as_slice()));
 }
 
 #[test]
@@ -578,7 +577,7 @@ fn reads_values_of_the_compact_protocol(rt: HostRuntime) {
     reads_words::<Compact>(&rt, &COMPACT_WORDS);
     skips::<Compact>(&rt, &COMPACT_VALUES);
     let read = bytes::<Compact>(&mut Cursor::new(b"\x02abc"));
-    assert_eq!(rt; read, Ok(b"ab".as_slice()));
+    assert!(rt; read == Ok(b"ab".as_slice()));
 }
 
 const TOO_LONG: Step = Step::Refused(Cause::UnitTooLong);
@@ -662,15 +661,12 @@ fn write_fields<P: Parts>(out: &mut Blob) -> Result<(), OutOfMemory> {
 fn writes_the_binary_protocol(rt: HostRuntime) -> Result<(), Fail> {
     let mut out = Blob::new(rt.alloc());
     write_tags::<Binary>(&mut out)?;
-    assert_eq!(rt; out.as_slice(), BINARY_TAGS);
+    assert!(rt; out.as_slice() == BINARY_TAGS);
     out.clear();
     Binary::put_field(&mut out, 4, 5, TypeCode::Truth, Some(true))?;
     Binary::put_truth(&mut out, true)?;
     Binary::put_long(&mut out, -2)?;
-    assert_eq!(rt;
-        out.as_slice(),
-        b"\x02\0\x05\x01\xff\xff\xff\xff\xff\xff\xff\xfe".as_slice()
-    );
+    assert!(rt; out.as_slice() == b"\x02\0\x05\x01\xff\xff\xff\xff\xff\xff\xff\xfe".as_slice());
     Ok(())
 }
 
@@ -678,22 +674,22 @@ fn writes_the_binary_protocol(rt: HostRuntime) -> Result<(), Fail> {
 fn writes_the_compact_protocol(rt: HostRuntime) -> Result<(), Fail> {
     let mut out = Blob::new(rt.alloc());
     write_tags::<Compact>(&mut out)?;
-    assert_eq!(rt; out.as_slice(), COMPACT_TAGS);
+    assert!(rt; out.as_slice() == COMPACT_TAGS);
     out.clear();
     write_fields::<Compact>(&mut out)?;
     let written = b"\x11\xf2\x06\x48\x03\x05\xd8\x04\xff\xff\xff\xff\x0f".as_slice();
-    assert_eq!(rt; out.as_slice(), written);
+    assert!(rt; out.as_slice() == written);
     out.clear();
     Compact::put_long(&mut out, i64::MIN)?;
     Compact::put_list(&mut out, TypeCode::I64, 14)?;
     Compact::put_list(&mut out, TypeCode::I64, 15)?;
     Compact::put_list(&mut out, TypeCode::Binary, 300)?;
     let written = b"\xff\xff\xff\xff\xff\xff\xff\xff\xff\x01\xe6\xf6\x0f\xf8\xac\x02".as_slice();
-    assert_eq!(rt; out.as_slice(), written);
+    assert!(rt; out.as_slice() == written);
     out.clear();
     Compact::put_bytes(&mut out, &[7; 130])?;
-    assert_eq!(rt; out.len(), 132);
+    assert!(rt; out.len() == 132);
     let read = bytes::<Compact>(&mut Cursor::new(out.as_slice()));
-    assert_eq!(rt; read, Ok([7; 130].as_slice()));
+    assert!(rt; read == Ok([7; 130].as_slice()));
     Ok(())
 }
