@@ -17,6 +17,4 @@ mod spans_json;
 #[cfg(test)]
 mod traces;
 #[cfg(test)]
-mod written_requests;
-#[cfg(test)]
 mod zipkin_map;
