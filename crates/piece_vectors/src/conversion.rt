@@ -86,7 +86,7 @@ impl<'a> Conversion<'a> {
         let whole = worked.output.len();
         match row.end {
             End::Whole(units, spans) => {
-                assert_eq!(rt; answer, Ok(Tally { units, spans }), "end of {}", row.name);
+                assert!(rt; answer == Ok(Tally { units, spans }), "end of {}", row.name);
                 assert!(rt; self.converter.ended(), "{} didn't end", row.name);
                 self.expect(rt, None, None, whole);
             }
@@ -117,9 +117,12 @@ impl<'a> Conversion<'a> {
         let worked = self.worked;
         let name = worked.row.name;
         let fed = self.fed;
-        assert_eq!(rt; stop, found.map(Found::stop), "answer to {name} at {fed}");
-        assert_eq!(rt; found_by(&self.converter), found, "stop of {name} at {fed}");
+        assert!(rt; stop == found.map(Found::stop), "answer to {name} at {fed}");
+        assert!(rt;
+            found_by(&self.converter) == found,
+            "stop of {name} at {fed}"
+        );
         let text = worked.output.as_slice().get(..written);
-        assert_eq!(rt; Some(self.out.bytes()), text, "text of {name} at {fed}");
+        assert!(rt; Some(self.out.bytes()) == text, "text of {name} at {fed}");
     }
 }

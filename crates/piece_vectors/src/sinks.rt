@@ -256,7 +256,10 @@ fn calls(alloc: Global, listed: &[u64]) -> Result<Items<u64>, Fail> {
 // What is told of a stop: a refusal has its reason, and a failed write none.
 fn expect_told(rt: &impl Abort, name: &str, converter: &Converter, stop: Option<Stop>) {
     let refused = matches!(converter.why(), Why::Refusal(_));
-    assert_eq!(rt; refused, stop == Some(Stop::Refused), "reason of {name}");
+    assert!(rt;
+        refused == (stop == Some(Stop::Refused)),
+        "reason of {name}"
+    );
 }
 
 // Feeds the pieces of a row, and looks at each answer.
@@ -274,20 +277,18 @@ fn expect_row(rt: &impl Abort, alloc: Global, row: &Row) -> Result<(), Fail> {
         let piece = told_in(alloc, Form::OtlpProto, fed.piece)?;
         assert!(rt; !converter.ended(), "{name} ended");
         let stop = converter.feed(piece.as_slice(), &mut out).err();
-        assert_eq!(rt; stop, fed.stop, "answer to {name}");
-        assert_eq!(rt;
-            Some(out.bytes()),
-            text.as_slice().get(..fed.written),
+        assert!(rt; stop == fed.stop, "answer to {name}");
+        assert!(rt;
+            Some(out.bytes()) == text.as_slice().get(..fed.written),
             "text of {name}"
         );
         expect_told(rt, name, &converter, stop);
     }
     assert!(rt; !converter.ended(), "{name} ended");
     let answer = converter.finish(&mut out);
-    assert_eq!(rt; answer, row.end, "end of {name}");
-    assert_eq!(rt;
-        Some(out.bytes()),
-        text.as_slice().get(..row.written),
+    assert!(rt; answer == row.end, "end of {name}");
+    assert!(rt;
+        Some(out.bytes()) == text.as_slice().get(..row.written),
         "whole text of {name}"
     );
     expect_told(rt, name, &converter, answer.err());

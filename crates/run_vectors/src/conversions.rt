@@ -7,6 +7,7 @@ use span_convert::{Bad, Converter, Stop, Tally, Why, Written, convert_all};
 use span_io::{Blob, Cause, Form, Items, Limits, MemSink, Refusal};
 use span_vectors::texts::{CUT_SPAN, LONG_NAME, LONGER_NAME, ONE_GROUP, ONE_SPAN};
 use std::alloc::Global;
+use std::process::Abort;
 use std::test::Fail;
 
 // What is told in a form by pieces. What is no JSON is in hexadecimal.
@@ -155,10 +156,10 @@ fn keeps_limits(rt: HostRuntime) -> Result<(), Fail> {
         let mut out = MemSink::new(rt.alloc(), 100, Items::new(rt.alloc()))?;
         let converter = Converter::new(rt.alloc(), form, TO_REQUEST, &limits);
         let answer = converted(converter, input.as_slice(), &mut out);
-        assert_eq!(rt; answer.err().flatten(), refusal);
-        assert_eq!(rt; out.bytes(), written.as_slice());
+        assert!(rt; answer.err().flatten() == refusal);
+        assert!(rt; out.bytes() == written.as_slice());
         let at_once = refused_at_once(rt.alloc(), form, input.as_slice(), &limits);
-        assert_eq!(rt; at_once, refusal);
+        assert!(rt; at_once == refusal);
     }
     Ok(())
 }
@@ -207,18 +208,19 @@ fn keeps_the_last_of_equal_keys(rt: HostRuntime) -> Result<(), Fail> {
         let Ok(text) = convert_all(rt.alloc(), form, form, input, &limits) else {
             panic!(rt; "refused");
         };
-        assert_eq!(rt; text.as_slice(), rising.as_slice());
+        assert!(rt; text.as_slice() == rising.as_slice());
     }
     let values = thousand_values(rt.alloc())?;
     let Ok(text) = convert_all(rt.alloc(), form, form, values.as_slice(), &limits) else {
         panic!(rt; "refused");
     };
-    assert_eq!(rt;
-        text.as_slice(),
-        [
-            0x0a, 15, 0x0a, 13, 0x0a, 11, 0x0a, 5, b'k', b'0', b'0', b'0', b'0', 0x12, 2, 0x18, 103
-        ]
-        .as_slice()
+    assert!(rt;
+        text.as_slice()
+            == [
+                0x0a, 15, 0x0a, 13, 0x0a, 11, 0x0a, 5, b'k', b'0', b'0', b'0', b'0', 0x12, 2, 0x18,
+                103
+            ]
+            .as_slice()
     );
     Ok(())
 }
@@ -233,6 +235,21 @@ fn many_keys(alloc: Global, groups: u32) -> Result<Blob, Fail> {
     Ok(input)
 }
 
+// Converts the input with an output that fails at a call, and looks at the answer and at how much was written.
+fn expect_taken(
+    rt: &impl Abort,
+    alloc: Global,
+    input: &[u8],
+    (call, answer, taken): (u64, Result<Tally, Option<Refusal>>, usize),
+) -> Result<(), Fail> {
+    let mut calls = Items::new(alloc);
+    calls.push(call)?;
+    let mut out = MemSink::new(alloc, 150_000, calls)?;
+    assert!(rt; converted(proto_converter(alloc), input, &mut out) == answer);
+    assert!(rt; Some(out.bytes()) == input.get(..taken));
+    Ok(())
+}
+
 // Each eighth group fills the text that is written at once. The output fails at no call, the first or
 // the second; then it has what was written before.
 #[test]
@@ -242,26 +259,22 @@ fn writes_long_texts(rt: HostRuntime) -> Result<(), Fail> {
         units: 16,
         spans: 0,
     };
-    for (call, answer, taken) in [
-        (9, Ok(whole), 144_096),
-        (1, Err(None), 0),
-        (2, Err(None), 72_048),
-    ] {
-        let mut calls = Items::new(rt.alloc());
-        calls.push(call)?;
-        let mut out = MemSink::new(rt.alloc(), 150_000, calls)?;
-        let converter = proto_converter(rt.alloc());
-        assert_eq!(rt; converted(converter, input.as_slice(), &mut out), answer);
-        assert_eq!(rt; Some(out.bytes()), input.as_slice().get(..taken));
-    }
-    // An output that grows to more than 2 ^ 20 bytes.
+    expect_taken(&rt, rt.alloc(), input.as_slice(), (9, Ok(whole), 144_096))?;
+    expect_taken(&rt, rt.alloc(), input.as_slice(), (1, Err(None), 0))?;
+    expect_taken(&rt, rt.alloc(), input.as_slice(), (2, Err(None), 72_048))?;
+    Ok(())
+}
+
+// An output that grows to more than 2 ^ 20 bytes.
+#[test]
+fn grows_with_its_text(rt: HostRuntime) -> Result<(), Fail> {
     let long = many_keys(rt.alloc(), 120)?;
     let form = Form::OtlpProto;
     let limits = Limits::shipped();
     let Ok(text) = convert_all(rt.alloc(), form, form, long.as_slice(), &limits) else {
         panic!(rt; "refused");
     };
-    assert_eq!(rt; text.as_slice(), long.as_slice());
+    assert!(rt; text.as_slice() == long.as_slice());
     Ok(())
 }
 
@@ -271,19 +284,19 @@ fn stays_stopped(rt: HostRuntime) -> Result<(), Fail> {
     let mut out = MemSink::new(rt.alloc(), 40, Items::new(rt.alloc()))?;
     let mut converter = proto_converter(rt.alloc());
     let fed = converter.feed(&[0x0a, 0, 0x0b], &mut out);
-    assert_eq!(rt; fed, Err(Stop::Refused));
-    assert_eq!(rt; converter.finish(&mut out), Err(Stop::Refused));
+    assert!(rt; fed == Err(Stop::Refused));
+    assert!(rt; converter.finish(&mut out) == Err(Stop::Refused));
     let more = joined_in(rt.alloc(), Form::OtlpProto, &[ONE_SPAN])?;
     let fed = converter.feed(more.as_slice(), &mut out);
-    assert_eq!(rt; fed, Err(Stop::Refused));
-    assert_eq!(rt;
-        refusal_of(&converter),
-        Some(Refusal {
-            unit: 2,
-            cause: Cause::BadWire,
-        })
+    assert!(rt; fed == Err(Stop::Refused));
+    assert!(rt;
+        refusal_of(&converter)
+            == Some(Refusal {
+                unit: 2,
+                cause: Cause::BadWire,
+            })
     );
-    assert_eq!(rt; converter.ended(), false);
-    assert_eq!(rt; out.bytes(), [0x0a, 0].as_slice());
+    assert!(rt; !converter.ended());
+    assert!(rt; out.bytes() == [0x0a, 0].as_slice());
     Ok(())
 }
