@@ -1,10 +1,8 @@
-//! Attributes and values of traces, and their texts.
+//! Values of traces, and their texts.
 use span_io::{Bytes, Halt, Items, OutOfMemory, Text};
 use std::alloc::Global;
 use std::test::Fail;
-use trace_model::{
-    Attrs, Fault, Value, attrs_copy, attrs_of, find, keys_in_order, value_json, value_text,
-};
+use trace_model::{Attrs, Value, value_json, value_text};
 
 pub(crate) fn numbers(alloc: Global, list: &[(&str, i64)]) -> Result<Attrs, OutOfMemory> {
     let mut pairs = Items::new(alloc);
@@ -22,94 +20,6 @@ pub(crate) fn one<T: Drop>(alloc: Global, item: T) -> Result<Items<T>, OutOfMemo
 
 pub(crate) fn bytes(alloc: Global, bytes: &[u8]) -> Result<Value, OutOfMemory> {
     Ok(Value::Bytes(Bytes::of(alloc, bytes)?))
-}
-
-fn are_numbers(attributes: &Attrs, list: &[(&str, i64)]) -> bool {
-    let mut same = attributes.len() == list.len();
-    for ((key, value), (name, number)) in attributes.as_slice().iter().zip(list) {
-        same = same && key.as_str() == *name;
-        same = same && matches!(value, Value::Number(n) if *n == *number);
-    }
-    same
-}
-
-fn are_texts(texts: &Items<Text>, list: &[&str]) -> bool {
-    let mut same = texts.len() == list.len();
-    for (text, name) in texts.as_slice().iter().zip(list) {
-        same = same && text.as_str() == *name;
-    }
-    same
-}
-
-type Numbers = &'static [(&'static str, i64)];
-
-// Pairs, what is kept of them, and the keys that stand twice.
-const PAIRS: [(Numbers, Numbers, &[&str]); 5] = [
-    (&[], &[], &[]),
-    (&[("k", 1), ("k", 2), ("k", 3)], &[("k", 3)], &["k"]),
-    (&[("b", 1), ("a", 2)], &[("a", 2), ("b", 1)], &[]),
-    (
-        &[("b", 1), ("a", 2), ("b", 3), ("", 4), ("ab", 5), ("a", 6)],
-        &[("", 4), ("a", 6), ("ab", 5), ("b", 3)],
-        &["a", "b"],
-    ),
-    (
-        &[("é", 1), ("z", 2), ("Z", 3)],
-        &[("Z", 3), ("z", 2), ("é", 1)],
-        &[],
-    ),
-];
-
-#[test]
-fn keeps_the_last_of_equal_keys(rt: HostRuntime) -> Result<(), Fail> {
-    for (list, kept, repeated) in PAIRS {
-        let (attributes, twice) = attrs_of(rt.alloc(), numbers(rt.alloc(), list)?)?;
-        assert!(rt; are_numbers(&attributes, kept));
-        assert!(rt; are_texts(&twice, repeated));
-        assert!(rt; are_numbers(&attrs_copy(rt.alloc(), &attributes)?, kept));
-    }
-    Ok(())
-}
-
-#[test]
-fn gathers_many_pairs(rt: HostRuntime) -> Result<(), Fail> {
-    let mut apart = Items::new(rt.alloc());
-    let mut equal = Items::new(rt.alloc());
-    for number in 0..1000u32 {
-        let key = format!(in rt.alloc(); "{:03}", 999 - number)?;
-        let value = Value::Number(i64::from(number));
-        apart.push((Text::of(rt.alloc(), key.as_str())?, value))?;
-        let value = Value::Number(i64::from(number));
-        equal.push((Text::of(rt.alloc(), "k")?, value))?;
-    }
-    let (attributes, twice) = attrs_of(rt.alloc(), apart)?;
-    assert!(rt; (attributes.len(), twice.len()) == (1000, 0));
-    assert!(rt; matches!(find(&attributes, "000"), Some(Value::Number(999))));
-    let (attributes, twice) = attrs_of(rt.alloc(), equal)?;
-    assert!(rt; are_numbers(&attributes, &[("k", 999)]));
-    assert!(rt; are_texts(&twice, &["k"]));
-    Ok(())
-}
-
-// The number under each key of the pairs `b` 2, `c` -1 and `c` 3.
-const FOUND: [(&str, Option<i64>); 4] = [("b", Some(2)), ("c", Some(-1)), ("", None), ("cc", None)];
-
-#[test]
-fn finds_and_orders_keys(rt: HostRuntime) -> Result<(), Fail> {
-    let pairs = numbers(rt.alloc(), &[("b", 2), ("c", -1), ("c", 3)])?;
-    for (key, wanted) in FOUND {
-        let found = match find(&pairs, key) {
-            Some(Value::Number(n)) => Some(*n),
-            _ => None,
-        };
-        assert!(rt; found == wanted, "{key}");
-    }
-    let mut keys = Items::new(rt.alloc());
-    for key in ["b", "a", "", "b", "ab"] {
-        keys.push(Text::of(rt.alloc(), key)?)?;
-    }
-    assert!(rt; are_texts(&keys_in_order(keys)?, &["", "a", "ab", "b"]));
-    Ok(())
 }
 
 /// What [`nested`] is as a text.
@@ -204,19 +114,4 @@ fn makes_json_values(rt: HostRuntime) -> Result<(), Fail> {
     assert!(rt; has_json(alloc, &Value::Number(-5), Some("-5")));
     assert!(rt; has_json(alloc, &under_k(alloc, ONE)?, None));
     Ok(())
-}
-
-#[test]
-fn numbers_and_names_faults(rt: HostRuntime) {
-    let alloc = rt.alloc();
-    for (fault, number, name) in [
-        (Fault::EndBeforeStart, 20, "EndBeforeStart"),
-        (Fault::Reserved(Text::new(alloc)), 21, "Reserved"),
-        (Fault::OwnKey(Text::new(alloc)), 22, "OwnKey"),
-        (Fault::EventText, 23, "EventText"),
-        (Fault::ChildOfLink, 24, "ChildOfLink"),
-        (Fault::DoubleInText, 25, "DoubleInText"),
-    ] {
-        assert!(rt; (fault.number(), fault.name()) == (number, name));
-    }
 }
