@@ -16,8 +16,10 @@ pub mod MergedRows
 pub mod NormalLaws
 pub mod NormalPairs
 pub mod NormalProper
+pub mod NoReserved
 pub mod NotedLaws
 pub mod NothingLost
+pub mod OwnBehind
 pub mod OwnForms
 pub mod OwnParts
 pub mod PlainTags

@@ -41,13 +41,20 @@ pub resource_not_free : (key rest : List ℕ) → resource_key key ≡ Some rest
 resource_not_free key rest e =
     by_parts (is_column key) (resource_key key) (is_own key || bytes_eq peer_key key) (ap is_some e)
 
--- nothing is added for it
-pub nothing_more : {T E : Type 0} (r : Result T E) (attributes : Pairs) (tag : List ℕ × Value) (o : Option (Bor (List ℕ))) (x : Bor (List ℕ)) → option_map (λ k. k.now) o ≡ resource_key tag.0 → o ≡ Some x
-    → OnOk r (attributes ≡ attributes ++ filter (λ tag. is_free_tag tag.0) (tag ∷ []))
-nothing_more (Err e) attributes tag o x same is = tt
-nothing_more (Ok y) attributes tag o x same is =
-    let apart : is_free_tag tag.0 ≡ false = resource_not_free tag.0 x.now (sym same ∙ ap (option_map (λ k. k.now)) is) in
-    sym (ap (λ b. attributes ++ cond b (tag ∷ []) []) apart ∙ append-nil attributes)
+-- and the key of an attribute is none of the resource
+pub free_no_resource : (key : List ℕ) → is_free_tag key ≡ true → resource_key key ≡ None
+free_no_resource key is = by (resource_key key) refl
+  where
+    by : (o : Option (List ℕ)) → resource_key key ≡ o → o ≡ None
+    by None e = refl
+    by (Some rest) e = absurd (true≢false (sym is ∙ resource_not_free key rest e))
+
+-- so nothing is added to the resource for it
+pub no_resource : {T E : Type 0} (r : Result T E) (resource : Pairs) (tag : List ℕ × Value) → is_free_tag tag.0 ≡ true
+    → OnOk r (resource ≡ resource ++ without service_key (resource_tags (tag ∷ [])))
+no_resource (Err e) resource tag is = tt
+no_resource (Ok y) resource tag is =
+    sym (ap (λ o. resource ++ without service_key (resource_row o tag.1 ++ [])) (free_no_resource tag.0 is) ∙ append-nil resource)
 
 -- ---- tags one after the other
 

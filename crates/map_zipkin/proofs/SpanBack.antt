@@ -129,11 +129,11 @@ module _ (resource : Pairs) (up : Rise (keys resource)) (one : Scoped Span) (kno
   told_in other = refl
 
   none_left_out : left_out_by (zipkin_span resource one).remote.service (zipkin_columns_of one) its_tags ≡ []
-  none_left_out = λ i. none_left row_of first_columns (zipkin_columns_of one) told_in i
+  none_left_out = λ i. (none_left row_of first_columns (zipkin_columns_of one) told_in i
       ++ (if_left (resource_prefix ++ service_key) (is_some (service_none resource one up known.sound.attributes.rising free i))
-      ++ (if_left (row_of columns.Code).key (told_in columns.Code i)
+      ++ if_left (row_of columns.Code).key (told_in columns.Code i)))
       ++ (if_left peer_key (is_idle_peer (text_or_none (at peer_key one.span.attributes)) (text_in (placed_none resource one up known.sound.attributes.rising free peer_key refl refl i)))
-      ++ none_left own_row all_own (own_in its_tags) own_none i)))
+      ++ none_left own_row all_own (own_in its_tags) own_none i)
 
   pub span_plainly : zipkin_left_out (zipkin_span resource one) ≡ []
   span_plainly =

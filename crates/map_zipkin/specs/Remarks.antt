@@ -34,13 +34,15 @@ own_left tags = left_out_of own_row all_own (own_in tags)
 abbrev pub first_columns : List Column
 first_columns = columns.Error ∷ columns.DroppedAttributes ∷ columns.DroppedEvents ∷ columns.DroppedLinks ∷ columns.LibraryName ∷ columns.LibraryVersion ∷ []
 
--- in the order of their keys, of a span whose remote service is this
-abbrev pub left_out_by : List ℕ → TagColumns → Pairs → Keys
-left_out_by peer c tags = left_out_of row_of first_columns c
+-- those under reserved keys, in the order of these
+abbrev pub reserved_left : TagColumns → Pairs → Keys
+reserved_left c tags = left_out_of row_of first_columns c
     ++ (if_left (resource_prefix ++ service_key) (is_some (at (resource_prefix ++ service_key) tags))
-    ++ (if_left (row_of columns.Code).key (is_idle_in c columns.Code)
-    ++ (if_left peer_key (is_idle_peer peer (text_in (at peer_key tags)))
-    ++ own_left tags)))
+    ++ if_left (row_of columns.Code).key (is_idle_in c columns.Code))
+
+-- all, in the order of their keys, of a span whose remote service is this
+abbrev pub left_out_by : List ℕ → TagColumns → Pairs → Keys
+left_out_by peer c tags = reserved_left c tags ++ (if_left peer_key (is_idle_peer peer (text_in (at peer_key tags))) ++ own_left tags)
 
 abbrev pub zipkin_left_out : ZSpan → Keys
 zipkin_left_out span = left_out_by span.remote.service (columns_in (pairs_of span)) (pairs_of span)

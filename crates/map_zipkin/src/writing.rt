@@ -154,6 +154,15 @@ fn push_scope(
     push_spans(alloc, spans, resource, &shared, scope.spans)
 }
 
+// How many spans there are, for their room.
+fn span_count(scopes: &Items<Scope>) -> usize {
+    let mut count: usize = 0;
+    'scopes: for scope in scopes.as_slice() {
+        count = count.saturating_add(scope.spans.len());
+    }
+    count
+}
+
 fn spans_of(
     alloc: Global,
     resource: &Attrs,
@@ -163,7 +172,7 @@ fn spans_of(
     requires scopes { list_any scope_unfit scopes ≡ false }
     ensures { IfOk result (λ spans. spans ≡ map (told.zipkin_span resource.now) (scoped scopes)) }
 {
-    let mut spans = Items::new(alloc);
+    let mut spans = Items::with_room(alloc, span_count(&scopes))?;
     'scopes: for scope in scopes.into_vec() {
         push_scope(alloc, &mut spans, resource, scope)?;
     }

@@ -55,6 +55,19 @@ fn spans_in(group: &Group) -> u64
     count
 }
 
+/// Room for the text of a small input, with which its growth begins.
+const ROOM: usize = 4096;
+
+// An empty text, with that room where there is memory for it.
+fn some_room(alloc: Global) -> Blob
+    ensures { result ≡ [] }
+{
+    match Blob::with_room(alloc, ROOM) {
+        Ok(text) => text,
+        Err(OutOfMemory) => Blob::new(alloc),
+    }
+}
+
 impl Progress {
     /// The number of bytes that aren't written yet.
     pub(crate) fn unwritten(&self) -> usize
@@ -122,7 +135,7 @@ impl Progress {
         ensures pen { result.pen ≡ pen }
     {
         Progress {
-            unwritten: Blob::new(alloc),
+            unwritten: some_room(alloc),
             tally: Tally { units: 0, spans: 0 },
             pen,
         }

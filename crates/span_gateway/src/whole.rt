@@ -54,6 +54,9 @@ pub(crate) fn answer_whole<C: Duplex>(
     }
 }
 
+/// Room for the head of an answer, with which its growth begins.
+const ROOM: usize = 512;
+
 // Sends the answer to the request that these bytes are.
 fn reply<C: Duplex>(
     alloc: Global,
@@ -68,7 +71,9 @@ fn reply<C: Duplex>(
     requires body { request.now.body_at ≤ length bytes.now }
     ensures { Sends (C.link conn.old) (C.link conn.new) (IsAnswer to limits.now request.now bytes.now) result }
 {
-    let mut out = Blob::new(alloc);
+    let Ok(mut out) = Blob::with_room(alloc, ROOM) else {
+        return Err(ServeFault::OutOfMemory);
+    };
     match answer_request(alloc, &mut out, request, bytes, to, limits) {
         Ok(()) => send(conn, &out),
         Err(OutOfMemory) => Err(ServeFault::OutOfMemory),

@@ -8,7 +8,7 @@ use Rattle.json.specs.Token.{Token, begin_object, end_object, begin_array, end_a
 use Rattle.json.specs.Word.{head, ends_word, after_number, number_before, is_operator, is_space, word}
 use Rattle.serde_json.specs.Data.{Data, object, no_members, member}
 use Rattle.serde_json.specs.Read.{read, max_depth, of_json}
-use Rattle.trace_model.specs.EventReading.{begins_as_member}
+use Rattle.trace_model.specs.private.EventBegins.{begins_as_member}
 use Rattle.trace_model.proofs.EventLemmas.{NoEventText}
 
 abbrev from : Place → List ℕ → List Token

@@ -1,10 +1,7 @@
 -- The value that a JSON value stands for, where it is at most so many levels deep.
 --     value_within left json    the value, or None where it is deeper or a number in it is no whole one of 64 bits
 --     IsRead value              what reading gives besides: the keys of its maps rise, and it is proper
---     begins_as_member text     a quotation mark stands first, or a blank, as before each member of a JSON object (RFC 8259, section 4)
-use Rattle.std.specs.Prelude.{ℕ, zero, suc, ◌==◌, ◌||◌, Bool, false, List, [], ◌∷◌, All, Option, Some, None, option_map, option_and_then}
-use Rattle.json.specs.Ascii.{quote}
-use Rattle.json.specs.Word.{is_space}
+use Rattle.std.specs.Prelude.{ℕ, zero, suc, List, [], ◌∷◌, All, Option, Some, None, option_map, option_and_then}
 use Rattle.serde_json.specs.Data.{Data, null, boolean, number, string, array, object, Items, no_items, item, Members, no_members, member}
 use Rattle.serde_json.specs.Find.{as_i64}
 use Rattle.serde_json.specs.Read.{read}
@@ -58,7 +55,3 @@ event_in json = None
 -- what stands in braces is JSON of such an event
 unfoldable pub event_text_read : List ℕ → Option (List ℕ × List (List ℕ × Value))
 event_text_read text = option_and_then event_in (read (in_braces text))
-
-abbrev pub begins_as_member : List ℕ → Bool
-begins_as_member [] = false
-begins_as_member (byte ∷ rest) = (byte == quote) || is_space byte

@@ -1,1 +1,2 @@
+pub mod EventBegins
 pub mod Gathering

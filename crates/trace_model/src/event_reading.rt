@@ -6,6 +6,7 @@ ghost use Rattle.serde_json.specs.View.{view, number_view, items_view, members_v
 ghost use Rattle.trace_model.specs.EventReading.{IsRead, AreRead, value_within, values_within, pairs_within};
 ghost use Rattle.trace_model.specs.EventReading as told;
 ghost use Rattle.trace_model.specs.EventTexts.{IsEventJson, IsEventText, in_braces};
+ghost use Rattle.trace_model.specs.private.EventBegins.{begins_as_member};
 ghost use Rattle.trace_model.specs.Proper.{IsProperValue, AreProper};
 ghost use Rattle.trace_model.specs.Values.{AreSound, MapsRise};
 ghost use Rattle.trace_model.specs.declared.value.Value.{Value as Val};
@@ -40,7 +41,7 @@ pub fn read_event_text(alloc: Global, text: &Text) -> Result<Option<(Text, Attrs
 
 /// Whether the text can be a member of a JSON object, by its first byte, so that a name alone isn't read.
 fn begins_as_member(text: &str) -> bool
-    ensures { result ≡ told.begins_as_member text.now }
+    ensures { result ≡ begins_as_member text.now }
 {
     match text.as_bytes() {
         [first, ..] => matches!(first, b'"' | b' ' | b'\t' | b'\n' | b'\r'),

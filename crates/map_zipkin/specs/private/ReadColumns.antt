@@ -1,5 +1,5 @@
 -- Parts of the span that a span of Zipkin means, as its reader comes by them.
-use Rattle.std.specs.Prelude.{◌≡◌, ℕ, List, [], ◌++◌, filter, unwrap_or}
+use Rattle.std.specs.Prelude.{◌≡◌, ℕ, false, List, [], ◌++◌, filter, All, unwrap_or}
 use Rattle.span_tags.specs.TagWords.{Pairs, text_in, count_in, name_in}
 use Rattle.trace_model.specs.Attributes.{attrs}
 use Rattle.map_zipkin.specs.Reading.{status_code, message_of, is_free_tag, resource_by}
@@ -24,6 +24,10 @@ abbrev pub IsZipkinToldBy : Pairs → Told → Type 0
 IsZipkinToldBy tags told = IsZipkinTold (columns_in tags) told
 
 -- ---- the tags in two parts: those of the resource, and attributes
+
+-- no tag under such a key is an attribute
+abbrev pub AreNotFree : Pairs → Type 0
+AreNotFree pairs = All (λ pair. is_free_tag pair.0 ≡ false) pairs
 
 pub record ArePartedBy (service : List ℕ) (pairs tags : Pairs) (parted : Parted) : Type 0 where
   pub resource : parted.resource ≡ resource_by service tags

@@ -5,7 +5,7 @@ ghost use Rattle.span_tags.specs.TagWords.{row, without};
 ghost use Rattle.map_zipkin.specs.Keys.{peer_key};
 ghost use Rattle.map_zipkin.specs.OwnColumns as told;
 ghost use Rattle.map_zipkin.specs.OwnColumns.{end_rows, own_rows, own_told};
-ghost use Rattle.map_zipkin.specs.private.ReadColumns.{ArePartedBy};
+ghost use Rattle.map_zipkin.specs.private.ReadColumns.{AreNotFree, ArePartedBy};
 ghost use Rattle.map_zipkin.specs.Reading as meant;
 
 use crate::count_texts::count_text;
@@ -113,7 +113,6 @@ pub(crate) struct Parted {
 
 impl Parted {
     // Adds a tag to its part, unless it is none of either.
-    #[tactic(auto, using(crate::proofs::ReadKeys::resource_not_free))]
     fn add(&mut self, alloc: Global, tag: (Text, Value)) -> Result<(), OutOfMemory>
         ensures resource { OnOk result (self.new.resource
             ≡ self.old.resource ++ without service_key (meant.resource_tags (tag ∷ []))) }
@@ -121,13 +120,13 @@ impl Parted {
             ≡ self.old.attributes ++ filter (λ tag. meant.is_free_tag tag.0) (tag ∷ [])) }
     {
         let (key, value) = tag;
-        if let Some(key) = resource_key(key.as_str()) {
-            return add_resource(alloc, &mut self.resource, key, value);
+        if is_free(key.as_str()) {
+            return self.attributes.push((key, value));
         }
-        if !is_free(key.as_str()) {
-            return Ok(());
+        match resource_key(key.as_str()) {
+            Some(key) => add_resource(alloc, &mut self.resource, key, value),
+            None => Ok(()),
         }
-        self.attributes.push((key, value))
     }
 }
 
@@ -146,24 +145,39 @@ fn add_resource(
     resource.push((Text::of(alloc, key)?, value))
 }
 
-/// The tags in two parts, behind this service and these pairs.
+// Adds pairs at the end.
+fn add_pairs(list: &mut Attrs, pairs: Attrs) -> Result<(), OutOfMemory>
+    ensures { OnOk result (list.new ≡ list.old ++ pairs) }
+{
+    'pairs: for pair in pairs.into_vec() {
+        list.push(pair)?;
+    }
+    Ok(())
+}
+
+/// The tags in two parts, with this service and these pairs, none of which is under the key of an attribute.
+/// The pairs are put behind the tags, since their keys are above those of most tags: what rises isn't sorted.
+#[tactic(auto, using(crate::proofs::OwnBehind::own_behind))]
 pub(crate) fn parted_by(
     alloc: Global,
     service: Text,
     pairs: Attrs,
     tags: Attrs,
 ) -> Result<Parted, OutOfMemory>
+    requires { AreNotFree pairs }
     ensures { IfOk result (ArePartedBy service pairs tags) }
 {
     let mut resource = Items::new(alloc);
     add_row(alloc, &mut resource, "service.name", text_kept(service))?;
+    let room = tags.len().saturating_add(pairs.len());
     let mut parted = Parted {
         resource,
-        attributes: pairs,
+        attributes: Items::with_room(alloc, room)?,
     };
     'tags: for tag in tags.into_vec() {
         parted.add(alloc, tag)?;
     }
+    add_pairs(&mut parted.attributes, pairs)?;
     let resource = attrs_of(alloc, parted.resource)?;
     let attributes = attrs_of(alloc, parted.attributes)?;
     Ok(Parted {

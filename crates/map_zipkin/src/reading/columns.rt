@@ -1,11 +1,12 @@
 //! What the tags under the reserved keys say of a span and its scope.
-ghost use Rattle.std.specs.Prelude.{◌≡◌, if◌then◌else◌, option_map, IfOk};
+ghost use Rattle.std.specs.Prelude.{◌≡◌, if◌then◌else◌, None, option_map, IfOk};
 ghost use Rattle.trace_model.specs.declared.span.Code.TheVariants as statuses;
-ghost use Rattle.map_zipkin.specs.private.ReadColumns.{IsZipkinToldBy};
+ghost use Rattle.map_zipkin.specs.private.ReadColumns.{IsZipkinTold, IsZipkinToldBy};
 ghost use Rattle.map_zipkin.specs.Reading as meant;
 ghost use Rattle.map_zipkin.specs.TagColumns.{columns_in};
 
 use crate::columns::Column;
+use crate::keys::may_hold_reserved;
 use span_io::{OutOfMemory, Text};
 use span_tags::{code_in, count_in, name_in, text_or_empty};
 use std::alloc::Global;
@@ -23,6 +24,26 @@ pub(crate) struct Told {
     pub status: Status,
 }
 
+impl Told {
+    // What is told where no column holds anything.
+    fn nothing(alloc: Global) -> Told
+        ensures { IsZipkinTold (λ column. None) result }
+    {
+        Told {
+            name: Text::new(alloc),
+            version: Text::new(alloc),
+            state: Text::new(alloc),
+            dropped_attributes: 0,
+            dropped_events: 0,
+            dropped_links: 0,
+            status: Status {
+                code: Code::Unset,
+                message: Text::new(alloc),
+            },
+        }
+    }
+}
+
 /// What the tags hold in a column.
 pub(crate) fn held(tags: &Attrs, column: Column) -> Option<&Value>
     ensures { option_map (λ value. value.now) result ≡ columns_in tags.now column }
@@ -34,6 +55,9 @@ pub(crate) fn held(tags: &Attrs, column: Column) -> Option<&Value>
 pub(crate) fn told_by(alloc: Global, tags: &Attrs) -> Result<Told, OutOfMemory>
     ensures { IfOk result (λ told. IsZipkinToldBy tags.now told) }
 {
+    if !may_hold_reserved(tags) {
+        return Ok(Told::nothing(alloc));
+    }
     let name = name_in(
         alloc,
         held(tags, Column::ScopeName),

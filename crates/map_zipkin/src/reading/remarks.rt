@@ -11,6 +11,7 @@ ghost use Rattle.map_zipkin.specs.Remarks as told;
 ghost use Rattle.map_zipkin.specs.TagColumns.{columns_in, is_idle_in, row_of};
 
 use crate::columns::Column;
+use crate::keys::may_hold_reserved;
 use crate::own::{OWN_KEYS, Own, has_own, own_part};
 use crate::reading::columns::held;
 use span_io::{Items, OutOfMemory, Text};
@@ -86,14 +87,30 @@ pub(crate) fn remarks_of(
 {
     let mut remarks = Items::new(alloc);
     let place = Place::Span(1);
-    remark_columns(alloc, &mut remarks, place, tags, &FIRST)?;
-    let key = "otel.resource.service.name";
-    remark_if(alloc, &mut remarks, place, key, is_there(tags, key))?;
-    remark_column(alloc, &mut remarks, place, tags, Column::Code)?;
+    remark_reserved(alloc, &mut remarks, place, tags)?;
     let idle = is_idle_peer(service, tags);
     remark_if(alloc, &mut remarks, place, "peer.service", idle)?;
     remark_own(alloc, &mut remarks, place, own_part(tags), &OWN_KEYS)?;
     Ok(remarks)
+}
+
+// Adds which of the tags under reserved keys were left out.
+fn remark_reserved(
+    alloc: Global,
+    remarks: &mut Items<Remark>,
+    place: Place,
+    tags: &Attrs,
+) -> Result<(), OutOfMemory>
+    ensures { OnOk result (remarks.new ≡ remarks.old ++ tags_dropped place (told.reserved_left (columns_in tags.now) tags.now)) }
+{
+    if !may_hold_reserved(tags) {
+        return Ok(());
+    }
+    remark_columns(alloc, remarks, place, tags, &FIRST)?;
+    let key = "otel.resource.service.name";
+    remark_if(alloc, remarks, place, key, is_there(tags, key))?;
+    remark_column(alloc, remarks, place, tags, Column::Code)?;
+    Ok(())
 }
 
 fn remark_column(

@@ -8,6 +8,5 @@ abbrev pub invariant-tags : goal.invariant-tags
 invariant-tags l = record {
   resource : l.parted.resource ++ without service_key (resource_tags l.tag-iterator.rest.items)
       ≡ row service_key (text_given l.fn.service) ++ without service_key (resource_tags l.fn.tags);
-  attributes : l.parted.attributes ++ filter (λ tag. is_free_tag tag.0) l.tag-iterator.rest.items
-      ≡ l.fn.pairs ++ filter (λ tag. is_free_tag tag.0) l.fn.tags;
+  attributes : l.parted.attributes ++ filter (λ tag. is_free_tag tag.0) l.tag-iterator.rest.items ≡ filter (λ tag. is_free_tag tag.0) l.fn.tags;
 }

@@ -1,8 +1,8 @@
-use Rattle.std.proofs.Common.{ap, ◌∙◌}
-use Rattle.map_zipkin.specs.Keys.{resource_key}
-use Rattle.map_zipkin.proofs.ReadKeys.{nothing_more}
+use Rattle.std.proofs.Common.{sym, ap, ◌∙◌}
+use Rattle.map_zipkin.specs.Reading.{is_free_tag}
+use Rattle.map_zipkin.proofs.ReadKeys.{no_resource}
 use Rattle.map_zipkin.proofs.reading.attributes.Parted.add.Goals as goal
 
-pub returns-in-Some-clause-attributes : goal.returns-in-Some-clause-attributes
-returns-in-Some-clause-attributes c = nothing_more c.add_resource.result c.args.self.now.attributes c.args.tag c.resource_key.result c.in-Some.key
-    (c.resource_key.ensures ∙ ap resource_key c.as_str.ensures.value) c.in-Some.is
+pub returns-then-is_free-clause-resource : goal.returns-then-is_free-clause-resource
+returns-then-is_free-clause-resource c =
+    no_resource c.push.result c.args.self.now.resource c.args.tag (sym (c.is_free.ensures ∙ ap is_free_tag c.as_str.ensures.value) ∙ c.if-is_free.true)
