@@ -41,7 +41,7 @@ pub fn text_nodes<'a>(
     ensures bad { result ≡ Err Unread.BadJson → read_text text.now ≡ None }
 {
     let mut reader = Reader::new(text, scratch)?;
-    let mut nodes = Vec::with_capacity(alloc, text.len() / 16)?;
+    let mut nodes = Vec::with_capacity(alloc, text.len() / 8)?;
     read(&mut reader, &mut nodes, MAX_DEPTH)?;
     if reader.next().is_some() {
         return Err(Unread::BadJson);

@@ -9,6 +9,7 @@ pub mod OpenBytes
 pub mod Payloads
 pub mod Pushes
 pub mod Refusals
+pub mod ShortRecords
 pub mod Shortest
 pub mod Spellings
 pub mod Varints

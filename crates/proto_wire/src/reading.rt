@@ -1,4 +1,4 @@
-ghost use Rattle.std.specs.Prelude.{◌≡◌, ◌≢◌, ◌+◌, ◌*◌, ◌/◌, ◌%◌, ◌<◌, ◌≤◌, ◌↔◌, ℕ, List, [], length, IfOk, IfSome, IfErr, OnErr, IsErrOf};
+ghost use Rattle.std.specs.Prelude.{◌≡◌, ◌≢◌, ◌+◌, ◌*◌, ◌/◌, ◌%◌, ◌<◌, ◌≤◌, ◌↔◌, ℕ, List, [], length, None, Some, Ok, IfOk, IfSome, IfErr, OnErr, IsErrOf};
 ghost use Rattle.span_io.specs.Causes.{cause_number};
 ghost use Rattle.proto_wire.specs.Messages.{NoRecord};
 ghost use Rattle.proto_wire.specs.Records.{Record, plain_record};
@@ -115,10 +115,45 @@ fn record<'a>(c: &mut Cursor<'a>) -> Result<WireRecord<'a>, Cause>
     }
 }
 
+// The record of bytes that stands here, if its key and its number take a byte each, as most do.
+#[inline(always)]
+fn short_record<'a>(c: &mut Cursor<'a>) -> Option<WireRecord<'a>>
+    ensures some { IfSome result (λ r. record_at c.old.rest ≡ Ok (Some (plain_record r), c.new.rest)) }
+    ensures none { result ≡ None → c.new ≡ c.old }
+    ensures place { c.new.place + length c.new.rest ≡ c.old.place + length c.old.rest }
+{
+    let [key, size, ..] = c.rest() else {
+        return None;
+    };
+    if *key < 8 || *key >= 128 || *key % 8 != 2 || *size >= 128 {
+        return None;
+    }
+    let Ok(taken) = c.take(2 + usize::from(*size)) else {
+        return None;
+    };
+    Some(WireRecord {
+        number: u32::from(*key / 8),
+        payload: Payload::Bytes(&taken[2..]),
+    })
+}
+
 // The next record, or None at the end. A refusal leaves the place.
 #[inline(always)]
-#[tactic(auto, unfolding(crate::specs::Reading::record_at))]
 pub(crate) fn next<'a>(c: &mut Cursor<'a>) -> Result<Option<WireRecord<'a>>, Cause>
+    ensures exact { GivesNext result c.new.rest (record_at c.old.rest) }
+    ensures place { c.new.place + length c.new.rest ≡ c.old.place + length c.old.rest }
+    ensures err { OnErr result (c.new ≡ c.old) }
+{
+    match short_record(c) {
+        Some(found) => Ok(Some(found)),
+        None => next_of_any(c),
+    }
+}
+
+// The same, by the steps that read each record.
+#[inline(never)]
+#[tactic(auto, unfolding(crate::specs::Reading::record_at))]
+fn next_of_any<'a>(c: &mut Cursor<'a>) -> Result<Option<WireRecord<'a>>, Cause>
     ensures exact { GivesNext result c.new.rest (record_at c.old.rest) }
     ensures place { c.new.place + length c.new.rest ≡ c.old.place + length c.old.rest }
     ensures err { OnErr result (c.new ≡ c.old) }
