@@ -1,9 +1,9 @@
 #!/bin/bash
 # Times the built program's `serve` beside nginx, which answers each request with a fixed body: posts of 2 kB a second, over one kept
 # connection by wrk, both in turns, and with a connection for each by ab, and the seconds of a body of 16 MiB beside `convert` of the same.
-# A processor takes the longer to wake the longer it slept, in a virtual machine more than 100 microseconds, which whoever waits for the
-# slower program pays besides. So the posts over a kept connection are timed twice: while no processor sleeps, since on each runs a loop
-# that gives way to all other work, and as the machine does it.
+# A processor takes the longer to wake the longer it slept, which the slower program pays besides its own work. So the posts over a kept
+# connection are timed twice: while no processor sleeps, since on each runs a loop that gives way to all other work, and as the machine
+# does it.
 # The program runs as ./spanx runs it, with its setting of the allocator.
 #   bench/gateway_speed.sh [TURNS [SECONDS]]    at the top, after ./spanx has built the program; 5 turns of 3 seconds
 # It needs Debian's nginx-light, wrk, apache2-utils, curl and util-linux. These figures are no test: they hang on the machine and its load.
