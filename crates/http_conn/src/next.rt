@@ -1,7 +1,7 @@
 use span_io::Form;
 
 /// What stands at the front of the bytes that have no answer yet.
-#[derive(Clone, Copy, Debug, PartialEq, Eq)]
+#[derive(Clone, Copy, PartialEq, Eq)]
 pub enum Next {
     /// A request that isn't whole, or nothing.
     Need,
@@ -12,7 +12,7 @@ pub enum Next {
 }
 
 /// A whole request.
-#[derive(Clone, Copy, Debug, PartialEq, Eq)]
+#[derive(Clone, Copy, PartialEq, Eq)]
 pub struct Request {
     /// 0, or the status that is answered whatever the body holds.
     pub verdict: u16,

@@ -6,7 +6,7 @@ use crate::media::is_type;
 use span_io::Form;
 
 /// What is served at a path.
-#[derive(Clone, Copy, Debug, PartialEq, Eq)]
+#[derive(Clone, Copy, PartialEq, Eq)]
 pub enum Service {
     /// OTLP/HTTP's `/v1/traces`.
     Otlp,

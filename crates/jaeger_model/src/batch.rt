@@ -3,7 +3,7 @@ use crate::tag::Tag;
 use span_io::{Items, Text};
 
 /// A process and its spans (jaeger.thrift `Batch`).
-#[derive(Debug, Drop)]
+#[derive(Drop)]
 pub struct Batch {
     pub service: Text,
     pub tags: Items<Tag>,

@@ -2,7 +2,7 @@ use crate::tag::Tag;
 use span_io::{Items, Text};
 
 /// What recorded the spans of a batch (jaeger.thrift `Process`).
-#[derive(Debug, Drop)]
+#[derive(Drop)]
 pub(crate) struct Process {
     pub service: Text,
     pub tags: Items<Tag>,

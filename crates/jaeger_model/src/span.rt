@@ -3,7 +3,7 @@ use span_ids::{Nanos, SpanId, TraceId};
 use span_io::{Items, Text};
 
 /// A span that this one follows or is a child of (jaeger.thrift `SpanRef`).
-#[derive(Clone, Copy, Debug, PartialEq, Eq)]
+#[derive(Clone, Copy, PartialEq, Eq)]
 pub struct SpanRef {
     /// CHILD_OF, else FOLLOWS_FROM.
     pub child_of: bool,
@@ -12,14 +12,14 @@ pub struct SpanRef {
 }
 
 /// Something that happened in a span (jaeger.thrift `Log`).
-#[derive(Debug, Drop)]
+#[derive(Drop)]
 pub struct Log {
     pub time: Nanos,
     pub fields: Items<Tag>,
 }
 
 /// A span (jaeger.thrift `Span`).
-#[derive(Debug, Drop)]
+#[derive(Drop)]
 pub struct JSpan {
     pub trace: TraceId,
     pub id: SpanId,

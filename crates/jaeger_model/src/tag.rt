@@ -2,7 +2,7 @@ use span_io::{Bytes, Text};
 
 /// What a tag holds, by its `vType` (jaeger.thrift `TagType`). A double is kept as its eight bytes, the most significant
 /// first.
-#[derive(Debug, Drop)]
+#[derive(Drop)]
 pub enum TagValue {
     Text(Text),
     Eight([u8; 8]),
@@ -12,7 +12,7 @@ pub enum TagValue {
 }
 
 /// A key and its value (jaeger.thrift `Tag`).
-#[derive(Debug, Drop)]
+#[derive(Drop)]
 pub struct Tag {
     pub key: Text,
     pub value: TagValue,

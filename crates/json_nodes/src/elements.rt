@@ -4,7 +4,7 @@ use crate::lent::Lent;
 use crate::node::{Node, behind_value};
 
 /// The elements of an array that are left.
-#[derive(Clone, Copy, Debug)]
+#[derive(Clone, Copy)]
 pub struct Elements<'v, 'a> {
     pub(crate) nodes: &'v [Node<'a>],
 }

@@ -10,7 +10,7 @@ use crate::node::{Node, front};
 use crate::number::Number;
 
 /// A value of JSON, whose nodes are lent.
-#[derive(Clone, Copy, Debug)]
+#[derive(Clone, Copy)]
 pub struct Lent<'v, 'a> {
     pub(crate) nodes: &'v [Node<'a>],
 }

@@ -10,7 +10,7 @@ use std::alloc::Global;
 use std::collections::BTreeMap;
 
 /// The members of an object that are left, in the order of the text. Names may come twice; the last of them counts.
-#[derive(Clone, Copy, Debug)]
+#[derive(Clone, Copy)]
 pub struct Members<'v, 'a> {
     pub(crate) nodes: &'v [Node<'a>],
 }

@@ -6,7 +6,7 @@ ghost use Rattle.json_nodes.specs.private.Parts.{is_null_node, truth_in, number_
 use crate::number::Number;
 
 /// A part of a value of JSON, in the order of the text.
-#[derive(Clone, Copy, Debug)]
+#[derive(Clone, Copy)]
 pub enum Node<'a> {
     Null,
     Truth(bool),

@@ -8,7 +8,7 @@ use fast_float::Numeral;
 
 /// A number. A whole one has neither point nor exponent, isn't `-0` and has 64 bits at most; any other is the nearest
 /// double.
-#[derive(Clone, Copy, Debug)]
+#[derive(Clone, Copy)]
 pub enum Number {
     Unsigned(u64),
     Negative(i64),

@@ -4,7 +4,7 @@ ghost use Rattle.map_jaeger.specs.Columns as told;
 ghost use Rattle.map_jaeger.specs.Columns.{row_of};
 
 /// A tag of a span to which the table gives a meaning of its own.
-#[derive(Clone, Copy, Debug)]
+#[derive(Clone, Copy)]
 pub(crate) enum Column {
     Error,
     Flags,

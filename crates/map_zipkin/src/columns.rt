@@ -4,7 +4,7 @@ ghost use Rattle.map_zipkin.specs.TagColumns as told;
 ghost use Rattle.map_zipkin.specs.TagColumns.{row_of};
 
 /// A tag of a span to which the table gives a meaning of its own.
-#[derive(Clone, Copy, Debug)]
+#[derive(Clone, Copy)]
 pub(crate) enum Column {
     Error,
     DroppedAttributes,

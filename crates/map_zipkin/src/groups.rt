@@ -79,7 +79,7 @@ fn remark_at(
 }
 
 // A span that was read: its run, and the remarks on it, which stand at the place of the first span.
-#[derive(Debug, Drop)]
+#[derive(Drop)]
 struct NotedSpan {
     run: Run,
     span: Span,
@@ -87,7 +87,7 @@ struct NotedSpan {
 }
 
 // Spans of one resource, in their scopes: how many there are, and the remarks on them.
-#[derive(Debug, Drop)]
+#[derive(Drop)]
 struct Last {
     resource: Attrs,
     scopes: Runs,
@@ -156,7 +156,7 @@ impl Last {
 }
 
 // The groups of the spans so far.
-#[derive(Debug, Drop)]
+#[derive(Drop)]
 struct Groups {
     done: Items<(Group, Items<Remark>)>,
     last: Option<Last>,

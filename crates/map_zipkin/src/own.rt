@@ -8,7 +8,7 @@ use span_io::Text;
 use trace_model::{Attrs, Value};
 
 /// An attribute under a key of Zipkin's own: what a span has there and a trace has no place for.
-#[derive(Clone, Copy, Debug)]
+#[derive(Clone, Copy)]
 pub(crate) enum Own {
     Debug,
     LocalIpv4,

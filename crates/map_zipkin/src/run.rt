@@ -3,7 +3,7 @@ use trace_model::Attrs;
 
 /// The resource of a span, and the name and version of its scope. Spans one after the other of one run
 /// stand in one scope.
-#[derive(Debug, Drop)]
+#[derive(Drop)]
 pub struct Run {
     pub resource: Attrs,
     pub name: Text,

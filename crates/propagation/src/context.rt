@@ -3,7 +3,7 @@ use crate::sampling::Sampling;
 use span_io::Text;
 
 /// What one service passes to the next with a call.
-#[derive(Debug, Drop)]
+#[derive(Drop)]
 pub struct Context {
     pub ids: Option<Ids>,
     pub sampling: Sampling,

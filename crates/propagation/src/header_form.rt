@@ -3,7 +3,7 @@ ghost use Rattle.propagation.specs.HeaderForms.{header_form_word};
 ghost use Rattle.propagation.specs.declared.header_form.HeaderForm.{HeaderForm};
 
 /// A form of headers that pass a context.
-#[derive(Clone, Copy, Debug, PartialEq, Eq)]
+#[derive(Clone, Copy, PartialEq, Eq)]
 pub enum HeaderForm {
     /// `traceparent` and `tracestate` (W3C Trace Context Level 1).
     W3c,

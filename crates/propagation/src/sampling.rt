@@ -1,5 +1,5 @@
 /// Whether a trace is to be recorded, as its caller decided.
-#[derive(Clone, Copy, Debug, PartialEq, Eq)]
+#[derive(Clone, Copy, PartialEq, Eq)]
 pub enum Sampling {
     /// Nothing was said (B3 alone).
     Absent,

@@ -15,7 +15,7 @@ use span_tags::decimal_in;
 const MOST_SPANS: u32 = 1_000_000;
 
 /// What a run is asked to do.
-#[derive(Clone, Copy, Debug, PartialEq, Eq)]
+#[derive(Clone, Copy, PartialEq, Eq)]
 pub enum Command {
     /// Reads spans in the first form and writes them in the second.
     Convert(Form, Form),
@@ -38,14 +38,14 @@ pub enum Command {
 }
 
 /// Which form an option is of.
-#[derive(Clone, Copy, Debug, PartialEq, Eq)]
+#[derive(Clone, Copy, PartialEq, Eq)]
 enum Side {
     From,
     To,
 }
 
 /// The modes with two options.
-#[derive(Clone, Copy, Debug, PartialEq, Eq)]
+#[derive(Clone, Copy, PartialEq, Eq)]
 enum Long {
     Convert,
     Losses,

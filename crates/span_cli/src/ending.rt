@@ -11,7 +11,7 @@ use span_io::{OutOfMemory, Refusal};
 use std::alloc::Global;
 
 /// How a run ends.
-#[derive(Debug, Drop)]
+#[derive(Drop)]
 pub enum Ending {
     /// The whole text was written.
     Whole,

@@ -8,7 +8,7 @@ use span_convert::{Report, Written};
 use span_io::Form;
 
 /// What a run makes.
-#[derive(Clone, Copy, Debug, PartialEq, Eq)]
+#[derive(Clone, Copy, PartialEq, Eq)]
 pub(crate) enum Job {
     /// Reads spans in a form, and converts or reports them.
     Spans(Form, Written),
@@ -19,7 +19,7 @@ pub(crate) enum Job {
 }
 
 /// What a command asks for.
-#[derive(Clone, Copy, Debug, PartialEq, Eq)]
+#[derive(Clone, Copy, PartialEq, Eq)]
 pub(crate) enum Task {
     /// To make the output of the job.
     Make(Job),

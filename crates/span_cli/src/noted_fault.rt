@@ -12,7 +12,7 @@ use trace_model::Fault;
 
 /// What is noted of a fault of the target: the unit, the fault's number and name, and a space and its
 /// key as a JSON string, where it has one.
-#[derive(Debug, Drop)]
+#[derive(Drop)]
 pub struct NotedFault {
     pub unit: u64,
     pub number: u8,

@@ -12,7 +12,7 @@ use span_io::{Door, Failed, Form, Limits, Sink};
 use std::alloc::Global;
 
 /// How serving ends.
-#[derive(Clone, Copy, Debug, PartialEq, Eq)]
+#[derive(Clone, Copy, PartialEq, Eq)]
 enum ServeEnd {
     /// All connections were served.
     AllServed,

@@ -2,7 +2,7 @@ use crate::target_fault::TargetFault;
 use span_io::Refusal;
 
 /// Why an input has no text in the target form.
-#[derive(Debug, Drop)]
+#[derive(Drop)]
 pub enum Bad {
     Refused(Refusal),
     Faulted(TargetFault),

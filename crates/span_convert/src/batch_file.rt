@@ -14,7 +14,7 @@ use thrift_core::{Protocol, StructScanner};
 use trace_model::{Group, Remark};
 
 /// Batches of jaeger.thrift in a protocol of Thrift.
-#[derive(Debug, Drop)]
+#[derive(Drop)]
 pub(crate) struct Batches<P> {
     protocol: PhantomData<P>,
 }

@@ -28,7 +28,7 @@ fn write_remarks(
 }
 
 /// The remarks on what was read, each as a line.
-#[derive(Debug, Drop)]
+#[derive(Drop)]
 pub(crate) struct CheckWriter {
     /// How many there were so far. The count stands still at the end of its type.
     remarks: u64,

@@ -22,7 +22,7 @@ use span_io::{Blob, Form, Limits, Refusal, Sink};
 use std::alloc::Global;
 
 /// How far a converter has come.
-#[derive(Debug, Drop)]
+#[derive(Drop)]
 enum State {
     Open,
     /// The whole text was written.

@@ -13,7 +13,7 @@ use std::alloc::Global;
 use trace_model::{Fault, Group, Remark, proper_group};
 
 /// OTLP in JSON. It can hold each group in which no double stands.
-#[derive(Clone, Copy, Debug)]
+#[derive(Clone, Copy)]
 pub(crate) struct GroupFile;
 
 impl DocumentReader for GroupFile {

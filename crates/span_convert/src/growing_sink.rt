@@ -14,7 +14,7 @@ use span_io::{Blob, Failed, Form, Limits, OutOfMemory, Sink};
 use std::alloc::Global;
 
 /// A sink that keeps all that it takes. It fails where memory is wanted.
-#[derive(Debug, Drop)]
+#[derive(Drop)]
 pub(crate) struct GrowingSink {
     pub(crate) text: Blob,
     faults: u64,

@@ -119,7 +119,7 @@ impl Losing for CompactBatches {
 }
 
 /// The run of the last span so far, if there was one: a span of Zipkin behind it may join it.
-#[derive(Debug, Drop)]
+#[derive(Drop)]
 pub(crate) struct LastRun {
     run: Option<Run>,
 }

@@ -29,7 +29,7 @@ fn write_losses(
 }
 
 /// The losses of a move to a form, each as a line.
-#[derive(Debug, Drop)]
+#[derive(Drop)]
 pub(crate) struct LossWriter<L> {
     losing: L,
     /// How many there were so far. The count stands still at the end of its type.

@@ -17,7 +17,7 @@ use std::alloc::Global;
 use trace_model::{Fault, Group, Remark};
 
 /// The writer of the units of one input.
-#[derive(Debug, Drop)]
+#[derive(Drop)]
 pub(crate) enum Pen {
     /// Writes the spans of a unit one at a time.
     Spans(SpanFile),

@@ -26,7 +26,7 @@ use trace_model::{Fault, Group, Remark};
 use zipkin_json::ZSpan;
 
 /// Why a walk goes no further.
-#[derive(Debug, Drop)]
+#[derive(Drop)]
 pub(crate) enum WalkStop {
     Refused(Refusal),
     /// The target can't hold a unit.
@@ -37,7 +37,7 @@ pub(crate) enum WalkStop {
 }
 
 /// The text that isn't written yet, how much was converted, and what writes the next unit.
-#[derive(Debug, Drop)]
+#[derive(Drop)]
 pub(crate) struct Progress {
     unwritten: Blob,
     tally: Tally,

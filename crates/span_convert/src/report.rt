@@ -1,7 +1,7 @@
 use span_io::Form;
 
 /// What is reported of an input.
-#[derive(Clone, Copy, Debug, PartialEq, Eq)]
+#[derive(Clone, Copy, PartialEq, Eq)]
 pub enum Report {
     /// A line for each loss of a move to the form, and then how many there are.
     Losses(Form),

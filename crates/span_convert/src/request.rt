@@ -18,7 +18,7 @@ use std::alloc::Global;
 use trace_model::{Fault, Group, Remark, proper_group};
 
 /// OTLP in protobuf. It can hold all of a group.
-#[derive(Clone, Copy, Debug)]
+#[derive(Clone, Copy)]
 pub(crate) struct Request;
 
 impl UnitReader for Request {

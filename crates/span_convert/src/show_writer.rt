@@ -41,7 +41,7 @@ fn show_group(alloc: Global, out: &mut Blob, group: &Group) -> Result<(), OutOfM
 }
 
 /// The spans of an input, each as a line.
-#[derive(Clone, Copy, Debug)]
+#[derive(Clone, Copy)]
 pub(crate) struct ShowWriter;
 
 impl UnitWriter for ShowWriter {

@@ -19,7 +19,7 @@ use trace_model::{Fault, Group, Remark, proper_group};
 use zipkin_json::{ZSpan, read_text, write_span};
 
 /// Spans of Zipkin v2, in a JSON array.
-#[derive(Clone, Copy, Debug)]
+#[derive(Clone, Copy)]
 pub(crate) struct SpanFile;
 
 impl DocumentReader for SpanFile {
@@ -32,7 +32,7 @@ impl DocumentReader for SpanFile {
 }
 
 /// The spans of a unit that are left to be written.
-#[derive(Debug, Drop)]
+#[derive(Drop)]
 pub(crate) struct SpansLeft {
     /// Whether a span stands before them.
     pub(crate) behind: bool,

@@ -1,7 +1,7 @@
 use trace_model::Fault;
 
 /// A fault of the target, and the number of the unit whose group has it, from 1.
-#[derive(Debug, Drop)]
+#[derive(Drop)]
 pub struct TargetFault {
     pub unit: u64,
     pub fault: Fault,

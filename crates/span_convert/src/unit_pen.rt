@@ -20,7 +20,7 @@ use std::alloc::Global;
 use trace_model::{Fault, Group, Remark};
 
 /// The writer of the units of one input, each of which it writes at once.
-#[derive(Debug, Drop)]
+#[derive(Drop)]
 pub(crate) enum UnitPen {
     Request(Request),
     GroupFile(GroupFile),

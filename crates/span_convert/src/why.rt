@@ -2,7 +2,7 @@ use crate::target_fault::TargetFault;
 use span_io::Refusal;
 
 /// What a converter refused, or its target can't hold.
-#[derive(Clone, Copy, Debug)]
+#[derive(Clone, Copy)]
 pub enum Why<'a> {
     Nothing,
     Refusal(&'a Refusal),

@@ -15,7 +15,7 @@ use crate::units::UnitWriter;
 use span_io::Form;
 
 /// What an input is written as.
-#[derive(Clone, Copy, Debug, PartialEq, Eq)]
+#[derive(Clone, Copy, PartialEq, Eq)]
 pub enum Written {
     Form(Form),
     Report(Report),

@@ -1,5 +1,5 @@
 /// How a connection ended that was served.
-#[derive(Clone, Copy, Debug, PartialEq, Eq)]
+#[derive(Clone, Copy, PartialEq, Eq)]
 pub enum Ended {
     /// Behind a whole request, or at once, or by a request that asked for it.
     Closed,

@@ -5,7 +5,7 @@ use std::alloc::Global;
 use std::marker::Model;
 
 /// Bytes that were read and have no answer yet, which contracts see as the list.
-#[derive(Debug, Drop)]
+#[derive(Drop)]
 pub(crate) struct Pending {
     bytes: Blob,
     // So many at the front have their answers.

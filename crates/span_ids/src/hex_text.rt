@@ -4,7 +4,7 @@ ghost use Rattle.std.specs.Str.Parse.{digits_value};
 ghost use Rattle.span_ids.specs.HexTexts.{IsLowerDigit, IsOfRule};
 
 /// Which hexadecimal texts are identifiers.
-#[derive(Clone, Copy, Debug, PartialEq, Eq)]
+#[derive(Clone, Copy, PartialEq, Eq)]
 pub enum IdRule {
     /// All digits, of either case (OTLP/JSON).
     Exact,

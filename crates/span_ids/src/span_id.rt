@@ -11,7 +11,7 @@ use std::marker::Model;
 
 /// The identifier of a span: 8 bytes, not all zero (OTLP `span_id`, W3C Trace Context
 /// `parent-id`). Contracts see it as the number that the bytes are, the most significant one first.
-#[derive(Clone, Copy, Debug, PartialEq, Eq, PartialOrd, Ord)]
+#[derive(Clone, Copy, PartialEq, Eq, PartialOrd, Ord)]
 pub struct SpanId {
     number: u64,
 }

@@ -12,7 +12,7 @@ use std::marker::Model;
 
 /// The identifier of a trace: 16 bytes, not all zero (OTLP `trace_id`, W3C Trace Context
 /// `trace-id`). Contracts see it as the number that the bytes are, the most significant one first.
-#[derive(Clone, Copy, Debug, PartialEq, Eq, PartialOrd, Ord)]
+#[derive(Clone, Copy, PartialEq, Eq, PartialOrd, Ord)]
 pub struct TraceId {
     number: u128,
 }

@@ -9,7 +9,7 @@ use std::marker::Model;
 
 /// A sink that keeps only the number of bytes that it took, and never fails. The number stays at the
 /// end of its type. Contracts see the number.
-#[derive(Clone, Copy, Debug, PartialEq, Eq)]
+#[derive(Clone, Copy, PartialEq, Eq)]
 pub struct CountSink {
     taken: u64,
 }

@@ -3,7 +3,7 @@ ghost use Rattle.std.specs.Prelude.{◌≡◌};
 ghost use Rattle.span_io.specs.Courses.{read_next};
 
 /// How the reads of a source went.
-#[derive(Clone, Copy, Debug, PartialEq, Eq)]
+#[derive(Clone, Copy, PartialEq, Eq)]
 pub enum ReadCourse {
     /// Each gave bytes.
     Going,
@@ -27,7 +27,7 @@ impl ReadCourse {
 }
 
 /// How the writes to a sink went.
-#[derive(Clone, Copy, Debug, PartialEq, Eq)]
+#[derive(Clone, Copy, PartialEq, Eq)]
 pub enum WriteCourse {
     /// Each was of some bytes, and took some.
     Going,

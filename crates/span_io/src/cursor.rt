@@ -32,7 +32,7 @@ impl From<Short> for Lack {
 
 /// Walks bytes that it borrows. A read that refuses leaves the place as it was. Contracts see a
 /// cursor as its place and the bytes from there on.
-#[derive(Debug, Drop)]
+#[derive(Drop)]
 pub struct Cursor<'a> {
     whole: usize,
     rest: &'a [u8],

@@ -8,7 +8,7 @@ ghost use Rattle.span_io.specs.Outside.{InputFails, Rose, Takes, Gains, OutputFa
 use crate::source::Failed;
 
 /// How far a connection was: the number of bytes still to come, and of those that it took.
-#[derive(Clone, Copy, Debug, PartialEq, Eq)]
+#[derive(Clone, Copy, PartialEq, Eq)]
 pub struct Mark {
     pub left: usize,
     pub held: usize,

@@ -3,7 +3,7 @@ ghost use Rattle.span_io.specs.Forms.{form_word};
 ghost use Rattle.span_io.specs.declared.form.Form.{Form};
 
 /// A form of spans that is read and written so far.
-#[derive(Clone, Copy, Debug, PartialEq, Eq)]
+#[derive(Clone, Copy, PartialEq, Eq)]
 pub enum Form {
     /// OTLP `ExportTraceServiceRequest` in the proto3 wire format.
     OtlpProto,

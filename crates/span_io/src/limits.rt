@@ -3,7 +3,7 @@ ghost use Rattle.span_io.specs.Limits.{AreLimits};
 
 /// The most bytes that each thing may have: a unit of a binary form, a JSON text, a whole binary
 /// input, and the head, the body and the answer of a request.
-#[derive(Clone, Copy, Debug, PartialEq, Eq)]
+#[derive(Clone, Copy, PartialEq, Eq)]
 pub struct Limits {
     pub unit: usize,
     pub json: usize,

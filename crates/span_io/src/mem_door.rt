@@ -18,7 +18,7 @@ use std::marker::Model;
 /// it takes the room when it is made. It fails on the listed calls of `listen` and `accept`, which are numbered
 /// together from 1, at another address than its own, and where no connection is left. The counts of its calls
 /// and faults stay at the end of 64 bits.
-#[derive(Debug, Drop)]
+#[derive(Drop)]
 pub struct MemDoor {
     address: Text,
     waiting: VecDeque<MemDuplex>,

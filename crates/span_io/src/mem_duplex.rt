@@ -15,7 +15,7 @@ use crate::source::{Failed, Source};
 use std::marker::Model;
 
 /// A connection in memory: it gives what its source gives, and takes what its sink takes.
-#[derive(Debug, Drop)]
+#[derive(Drop)]
 pub struct MemDuplex {
     source: MemSource,
     sink: MemSink,

@@ -15,7 +15,7 @@ use std::marker::Model;
 /// A sink in memory with room for so many bytes, which it takes when it is made. A write fails
 /// exactly where its call is listed, numbered from 1, or the piece doesn't fit in the room left.
 /// The counts of its calls and faults stay at the end of 64 bits.
-#[derive(Debug, Drop)]
+#[derive(Drop)]
 pub struct MemSink {
     bytes: Vec<u8>,
     room: usize,

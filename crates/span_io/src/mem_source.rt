@@ -15,7 +15,7 @@ use std::marker::Model;
 /// A source over bytes in memory. It gives at most `cut` bytes a call, and at least one, and fails
 /// on the listed calls, which are numbered from 1. The counts of its calls and faults stay at the end
 /// of 64 bits.
-#[derive(Debug, Drop)]
+#[derive(Drop)]
 pub struct MemSource {
     bytes: Blob,
     place: usize,

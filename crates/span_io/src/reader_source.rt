@@ -5,7 +5,7 @@ use std::io::Read;
 
 /// A source over a reader of std. It counts each error of the reader, and tells the
 /// bytes to come where the reader tells them.
-#[derive(Debug, Drop)]
+#[derive(Drop)]
 pub struct ReaderSource<R> {
     reader: R,
     faults: u64,

@@ -1,7 +1,7 @@
 use crate::cause::Cause;
 
 /// What is known of the next frame of a binary form once some bytes are there.
-#[derive(Clone, Copy, Debug, PartialEq, Eq)]
+#[derive(Clone, Copy, PartialEq, Eq)]
 pub enum Step {
     /// More bytes are needed.
     Need,

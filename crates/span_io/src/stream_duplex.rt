@@ -7,7 +7,7 @@ use std::io::{Read, Write};
 
 /// A connection over a stream of std. It counts the errors of reads and of writes apart, and a write that takes
 /// nothing of a piece that isn't empty, and tells no bytes.
-#[derive(Debug, Drop)]
+#[derive(Drop)]
 pub struct StreamDuplex<S> {
     stream: S,
     read_faults: u64,

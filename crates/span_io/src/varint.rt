@@ -5,7 +5,7 @@ ghost use Rattle.span_io.specs.Zigzag as zigzags;
 use std::marker::Model;
 
 /// The shortest spelling of a number as a varint (proto3 wire format), which contracts see as its bytes.
-#[derive(Debug, Drop)]
+#[derive(Drop)]
 pub struct Varint {
     bytes: [u8; 10],
     size: usize,

@@ -7,7 +7,7 @@ use std::io::Write;
 
 /// A sink over a writer of std. It counts each error of the writer, and a write that takes nothing
 /// of a piece that isn't empty, and tells the bytes that it took where the writer tells them.
-#[derive(Debug, Drop)]
+#[derive(Drop)]
 pub struct WriterSink<W> {
     writer: W,
     faults: u64,

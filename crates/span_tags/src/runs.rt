@@ -10,7 +10,7 @@ use std::alloc::Global;
 use trace_model::{Scope, Span};
 
 /// A span, and the name and version of its scope.
-#[derive(Debug, Drop)]
+#[derive(Drop)]
 pub struct ReadSpan {
     pub name: Text,
     pub version: Text,
@@ -18,7 +18,7 @@ pub struct ReadSpan {
 }
 
 // Spans of one name and version.
-#[derive(Debug, Drop)]
+#[derive(Drop)]
 struct Run {
     name: Text,
     version: Text,
@@ -77,7 +77,7 @@ impl Run {
 }
 
 /// The scopes of the spans so far.
-#[derive(Debug, Drop)]
+#[derive(Drop)]
 pub struct Runs {
     done: Items<Scope>,
     last: Option<Run>,

@@ -13,7 +13,7 @@ use span_io::{Blob, Cause, Cursor, OutOfMemory};
 use thrift_core::{Field, ListHead, MapHead, Parts, Protocol, StructScanner, TypeCode};
 
 /// The Thrift binary protocol. The head of a field holds no truth value.
-#[derive(Clone, Copy, Debug)]
+#[derive(Clone, Copy)]
 pub struct Binary;
 
 impl Parts for Binary {

@@ -15,7 +15,7 @@ use span_io::{Blob, Cause, Cursor, OutOfMemory, zigzag};
 use thrift_core::{Field, ListHead, MapHead, Parts, Protocol, StructScanner, TypeCode};
 
 /// The Thrift compact protocol. The head of a field holds its truth value.
-#[derive(Clone, Copy, Debug)]
+#[derive(Clone, Copy)]
 pub struct Compact;
 
 impl Parts for Compact {

@@ -13,7 +13,7 @@ use arrayvec::ArrayVec;
 const MOST_BELOW: usize = 31;
 
 /// What is still to come of a container.
-#[derive(Clone, Copy, Debug, PartialEq, Eq)]
+#[derive(Clone, Copy, PartialEq, Eq)]
 pub enum Level {
     /// Fields behind one of this id, up to the stop byte.
     Fields(i16),

@@ -15,7 +15,7 @@ use crate::type_code::TypeCode;
 use span_io::{Cursor, Short};
 
 // What comes first of what is open.
-#[derive(Clone, Copy, Debug, PartialEq, Eq)]
+#[derive(Clone, Copy, PartialEq, Eq)]
 enum Coming {
     // the head of the field behind the one of this id
     Header(i16),

@@ -5,7 +5,7 @@ use crate::place::Place;
 use span_io::Text;
 
 /// What a move to another form takes from a trace. At one place losses are told in this order.
-#[derive(Clone, Copy, Debug, PartialEq, Eq)]
+#[derive(Clone, Copy, PartialEq, Eq)]
 pub enum LossRow {
     /// An attribute stays with another value (of a resource, span or event).
     Value,
@@ -70,7 +70,7 @@ impl LossRow {
 }
 
 /// What a move to another form loses at a place of a group.
-#[derive(Debug, Drop)]
+#[derive(Drop)]
 pub struct Loss {
     pub place: Place,
     pub row: LossRow,

@@ -3,21 +3,21 @@ use crate::value::{Attrs, Value};
 use span_io::{Items, Text};
 
 /// What bytes mean, with what is noted beside it: keys that stand more than once, or remarks.
-#[derive(Debug, Drop)]
+#[derive(Drop)]
 pub struct Noted<A, N> {
     pub means: A,
     pub notes: N,
 }
 
 /// A key and its value (OTLP `KeyValue`), with the keys that stand more than once inside the value.
-#[derive(Debug, Drop)]
+#[derive(Drop)]
 pub struct KeyValue {
     pub key: Text,
     pub value: Noted<Value, Items<Text>>,
 }
 
 /// What stands in a link beside its identifiers (OTLP `Span.Link`).
-#[derive(Debug, Drop)]
+#[derive(Drop)]
 pub struct LinkParts {
     pub state: Text,
     pub attributes: Attrs,
@@ -29,7 +29,7 @@ pub struct LinkParts {
 }
 
 /// What an `InstrumentationScope` gives to the spans of its scope.
-#[derive(Debug, Drop)]
+#[derive(Drop)]
 pub struct InstrumentationScope {
     pub name: Text,
     pub version: Text,
@@ -39,7 +39,7 @@ pub struct InstrumentationScope {
 }
 
 /// What a `Resource` gives to its group.
-#[derive(Debug, Drop)]
+#[derive(Drop)]
 pub struct Resource {
     pub attributes: Attrs,
     /// The number of attributes that were dropped.

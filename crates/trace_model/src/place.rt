@@ -1,5 +1,5 @@
 /// A place in a group. Numbers begin at 1, and spans are counted through the scopes of their group.
-#[derive(Clone, Copy, Debug, PartialEq, Eq)]
+#[derive(Clone, Copy, PartialEq, Eq)]
 pub enum Place {
     Whole,
     Resource,

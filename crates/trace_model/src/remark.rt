@@ -2,7 +2,7 @@ use crate::place::Place;
 use span_io::Text;
 
 /// What was left out of a unit as it was read.
-#[derive(Clone, Copy, Debug, PartialEq, Eq)]
+#[derive(Clone, Copy, PartialEq, Eq)]
 pub enum RemarkKind {
     /// A key stood more than once, and its last value was kept.
     EqualKey,
@@ -13,7 +13,7 @@ pub enum RemarkKind {
 }
 
 /// A remark on what was read.
-#[derive(Debug, Drop)]
+#[derive(Drop)]
 pub struct Remark {
     pub place: Place,
     pub kind: RemarkKind,

@@ -6,7 +6,7 @@ use span_ids::{Nanos, SpanId, TraceId};
 use span_io::{Items, Text};
 
 /// What a span does for its callers (OTLP `SpanKind`).
-#[derive(Clone, Copy, Debug, PartialEq, Eq)]
+#[derive(Clone, Copy, PartialEq, Eq)]
 pub enum Kind {
     Unspecified,
     Internal,
@@ -49,7 +49,7 @@ impl Kind {
 }
 
 /// How a span ended (OTLP `Status.StatusCode`).
-#[derive(Clone, Copy, Debug, PartialEq, Eq)]
+#[derive(Clone, Copy, PartialEq, Eq)]
 pub enum Code {
     Unset,
     Okay,
@@ -83,14 +83,14 @@ impl Code {
 }
 
 /// How a span ended, and why (OTLP `Status`).
-#[derive(Debug, Drop)]
+#[derive(Drop)]
 pub struct Status {
     pub code: Code,
     pub message: Text,
 }
 
 /// Something that happened in a span (OTLP `Span.Event`).
-#[derive(Debug, Drop)]
+#[derive(Drop)]
 pub struct Event {
     pub time: Nanos,
     pub name: Text,
@@ -100,7 +100,7 @@ pub struct Event {
 }
 
 /// A span that caused or concerns this one (OTLP `Span.Link`).
-#[derive(Debug, Drop)]
+#[derive(Drop)]
 pub struct Link {
     pub trace: TraceId,
     pub span: SpanId,
@@ -113,7 +113,7 @@ pub struct Link {
 }
 
 /// A span (OTLP `Span`).
-#[derive(Debug, Drop)]
+#[derive(Drop)]
 pub struct Span {
     pub trace: TraceId,
     pub id: SpanId,

@@ -3,7 +3,7 @@ use crate::value::Attrs;
 use span_io::{Items, Text};
 
 /// Spans of one instrumentation scope (OTLP `ScopeSpans` with its `InstrumentationScope`).
-#[derive(Debug, Drop)]
+#[derive(Drop)]
 pub struct Scope {
     pub name: Text,
     pub version: Text,
@@ -15,7 +15,7 @@ pub struct Scope {
 }
 
 /// Spans of one resource (OTLP `ResourceSpans` with its `Resource`). A trace is a list of groups.
-#[derive(Debug, Drop)]
+#[derive(Drop)]
 pub struct Group {
     pub resource: Attrs,
     /// The number of attributes that were dropped.

@@ -2,7 +2,7 @@ use span_ids::{Nanos, SpanId, TraceId};
 use span_io::{Items, Text};
 
 /// What a span does for its callers (Zipkin v2 `kind`).
-#[derive(Clone, Copy, Debug, PartialEq, Eq)]
+#[derive(Clone, Copy, PartialEq, Eq)]
 pub enum ZKind {
     Absent,
     Client,
@@ -12,7 +12,7 @@ pub enum ZKind {
 }
 
 /// A node of the network (Zipkin v2 `Endpoint`). An empty text and the port 0 are absent.
-#[derive(Debug, Drop)]
+#[derive(Drop)]
 pub struct Endpoint {
     pub service: Text,
     pub ipv4: Text,
@@ -21,7 +21,7 @@ pub struct Endpoint {
 }
 
 /// A span of Zipkin v2.
-#[derive(Debug, Drop)]
+#[derive(Drop)]
 pub struct ZSpan {
     pub trace: TraceId,
     pub id: SpanId,

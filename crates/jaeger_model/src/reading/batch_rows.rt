@@ -28,7 +28,7 @@ use thrift_core::{Field, Parts, TypeCode};
 const OUTER_LEVELS: u8 = 31;
 
 /// What was gathered of a batch so far.
-#[derive(Debug, Drop)]
+#[derive(Drop)]
 pub(crate) struct BatchRows {
     process: Option<Process>,
     spans: Option<Items<JSpan>>,

@@ -19,7 +19,7 @@ use std::alloc::Global;
 use thrift_core::{Field, Parts, TypeCode};
 
 /// What was gathered of a log so far.
-#[derive(Debug, Drop)]
+#[derive(Drop)]
 pub(crate) struct LogRows {
     time: Option<Nanos>,
     fields: Option<Items<Tag>>,

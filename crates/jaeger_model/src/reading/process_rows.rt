@@ -17,7 +17,7 @@ use std::alloc::Global;
 use thrift_core::{Field, Parts, TypeCode};
 
 /// What was gathered of a process so far.
-#[derive(Debug, Drop)]
+#[derive(Drop)]
 pub(crate) struct ProcessRows {
     service: Option<Text>,
     tags: Option<Items<Tag>>,

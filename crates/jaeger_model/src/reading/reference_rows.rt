@@ -22,7 +22,7 @@ use std::alloc::Global;
 use thrift_core::{Field, Parts, TypeCode};
 
 /// What was gathered of a reference so far.
-#[derive(Debug, Drop)]
+#[derive(Drop)]
 pub(crate) struct ReferenceRows {
     child_of: Option<bool>,
     low: Option<i64>,

@@ -17,7 +17,7 @@ use std::alloc::Global;
 use thrift_core::Parts;
 
 /// The references that point to a span, in their order, and the number of the others.
-#[derive(Debug, Drop)]
+#[derive(Drop)]
 pub(crate) struct References {
     pub kept: Items<SpanRef>,
     pub others: u32,

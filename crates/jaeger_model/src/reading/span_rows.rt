@@ -24,7 +24,7 @@ use std::alloc::Global;
 use thrift_core::{Field, Parts, TypeCode};
 
 /// What was gathered of a span so far.
-#[derive(Debug, Drop)]
+#[derive(Drop)]
 pub(crate) struct SpanRows {
     low: Option<i64>,
     high: Option<i64>,
@@ -40,7 +40,7 @@ pub(crate) struct SpanRows {
 }
 
 /// The parts of a span of which nothing is missing.
-#[derive(Debug, Drop)]
+#[derive(Drop)]
 pub(crate) struct SpanParts {
     low: i64,
     high: i64,

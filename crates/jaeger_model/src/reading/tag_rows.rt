@@ -20,7 +20,7 @@ use std::alloc::Global;
 use thrift_core::{Field, Parts, TypeCode};
 
 /// What a tag holds (jaeger.thrift `TagType`).
-#[derive(Clone, Copy, Debug, PartialEq, Eq)]
+#[derive(Clone, Copy, PartialEq, Eq)]
 pub(crate) enum TagType {
     Text,
     Double,
@@ -30,7 +30,7 @@ pub(crate) enum TagType {
 }
 
 /// What was gathered of a tag so far.
-#[derive(Debug, Drop)]
+#[derive(Drop)]
 pub(crate) struct TagRows {
     key: Option<Text>,
     kind: Option<TagType>,

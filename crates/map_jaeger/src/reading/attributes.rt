@@ -65,7 +65,7 @@ fn with_row(
 }
 
 /// Tags of a span, by their keys.
-#[derive(Debug, Drop)]
+#[derive(Drop)]
 pub(crate) struct Parted {
     /// Those of the table.
     pub own: Attrs,

@@ -52,7 +52,7 @@ pub(crate) fn events_of(
 }
 
 // An event, the keys that stand more than once in its log, and whether `event` says nothing there.
-#[derive(Debug, Drop)]
+#[derive(Drop)]
 struct ReadEvent {
     event: Event,
     keys: Items<Text>,

@@ -18,7 +18,7 @@ use trace_model::{Attrs, Value, attrs_of};
 use zipkin_json::Endpoint;
 
 /// What a span tells under keys of Zipkin's own.
-#[derive(Debug, Drop)]
+#[derive(Drop)]
 struct Ends {
     pub debug: bool,
     pub shared: bool,
@@ -105,7 +105,7 @@ fn add_own(alloc: Global, pairs: &mut Attrs, ends: Ends) -> Result<(), OutOfMemo
 }
 
 /// Tags as attributes of the resource and of the span.
-#[derive(Debug, Drop)]
+#[derive(Drop)]
 pub(crate) struct Parted {
     pub resource: Attrs,
     pub attributes: Attrs,

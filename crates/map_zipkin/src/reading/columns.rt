@@ -13,7 +13,7 @@ use std::alloc::Global;
 use trace_model::{Attrs, Code, Status, Value, find};
 
 /// What the columns of a span and its scope hold.
-#[derive(Debug, Drop)]
+#[derive(Drop)]
 pub(crate) struct Told {
     pub name: Text,
     pub version: Text,

@@ -14,7 +14,7 @@ use std::alloc::Global;
 use trace_model::{Link, Noted, Place, Remark, remark_keys};
 
 /// Whether a link was dropped, and the remarks on the others.
-#[derive(Debug, Drop)]
+#[derive(Drop)]
 pub struct LinkRemarks {
     pub dropped: bool,
     pub remarks: Items<Remark>,

@@ -14,7 +14,7 @@ use std::alloc::Global;
 use trace_model::{Remark, Scope, remark_all};
 
 /// The scopes that were read, and the remarks on them.
-#[derive(Debug, Drop)]
+#[derive(Drop)]
 pub struct FoundScopes {
     pub scopes: Items<Scope>,
     pub remarks: Items<Remark>,

@@ -11,7 +11,7 @@ use json_members::member_of;
 use json_nodes::Lent;
 
 /// What a member of a value holds.
-#[derive(Clone, Copy, Debug, PartialEq, Eq)]
+#[derive(Clone, Copy, PartialEq, Eq)]
 pub enum Part {
     Text,
     Truth,
@@ -23,7 +23,7 @@ pub enum Part {
 }
 
 /// More than one member stands.
-#[derive(Clone, Copy, Debug, PartialEq, Eq)]
+#[derive(Clone, Copy, PartialEq, Eq)]
 pub struct Several;
 
 /// The only one of the members that stand in a value, if there is one.

@@ -18,7 +18,7 @@ use trace_model::{Attrs, Value, attrs_of, keys_in_order};
 const LEVELS_BELOW: u8 = 15;
 
 /// The pairs that were read of a message, and the keys that are noted inside their values.
-#[derive(Debug, Drop)]
+#[derive(Drop)]
 pub struct AttributeRows {
     pairs: Items<(Text, Value)>,
     noted: Items<Text>,

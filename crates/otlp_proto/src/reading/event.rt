@@ -18,7 +18,7 @@ use std::alloc::Global;
 use trace_model::{Event, Noted};
 
 /// What was gathered of an event so far.
-#[derive(Debug, Drop)]
+#[derive(Drop)]
 struct EventRows {
     time: Option<u64>,
     name: Option<Text>,

@@ -21,7 +21,7 @@ use std::alloc::Global;
 use trace_model::{Attrs, Group, Noted, Place, Remark, Resource, Scope, remark_all, remark_keys};
 
 /// The scopes that were read of a group, and the remarks on them.
-#[derive(Debug, Drop)]
+#[derive(Drop)]
 struct ScopeList {
     scopes: Items<Scope>,
     remarks: Items<Remark>,
@@ -30,7 +30,7 @@ struct ScopeList {
 }
 
 /// What was gathered of a group so far.
-#[derive(Debug, Drop)]
+#[derive(Drop)]
 struct GroupRows {
     resource: Option<Noted<Resource, Items<Text>>>,
     scopes: ScopeList,

@@ -17,7 +17,7 @@ use std::alloc::Global;
 use trace_model::{InstrumentationScope, Noted};
 
 /// What was gathered of an instrumentation scope so far.
-#[derive(Debug, Drop)]
+#[derive(Drop)]
 struct InstrumentationScopeRows {
     name: Option<Text>,
     version: Option<Text>,

@@ -18,7 +18,7 @@ use std::alloc::Global;
 use trace_model::{Link, Noted};
 
 /// What was gathered of a link so far.
-#[derive(Debug, Drop)]
+#[derive(Drop)]
 struct LinkRows {
     trace: Option<Option<TraceId>>,
     span: Option<Option<SpanId>>,

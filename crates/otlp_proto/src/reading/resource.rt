@@ -17,7 +17,7 @@ use std::alloc::Global;
 use trace_model::{Noted, Resource};
 
 /// What was gathered of a resource so far.
-#[derive(Debug, Drop)]
+#[derive(Drop)]
 struct ResourceRows {
     attributes: AttributeRows,
     dropped: Option<u32>,

@@ -23,7 +23,7 @@ use trace_model::{
 };
 
 /// The spans that were read of a scope, and the remarks on them.
-#[derive(Debug, Drop)]
+#[derive(Drop)]
 struct SpanList {
     /// The number of the first of them in its group.
     first: u32,
@@ -32,7 +32,7 @@ struct SpanList {
 }
 
 /// What was gathered of a scope so far.
-#[derive(Debug, Drop)]
+#[derive(Drop)]
 struct ScopeRows {
     instrumentation: Option<Noted<InstrumentationScope, Items<Text>>>,
     spans: SpanList,

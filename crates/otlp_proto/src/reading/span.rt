@@ -31,7 +31,7 @@ use std::alloc::Global;
 use trace_model::{Code, Kind, Noted, Remark, Span, Status};
 
 /// What was gathered so far of the span of a number.
-#[derive(Debug, Drop)]
+#[derive(Drop)]
 struct SpanRows {
     number: u32,
     trace: Option<Option<TraceId>>,

@@ -17,7 +17,7 @@ use std::alloc::Global;
 use trace_model::{Code, Status};
 
 /// What was gathered of a status so far.
-#[derive(Debug, Drop)]
+#[derive(Drop)]
 struct StatusRows {
     message: Option<Text>,
     code: Option<Code>,

@@ -14,21 +14,21 @@ use trace_model::{KeyValue, Noted, Value, attrs_of};
 pub type NotedValue = Noted<Value, Items<Text>>;
 
 /// What was gathered of a list so far.
-#[derive(Debug, Drop)]
+#[derive(Drop)]
 pub struct ListRows {
     values: Items<Value>,
     noted: Items<Text>,
 }
 
 /// What was gathered of a map so far.
-#[derive(Debug, Drop)]
+#[derive(Drop)]
 pub struct MapRows {
     pairs: Items<(Text, Value)>,
     noted: Items<Text>,
 }
 
 /// What was gathered of a `KeyValue` so far.
-#[derive(Debug, Drop)]
+#[derive(Drop)]
 pub struct KeyValueRows {
     pub key: Option<Text>,
     pub value: Option<NotedValue>,

@@ -12,7 +12,7 @@ use std::alloc::Global;
 use trace_model::{Event, Place, Remark, remark_keys};
 
 /// The events that were read, and the remarks on them.
-#[derive(Debug, Drop)]
+#[derive(Drop)]
 pub struct EventList {
     pub events: Items<Event>,
     pub remarks: Items<Remark>,

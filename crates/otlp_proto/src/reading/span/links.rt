@@ -12,7 +12,7 @@ use std::alloc::Global;
 use trace_model::{Link, Place, Remark, remark_keys};
 
 /// The links that were read, whether one was dropped, and the remarks on the others.
-#[derive(Debug, Drop)]
+#[derive(Drop)]
 pub struct LinkList {
     pub links: Items<Link>,
     pub dropped: bool,
