@@ -1,7 +1,9 @@
 //! Members of an object, and the texts and truth values that they hold.
-ghost use Rattle.std.specs.Prelude.{◌≡◌, [], map, IfOk, option_map};
+ghost use Rattle.std.specs.Prelude.{◌≡◌, [], true, map, Err, IfOk, is_some, option_map, option_and_then};
 ghost use Rattle.std.specs.List.{AllZip};
+ghost use Rattle.serde_json.specs.Find.{as_str};
 ghost use Rattle.json_nodes.specs.Lents.{lent_view as view};
+ghost use Rattle.span_io.specs.declared.halt.Halt.TheVariants as halts;
 ghost use Rattle.span_io.specs.Paths.{optional, JudgesValue, JudgesByCause, Given};
 ghost use Rattle.json_members.specs.Members.{unless_null, member, IsText, text_offends, IsTruth, truth_offends};
 
@@ -46,6 +48,8 @@ pub fn members_of<'v, 'a>(v: &Lent<'v, 'a>, names: &[&str], found: &mut [Option<
 pub fn text_of(alloc: Global, v: &Lent<'_, '_>) -> Result<Text, Halt<Cause>>
     ensures value { IfOk result (λ text. IsText text (view v.now)) }
     ensures judged { JudgesValue result (text_offends (view v.now)) }
+    // Memory is wanted only where it is one.
+    ensures wants { result ≡ Err halts.OutOfMemory → is_some (as_str (view v.now)) ≡ true }
 {
     let Some(given) = v.as_str() else {
         return Err(Halt::Why(Cause::BadShape));
@@ -57,6 +61,8 @@ pub fn text_of(alloc: Global, v: &Lent<'_, '_>) -> Result<Text, Halt<Cause>>
 pub fn text_found(alloc: Global, found: Option<Lent<'_, '_>>) -> Result<Text, Halt<Cause>>
     ensures value { IfOk result (λ text. Given IsText (λ t. t ≡ []) text (option_map view found.entry)) }
     ensures judged { JudgesValue result (optional text_offends (option_map view found.entry)) }
+    ensures wants { result ≡ Err halts.OutOfMemory
+        → is_some (option_and_then as_str (option_map view found.entry)) ≡ true }
 {
     match found {
         None => Ok(Text::new(alloc)),
@@ -69,6 +75,8 @@ pub fn text(alloc: Global, v: &Lent<'_, '_>, name: &str) -> Result<Text, Halt<Ca
     ensures value { IfOk result (λ text. Given IsText (λ t. t ≡ []) text
         (member name.now (view v.now))) }
     ensures judged { JudgesValue result (optional text_offends (member name.now (view v.now))) }
+    ensures wants { result ≡ Err halts.OutOfMemory
+        → is_some (option_and_then as_str (member name.now (view v.now))) ≡ true }
 {
     text_found(alloc, member_of(v, name))
 }

@@ -2,7 +2,8 @@
 ghost use Rattle.std.specs.Prelude.{◌≡◌, suc, List, Ok, IfOk, IfErr};
 ghost use Rattle.serde_json.specs.Data.{Data};
 ghost use Rattle.json_nodes.specs.Lents.{lent_view as view};
-ghost use Rattle.span_io.specs.Paths.{Offences, Halts, JudgesValue, JudgesByCause};
+ghost use Rattle.span_io.specs.Causes.{cause_number};
+ghost use Rattle.span_io.specs.Paths.{Offences, Counts, Halts, JudgesValue, JudgesByCause};
 ghost use Rattle.json_members.specs.Parts.{part, object_offends, IsReading};
 
 use json_nodes::Lent;
@@ -17,14 +18,14 @@ pub trait Table {
 /// That the value is an object, of which nothing is read yet.
 #[inline(always)]
 #[tactic(auto, using(crate::specs::laws::PartLaws::reading))]
-pub fn object<T: Table>(v: &Lent<'_, '_>) -> Result<(), Halt<Cause>>
+pub fn object<T: Table>(v: &Lent<'_, '_>) -> Result<(), Cause>
     ensures begins { IfOk result (λ x. IsReading T.parts (view v.now) 0) }
-    ensures stops { IfErr result (λ halt. Halts halt (object_offends T.parts (view v.now))) }
+    ensures stops { IfErr result (λ cause. Counts (object_offends T.parts (view v.now)) (cause_number cause)) }
 {
     if v.is_object() {
         Ok(())
     } else {
-        Err(Halt::Why(Cause::BadShape))
+        Err(Cause::BadShape)
     }
 }
 

@@ -1,5 +1,5 @@
 //! From a text to nodes, in one pass over its tokens.
-ghost use Rattle.std.specs.Prelude.{◌≡◌, ◌<◌, length, Some, None, Err, IfOk, OnOk, IsUtf8};
+ghost use Rattle.std.specs.Prelude.{◌≡◌, ◌≢◌, ◌<◌, [], length, Some, None, Err, IfOk, OnOk, OnErr, IsUtf8};
 ghost use Rattle.json.specs.Json.{value, items, members, parse_map};
 ghost use Rattle.serde_json.specs.Data.{array, object, no_members};
 ghost use Rattle.serde_json.specs.Read.{of_json, of_items, of_members, converted, read as read_text};
@@ -10,7 +10,7 @@ use crate::building::{close_array, close_object, push};
 use crate::node::Node;
 use crate::number::Number;
 use crate::unread::Unread;
-use json::{Reader, Scratch, Token};
+use json::{Invalid, Reader, Scratch, Token};
 use std::alloc::Global;
 
 const MAX_DEPTH: usize = 127;
@@ -24,6 +24,8 @@ pub fn bytes_nodes<'a>(
 ) -> Result<Vec<Node<'a>>, Unread>
     ensures ok { IfOk result (λ nodes. IsUtf8 bytes.now × (read_text bytes.now ≡ Some (value_at nodes.items))) }
     ensures bad { result ≡ Err Unread.BadJson → IsUtf8 bytes.now → read_text bytes.now ≡ None }
+    // No memory is wanted for bytes that are no text.
+    ensures wants { result ≡ Err Unread.OutOfMemory → IsUtf8 bytes.now }
 {
     match simdutf8::basic::from_utf8(bytes) {
         Ok(text) => text_nodes(alloc, text, scratch),
@@ -43,10 +45,19 @@ pub fn text_nodes<'a>(
     let mut reader = Reader::new(text, scratch)?;
     let mut nodes = Vec::with_capacity(alloc, text.len() / 8)?;
     read(&mut reader, &mut nodes, MAX_DEPTH)?;
-    if reader.next().is_some() {
-        return Err(Unread::BadJson);
-    }
+    at_end(&mut reader)?;
     Ok(nodes)
+}
+
+// That no token is left.
+fn at_end(reader: &mut Reader<'_>) -> Result<(), Invalid>
+    ensures ok { OnOk result (reader.old ≡ []) }
+    ensures err { OnErr result (reader.old ≢ []) }
+{
+    if reader.next().is_some() {
+        return Err(Invalid);
+    }
+    Ok(())
 }
 
 // Adds the nodes of a value that nests so many levels at most.

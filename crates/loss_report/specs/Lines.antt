@@ -24,16 +24,18 @@ quoted_text text = print (string text ∷ [])
 
 -- ---- places
 
+-- which part of a unit a place is
+abbrev pub part_text : Place → List ℕ
+part_text places.Whole = []
+part_text places.Resource = codes " resource"
+part_text (places.Scope scope) = codes " scope " ++ decimal scope
+part_text (places.Span span) = codes " span " ++ decimal span
+part_text (places.Event span event) = codes " span " ++ decimal span ++ codes " event " ++ decimal event
+part_text (places.Link span link) = codes " span " ++ decimal span ++ codes " link " ++ decimal link
+
 -- a place in the unit of this number
 abbrev pub place_text : ℕ → Place → List ℕ
-place_text unit places.Whole = codes "unit " ++ decimal unit
-place_text unit places.Resource = codes "unit " ++ decimal unit ++ codes " resource"
-place_text unit (places.Scope scope) = codes "unit " ++ decimal unit ++ codes " scope " ++ decimal scope
-place_text unit (places.Span span) = codes "unit " ++ decimal unit ++ codes " span " ++ decimal span
-place_text unit (places.Event span event) =
-    codes "unit " ++ decimal unit ++ codes " span " ++ decimal span ++ codes " event " ++ decimal event
-place_text unit (places.Link span link) =
-    codes "unit " ++ decimal unit ++ codes " span " ++ decimal span ++ codes " link " ++ decimal link
+place_text unit place = codes "unit " ++ decimal unit ++ part_text place
 
 -- ---- losses
 
@@ -87,9 +89,18 @@ abbrev pub parent_word : Option ℕ → List ℕ
 parent_word None = codes "-"
 parent_word (Some parent) = span_id_text parent
 
--- the line of a span: its identifiers, its kind, its times in nanoseconds, the code of its status, and its name
+-- the identifiers of a span and of its parent
+unfoldable pub ids_text : Span → List ℕ
+ids_text span = trace_id_text span.trace ++ codes " " ++ span_id_text span.id ++ codes " " ++ parent_word span.parent
+
+-- its kind, and its times in nanoseconds
+unfoldable pub times_text : Span → List ℕ
+times_text span = codes " " ++ kind_word span.kind ++ codes " " ++ decimal span.start ++ codes " " ++ decimal span.end
+
+-- the code of its status, and its name
+unfoldable pub named_text : Span → List ℕ
+named_text span = codes " " ++ code_word span.status.code ++ codes " " ++ quoted_text span.name ++ codes "\n"
+
+-- the line of a span
 abbrev pub shown_text : Span → List ℕ
-shown_text span =
-    trace_id_text span.trace ++ codes " " ++ span_id_text span.id ++ codes " " ++ parent_word span.parent
-    ++ codes " " ++ kind_word span.kind ++ codes " " ++ decimal span.start ++ codes " " ++ decimal span.end
-    ++ codes " " ++ code_word span.status.code ++ codes " " ++ quoted_text span.name ++ codes "\n"
+shown_text span = ids_text span ++ times_text span ++ named_text span

@@ -21,3 +21,4 @@ pub mod TimelySpans
 pub mod ProperBatches
 pub mod ProperGroups
 pub mod NoneLost
+pub mod LossesMeant

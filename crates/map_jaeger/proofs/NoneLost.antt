@@ -36,7 +36,7 @@ use Rattle.map_jaeger.proofs.GroupResource.{with_service, service_at, made_rise,
 
 -- ---- attributes
 
-value_stays : (value : Value) → (is_told_as_text value ≡ false) ↔ (normal_value value ≡ value)
+pub value_stays : (value : Value) → (is_told_as_text value ≡ false) ↔ (normal_value value ≡ value)
 value_stays (List' shape members) = (λ e. absurd (true≢false e), λ same. absurd (true≢false (ap is_text same)))
 value_stays (Map' shape members) = (λ e. absurd (true≢false e), λ same. absurd (true≢false (ap is_text same)))
 value_stays Nothing = (λ e. absurd (true≢false e), λ same. absurd (true≢false (ap is_text same)))
@@ -66,7 +66,7 @@ event_quiet span n event =
 
 -- ---- links
 
-abbrev kept_by : Bool → List (List ℕ × Value)
+abbrev pub kept_by : Bool → List (List ℕ × Value)
 kept_by marked = if marked then (reference_key, Text child_of_word) ∷ [] else []
 
 both_true : (a b : Bool) → (a && b) ≡ true → (a ≡ true) × (b ≡ true)
@@ -97,7 +97,7 @@ none_of_two true pair next more same =
     let rest : [] ≡ next ∷ more = (same_parts (reference_key, Text child_of_word) pair [] (next ∷ more) same).1 in absurd (cc)
 none_of_two false pair next more same = absurd (cc)
 
-marks_stay : (l : List (List ℕ × Value)) → (not (are_kept l) ≡ false) ↔ (kept_by (is_child_of (at reference_key l)) ≡ l)
+pub marks_stay : (l : List (List ℕ × Value)) → (not (are_kept l) ≡ false) ↔ (kept_by (is_child_of (at reference_key l)) ≡ l)
 marks_stay [] = (λ e. refl, λ same. refl)
 marks_stay (pair ∷ []) = (
   λ e. let parts = both_true (bytes_eq reference_key pair.0) (is_child_of (Some pair.1)) (not_true (are_kept (pair ∷ [])) e) in one_kept pair parts.0 parts.1,
@@ -247,10 +247,10 @@ module _ (goes : Bool) (goes_not : goes ≡ false) where
 
 module _ (resource : List (List ℕ × Value)) (up : Rise (keys resource)) where
   -- under `service.name` its text, if there is any, and under other keys what becomes of the value
-  abbrev kept_at : List ℕ → Option Value → Option Value
+  abbrev pub kept_at : List ℕ → Option Value → Option Value
   kept_at key value = cond (bytes_eq service_key key) (text_given (text_or_none value)) (option_map normal_value value)
 
-  at_normal : (key : List ℕ) → at key (normal_resource resource) ≡ kept_at key (at key resource)
+  pub at_normal : (key : List ℕ) → at key (normal_resource resource) ≡ kept_at key (at key resource)
   at_normal key = by (bytes_eq service_key key) refl
     where
       by : (b : Bool) → bytes_eq service_key key ≡ b

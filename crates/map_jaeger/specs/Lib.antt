@@ -3,6 +3,7 @@ pub mod Columns
 pub mod Faults
 pub mod Keys
 pub mod LeastFault
+pub mod LossMeaning
 pub mod Losses
 pub mod Normal
 pub mod Reading

@@ -1,5 +1,5 @@
 -- What the laws of the table say.
-use Rattle.std.specs.Prelude.{◌≡◌, ◌≤◌, ◌↔◌, [], All, Option}
+use Rattle.std.specs.Prelude.{◌≡◌, ◌≤◌, ◌↔◌, [], All, Contains, Option}
 use Rattle.jaeger_model.specs.Proper.{IsProperBatch}
 use Rattle.jaeger_model.specs.declared.batch.Batch.{Batch}
 use Rattle.jaeger_model.specs.declared.span.JSpan.{JSpan}
@@ -7,8 +7,10 @@ use Rattle.span_ids.specs.Times.{floor}
 use Rattle.trace_model.specs.Proper.{IsProperGroup}
 use Rattle.trace_model.specs.Soundness.{IsSoundGroup}
 use Rattle.trace_model.specs.declared.fault.Fault.{Fault}
+use Rattle.trace_model.specs.declared.loss.Loss.{Loss}
 use Rattle.trace_model.specs.declared.trace.Group.{Group}
 use Rattle.map_jaeger.specs.Faults.{HasNoFault, IsFaultOf}
+use Rattle.map_jaeger.specs.LossMeaning.{MeansLoss}
 use Rattle.map_jaeger.specs.Losses.{group_losses}
 use Rattle.map_jaeger.specs.Normal.{normal_group}
 use Rattle.map_jaeger.specs.Reading.{group_of}
@@ -65,3 +67,8 @@ ReadIsProper = (batch : Batch) → IsProperBatch batch → IsProperGroup (group_
 -- nothing is lost of a sound group exactly where it is its own normal form
 abbrev pub NoneLost : Type 0
 NoneLost = (group : Group) → IsSoundGroup group → (group_losses group ≡ []) ↔ (normal_group group ≡ group)
+
+-- a loss is told of a sound group exactly where the condition of its row holds, at its place, of the group and its normal form
+abbrev pub LossesMean : Type 0
+LossesMean = (group : Group) → IsSoundGroup group → (loss : Loss)
+    → Contains (group_losses group) loss ↔ MeansLoss group (normal_group group) loss.place loss.row loss.key

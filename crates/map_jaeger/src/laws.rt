@@ -1,5 +1,5 @@
 //! Laws of the table, as contracts of functions that do nothing.
-ghost use Rattle.map_jaeger.specs.StatedLaws.{BatchesReadBack, NormalForms, ReadIsNormal, ReadIsSound, FaultsFound, NoneLost, WrittenIsProper, ReadIsProper};
+ghost use Rattle.map_jaeger.specs.StatedLaws.{BatchesReadBack, NormalForms, ReadIsNormal, ReadIsSound, FaultsFound, NoneLost, LossesMean, WrittenIsProper, ReadIsProper};
 
 use crate::faults::Jaeger;
 
@@ -43,6 +43,14 @@ pub fn faults_found()
 /// Nothing is lost of a sound group exactly where it is its own normal form.
 pub fn none_lost()
     ensures { NoneLost }
+{
+    // The clause is the law.
+}
+
+/// A loss is told of a sound group exactly where the condition of its row holds, at its place, of the
+/// group and of its normal form.
+pub fn losses_mean()
+    ensures { LossesMean }
 {
     // The clause is the law.
 }

@@ -19,6 +19,8 @@ pub mod NormalProper
 pub mod NoReserved
 pub mod NotedLaws
 pub mod NothingLost
+pub mod GroupBegins
+pub mod LossesMeant
 pub mod OwnBehind
 pub mod OwnForms
 pub mod OwnParts

@@ -5,6 +5,7 @@ use Rattle.std.specs.List.{flat_map}
 use Rattle.std.specs.Option.{option_or}
 use Rattle.std.specs.Str.{bytes_eq}
 use Rattle.std.proofs.lemmas.List.Elements.{All-nil, All-cons, All-head, All-tail, All-weaker}
+use Rattle.trace_model.specs.Attributes.{Rise, keys}
 use Rattle.trace_model.specs.Soundness.{IsSoundGroup, IsSoundScope, IsSoundSpan}
 use Rattle.trace_model.specs.ValueTexts.{value_text}
 use Rattle.trace_model.specs.declared.loss.Loss.{Loss}
@@ -183,6 +184,11 @@ kept_itself key (pair ∷ l) = by (goes key pair) (kept_itself key l)
     by false rest =
         both_true (bytes_eq pair.0 pair.0 && bytes_eq (value_text pair.1) (value_text pair.1)) (same_resource (kept_texts key l) (kept_texts key l))
         (both_true (bytes_eq pair.0 pair.0) (bytes_eq (value_text pair.1) (value_text pair.1)) (key_itself pair.0) (key_itself (value_text pair.1))) rest
+
+-- a resource in normal form is the same as itself
+pub resource_itself : (resource : Pairs) → Rise (keys resource) → same_resource (normal_pairs service_key resource) (normal_pairs service_key resource) ≡ true
+resource_itself resource up =
+    ap (λ (pairs : Pairs). same_resource pairs pairs) (normal_kept service_key resource up) ∙ kept_itself service_key resource
 
 -- the first group has another resource
 abbrev BeginsApart : Pairs → List Group → Type 0

@@ -1,6 +1,7 @@
 pub mod Faults
 pub mod Keys
 pub mod LeastZipkinFault
+pub mod LossMeaning
 pub mod Losses
 pub mod Normal
 pub mod NotedGroups

@@ -1,5 +1,6 @@
--- What a move to Zipkin loses of a group that it can hold: where the group differs from its normal form, row by row. Groups are told one after
--- the other, each by the run of the span before it, which is the last span of the groups before, in normal form.
+-- What a move to Zipkin loses of a group that it can hold: where its places differ from their normal form, row by row, each place
+-- by itself. So of a group without spans, which goes, the resource and the scopes are told as those of any other. Groups are told
+-- one after the other, each by the run of the span before it, which is the last span of the groups before, in normal form.
 use Rattle.std.specs.Prelude.{ℕ, Bool, true, false, not, ◌&&◌, if◌then◌else◌, List, [], ◌∷◌, ◌++◌, Option, Some, None, option_map}
 use Rattle.std.specs.Option.{option_or}
 use Rattle.std.specs.Str.{bytes_eq}

@@ -1,15 +1,17 @@
 -- What the laws of the table say.
-use Rattle.std.specs.Prelude.{◌≡◌, ◌≢◌, ◌↔◌, List, [], All, Option, None, map}
+use Rattle.std.specs.Prelude.{◌≡◌, ◌≢◌, ◌↔◌, List, [], ◌∷◌, ◌++◌, All, Contains, Option, None, map}
 use Rattle.std.specs.List.{flat_map}
 use Rattle.span_tags.specs.laws.RunLaws.{IsPlain}
 use Rattle.trace_model.specs.Proper.{IsProperGroup}
 use Rattle.trace_model.specs.Soundness.{IsSoundGroup}
 use Rattle.trace_model.specs.declared.fault.Fault.{Fault}
+use Rattle.trace_model.specs.declared.loss.Loss.{Loss}
 use Rattle.trace_model.specs.declared.trace.Group.{Group}
 use Rattle.zipkin_json.specs.Proper.{IsProperZSpan, IsTimelyZSpan}
 use Rattle.zipkin_json.specs.declared.span.ZSpan.{ZSpan}
 use Rattle.map_zipkin.specs.Faults.{HasNoZipkinFault, IsZipkinFaultOf}
-use Rattle.map_zipkin.specs.Losses.{groups_losses}
+use Rattle.map_zipkin.specs.LossMeaning.{run_behind_all, MeansLoss}
+use Rattle.map_zipkin.specs.Losses.{group_losses, groups_losses}
 use Rattle.map_zipkin.specs.NotedGroups.{plain_noted, noted_groups_of}
 use Rattle.map_zipkin.specs.Normal.{normal_spans, zipkin_normal}
 use Rattle.map_zipkin.specs.Reading.{run_span_of, groups_of}
@@ -80,3 +82,10 @@ pub record WrittenIsWritable : Type 0 where
 -- nothing is lost of sound groups exactly where they are their own normal form
 abbrev pub NothingLost : Type 0
 NothingLost = (groups : List Group) → All IsSoundGroup groups → (groups_losses None groups ≡ []) ↔ (zipkin_normal groups ≡ groups)
+
+-- A loss is told of a sound group, behind others, exactly where the condition of its row holds, at its place, of the group and of
+-- the normal form of the whole trace.
+abbrev pub LossesMean : Type 0
+LossesMean = (before : List Group) (group : Group) (others : List Group) → IsSoundGroup group → (loss : Loss)
+    → Contains (group_losses (run_behind_all None before) group) loss
+    ↔ MeansLoss before group (zipkin_normal (before ++ group ∷ others)) loss.place loss.row loss.key

@@ -1,5 +1,5 @@
 //! Laws of the table, as contracts of functions that do nothing.
-ghost use Rattle.map_zipkin.specs.StatedLaws.{GroupsNoted, NothingLost, Regroupings, SpansReadBack, WrittenIsWritable, ReadIsHeld, ReadIsZipkinNormal, ZipkinNormalForms, ZipkinFaultsFound};
+ghost use Rattle.map_zipkin.specs.StatedLaws.{GroupsNoted, NothingLost, LossesMean, Regroupings, SpansReadBack, WrittenIsWritable, ReadIsHeld, ReadIsZipkinNormal, ZipkinNormalForms, ZipkinFaultsFound};
 
 use crate::faults::Zipkin;
 
@@ -79,6 +79,14 @@ pub fn zipkin_faults_found()
 /// Nothing is lost of sound groups exactly where they are their own normal form.
 pub fn nothing_lost()
     ensures { NothingLost }
+{
+    trace_model::laws::texts_for_bytes();
+}
+
+/// A loss is told of a sound group, behind others, exactly where the condition of its row holds, at its
+/// place, of the group and of the normal form of the whole trace.
+pub fn losses_mean()
+    ensures { LossesMean }
 {
     trace_model::laws::texts_for_bytes();
 }

@@ -1,5 +1,5 @@
 -- A context that a block tells is sound.
-use Rattle.std.proofs.Common.{◌≡◌, ◌≢◌, ◌⊎◌, ℕ, Bool, true, false, List, [], Option, Some, None, sym, subst, ◌∙◌, inl, inr}
+use Rattle.std.proofs.Common.{◌≡◌, ◌≢◌, ◌⊎◌, ℕ, Bool, true, false, List, [], Option, Some, None, refl, sym, subst, ◌∙◌, inl, inr}
 use Rattle.propagation.specs.B3.{ReadsB3, IsB3State}
 use Rattle.propagation.specs.Blocks.{Header}
 use Rattle.propagation.specs.Heads.{Head, TellsContext, TellsState}
@@ -15,6 +15,14 @@ use Rattle.propagation.proofs.OneTracestate.{state_reads_back}
 
 some_not_none : (ids : Option Ids) (told : Ids) → ids ≡ Some told → ids ≡ None → ⊥
 some_not_none ids told is none = let e : ◌≡◌ {A = Option Ids} (Some told) None = sym is ∙ none in cc
+
+-- a context with identifiers may hold a state that was read
+pub state_sound : (value state : List ℕ) (ids : Ids) (sampling : Sampling) → ReadsTracestate value state
+    → IsSoundContext (record { ids = Some ids; sampling = sampling; state = state })
+state_sound value state ids sampling reads = record {
+  told = λ none. absurd (some_not_none (Some ids) ids refl none);
+  state = inr (state_reads_back reads);
+}
 
 sound_state : (headers : List Header) (state : List ℕ) (dropped : Bool) → TellsState headers state dropped → (state ≡ []) ⊎ ReadsTracestate state state
 sound_state headers state true tells = inl tells.1

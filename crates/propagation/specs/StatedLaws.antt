@@ -2,6 +2,7 @@
 use Rattle.std.specs.Prelude.{Bool, ◌≡◌, ◌↔◌, ℕ, List, false, Option, Some, None, ⊤}
 use Rattle.span_ids.specs.Proper.{IsProperTraceId, IsProperSpanId, IsProperParent}
 use Rattle.propagation.specs.Traceparent.{ReadsTraceparent, traceparent_text, traceparent_ids, traceparent_sampling}
+use Rattle.propagation.specs.Tracestate.{ReadsTracestate}
 use Rattle.propagation.specs.B3.{ReadsB3, HoldsB3, b3_text, b3_ids}
 use Rattle.propagation.specs.Uber.{ReadsUber, uber_text, told_sampling}
 use Rattle.propagation.specs.Heads.{Head, HeaderVerdict, IsHeaderVerdict}
@@ -40,6 +41,12 @@ pub record OneHeaderVerdict : Type 0 where
 pub record HeadsAreSound : Type 0 where
   pub sound : (block : List ℕ) (c : Context) (dropped : Bool) → Head c dropped block → IsSoundContext c
   pub proper : (block : List ℕ) (c : Context) (dropped : Bool) → Head c dropped block → AreProperIds c.ids
+
+-- the state that a value tells is its own canonical text, and makes a sound context with any identifiers
+pub record StatesAreSound : Type 0 where
+  pub own : (value state : List ℕ) → ReadsTracestate value state → ReadsTracestate state state
+  pub sound : (value state : List ℕ) (ids : Ids) (sampling : Sampling) → ReadsTracestate value state
+      → IsSoundContext (record { ids = Some ids; sampling = sampling; state = state })
 
 -- the lines of a context tell its normal form, so that two contexts have the same lines just where they have the same normal form
 pub record HeadersReadBack : Type 0 where

@@ -15,7 +15,7 @@ module _ (before here now : Inlet) (block : List ℕ) (reading : Reading before 
     gave = gave_kept before.left here.left now.left block reading.gave kept;
     within = omega (arith, within);
     in_vain = in_vain;
-    why = (subst (λ (n : ℕ). Rose n now.faults) reading.quiet fails, unsteady);
+    why = (subst (λ (n : ℕ). Rose n now.faults) reading.quiet fails, unsteady, within);
   }
 
   -- the end was read

@@ -8,11 +8,14 @@ use Rattle.span_io.specs.Outside.{Inlet, Outlet, Gains, GainsFront, GainLaws, In
 use Rattle.span_io.specs.declared.form.Form.{Form}
 use Rattle.span_io.specs.declared.limits.Limits.{Limits}
 use Rattle.span_io.specs.declared.refusal.Refusal.{Refusal}
+use Rattle.trace_model.specs.OtlpParts.{NotedGroup}
+use Rattle.trace_model.specs.declared.fault.Fault.{Fault}
 use Rattle.span_convert.specs.Converters.{Feeds, Finishes, KeepsWhy, stop_in, refusal_in, fault_in}
 use Rattle.span_convert.specs.Outlooks.{IfDocument, IsOutlookAs, EndsFrom, SinkTold, StopsFrom, WritesFrontFrom}
 use Rattle.span_convert.specs.Reports.{IsVerdictAs, IsJudgedAs, written_target}
-use Rattle.span_convert.specs.Units.{input_form}
-use Rattle.span_convert.specs.Verdicts.{Verdict, good, refused, faulted, verdict_text}
+use Rattle.span_convert.specs.Targets.{Target, open_target}
+use Rattle.span_convert.specs.Units.{InputForm, input_form, open_form}
+use Rattle.span_convert.specs.Verdicts.{Verdict, good, refused, faulted, IsFaulted, IsVerdictOn, verdict_text}
 use Rattle.span_convert.specs.declared.converter.State.{State}
 use Rattle.span_convert.specs.declared.converter.State.TheVariants as states
 use Rattle.span_convert.specs.declared.converter.Walker.{Walker}
@@ -20,9 +23,11 @@ use Rattle.span_convert.specs.declared.stop.Stop.{Stop}
 use Rattle.span_convert.specs.declared.stop.Stop.TheVariants as stops
 use Rattle.span_convert.specs.declared.tally.Tally.{Tally}
 use Rattle.span_convert.specs.declared.target_fault.TargetFault.{TargetFault}
+use Rattle.span_convert.specs.declared.report.Report.TheVariants as reports
 use Rattle.span_convert.specs.declared.written.Written.{Written}
+use Rattle.span_convert.specs.declared.written.Written.TheVariants as kinds
 use Rattle.span_cli.specs.Inputs.{GaveInput, ReadsInput, IsAllRead, shipped}
-use Rattle.span_cli.specs.Jobs.{Spans}
+use Rattle.span_cli.specs.Jobs.{HasFaults, Spans}
 use Rattle.span_cli.specs.Lines.{said, fault_line, noted_line}
 use Rattle.span_cli.specs.Outcomes.{Outcome, OnOutcome, IsJudgedAt, verdict_outcome}
 use Rattle.span_cli.specs.Runs.{IsEndingAt, IsEndingOf, EndsRun, WritesAllUnits, WritesWholeUnits}
@@ -46,6 +51,22 @@ on_verdict from what (Some bytes) P Q holds p = λ outcome is. let (verdict, is_
 judged_outcome : (from : Form) (what : Written) (left : Option (List ℕ)) → IfSome left (λ bytes. (verdict : Verdict) × IsVerdictAs from what shipped_limits bytes verdict) → IfSome left (IsJudgedAt (Spans from what) said)
 judged_outcome from what None judged = tt
 judged_outcome from what (Some bytes) (verdict, is) = (verdict_outcome verdict, (verdict, is, refl))
+
+-- ---- faults
+
+-- a target of which a unit has a fault has faults
+has_faults : (what : Written) (unit : NotedGroup) (fault : Fault) → (written_target what).FaultOf unit fault → HasFaults what
+has_faults (kinds.Form to) unit fault has = tt
+has_faults (kinds.Report (reports.Losses to)) unit fault has = tt
+has_faults (kinds.Report reports.Show) unit fault has = has
+has_faults (kinds.Report reports.Check) unit fault has = has
+
+-- so has that of a verdict whose fault is kept
+faults_kept : (from : InputForm) (to : Target) (what : Written) → ((unit : NotedGroup) (fault : Fault) → to.FaultOf unit fault → HasFaults what) → (bytes : List ℕ) (verdict : Verdict) (found : TargetFault)
+    → IsVerdictOn from to shipped_limits bytes verdict → KeepsWhy verdict (states.Faulted found) → HasFaults what
+faults_kept from to what has bytes verdict found is kept =
+    let there : IsFaulted from to shipped_limits bytes (verdict_text verdict) found = subst (λ (v : Verdict). IsVerdictOn from to shipped_limits bytes v) kept is in
+    has there.next found.fault there.fault
 
 -- ---- stops
 
@@ -101,17 +122,17 @@ module _ {K : Type 0} (outlet : K → Outlet) (from : Form) (what : Written) (be
   ends_refused : (refusal : Refusal) → Course → now.faults ≡ before.faults → OutputHolds (outlet old) (outlet new) → IfSome before.left (λ bytes. IsJudgedAs {T = Unit} from what shipped_limits bytes (Err stops.Refused))
       → OnVerdict from what before.left (λ v. StopsFrom [] v stops.Refused (outlet old) (outlet new) × KeepsWhy v (states.Refused refusal)) → EndsRun outlet (Spans from what) (endings.Refused refusal) before now old new
   ends_refused refusal course still holds judged on =
-      ends_said outlet (Spans from what) before now old new (endings.Refused refusal) refl (unlike 3 5 (inl (omega arith))) (unlike 3 6 (inl (omega arith))) (λ e. absurd (unlike 3 0 (inr (omega arith)) e))
+      ends_said outlet (Spans from what) before now old new (endings.Refused refusal) refl (unlike 3 5 (inl (omega arith))) (unlike 3 6 (inl (omega arith))) (λ e. absurd (unlike 3 4 (inl (omega arith)) e)) (λ e. absurd (unlike 3 0 (inr (omega arith)) e))
       (λ e. absurd (unlike 3 0 (inr (omega arith)) e)) course still holds
       (judged_outcome from what before.left judged)
       (on_verdict from what before.left _ (Carries outlet (Spans from what) before now old new (endings.Refused refusal)) (λ v carried.
       subst (λ (x : Verdict). Carries outlet (Spans from what) before now old new (endings.Refused refusal) (verdict_outcome x)) (sym carried.1)
       (record { agrees = refl; writes = gained (outlet old) (outlet new) (verdict_text v) carried.0.1; notes = refl })) on)
 
-  ends_faulted : (noted : NotedFault) (found : TargetFault) → noted_line noted ≡ fault_line found → Course → now.faults ≡ before.faults → OutputHolds (outlet old) (outlet new) → IfSome before.left (λ bytes. IsJudgedAs {T = Unit} from what shipped_limits bytes (Err stops.Faulted))
+  ends_faulted : (noted : NotedFault) (found : TargetFault) → HasFaults what → noted_line noted ≡ fault_line found → Course → now.faults ≡ before.faults → OutputHolds (outlet old) (outlet new) → IfSome before.left (λ bytes. IsJudgedAs {T = Unit} from what shipped_limits bytes (Err stops.Faulted))
       → OnVerdict from what before.left (λ v. StopsFrom [] v stops.Faulted (outlet old) (outlet new) × KeepsWhy v (states.Faulted found)) → EndsRun outlet (Spans from what) (endings.Faulted noted) before now old new
-  ends_faulted noted found says course still holds judged on =
-      ends_said outlet (Spans from what) before now old new (endings.Faulted noted) refl (unlike 4 5 (inl (omega arith))) (unlike 4 6 (inl (omega arith))) (λ e. absurd (unlike 4 0 (inr (omega arith)) e))
+  ends_faulted noted found faults says course still holds judged on =
+      ends_said outlet (Spans from what) before now old new (endings.Faulted noted) refl (unlike 4 5 (inl (omega arith))) (unlike 4 6 (inl (omega arith))) (λ e. faults) (λ e. absurd (unlike 4 0 (inr (omega arith)) e))
       (λ e. absurd (unlike 4 0 (inr (omega arith)) e)) course still holds
       (judged_outcome from what before.left judged)
       (on_verdict from what before.left _ (Carries outlet (Spans from what) before now old new (endings.Faulted noted)) (λ v carried.
@@ -129,6 +150,7 @@ module _ {K : Type 0} (outlet : K → Outlet) (from : Form) (what : Written) (be
   -- it carried out the verdict
   pub record StoppedBy (stop : Stop) (state : State) : Type 0 where
     pub devices : StopsDevices stop
+    pub faults : (found : TargetFault) → stop ≡ stops.Faulted → state ≡ states.Faulted found → HasFaults what
     pub judged : IfSome before.left (λ bytes. IsJudgedAs {T = Unit} from what shipped_limits bytes (Err stop))
     pub carried : OnVerdict from what before.left (λ v. StopsFrom [] v stop (outlet old) (outlet new) × KeepsWhy v state)
 
@@ -139,7 +161,7 @@ module _ {K : Type 0} (outlet : K → Outlet) (from : Form) (what : Written) (be
       ends_refused refusal there.devices.course there.devices.still (there.devices.sink.holds (λ e. absurd (cc))) there.judged there.carried
   ends_at_stop (endings.Faulted noted) stop state at by =
       let there = subst (λ (s : Stop). StoppedBy s (states.Faulted at.found)) at.stopped (subst (λ (s : State). StoppedBy stop s) at.kept by) in
-      ends_faulted noted at.found at.says there.devices.course there.devices.still (there.devices.sink.holds (λ e. absurd (cc))) there.judged there.carried
+      ends_faulted noted at.found (by.faults at.found at.stopped at.kept) at.says there.devices.course there.devices.still (there.devices.sink.holds (λ e. absurd (cc))) there.judged there.carried
   ends_at_stop (endings.BadHeaders cause) stop state at by = absurd at
   ends_at_stop endings.TooLong stop state at by = absurd at
   ends_at_stop endings.NoIds stop state at by = absurd at
@@ -209,6 +231,8 @@ module _ {K : Type 0} (outlet : K → Outlet) (from : Form) (what : Written) (be
   ends_at_feed begins lasts one some given are_bytes ending stop c gave at reads in_vain still says sink =
       ends_at_stop outlet from what before now old new ending stop c.state at (record {
         devices = devices_behind given stop gave reads in_vain still says.front sink;
+        faults = λ found is kept. faults_kept (open_form from) (open_target (written_target what)) what (has_faults what) given foreseen.0 found foreseen.1
+            (subst (KeepsWhy foreseen.0) kept (carried_out foreseen.0 foreseen.1).1);
         judged = told_behind before.left now.left given (λ bytes. IsJudgedAs {T = Unit} from what shipped_limits bytes (Err stop)) gave
             (λ rest. judged_whole begins lasts one from what given rest (outlet old) (outlet new) stop says.exists (λ o is. (carried_out o is).0));
         carried = told_behind before.left now.left given (λ bytes. (v : Verdict) → IsVerdictAs from what shipped_limits bytes v → StopsFrom [] v stop (outlet old) (outlet new) × KeepsWhy v c.state) gave
@@ -228,7 +252,7 @@ module _ {K : Type 0} (outlet : K → Outlet) (from : Form) (what : Written) (be
         → NoReadInVain before now → now.faults ≡ before.faults → Finishes (shipped from what) c written fed (Ok counts) (outlet here) (outlet new) → OutputHolds (outlet here) (outlet new)
         → EndsRun outlet (Spans from what) endings.Whole before now old new
     ends_whole counts gave all reads in_vain still end holds =
-        ends_said outlet (Spans from what) before now old new endings.Whole refl (unlike 0 5 (inl (omega arith))) (unlike 0 6 (inl (omega arith))) (λ e. all)
+        ends_said outlet (Spans from what) before now old new endings.Whole refl (unlike 0 5 (inl (omega arith))) (unlike 0 6 (inl (omega arith))) (λ e. absurd (unlike 0 4 (inl (omega arith)) e)) (λ e. all)
         (λ e. all_told before.left now.left fed (WritesAllUnits from what (outlet old) (outlet new)) gave all.told (record {
           text = end.whole.text;
           tally = counts;
@@ -253,6 +277,9 @@ module _ {K : Type 0} (outlet : K → Outlet) (from : Form) (what : Written) (be
         → EndsRun outlet (Spans from what) ending before now old new
     ends_at_finish ending stop gave told at reads in_vain still end sink = ends_at_stop outlet from what before now old new ending stop c.state at (record {
       devices = devices_behind fed stop gave reads in_vain still end.front sink;
+      faults = λ found is kept.
+          let there : IsJudgedAs {T = Tally} from what shipped_limits fed (Err stops.Faulted) = subst (λ (s : Stop). IsJudgedAs {T = Tally} from what shipped_limits fed (Err s)) is end.judged in
+          faults_kept (input_form from) (written_target what) what (has_faults what) fed there.0 found there.1 (subst (KeepsWhy there.0) kept (end.verdict there.0 there.1).1);
       judged = all_told before.left now.left fed (λ bytes. IsJudgedAs {T = Unit} from what shipped_limits bytes (Err stop)) gave told (judged_as from what shipped_limits fed stop end.judged);
       carried = all_told before.left now.left fed (λ bytes. (v : Verdict) → IsVerdictAs from what shipped_limits bytes v → StopsFrom [] v stop (outlet old) (outlet new) × KeepsWhy v c.state) gave told
           (λ v is. stops_kept gain written (outlet old) (outlet here) (outlet new) gains v stop (KeepsWhy v c.state) (end.verdict v is));

@@ -7,7 +7,7 @@ use Rattle.span_io.specs.declared.course.ReadCourse.TheVariants as reads
 use Rattle.span_io.specs.declared.course.WriteCourse.TheVariants as writes
 use Rattle.span_convert.specs.Outlooks.{SinkTold}
 use Rattle.span_cli.specs.Inputs.{ReadsInput, IsReadThrough}
-use Rattle.span_cli.specs.Jobs.{Job}
+use Rattle.span_cli.specs.Jobs.{Job, MayFault}
 use Rattle.span_cli.specs.Lines.{Stage, said, input_failed, output_failed, no_memory, IsRunStatus, Notes, status_of, stage_line, stage_of, ending_line}
 use Rattle.span_cli.specs.Outcomes.{Outcome, CarriesOut, IsOutcome, OnOutcome, IsJudgedAt}
 use Rattle.span_cli.specs.Runs.{EndsInput, WritesAllOf, WritesRead, WritesSoFar, EndsRun}
@@ -166,6 +166,7 @@ module _ {K : Type 0} (outlet : K → Outlet) (job : Job) (before now : Inlet) (
       all_read = λ e. absurd (unlike 5 0 (inr (omega arith)) e);
     };
     output = output_holds 5 (unlike 5 6 (inl (omega arith))) holds;
+    faults = λ e. absurd (unlike 5 4 (inr (omega arith)) e);
     so_far = λ e. so_far;
     front = course.front;
     judged = always before.left (λ bytes. IsJudgedAt job input_failed bytes) (λ bytes. tt);
@@ -181,6 +182,7 @@ module _ {K : Type 0} (outlet : K → Outlet) (job : Job) (before now : Inlet) (
   wants course still holds gains = record {
     input = input_left 7 (unlike 7 5 (inr (omega arith))) (unlike 7 0 (inr (omega arith))) still course;
     output = output_holds 7 (unlike 7 6 (inr (omega arith))) holds;
+    faults = λ e. absurd (unlike 7 4 (inr (omega arith)) e);
     so_far = λ e. absurd (unlike 7 5 (inr (omega arith)) e);
     front = course.front;
     judged = always before.left (λ bytes. IsJudgedAt job no_memory bytes) (λ bytes. tt);
@@ -198,6 +200,7 @@ module _ {K : Type 0} (outlet : K → Outlet) (job : Job) (before now : Inlet) (
       fails = λ e. fails;
       holds = λ other. absurd (other refl);
     };
+    faults = λ e. absurd (unlike 6 4 (inr (omega arith)) e);
     so_far = λ e. absurd (unlike 6 5 (inr (omega arith)) e);
     front = course.front;
     judged = always before.left (λ bytes. IsJudgedAt job output_failed bytes) (λ bytes. tt);
@@ -205,12 +208,14 @@ module _ {K : Type 0} (outlet : K → Outlet) (job : Job) (before now : Inlet) (
     whole = λ e. absurd (unlike 6 0 (inr (omega arith)) e);
   }
 
-  pub ends_said : (ending : Ending) → stage_of (status_of ending) ≡ said → status_of ending ≢ 5 → status_of ending ≢ 6 → (status_of ending ≡ 0 → IsReadThrough job before now)
+  pub ends_said : (ending : Ending) → stage_of (status_of ending) ≡ said → status_of ending ≢ 5 → status_of ending ≢ 6 → (status_of ending ≡ 4 → MayFault job)
+      → (status_of ending ≡ 0 → IsReadThrough job before now)
       → (status_of ending ≡ 0 → IfSome before.left (WritesAllOf job (outlet old) (outlet new))) → RunCourse → now.faults ≡ before.faults
       → OutputHolds (outlet old) (outlet new) → IfSome before.left (IsJudgedAt job said) → OnOutcome job before.left (Carries ending) → EndsRun outlet job ending before now old new
-  ends_said ending stage fifth sixth all whole course still holds judged on = record {
+  ends_said ending stage fifth sixth faults all whole course still holds judged on = record {
     input = input_quiet (status_of ending) fifth all still course;
     output = output_holds (status_of ending) sixth holds;
+    faults = faults;
     so_far = λ e. absurd (fifth e);
     front = course.front;
     judged = subst (λ (s : Stage). IfSome before.left (IsJudgedAt job s)) (sym stage) judged;

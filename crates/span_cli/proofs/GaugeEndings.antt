@@ -64,7 +64,7 @@ module _ {K : Type 0} (outlet : K → Outlet) (spans : ℕ) (now : Inlet) (old n
 
   pub ends_gauge : (ending : Ending) → EndsGauge outlet spans ending old new → EndsRun outlet (Gauge spans) ending now now old new
   ends_gauge endings.Whole ends =
-      ends_said outlet (Gauge spans) now now old new endings.Whole refl (unlike 0 5 (inl (omega arith))) (unlike 0 6 (inl (omega arith))) (λ e. refl) (λ e. always now.left (λ bytes. Unit {0}) (λ bytes. tt))
+      ends_said outlet (Gauge spans) now now old new endings.Whole refl (unlike 0 5 (inl (omega arith))) (unlike 0 6 (inl (omega arith))) (λ e. absurd (unlike 0 4 (inl (omega arith)) e)) (λ e. refl) (λ e. always now.left (λ bytes. Unit {0}) (λ bytes. tt))
       (course (record { front = gauge_lines spans; is_front = ([], sym (append-nil (gauge_lines spans))); gains = ends.written })) refl
       (ends.output.holds (unlike 0 6 (inl (omega arith)))) (judged_lines spans now.left)
       (on_lines spans now.left (Carries outlet (Gauge spans) now now old new endings.Whole) (record { agrees = refl; writes = ends.written; notes = refl }))

@@ -91,7 +91,7 @@ module _ {K : Type 0} (outlet : K → Outlet) (law : OneHeaderVerdict) (form : H
       → EndsRun outlet (HeaderLines form) endings.TooLong before now old old
   ends_too_long given gave within in_vain still long =
       let is = too_long_told form before.left now.left given gave long in
-      ends_said outlet (HeaderLines form) before now old old endings.TooLong refl (unlike 3 5 (inl (omega arith))) (unlike 3 6 (inl (omega arith))) (λ e. absurd (unlike 3 0 (inr (omega arith)) e)) (λ e. nothing_whole)
+      ends_said outlet (HeaderLines form) before now old old endings.TooLong refl (unlike 3 5 (inl (omega arith))) (unlike 3 6 (inl (omega arith))) (λ e. tt) (λ e. absurd (unlike 3 0 (inr (omega arith)) e)) (λ e. nothing_whole)
       (course_unwritten given gave within in_vain) still (holds_nothing (outlet old)) (judged_told form before.left _ is)
       (says_nothing endings.TooLong _ is (record { agrees = refl; writes = gains_nothing (outlet old); notes = refl }))
 
@@ -104,7 +104,8 @@ module _ {K : Type 0} (outlet : K → Outlet) (law : OneHeaderVerdict) (form : H
   ends_block endings.NoIds halts = absurd halts.why
   ends_block endings.OutputFailed halts = absurd halts.why
   ends_block endings.TooLong halts = ends_too_long halts.given halts.gave halts.within halts.in_vain halts.why.0 halts.why.1
-  ends_block endings.InputFailed halts = ends_input_unwritten outlet (HeaderLines form) before now old old (course_unwritten halts.given halts.gave halts.within halts.in_vain) halts.why.0 halts.why.1 refl refl
+  ends_block endings.InputFailed halts = ends_input_unwritten outlet (HeaderLines form) before now old old (course_unwritten halts.given halts.gave halts.within halts.in_vain) halts.why.0 halts.why.1 refl
+      (record { given = halts.given; gave = halts.gave; within = halts.why.2 }, refl)
   ends_block endings.NoMemory halts = ends_no_memory outlet (HeaderLines form) before now old old (course_unwritten halts.given halts.gave halts.within halts.in_vain) halts.why refl
 
   -- ---- the block was read to its end
@@ -127,12 +128,12 @@ module _ {K : Type 0} (outlet : K → Outlet) (law : OneHeaderVerdict) (form : H
     ends_lines endings.NoMemory halts = ends_no_memory outlet (HeaderLines form) before now old old (course_unwritten block read.gave few read.in_vain) read.quiet refl
     ends_lines (endings.BadHeaders cause) halts =
         let is = whole_told _ (bad cause within halts refl) in
-        ends_said outlet (HeaderLines form) before now old old (endings.BadHeaders cause) refl (unlike 3 5 (inl (omega arith))) (unlike 3 6 (inl (omega arith))) (λ e. absurd (unlike 3 0 (inr (omega arith)) e)) (λ e. nothing_whole)
+        ends_said outlet (HeaderLines form) before now old old (endings.BadHeaders cause) refl (unlike 3 5 (inl (omega arith))) (unlike 3 6 (inl (omega arith))) (λ e. tt) (λ e. absurd (unlike 3 0 (inr (omega arith)) e)) (λ e. nothing_whole)
         (course_unwritten block read.gave few read.in_vain) read.quiet (holds_nothing (outlet old)) (judged_told form before.left _ is)
         (says_nothing (endings.BadHeaders cause) _ is (record { agrees = refl; writes = gains_nothing (outlet old); notes = refl }))
     ends_lines endings.NoIds halts =
         let is = whole_told _ (no_ids halts.context halts.dropped within halts.told halts.cannot refl) in
-        ends_said outlet (HeaderLines form) before now old old endings.NoIds refl (unlike 4 5 (inl (omega arith))) (unlike 4 6 (inl (omega arith))) (λ e. absurd (unlike 4 0 (inr (omega arith)) e)) (λ e. nothing_whole)
+        ends_said outlet (HeaderLines form) before now old old endings.NoIds refl (unlike 4 5 (inl (omega arith))) (unlike 4 6 (inl (omega arith))) (λ e. tt) (λ e. absurd (unlike 4 0 (inr (omega arith)) e)) (λ e. nothing_whole)
         (course_unwritten block read.gave few read.in_vain) read.quiet (holds_nothing (outlet old)) (judged_told form before.left _ is)
         (says_nothing endings.NoIds _ is (record { agrees = refl; writes = gains_nothing (outlet old); notes = refl }))
 
@@ -157,7 +158,7 @@ module _ {K : Type 0} (outlet : K → Outlet) (law : OneHeaderVerdict) (form : H
 
       pub ends_written : Gains (outlet old) (outlet new) lines → OutputHolds (outlet old) (outlet new) → EndsRun outlet (HeaderLines form) endings.Whole before now old new
       ends_written gains holds =
-          ends_said outlet (HeaderLines form) before now old new endings.Whole refl (unlike 0 5 (inl (omega arith))) (unlike 0 6 (inl (omega arith))) (λ e. read.all_read) (λ e. nothing_whole)
+          ends_said outlet (HeaderLines form) before now old new endings.Whole refl (unlike 0 5 (inl (omega arith))) (unlike 0 6 (inl (omega arith))) (λ e. tt) (λ e. read.all_read) (λ e. nothing_whole)
           (course_written (record { front = lines; is_front = ([], sym (append-nil lines)); gains = gains })) read.quiet holds (judged_told form before.left found found_told)
           (on_told law form before.left found (Carries outlet (HeaderLines form) before now old new endings.Whole) found_told
           (record { agrees = refl; writes = subst (λ (l : List ℕ). Gains (outlet old) (outlet new) l) tells.are_lines gains; notes = refl }))

@@ -2,10 +2,12 @@
 use Rattle.std.proofs.Common.{◌≡◌, ℕ, ◌+◌, ◌-◌, ◌<◌, ◌≤◌, Bool, true, false, List, [], ◌∷◌, ◌++◌, map, length, Option, Some, None, Result, Err, refl, sym, ap, subst, ◌∙◌, inl, inr, arith, append_assoc, append-nil}
 use Rattle.std.proofs.lemmas.List.{length-append, map-append}
 use Rattle.std.specs.Prelude.{option_map}
-use Rattle.span_io.specs.Doors.{Accepts, Doorway, LosesFirst, given_back, not_listened}
+use Rattle.span_io.specs.Courses.{accept_next, close_next, listen_next}
+use Rattle.span_io.specs.Doors.{Accepts, Doorway, LosesFirst, NoCallInVain, given_back, not_listened}
 use Rattle.span_io.specs.Limits.{shipped_limits}
 use Rattle.span_io.specs.Links.{Link}
 use Rattle.span_io.specs.Outside.{Outlet, Rose}
+use Rattle.span_io.specs.declared.course.DoorCourse.TheVariants as courses
 use Rattle.span_io.specs.declared.form.Form.{Form}
 use Rattle.span_io.specs.declared.limits.Limits.{Limits}
 use Rattle.span_gateway.specs.Serving.{KeepsMark, Serves}
@@ -13,10 +15,10 @@ use Rattle.span_gateway.specs.declared.ended.Ended.{Ended}
 use Rattle.span_gateway.specs.declared.ended.ServeFault.{ServeFault}
 use Rattle.span_gateway.specs.declared.ended.ServeFault.TheVariants as faults
 use Rattle.span_cli.specs.Lines.{Notes}
-use Rattle.span_cli.specs.Servings.{Visit, IsVisit, AreVisits, WantsMemory, NoneWants, LosesFirsts, ServesConnections, end_line, end_status, visit_line, visit_lines}
+use Rattle.span_cli.specs.Servings.{Visit, IsVisit, AreVisits, WantsMemory, NoneWants, LosesFirsts, ServesConnections, end_course, end_line, end_status, visit_line, visit_lines}
 use Rattle.span_cli.specs.private.ServingSteps.{NotesSo, NotesMore, ServesNext, HasServed, VisitsSoFar, ServesEach, ServesAt}
 use Rattle.span_cli.specs.declared.serve.ServeEnd.{ServeEnd}
-use Rattle.span_cli.specs.declared.serve.ServeEnd.TheVariants.{DoorFailed, NoMemory}
+use Rattle.span_cli.specs.declared.serve.ServeEnd.TheVariants.{AllServed, DoorFailed, NoMemory}
 use Rattle.span_cli.proofs.EndingLaws.{gains_nothing, holds_nothing}
 
 -- ---- notes
@@ -44,6 +46,17 @@ notes_as held holds x y line more e noted = subst (λ (l : List ℕ). NotesMore 
 pub three_pieces : (a b c x y : List ℕ) → a ≡ x → b ≡ y → a ++ (b ++ (c ++ [])) ≡ x ++ y ++ c
 three_pieces a b c x y p q =
     (λ i. p i ++ (q i ++ append-nil c i)) ∙ sym (append_assoc x y c)
+
+-- ---- the door
+
+pub untouched_door_in_vain : (now : Doorway) → NoCallInVain now now
+untouched_door_in_vain now fresh vain = let e : ◌≡◌ {A = Option _} (Some courses.Fresh) (Some courses.InVain) = sym fresh ∙ vain in absurd (cc)
+
+-- no end is in vain
+pub served_in_vain : (before now : Doorway) (end : ServeEnd) → (before.course ≡ Some courses.Fresh → now.course ≡ Some (end_course end)) → NoCallInVain before now
+served_in_vain before now AllServed at fresh vain = let e : ◌≡◌ {A = Option _} (Some courses.Listening) (Some courses.InVain) = sym (at fresh) ∙ vain in absurd (cc)
+served_in_vain before now DoorFailed at fresh vain = let e : ◌≡◌ {A = Option _} (Some courses.Stopped) (Some courses.InVain) = sym (at fresh) ∙ vain in absurd (cc)
+served_in_vain before now NoMemory at fresh vain = let e : ◌≡◌ {A = Option _} (Some courses.Listening) (Some courses.InVain) = sym (at fresh) ∙ vain in absurd (cc)
 
 -- ---- connections
 
@@ -122,6 +135,7 @@ module _ (to : Form) where
     waiting = subst (λ (w : Option (List Link)). LosesFirst before.waiting w link) (sym (ap (λ (d : Doorway). d.waiting) back)) accepts.waiting;
     closed = ap (λ (d : Doorway). d.closed) back ∙ ap (option_map (λ links. links ++ after ∷ [])) accepts.closed;
     faults = ap (λ (d : Doorway). d.faults) back ∙ accepts.faults;
+    goes = λ listens. ap (λ (d : Doorway). d.course) back ∙ ap (option_map close_next) (accepts.course ∙ ap (option_map (accept_next true)) listens);
     same = record {
       out = ap (λ (d : Doorway). d.out) back ∙ less_one before.out mid.out accepts.out;
       address = ap (λ (d : Doorway). d.address) back ∙ accepts.address;
@@ -147,6 +161,7 @@ module _ (to : Form) where
       number = length_more so.visits next.visit ∙ ap (λ (n : ℕ). n + 1) so.number;
       none = none_more so.visits next.visit so.none (λ wants. no_want (sym next.is_end ∙ wants));
       faults = next.faults ∙ so.faults;
+      goes = λ listens. next.goes (so.goes listens);
       notes = notes_as held then x z _ _ (sym (lines_more 1 so.visits next.visit))
           (notes_both held holds then x y z (visit_lines 1 so.visits) (visit_line (1 + length so.visits) next.visit.ended) so.notes
           (notes_as holds then y z _ _ (λ i. visit_line (number_is i) (sym next.is_end i)) noted));
@@ -165,6 +180,7 @@ module _ (to : Form) where
         record { firsts = so.visits; last = next.visit; are = refl; none = so.none; wants = next.is_end ∙ wants },
       );
       faults = next.faults ∙ so.faults;
+      course = λ listens. next.goes (so.goes listens);
       notes = notes_as held holds x y _ _
           (sym (lines_more 1 so.visits next.visit ∙ ap (λ (e : Result Ended ServeFault). visit_lines 1 so.visits ++ visit_line (1 + length so.visits) e) (next.is_end ∙ wants)
           ∙ append-nil (visit_lines 1 so.visits))) so.notes;
@@ -186,6 +202,7 @@ module _ (to : Form) where
       listens = λ none. absurd (omega (arith, none));
       astray = ap (λ (d : Doorway). d.astray) is;
       listening = inl (ap (λ (d : Doorway). d.listening) is);
+      course = λ fresh. ap (λ (d : Doorway). d.course) is ∙ ap (option_map (listen_next false)) fresh;
     };
     notes = notes_nothing held x;
   }

@@ -33,11 +33,17 @@ job_limit (Spans from what) = input_limit from shipped_limits
 job_limit (HeaderLines form) = header_limit
 job_limit (Gauge spans) = 0
 
--- Reading stopped at the first stop: at most so many bytes were read as the limit allows, and one piece.
+-- At most as many bytes were read as the limit allows, and one piece.
 pub record ReadsInput (job : Job) (before now : Inlet) : Type 0 where
   pub given : List ℕ
   pub gave : GaveInput before now given
   pub within : length given ≤ job_limit job + piece
+
+-- the source gave no more than so many bytes
+pub record GaveWithin (limit : ℕ) (before now : Inlet) : Type 0 where
+  pub given : List ℕ
+  pub gave : GaveInput before now given
+  pub within : length given ≤ limit
 
 -- nothing is left, where the source tells it: it does if it told its bytes before
 pub record IsAllRead (before now : Inlet) : Type 0 where
@@ -81,9 +87,10 @@ pub record IsReadWhole (before now : Inlet) (given : List ℕ) : Type 0 where
   pub quiet : now.faults ≡ before.faults
   pub in_vain : NoReadInVain before now
 
--- why a block of header lines wasn't read to the end of the input
+-- Why a block of header lines wasn't read to the end of the input. A read that failed came within the limit.
 abbrev pub HaltsBlock : Ending → Inlet → Inlet → List ℕ → Type 0
-HaltsBlock endings.InputFailed before now given = InputFails before now × (IsTrue before.steady → ⊥)
+HaltsBlock endings.InputFailed before now given =
+    InputFails before now × (IsTrue before.steady → ⊥) × (length given ≤ header_limit)
 HaltsBlock endings.TooLong before now given = (now.faults ≡ before.faults) × (header_limit < length given)
 HaltsBlock endings.NoMemory before now given = now.faults ≡ before.faults
 HaltsBlock ending before now given = ⊥

@@ -31,6 +31,19 @@ abbrev pub IsInRange : Job → Type 0
 IsInRange (Gauge spans) = IsGaugeCount spans
 IsInRange other = Unit {0}
 
+-- a target that has faults: every span can be shown, and every remark told
+abbrev pub HasFaults : Written → Type 0
+HasFaults (written.Form to) = Unit {0}
+HasFaults (written.Report (reports.Losses to)) = Unit {0}
+HasFaults (written.Report reports.Show) = ⊥
+HasFaults (written.Report reports.Check) = ⊥
+
+-- the jobs that may come upon a fault
+abbrev pub MayFault : Job → Type 0
+MayFault (Spans from what) = HasFaults what
+MayFault (HeaderLines form) = Unit {0}
+MayFault (Gauge spans) = ⊥
+
 -- the fact holds of the form that is read and of what is written, where spans are
 abbrev pub IfSpans : Job → (Form → Written → Type 0) → Type 0
 IfSpans (Spans from what) P = P from what

@@ -21,8 +21,8 @@ use Rattle.span_convert.specs.declared.tally.Tally.{Tally}
 use Rattle.span_convert.specs.declared.target_fault.TargetFault.{TargetFault}
 use Rattle.span_convert.specs.declared.written.Written.{Written}
 use Rattle.span_cli.specs.GaugeLines.{gauge_lines}
-use Rattle.span_cli.specs.Inputs.{GaveInput, ReadsInput, IsReadThrough, WritesUnits}
-use Rattle.span_cli.specs.Jobs.{Job, Spans, HeaderLines, Gauge}
+use Rattle.span_cli.specs.Inputs.{GaveInput, GaveWithin, ReadsInput, IsReadThrough, WritesUnits, header_limit}
+use Rattle.span_cli.specs.Jobs.{Job, Spans, HeaderLines, Gauge, MayFault}
 use Rattle.span_cli.specs.Lines.{HasKey, Notes, stage_of, status_of, fault_line, noted_line, ending_line}
 use Rattle.span_cli.specs.Outcomes.{OnOutcome, IsJudgedAt, Writes, CarriesOut, gauge_outcome}
 use Rattle.span_cli.specs.declared.ending.Ending.{Ending}
@@ -75,11 +75,12 @@ pub record WritesWholeUnits (from : Form) (what : Written) (input_before input_n
   pub writes : WritesUnits from what given output_before output_now
 
 -- What was written before the input failed: of binary input the text of the whole units that were read, and of all other input nothing,
--- so that the output is as it was.
+-- so that the output is as it was. Of header lines no more bytes were read by then than their limit.
 abbrev pub WritesSoFar : {K : Type 0} → (K → Outlet) → Job → Inlet → Inlet → K → K → Type 0
 WritesSoFar outlet (Spans from what) input_before input_now before now =
     WritesWholeUnits from what input_before input_now (outlet before) (outlet now) × IfDocument from (now ≡ before)
-WritesSoFar outlet (HeaderLines form) input_before input_now before now = now ≡ before
+WritesSoFar outlet (HeaderLines form) input_before input_now before now =
+    GaveWithin header_limit input_before input_now × (now ≡ before)
 WritesSoFar outlet (Gauge spans) input_before input_now before now = now ≡ before
 
 -- what was written is nothing, or a front of the lines of a context that these bytes tell
@@ -120,6 +121,7 @@ pub record EndsRun {K : Type 0} (outlet : K → Outlet) (job : Job) (ending : En
     (input_before input_now : Inlet) (output_before output_now : K) : Type 0 where
   pub input : EndsInput job (status_of ending) input_before input_now
   pub output : SinkTold (status_of ending ≡ 6) (outlet output_before) (outlet output_now)
+  pub faults : status_of ending ≡ 4 → MayFault job
   pub so_far : status_of ending ≡ 5 → WritesSoFar outlet job input_before input_now output_before output_now
   pub front : WritesRead job input_before input_now (outlet output_before) (outlet output_now)
   pub judged : IfSome input_before.left (IsJudgedAt job (stage_of (status_of ending)))

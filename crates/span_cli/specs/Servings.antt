@@ -4,6 +4,8 @@ use Rattle.span_io.specs.Doors.{Doorway, IsAt, astray_at}
 use Rattle.span_io.specs.Limits.{shipped_limits}
 use Rattle.span_io.specs.Links.{Link}
 use Rattle.span_io.specs.Outside.{Outlet, Rose}
+use Rattle.span_io.specs.declared.course.DoorCourse.{DoorCourse}
+use Rattle.span_io.specs.declared.course.DoorCourse.TheVariants as courses
 use Rattle.span_io.specs.declared.form.Form.{Form}
 use Rattle.span_gateway.specs.Serving.{KeepsMark, Serves}
 use Rattle.span_gateway.specs.declared.ended.Ended.{Ended}
@@ -93,12 +95,19 @@ DoorFaults AllServed before now = now ≡ before
 DoorFaults DoorFailed before now = Rose before now
 DoorFaults NoMemory before now = now ≡ before
 
+-- how the door's calls went
+abbrev pub end_course : ServeEnd → DoorCourse
+end_course AllServed = courses.Listening
+end_course DoorFailed = courses.Stopped
+end_course NoMemory = courses.Listening
+
 -- it listens at its own address, which is this one, each where it is told
 pub record Listens (asked : List ℕ) (before now : Doorway) : Type 0 where
   pub right : IsAt before asked
   pub listening : now.listening ≡ option_map (λ _. true) before.listening
 
--- The door was asked to listen at this address. It gave these connections, and took each of them back.
+-- The door was asked to listen at this address. It gave these connections, and took each of them back before it was asked for the
+-- next.
 pub record LeavesDoor (end : ServeEnd) (asked : List ℕ) (visits : List Visit) (before now : Doorway) : Type 0 where
   pub waiting : LosesFirsts before.waiting now.waiting (map (λ (visit : Visit). visit.before) visits)
   pub closed : now.closed ≡ option_map (λ links. links ++ map (λ (visit : Visit). visit.now) visits) before.closed
@@ -108,6 +117,7 @@ pub record LeavesDoor (end : ServeEnd) (asked : List ℕ) (visits : List Visit) 
   pub astray : now.astray ≡ astray_at before.address asked before.astray
   pub listening : (now.listening ≡ before.listening) ⊎ Listens asked before now
   pub listens : 1 ≤ length visits → Listens asked before now
+  pub course : before.course ≡ Some courses.Fresh → now.course ≡ Some (end_course end)
 
 -- Connections that wait at the door were served one after the other, each was given back before the next one, and the notes
 -- gained their lines and then that of the end.

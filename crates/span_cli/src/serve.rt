@@ -67,6 +67,7 @@ pub fn serve<N: Sink, D: Door>(
 }
 
 // Listens, and serves.
+#[tactic(auto, using(crate::proofs::ServeLemmas::listen_failed))]
 fn serve_at<N: Sink, D: Door>(
     alloc: Global,
     address: &str,
@@ -112,6 +113,7 @@ fn serve_each<N: Sink, D: Door>(
 }
 
 // Accepts the next connection, serves it, and gives it back.
+#[tactic(auto, using(crate::proofs::ServeLemmas::is_next))]
 fn serve_next<D: Door>(
     alloc: Global,
     to: Form,

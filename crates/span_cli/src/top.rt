@@ -1,10 +1,11 @@
 //! The top call.
 ghost use Rattle.std.specs.Prelude.{◌≡◌, ◌≢◌, ◌↔◌, IfSome, IsTrue, length};
+ghost use Rattle.span_io.specs.Doors.{NoCallInVain};
 ghost use Rattle.span_io.specs.Outside.{InputFails, NoReadInVain, NoWriteInVain, Takes, any_number};
 ghost use Rattle.span_convert.specs.Outlooks.{SinkTold};
 ghost use Rattle.span_cli.specs.Commands.{texts, Spells, OnConversions, OnGauge, OnJob, OnServing, OnSpans, OnLosses, OnHeaders, UnlessServing};
 ghost use Rattle.span_cli.specs.Inputs.{ReadsInput, IsReadThrough};
-ghost use Rattle.span_cli.specs.Jobs.{IfGauge, IsInRange, Spans};
+ghost use Rattle.span_cli.specs.Jobs.{IfGauge, IsInRange, MayFault, Spans};
 ghost use Rattle.span_cli.specs.Runs.{EndsGauge, EndsGaugeRun, EndsRun, WritesRead, WritesSoFar};
 ghost use Rattle.span_cli.specs.Lines.{IsRunStatus, Notes, stage_of, stage_line, usage_line};
 ghost use Rattle.span_cli.specs.Outcomes.{OnOutcome, OnSameBatches, OnAgreeingDocuments, CarriesOut, WritesLinesOf, WritesLossesOf, WritesTextOf, IsJudgedAt};
@@ -51,6 +52,9 @@ pub fn run<S: Source, K: Sink, N: Sink, D: Door>(
     ensures usage_noted { result ≡ 2 → Notes (N.outlet notes.old) (N.outlet notes.new) usage_line }
     ensures statuses { IsRunStatus result }
 
+    // Of `show`, `check` and `gauge` no run ends with 4, whatever the input tells.
+    ensures faults { OnJob (texts words.now) (λ job. result ≡ 4 → MayFault job) }
+
     // A device is at fault where its count rose, and only there; one that never fails never is. What reads calls no door.
     ensures input_fails { UnlessServing (texts words.now) (result ≡ 5 → InputFails (S.inlet input.old) (S.inlet input.new)) }
     ensures input_quiet { result ≢ 5 → (S.inlet input.new).faults ≡ (S.inlet input.old).faults }
@@ -64,7 +68,10 @@ pub fn run<S: Source, K: Sink, N: Sink, D: Door>(
     ensures output_in_vain { NoWriteInVain (K.outlet output.old) (K.outlet output.new) }
     ensures notes_in_vain { NoWriteInVain (N.outlet notes.old) (N.outlet notes.new) }
 
-    // Reading stops at the first stop. After the whole text nothing of the input is left, where any is read.
+    // No call of the door comes behind a failed one. It listens once, and each connection is given back before the next one.
+    ensures door_in_vain { NoCallInVain (D.doorway door.old) (D.doorway door.new) }
+
+    // At most the limit of the job's input is read, and one piece. After the whole text nothing is left, where any is read.
     ensures reads { OnJob (texts words.now) (λ job. ReadsInput job (S.inlet input.old) (S.inlet input.new)) }
     ensures all_read { OnJob (texts words.now) (λ job. result ≡ 0 → IsReadThrough job (S.inlet input.old) (S.inlet input.new)) }
 

@@ -35,6 +35,7 @@ pub mod OutlookExamples
 pub mod OutlookLaws
 pub mod PenLemmas
 pub mod PieceWalks
+pub mod ReadHeld
 pub mod ReportTargets
 pub mod RequestLaws
 pub mod RequestUnits

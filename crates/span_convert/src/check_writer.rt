@@ -13,16 +13,11 @@ use std::alloc::Global;
 use trace_model::{Fault, Group, Remark, proper_group};
 
 // Appends a line for each remark on the unit of this number.
-fn write_remarks(
-    alloc: Global,
-    out: &mut Blob,
-    number: u64,
-    remarks: &[Remark],
-) -> Result<(), OutOfMemory>
+fn write_remarks(out: &mut Blob, number: u64, remarks: &[Remark]) -> Result<(), OutOfMemory>
     ensures { OnOk result (out.new ≡ out.old ++ unit_checked number remarks.now) }
 {
     'remarks: for remark in remarks {
-        remark_line(alloc, out, number, remark)?;
+        remark_line(out, number, remark)?;
     }
     Ok(())
 }
@@ -49,14 +44,14 @@ impl UnitWriter for CheckWriter {
 
     fn write(
         &mut self,
-        alloc: Global,
+        _alloc: Global,
         out: &mut Blob,
         before: Tally,
         unit: (Group, Items<Remark>),
     ) -> Result<(), Halt<Fault>> {
         proper_group(&unit.0);
         let remarks = unit.1.as_slice();
-        write_remarks(alloc, out, before.units + 1, remarks)?;
+        write_remarks(out, before.units + 1, remarks)?;
         self.remarks = self.remarks.saturating_add(remarks.len() as u64);
         Ok(())
     }

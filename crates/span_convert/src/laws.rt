@@ -9,6 +9,7 @@ ghost use Rattle.trace_model.specs.OtlpParts.{NotedGroup};
 ghost use Rattle.trace_model.specs.declared.trace.Group.{Group};
 ghost use Rattle.span_convert.specs.Canonical.{ConvertsToItself, Reads, ReadsNoted, ReadsPlainly, ReadsBack, Fits, IsHeldBy};
 ghost use Rattle.span_convert.specs.BatchFiles.{words};
+ghost use Rattle.span_convert.specs.Moves.{IsNormalTrace};
 ghost use Rattle.span_convert.specs.CutBatches.{EndsInBatch, IfJaeger};
 ghost use Rattle.span_convert.specs.private.InputLaws.{BatchLaws, GroupFileLaws, InputLaws, SpanFileLaws, TextLaws, TreeLaws};
 ghost use Rattle.span_convert.specs.SameBatches.{SameBatches};
@@ -17,7 +18,7 @@ ghost use Rattle.span_convert.specs.Outlooks.{IsOutlookAs, IsLasting, IfFrames, 
 ghost use Rattle.span_convert.specs.Reports.{IsVerdictAs, WritesFrontAs, report_target, written_target};
 ghost use Rattle.span_convert.specs.Targets.{TargetLaws, form_target, open_target};
 ghost use Rattle.span_convert.specs.Units.{groups_in, input_form, open_form, IsSizedGroup, normal_form, canonical_text, partial_text, closing_text, span_count};
-ghost use Rattle.span_convert.specs.Verdicts.{Verdict, good, refused, IsFaultless, IsVerdict, IsVerdictOn, IsGood, IsTextSoFar, verdict_text};
+ghost use Rattle.span_convert.specs.Verdicts.{CanHoldTrace, Verdict, good, refused, IsFaultless, IsVerdict, IsVerdictOn, IsGood, IsTextSoFar, verdict_text};
 ghost use Rattle.span_convert.specs.declared.report.Report.{Report};
 ghost use Rattle.span_convert.specs.declared.report.Report.TheVariants as reports;
 ghost use Rattle.span_convert.specs.declared.written.Written.{Written};
@@ -294,12 +295,15 @@ pub fn text_read_back()
     text_laws();
 }
 
-/// A normal form is held by its form, is its own normal form, and has as many spans as its trace. What
-/// is read has no fault of its own form, and is its own normal form; bytes are read as one trace at
-/// most, with one list of remarks on each group.
+/// A normal form is held by its form, whatever its size, is its own normal form, and has as many spans
+/// as its trace. What is read has no fault of its own form, and is its own normal form; bytes are read
+/// as one trace at most, with one list of remarks on each group.
 pub fn normal_forms()
     ensures held { (to : Form) (groups : List Group) → IsHeldBy to groups → IsHeldBy to (normal_form to groups) }
     ensures again { (to : Form) (groups : List Group) → IsHeldBy to groups
+        → normal_form to (normal_form to groups) ≡ normal_form to groups }
+    ensures can_hold { (to : Form) (groups : List Group) → CanHoldTrace to groups → CanHoldTrace to (normal_form to groups) }
+    ensures itself { (to : Form) (groups : List Group) → CanHoldTrace to groups
         → normal_form to (normal_form to groups) ≡ normal_form to groups }
     ensures spans { (to : Form) (groups : List Group) → span_count (normal_form to groups) ≡ span_count groups }
     ensures no_fault { (from : Form) (bytes : List ℕ) (groups : List Group) → Reads from bytes groups → IsFaultless from groups }
@@ -311,6 +315,20 @@ pub fn normal_forms()
 {
     input_laws();
     map_jaeger::laws::normal_forms();
+    map_jaeger::laws::read_is_normal();
+}
+
+/// What is read of bytes in any form can be held by that form, which leaves it as it is: it is sound and
+/// proper, has no fault, and is its own normal form.
+pub fn read_is_held()
+    ensures { (from : Form) (bytes : List ℕ) (groups : List Group) → All (λ b. b < 256) bytes → Reads from bytes groups
+        → IsNormalTrace from groups }
+{
+    input_laws();
+    otlp_proto::laws::some_group();
+    otlp_proto::laws::read_proper();
+    map_jaeger::laws::read_is_sound();
+    map_jaeger::laws::read_is_proper();
     map_jaeger::laws::read_is_normal();
 }
 

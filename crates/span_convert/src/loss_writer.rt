@@ -14,16 +14,11 @@ use std::alloc::Global;
 use trace_model::{Fault, Group, Loss, Remark, proper_group};
 
 // Appends a line for each loss in the unit of this number.
-fn write_losses(
-    alloc: Global,
-    out: &mut Blob,
-    number: u64,
-    losses: &[Loss],
-) -> Result<(), OutOfMemory>
+fn write_losses(out: &mut Blob, number: u64, losses: &[Loss]) -> Result<(), OutOfMemory>
     ensures { OnOk result (out.new ≡ out.old ++ unit_lost number losses.now) }
 {
     'losses: for loss in losses {
-        loss_line(alloc, out, number, loss)?;
+        loss_line(out, number, loss)?;
     }
     Ok(())
 }
@@ -65,7 +60,7 @@ impl<L: Losing> UnitWriter for LossWriter<L> {
         }
         let losses = self.losing.losses_of(alloc, &unit.0)?;
         let losses = losses.as_slice();
-        write_losses(alloc, out, before.units + 1, losses)?;
+        write_losses(out, before.units + 1, losses)?;
         self.count = self.count.saturating_add(losses.len() as u64);
         Ok(())
     }

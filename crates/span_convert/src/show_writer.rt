@@ -14,30 +14,30 @@ use std::alloc::Global;
 use trace_model::{Fault, Group, Remark, Scope, Span, proper_group};
 
 // Appends a line for each span.
-fn show_spans(alloc: Global, out: &mut Blob, spans: &[Span]) -> Result<(), OutOfMemory>
+fn show_spans(out: &mut Blob, spans: &[Span]) -> Result<(), OutOfMemory>
     ensures { OnOk result (out.new ≡ out.old ++ spans_shown spans.now) }
 {
     'spans: for span in spans {
-        show_line(alloc, out, span)?;
+        show_line(out, span)?;
     }
     Ok(())
 }
 
 // Appends a line for each span of these scopes.
-fn show_scopes(alloc: Global, out: &mut Blob, scopes: &[Scope]) -> Result<(), OutOfMemory>
+fn show_scopes(out: &mut Blob, scopes: &[Scope]) -> Result<(), OutOfMemory>
     ensures { OnOk result (out.new ≡ out.old ++ flat_map (λ scope. spans_shown scope.spans) scopes.now) }
 {
     'scopes: for scope in scopes {
-        show_spans(alloc, out, scope.spans.as_slice())?;
+        show_spans(out, scope.spans.as_slice())?;
     }
     Ok(())
 }
 
 // Appends a line for each span of a group.
-fn show_group(alloc: Global, out: &mut Blob, group: &Group) -> Result<(), OutOfMemory>
+fn show_group(out: &mut Blob, group: &Group) -> Result<(), OutOfMemory>
     ensures { OnOk result (out.new ≡ out.old ++ group_shown group.now) }
 {
-    show_scopes(alloc, out, group.scopes.as_slice())
+    show_scopes(out, group.scopes.as_slice())
 }
 
 /// The spans of an input, each as a line.
@@ -59,13 +59,13 @@ impl UnitWriter for ShowWriter {
 
     fn write(
         &mut self,
-        alloc: Global,
+        _alloc: Global,
         out: &mut Blob,
         _before: Tally,
         unit: (Group, Items<Remark>),
     ) -> Result<(), Halt<Fault>> {
         proper_group(&unit.0);
-        show_group(alloc, out, &unit.0)?;
+        show_group(out, &unit.0)?;
         Ok(())
     }
 

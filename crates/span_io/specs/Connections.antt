@@ -3,6 +3,7 @@ use Rattle.std.specs.Prelude.{◌≡◌, ℕ, Bool, List, [], ◌∷◌, map, So
 use Rattle.span_io.specs.Doors.{Doorway}
 use Rattle.span_io.specs.Links.{Link}
 use Rattle.span_io.specs.Memory.{SourceState, SinkState, inlet_of, outlet_of}
+use Rattle.span_io.specs.declared.course.DoorCourse.{DoorCourse}
 use Rattle.span_io.specs.declared.duplex.Mark.{Mark}
 
 pub record DuplexState : Type 0 where
@@ -24,7 +25,7 @@ HaveNoFault [] = ⊤
 HaveNoFault (state ∷ states) = HasNoFault state × HaveNoFault states
 
 -- its address, the connections still to come, the calls that fail, two counts, whether it listens and was led astray, how many
--- connections are out, and those that were given back
+-- connections are out, those that were given back, and how its calls went
 pub record DoorState : Type 0 where
   pub address : List ℕ
   pub waiting : List DuplexState
@@ -35,6 +36,7 @@ pub record DoorState : Type 0 where
   pub astray : Bool
   pub out : ℕ
   pub closed : List DuplexState
+  pub course : DoorCourse
 
 abbrev pub doorway_of : DoorState → Doorway
 doorway_of state = record {
@@ -45,4 +47,5 @@ doorway_of state = record {
   astray = Some state.astray;
   waiting = Some (map link_of state.waiting);
   closed = Some (map link_of state.closed);
+  course = Some state.course;
 }

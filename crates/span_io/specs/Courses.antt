@@ -1,5 +1,7 @@
--- How the calls on a source or a sink went, with another one.
+-- How the calls on a source, a sink or a door went, with another one.
 use Rattle.std.specs.Prelude.{ℕ, ◌==◌, Bool, true, false, List, [], ◌∷◌, Option, Some, None, Result, Ok, Err}
+use Rattle.span_io.specs.declared.course.DoorCourse.{DoorCourse}
+use Rattle.span_io.specs.declared.course.DoorCourse.TheVariants as doors
 use Rattle.span_io.specs.declared.course.ReadCourse.{ReadCourse}
 use Rattle.span_io.specs.declared.course.ReadCourse.TheVariants as reads
 use Rattle.span_io.specs.declared.course.WriteCourse.{WriteCourse}
@@ -33,3 +35,20 @@ write_next writes.InVain piece result = writes.InVain
 abbrev pub course_of_writes : {E : Type 0} → Option WriteCourse → List ℕ → Result ℕ E → Option WriteCourse
 course_of_writes None piece result = None
 course_of_writes (Some course) piece result = Some (write_next course piece result)
+
+-- A door is asked to listen at first, and never again. Whether the call went well is told by a truth value.
+abbrev pub listen_next : Bool → DoorCourse → DoorCourse
+listen_next true doors.Fresh = doors.Listening
+listen_next false doors.Fresh = doors.Stopped
+listen_next well other = doors.InVain
+
+-- It accepts where it listens and no connection is out.
+abbrev pub accept_next : Bool → DoorCourse → DoorCourse
+accept_next true doors.Listening = doors.OneOut
+accept_next false doors.Listening = doors.Stopped
+accept_next well other = doors.InVain
+
+-- It takes the one back that is out.
+abbrev pub close_next : DoorCourse → DoorCourse
+close_next doors.OneOut = doors.Listening
+close_next other = doors.InVain

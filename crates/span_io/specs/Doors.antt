@@ -1,8 +1,12 @@
 -- What contracts see of a door: how often it was refused, how many connections are out, and, each where it is told, where it is,
--- whether it listens, whether it was asked to listen elsewhere, and the connections that wait and those that were given back.
-use Rattle.std.specs.Prelude.{◌≡◌, ℕ, ◌+◌, ◌-◌, ◌<◌, Bool, true, cond, IsTrue, List, [], ◌∷◌, ◌++◌, Option, Some, None, IfSome, IsSome, bytes_eq, option_map}
+-- whether it listens, whether it was asked to listen elsewhere, the connections that wait and those that were given back, and how
+-- its calls went.
+use Rattle.std.specs.Prelude.{◌≡◌, ◌≢◌, ℕ, ◌+◌, ◌-◌, ◌<◌, Bool, true, false, cond, IsTrue, List, [], ◌∷◌, ◌++◌, Option, Some, None, IfSome, IsSome, bytes_eq, option_map}
+use Rattle.span_io.specs.Courses.{accept_next, close_next, listen_next}
 use Rattle.span_io.specs.Links.{Link}
 use Rattle.span_io.specs.Outside.{last_count}
+use Rattle.span_io.specs.declared.course.DoorCourse.{DoorCourse}
+use Rattle.span_io.specs.declared.course.DoorCourse.TheVariants as doors
 
 pub record Doorway : Type 0 where
   pub faults : ℕ
@@ -12,6 +16,7 @@ pub record Doorway : Type 0 where
   pub astray : Option Bool
   pub waiting : Option (List Link)
   pub closed : Option (List Link)
+  pub course : Option DoorCourse
 
 -- it listens, where that is told
 abbrev pub IsListening : Doorway → Type 0
@@ -40,6 +45,7 @@ listened door address = record {
   astray = astray_at door.address address door.astray;
   waiting = door.waiting;
   closed = door.closed;
+  course = option_map (listen_next true) door.course;
 }
 
 -- asked to listen at an address, it refused, and has so many faults
@@ -52,9 +58,10 @@ not_listened door address faults = record {
   astray = astray_at door.address address door.astray;
   waiting = door.waiting;
   closed = door.closed;
+  course = option_map (listen_next false) door.course;
 }
 
--- nothing changed but the number of faults
+-- asked for a connection, it gave none, and has so many faults
 abbrev pub refused : Doorway → ℕ → Doorway
 refused door faults = record {
   faults = faults;
@@ -64,6 +71,7 @@ refused door faults = record {
   astray = door.astray;
   waiting = door.waiting;
   closed = door.closed;
+  course = option_map (accept_next false) door.course;
 }
 
 -- the first that waits is this one, where they are told
@@ -82,6 +90,7 @@ pub record Accepts (before now : Doorway) (link : Link) : Type 0 where
   pub listening : now.listening ≡ before.listening
   pub astray : now.astray ≡ before.astray
   pub closed : now.closed ≡ before.closed
+  pub course : now.course ≡ option_map (accept_next true) before.course
   pub no_read_fault : link.inlet.faults ≡ 0
   pub no_write_fault : link.outlet.faults ≡ 0
 
@@ -95,4 +104,10 @@ given_back door link = record {
   astray = door.astray;
   waiting = door.waiting;
   closed = option_map (λ links. links ++ link ∷ []) door.closed;
+  course = option_map close_next door.course;
 }
+
+-- Where no call had come, none came behind a failed one: it was asked to listen once, and each connection that it gave was given
+-- back before it was asked for the next.
+abbrev pub NoCallInVain : Doorway → Doorway → Type 0
+NoCallInVain before now = before.course ≡ Some doors.Fresh → now.course ≢ Some doors.InVain

@@ -8,7 +8,7 @@ use crate::source::Failed;
 /// Where connections come from. Contracts see it as its `doorway`: a count of its faults, which stays at the
 /// end of 64 bits, the number of connections that are out, accepted and not yet given back, and, each where it
 /// is told, its address, whether it listens, whether it was asked to listen at another address, the connections
-/// still to come, and those that were given back, in their order.
+/// still to come, those that were given back, in their order, and how its calls went.
 pub trait Door {
     type Conn: Duplex;
 

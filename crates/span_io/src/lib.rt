@@ -36,7 +36,7 @@ pub use blob::Blob;
 pub use bytes::Bytes;
 pub use cause::Cause;
 pub use count_sink::CountSink;
-pub use course::{ReadCourse, WriteCourse};
+pub use course::{DoorCourse, ReadCourse, WriteCourse};
 pub use cursor::{Cursor, Lack, Short};
 pub use door::Door;
 pub use duplex::{Duplex, Mark, send_all};

@@ -7,7 +7,7 @@ use crate::stream_duplex::StreamDuplex;
 use std::net::{Net, OpenListener, TcpListener};
 
 /// A door over a listener of std. It counts each error of the listener, and the connections that are out, and
-/// tells neither its address nor its connections.
+/// tells neither its address nor its connections, nor how its calls went.
 #[derive(Drop)]
 pub struct ListenerDoor<R: Net> {
     net: R,
@@ -26,6 +26,7 @@ impl<R: Net> ListenerDoor<R> {
           astray = None;
           waiting = None;
           closed = None;
+          course = None;
         } }
     {
         ListenerDoor {
@@ -62,6 +63,7 @@ impl<R: Net> Door for ListenerDoor<R> {
       astray = None;
       waiting = None;
       closed = None;
+      course = None;
     } };
 
     ghost tells = { λ d. tt };

@@ -1,9 +1,11 @@
-ghost use Rattle.std.specs.Prelude.{◌≡◌, ◌≢◌, ◌<◌, ◌≤◌, ◌↔◌, ◌⊎◌, [], ◌∷◌, ◌++◌, false, Contains, IfOk, OnErr, OnOk, IsErr, refl};
+ghost use Rattle.std.specs.Prelude.{◌≡◌, ◌≢◌, ◌<◌, ◌≤◌, ◌↔◌, ◌⊎◌, [], ◌∷◌, ◌++◌, false, length, Contains, IfOk, OnErr, OnOk, IsErr, refl};
 ghost use Rattle.span_io.specs.Connections.{HaveNoFault, doorway_of, link_of};
 ghost use Rattle.span_io.specs.Doors.{Accepts, IsAt, IsListening, given_back, listened, not_listened, refused};
 ghost use Rattle.span_io.specs.Memory.{CountsFault};
 ghost use Rattle.span_io.specs.Outside.{Rose, counted};
+ghost use Rattle.span_io.specs.declared.course.DoorCourse.TheVariants as doors;
 
+use crate::course::DoorCourse;
 use crate::door::Door;
 use crate::halt::OutOfMemory;
 use crate::items::Items;
@@ -29,6 +31,7 @@ pub struct MemDoor {
     astray: bool,
     out: u64,
     closed: Vec<MemDuplex>,
+    course: DoorCourse,
 }
 
 impl Model for MemDoor {
@@ -47,6 +50,7 @@ impl Model for MemDoor {
       astray = d.astray;
       out = d.out;
       closed = d.closed.items;
+      course = d.course;
     } };
 
     ghost invariant = { λ d. HaveNoFault d.waiting.items
@@ -72,6 +76,7 @@ impl MemDoor {
           astray = false;
           out = 0;
           closed = [];
+          course = doors.Fresh;
         }) }
     {
         Ok(MemDoor {
@@ -84,6 +89,7 @@ impl MemDoor {
             listening: false,
             astray: false,
             out: 0,
+            course: DoorCourse::Fresh,
         })
     }
 
@@ -92,6 +98,20 @@ impl MemDoor {
         ensures { result.now ≡ self.now.closed }
     {
         self.closed.as_slice()
+    }
+
+    /// The number of connections that still wait.
+    pub fn waiting(&self) -> usize
+        ensures { result ≡ length self.now.waiting }
+    {
+        self.waiting.len()
+    }
+
+    /// How its calls went.
+    pub fn course(&self) -> DoorCourse
+        ensures { result ≡ self.now.course }
+    {
+        self.course
     }
 }
 
@@ -124,8 +144,10 @@ impl Door for MemDoor {
         self.calls = self.calls.saturating_add(1);
         if !own || self.fail.as_slice().contains(&self.calls) {
             self.faults = self.faults.saturating_add(1);
+            self.course = self.course.listen(false);
             return Err(Failed);
         }
+        self.course = self.course.listen(true);
         self.listening = true;
         Ok(())
     }
@@ -148,12 +170,15 @@ impl Door for MemDoor {
         self.calls = self.calls.saturating_add(1);
         if self.fail.as_slice().contains(&self.calls) {
             self.faults = self.faults.saturating_add(1);
+            self.course = self.course.accept(false);
             return Err(Failed);
         }
         let Some(conn) = self.waiting.pop_front() else {
             self.faults = self.faults.saturating_add(1);
+            self.course = self.course.accept(false);
             return Err(Failed);
         };
+        self.course = self.course.accept(true);
         self.out += 1;
         Ok(conn)
     }
@@ -166,6 +191,7 @@ impl Door for MemDoor {
             × (self.new.calls ≡ self.old.calls) }
     {
         self.out -= 1;
+        self.course = self.course.close();
         match self.closed.push(conn) {
             Ok(()) => {}
             Err(_) => unreachable!(),

@@ -2,3 +2,4 @@ pub mod RunsAtBack
 pub mod Decimals
 pub mod PlacedRows
 pub mod FirstFault
+pub mod TimelySpans

@@ -1,5 +1,5 @@
 -- How a target finds the fault of a group that counts: place by place, and at a place row by row.
-use Rattle.std.specs.Prelude.{ℕ, nat_lt, Bool, ◌||◌, cond, List, [], ◌∷◌, find, Option, Some, None, option_map}
+use Rattle.std.specs.Prelude.{ℕ, ◌≤◌, nat_lt, Bool, ◌||◌, cond, List, [], ◌∷◌, find, Option, Some, None, option_map}
 use Rattle.std.specs.Cmp.Lexicographic.{slice_cmp}
 use Rattle.std.specs.List.{list_any}
 use Rattle.std.specs.Option.{option_or}
@@ -25,6 +25,15 @@ pub record FaultTable : Type 0 where
   -- a double stands where a text is wanted: in the value of an attribute, and where else in a resource
   pub has_double : Value → Bool
   pub has_double_besides : Pairs → Bool
+
+-- no end before the start
+abbrev pub IsTimely : Span → Type 0
+IsTimely span = span.start ≤ span.end
+
+-- the first of a list, which has one
+abbrev pub BeginsWith : {A : Type 0} → (A → Type 0) → List A → Type 0
+BeginsWith P [] = ⊥
+BeginsWith P (x ∷ more) = P x
 
 -- a fault or a key, where a test says so
 abbrev pub if_so : {A : Type 0} → Bool → A → Option A

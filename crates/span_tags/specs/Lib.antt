@@ -1,6 +1,7 @@
 pub mod Columns
 pub mod Doubles
 pub mod FaultTables
+pub mod LossMeanings
 pub mod Losses
 pub mod PlacedFaults
 pub mod ReadRuns

@@ -13,6 +13,7 @@ use Rattle.trace_model.specs.declared.fault.Fault.TheVariants.{Reserved, OwnKey}
 use Rattle.trace_model.specs.declared.span.Span.{Span}
 use Rattle.trace_model.specs.declared.trace.Group.{Group}
 use Rattle.trace_model.specs.declared.value.Value.{Value}
+use Rattle.span_tags.specs.FaultTables.{IsTimely, BeginsWith}
 use Rattle.span_tags.specs.Runs.{scoped}
 
 pub record Placed : Type 0 where
@@ -45,6 +46,12 @@ module _ (IsResourceFault : List (List ℕ × Value) → Fault → Type 0) (IsSp
   pub data IsFaultBy (group : Group) (found : Placed) : Type 0 where
     in_resource : found.place ≡ 0 → IsResourceFault group.resource found.fault → IsFaultBy group found
     in_span : (n : ℕ) → found.place ≡ n + 1 → HoldsAt (λ one. IsSpanFault one.span found.fault) (scoped group.scopes) n → IsFaultBy group found
+
+  -- memory may be wanted to find the fault: nothing of the resource is one, and there are spans, the first of which doesn't end
+  -- before its start
+  pub record MayWantMemory (group : Group) : Type 0 where
+    pub resource : (fault : Fault) → ¬ IsResourceFault group.resource fault
+    pub timely : BeginsWith (λ one. IsTimely one.span) (scoped group.scopes)
 
   abbrev pub CountsBy : Group → Option Fault → Type 0
   CountsBy group fault = Counts (IsFaultBy group) fault

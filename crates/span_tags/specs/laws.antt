@@ -1,8 +1,10 @@
 pub mod AttributeLaws
+pub mod BeginLaws
 pub mod ColumnLaws
 pub mod FaultLaws
 pub mod LeastRows
 pub mod LossSteps
+pub mod MeaningLaws
 pub mod Moved
 pub mod QuietLaws
 pub mod RowLaws

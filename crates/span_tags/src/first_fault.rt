@@ -1,14 +1,15 @@
 //! The fault of a group that counts. The spans are gone over once, and nothing is copied but the key
 //! of the fault.
-ghost use Rattle.std.specs.Prelude.{◌≡◌, ◌↔◌, find, None, option_map, IfOk};
+ghost use Rattle.std.specs.Prelude.{◌≡◌, ◌↔◌, false, find, None, option_map, IfOk, OnErr};
 ghost use Rattle.std.specs.List.{list_any};
 ghost use Rattle.trace_model.specs.Attributes.{keys};
 ghost use Rattle.trace_model.specs.Soundness.{IsSoundGroup};
 ghost use Rattle.trace_model.specs.declared.fault.Fault.{Fault};
 ghost use Rattle.trace_model.specs.declared.span.Span.{Span};
 ghost use Rattle.span_tags.specs.FaultTables as told;
-ghost use Rattle.span_tags.specs.FaultTables.{FaultTable};
-ghost use Rattle.span_tags.specs.PlacedFaults.{CountsBy};
+ghost use Rattle.span_tags.specs.FaultTables.{FaultTable, IsTimely, BeginsWith};
+ghost use Rattle.span_tags.specs.PlacedFaults.{CountsBy, MayWantMemory};
+ghost use Rattle.span_tags.specs.Runs.{scoped};
 ghost use Rattle.span_tags.specs.TagWords.{Pairs};
 ghost use Rattle.span_tags.specs.laws.FaultLaws.{FindsFaults};
 
@@ -135,7 +136,8 @@ fn doubles_in_resource<F: Faults>(resource: &Attrs) -> bool
 // ---- the first fault
 
 fn fault_of_span<F: Faults>(alloc: Global, span: &Span) -> Result<Option<Fault>, OutOfMemory>
-    ensures { IfOk result (λ fault. fault ≡ told.fault_of_span F.table span.now) }
+    ensures value { IfOk result (λ fault. fault ≡ told.fault_of_span F.table span.now) }
+    ensures wants { OnErr result (IsTimely span.now) }
 {
     if span.end.0 < span.start.0 {
         return Ok(Some(Fault::EndBeforeStart));
@@ -162,7 +164,8 @@ fn fault_of_spans<F: Faults>(
     alloc: Global,
     spans: &Items<Span>,
 ) -> Result<Option<Fault>, OutOfMemory>
-    ensures { IfOk result (λ fault. fault ≡ told.fault_of_spans F.table spans.now) }
+    ensures value { IfOk result (λ fault. fault ≡ told.fault_of_spans F.table spans.now) }
+    ensures wants { OnErr result (BeginsWith IsTimely spans.now) }
 {
     'spans: for span in spans.as_slice() {
         if let Some(fault) = fault_of_span::<F>(alloc, span)? {
@@ -176,7 +179,8 @@ fn fault_of_scopes<F: Faults>(
     alloc: Global,
     scopes: &Items<Scope>,
 ) -> Result<Option<Fault>, OutOfMemory>
-    ensures { IfOk result (λ fault. fault ≡ told.fault_of_scopes F.table scopes.now) }
+    ensures value { IfOk result (λ fault. fault ≡ told.fault_of_scopes F.table scopes.now) }
+    ensures wants { OnErr result (BeginsWith (λ one. IsTimely one.span) (scoped scopes.now)) }
 {
     'scopes: for scope in scopes.as_slice() {
         if let Some(fault) = fault_of_spans::<F>(alloc, &scope.spans)? {
@@ -187,7 +191,9 @@ fn fault_of_scopes<F: Faults>(
 }
 
 fn found_fault<F: Faults>(alloc: Global, group: &Group) -> Result<Option<Fault>, OutOfMemory>
-    ensures { IfOk result (λ fault. fault ≡ told.found_fault F.table group.now) }
+    ensures value { IfOk result (λ fault. fault ≡ told.found_fault F.table group.now) }
+    ensures resource { OnErr result (told.doubles_in_resource F.table group.now.resource ≡ false) }
+    ensures wants { OnErr result (BeginsWith (λ one. IsTimely one.span) (scoped group.now.scopes)) }
 {
     if doubles_in_resource::<F>(&group.resource) {
         return Ok(Some(Fault::DoubleInText));
@@ -202,6 +208,8 @@ pub fn fault_in_group<F: Faults>(alloc: Global, group: &Group) -> Result<Option<
     requires sound { IsSoundGroup group.now }
     ensures judged { IfOk result (λ fault. CountsBy F.of_resource F.of_span group.now fault) }
     ensures none { IfOk result (λ fault. (fault ≡ None) ↔ CountsBy F.of_resource F.of_span group.now None) }
+    // A double in the resource, or a first span that ends before its start, takes no memory.
+    ensures wants { OnErr result (MayWantMemory F.of_resource F.of_span group.now) }
 {
     found_fault::<F>(alloc, group)
 }

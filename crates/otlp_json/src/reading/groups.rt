@@ -1,11 +1,14 @@
 //! Reading the groups of a value.
-ghost use Rattle.std.specs.Prelude.{IfOk};
+ghost use Rattle.std.specs.Prelude.{◌≡◌, true, codes, Err, IfOk, is_some, option_and_then};
 ghost use Rattle.std.specs.List.{AllZip};
 ghost use Rattle.serde_json.specs.Data.{array};
 ghost use Rattle.serde_json.specs.View.{items_of};
 ghost use Rattle.json_nodes.specs.Lents.{lent_view as view, elements_left};
+ghost use Rattle.serde_json.specs.Find.{as_array};
 ghost use Rattle.span_io.specs.Paths.{each, JudgesInput};
+ghost use Rattle.span_io.specs.declared.halt.Halt.TheVariants as halts;
 ghost use Rattle.json_members.specs.Counted.{IsCountedValue};
+ghost use Rattle.json_members.specs.Members.{member};
 ghost use Rattle.otlp_json.specs.Group.{IsRemarkedGroup, AreRemarkedGroups, AreJsonGroups, group_offends, groups_offend, json_groups_offend};
 
 use crate::reading::group::read_group;
@@ -44,6 +47,7 @@ fn read_array(
     requires counted { IsCountedValue (view v.now) }
     ensures value { IfOk result (λ groups. AreRemarkedGroups groups (view v.now)) }
     ensures judged { JudgesInput result (groups_offend (view v.now)) }
+    ensures wants { result ≡ Err halts.OutOfMemory → is_some (as_array (view v.now)) ≡ true }
 {
     let Some(elements) = v.elements() else {
         return Err(Halt::Why(Refusal {
@@ -63,6 +67,9 @@ pub fn read_root(
     requires counted { IsCountedValue (view v.now) }
     ensures value { IfOk result (λ groups. AreJsonGroups groups (view v.now)) }
     ensures judged { JudgesInput result (json_groups_offend (view v.now)) }
+    // Memory is wanted only for the elements of an array in that member.
+    ensures wants { result ≡ Err halts.OutOfMemory
+        → is_some (option_and_then as_array (member (codes "resourceSpans") (view v.now))) ≡ true }
 {
     if !v.is_object() {
         return Err(Halt::Why(Refusal {

@@ -1,8 +1,9 @@
 //! Groups of a value and of a text of JSON.
-ghost use Rattle.std.specs.Prelude.{◌<◌, ◌^◌, List, All, length, IfOk};
+ghost use Rattle.std.specs.Prelude.{◌≡◌, ◌<◌, ◌^◌, List, All, length, Err, IfOk, IsUtf8};
 ghost use Rattle.serde_json.specs.View.{view};
 ghost use Rattle.span_io.specs.Offences.{OnlyReads};
 ghost use Rattle.span_io.specs.Paths.{JudgesInput};
+ghost use Rattle.span_io.specs.declared.halt.Halt.TheVariants as halts;
 ghost use Rattle.json_members.specs.Counted.{IsCountedValue};
 ghost use Rattle.trace_model.specs.Soundness.{IsSoundGroup};
 ghost use Rattle.otlp_json.specs.Group.{RemarkedGroup, AreJsonGroups, json_groups_offend};
@@ -47,6 +48,8 @@ pub fn read_text(
     // They can be written.
     ensures held { IfOk result (All (λ g. IsHeldByJson g.0)) }
     ensures judged { JudgesInput result (groups_document_offends bytes.now) }
+    // No memory is wanted for bytes that are no text.
+    ensures wants { result ≡ Err halts.OutOfMemory → IsUtf8 bytes.now }
     // Whatever groups the bytes are a text of are the answer.
     ensures only { (groups : List RemarkedGroup) → AreGroupsText groups bytes.now → OnlyReads result groups }
 {

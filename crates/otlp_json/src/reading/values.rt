@@ -1,6 +1,7 @@
 //! Reading values: `AnyValue`, `ArrayValue`, `KeyValueList` and `KeyValue` (OTLP common.proto).
-ghost use Rattle.std.specs.Prelude.{◌≡◌, ◌++◌, ℕ, List, IfOk, OnOk, Some, Bool, ℤ};
+ghost use Rattle.std.specs.Prelude.{◌≡◌, ◌≤◌, ◌++◌, ℕ, List, [], Err, IfOk, OnOk, OnErr, Some, Bool, ℤ};
 ghost use Rattle.json_nodes.specs.Lents.{lent_view as view, elements_left};
+ghost use Rattle.span_io.specs.declared.halt.Halt.TheVariants as halts;
 ghost use Rattle.span_io.specs.Causes.{cause_number};
 ghost use Rattle.span_io.specs.Paths.{here, optional, Counts, Given, JudgesValue};
 ghost use Rattle.trace_model.specs.OtlpParts.{leaf, IsNotedMap};
@@ -183,6 +184,21 @@ fn values_in(alloc: Global, left: u8, v: &Lent<'_, '_>) -> Result<NotedValues, H
     Ok(read)
 }
 
+// An empty list with room for the elements, where a level is left for them. Else it takes no memory.
+fn room_below<T>(
+    alloc: Global,
+    left: u8,
+    elements: Elements<'_, '_>,
+) -> Result<Items<T>, OutOfMemory>
+    ensures empty { IfOk result (λ items. items ≡ []) }
+    ensures wants { OnErr result (1 ≤ left) }
+{
+    if left == 0 {
+        return Ok(Items::new(alloc));
+    }
+    Items::with_room(alloc, room_for(elements))
+}
+
 #[cycle(values)]
 fn read_elements(
     alloc: Global,
@@ -192,8 +208,9 @@ fn read_elements(
     ensures value { IfOk result (λ r. AreFound (json_value_in left) ValuesTold (elements_left elements.entry) r) }
     ensures judged { JudgesValue result
         (values_offend left (inner_value_offends left) (elements_left elements.entry)) }
+    ensures wants { result ≡ Err halts.OutOfMemory → 1 ≤ left }
 {
-    let mut means = Items::with_room(alloc, room_for(elements))?;
+    let mut means = room_below(alloc, left, elements)?;
     let mut notes = Items::new(alloc);
     let mut rest = elements;
     'elements: while let Some(element) = rest.next() {
@@ -263,8 +280,9 @@ fn read_pairs(
     ensures value { IfOk result (λ r. AreFound (json_key_value_in left) PairsTold (elements_left elements.entry) r) }
     ensures judged { JudgesValue result
         (values_offend left (inner_pair_offends left) (elements_left elements.entry)) }
+    ensures wants { result ≡ Err halts.OutOfMemory → 1 ≤ left }
 {
-    let mut means = Items::with_room(alloc, room_for(elements))?;
+    let mut means = room_below(alloc, left, elements)?;
     let mut notes = Items::new(alloc);
     let mut rest = elements;
     'elements: while let Some(element) = rest.next() {

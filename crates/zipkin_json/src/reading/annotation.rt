@@ -1,7 +1,9 @@
 //! `Annotation` of Zipkin v2.
-ghost use Rattle.std.specs.Prelude.{◌≡◌, [], IfOk, option_map};
+ghost use Rattle.std.specs.Prelude.{◌≡◌, [], true, Err, IfOk, is_some, option_map};
+ghost use Rattle.serde_json.specs.Find.{as_array};
 ghost use Rattle.json_nodes.specs.Lents.{lent_view as view, elements_left};
 ghost use Rattle.span_io.specs.Paths.{optional, each, JudgesValue, Given};
+ghost use Rattle.span_io.specs.declared.halt.Halt.TheVariants as halts;
 ghost use Rattle.std.specs.List.{AllZip};
 ghost use Rattle.zipkin_json.specs.Span.{IsAnnotation, annotation_members, annotation_offends, AreAnnotations, annotations_offend};
 
@@ -53,6 +55,7 @@ fn read_annotations(
 fn annotations_in(alloc: Global, v: &Lent<'_, '_>) -> Result<Items<(Nanos, Text)>, Halt<Cause>>
     ensures value { IfOk result (λ list. AreAnnotations list (view v.now)) }
     ensures judged { JudgesValue result (annotations_offend (view v.now)) }
+    ensures wants { result ≡ Err halts.OutOfMemory → is_some (as_array (view v.now)) ≡ true }
 {
     let Some(elements) = v.elements() else {
         return Err(Halt::Why(Cause::BadShape));

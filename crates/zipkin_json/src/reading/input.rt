@@ -1,7 +1,8 @@
 //! Spans of a value and of a text of JSON.
-ghost use Rattle.std.specs.Prelude.{◌<◌, List, All, length, IfOk};
+ghost use Rattle.std.specs.Prelude.{◌≡◌, ◌<◌, List, All, length, Err, IfOk, IsUtf8};
 ghost use Rattle.serde_json.specs.View.{view};
 ghost use Rattle.span_io.specs.Paths.{JudgesInput};
+ghost use Rattle.span_io.specs.declared.halt.Halt.TheVariants as halts;
 ghost use Rattle.span_io.specs.Offences.{OnlyReads};
 ghost use Rattle.json_members.specs.Counted.{values_in};
 ghost use Rattle.json_members.specs.Texts.{document_offends};
@@ -48,6 +49,8 @@ pub fn read_text(alloc: Global, bytes: &[u8]) -> Result<Items<ZSpan>, Halt<Refus
     // Each takes a byte at least.
     ensures counted { IfOk result (λ spans. length spans < length bytes.now) }
     ensures judged { JudgesInput result (document_offends spans_offend bytes.now) }
+    // No memory is wanted for bytes that are no text.
+    ensures wants { result ≡ Err halts.OutOfMemory → IsUtf8 bytes.now }
     // Whatever spans the bytes are a text of are the answer.
     ensures only { (spans : List ZSpan) → AreSpansText spans bytes.now → OnlyReads result spans }
 {

@@ -1,7 +1,9 @@
 //! Reading spans of a value whose nodes are lent.
-ghost use Rattle.std.specs.Prelude.{◌≡◌, All, IfOk, option_map, codes};
+ghost use Rattle.std.specs.Prelude.{◌≡◌, true, All, Err, IfOk, is_some, option_map, codes};
+ghost use Rattle.serde_json.specs.Find.{as_array};
 ghost use Rattle.json_nodes.specs.Lents.{lent_view as view, elements_left};
 ghost use Rattle.span_io.specs.Paths.{each, JudgesValue, JudgesInput};
+ghost use Rattle.span_io.specs.declared.halt.Halt.TheVariants as halts;
 ghost use Rattle.std.specs.List.{AllZip};
 ghost use Rattle.json_members.specs.Members.{member};
 ghost use Rattle.zipkin_json.specs.Proper.{IsWritableZSpan};
@@ -160,6 +162,7 @@ pub(crate) fn read_array(alloc: Global, v: &Lent<'_, '_>) -> Result<Items<ZSpan>
     ensures rising { IfOk result (All HasRisingTags) }
     ensures writable { IfOk result (All IsWritableZSpan) }
     ensures judged { JudgesInput result (spans_offend (view v.now)) }
+    ensures wants { result ≡ Err halts.OutOfMemory → is_some (as_array (view v.now)) ≡ true }
 {
     let Some(elements) = v.elements() else {
         return Err(Halt::Why(Refusal {

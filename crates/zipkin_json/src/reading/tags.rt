@@ -1,7 +1,9 @@
 //! The tags of a span.
-ghost use Rattle.std.specs.Prelude.{◌≡◌, [], true, Some, IfOk, OnOk, option_map};
+ghost use Rattle.std.specs.Prelude.{◌≡◌, [], true, Some, Err, IfOk, OnOk, is_some, option_map};
 ghost use Rattle.json_nodes.specs.Lents.{lent_view as view, members_left};
+ghost use Rattle.serde_json.specs.Find.{as_object};
 ghost use Rattle.span_io.specs.Paths.{optional, each, JudgesValue, Given};
+ghost use Rattle.span_io.specs.declared.halt.Halt.TheVariants as halts;
 ghost use Rattle.json_members.specs.Members.{member_values};
 ghost use Rattle.zipkin_json.specs.Span.{texts_in, AreTags, TagsRise, tag_offends, tags_offend};
 ghost use Rattle.zipkin_json.specs.private.Tags.{listed, pairs_in, NamesRise, AddsTag};
@@ -90,6 +92,7 @@ fn tags_in(alloc: Global, v: &Lent<'_, '_>) -> Result<Items<(Text, Text)>, Halt<
     ensures value { IfOk result (λ tags. AreTags tags (view v.now)) }
     ensures rising { IfOk result TagsRise }
     ensures judged { JudgesValue result (tags_offend (view v.now)) }
+    ensures wants { result ≡ Err halts.OutOfMemory → is_some (as_object (view v.now)) ≡ true }
 {
     let Some(members) = v.members() else {
         return Err(Halt::Why(Cause::BadShape));

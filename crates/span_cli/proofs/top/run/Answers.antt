@@ -17,6 +17,7 @@ use Rattle.span_cli.proofs.GaugeEndings.{gauge_carried, gauge_status}
 use Rattle.span_cli.proofs.LinesBack.{lines_back}
 use Rattle.span_cli.proofs.LossesTold.{losses_told}
 use Rattle.span_cli.proofs.SameRuns.{carried_out_agreeing, carried_out_same}
+use Rattle.span_cli.proofs.ServeLemmas.{served_in_vain, untouched_door_in_vain}
 use Rattle.span_cli.proofs.ServeWords.{seven_words, word_at}
 use Rattle.span_cli.proofs.TaskLemmas as task
 use Rattle.span_cli.proofs.TextsBack.{text_back}
@@ -34,6 +35,9 @@ returns-in_default-clause-reads g c = λ command spelled. no_command c.read_word
 
 pub returns-in_default-clause-front : goal.returns-in_default-clause-front
 returns-in_default-clause-front g c = λ command spelled. no_command c.read_words.result command c.in_default.is ((c.read_words.ensures command).1 spelled)
+
+pub returns-in_default-clause-faults : goal.returns-in_default-clause-faults
+returns-in_default-clause-faults g c = λ command spelled. no_command c.read_words.result command c.in_default.is ((c.read_words.ensures command).1 spelled)
 
 pub returns-in_default-clause-so_far : goal.returns-in_default-clause-so_far
 returns-in_default-clause-so_far g c = λ command spelled. no_command c.read_words.result command c.in_default.is ((c.read_words.ensures command).1 spelled)
@@ -71,6 +75,9 @@ returns-in_default-clause-input_in_vain g c = untouched_in_vain (g.S.Source.inle
 pub returns-in_default-clause-output_in_vain : goal.returns-in_default-clause-output_in_vain
 returns-in_default-clause-output_in_vain g c = untouched_output_in_vain (g.K.Sink.outlet c.args.output.now)
 
+pub returns-in_default-clause-door_in_vain : goal.returns-in_default-clause-door_in_vain
+returns-in_default-clause-door_in_vain g c = untouched_door_in_vain (g.D.Door.doorway c.args.door.now)
+
 pub returns-in_default-clause-notes_in_vain : goal.returns-in_default-clause-notes_in_vain
 returns-in_default-clause-notes_in_vain g c = notes_in_vain (g.N.Sink.outlet c.args.notes.now) (g.N.Sink.outlet c.note_usage.new.notes) _ c.note_usage.ensures
 
@@ -90,6 +97,9 @@ returns-clause-usage g c = (
 
 pub returns-clause-statuses : goal.returns-clause-statuses
 returns-clause-statuses g c = subst (λ (status : ℕ). IsRunStatus status) (sym c.status.ensures) (is_status c.carry_out-ending.result)
+
+pub returns-clause-faults : goal.returns-clause-faults
+returns-clause-faults g c = on_job g c _ (λ four. c.carry_out-ending.ensures.run.faults (sym c.status.ensures ∙ four))
 
 pub returns-clause-line : goal.returns-clause-line
 returns-clause-line g c = on_job g c _ (λ three four.
@@ -134,6 +144,9 @@ returns-clause-output_answers g c = λ any e. (c.carry_out-ending.ensures.run.ou
 
 pub returns-clause-output_in_vain : goal.returns-clause-output_in_vain
 returns-clause-output_in_vain g c = output_in_vain g.K.Sink.outlet c.carry_out-ending.result c.args.output.now c.carry_out-ending.new.output c.carry_out-ending.ensures.run.output
+
+pub returns-clause-door_in_vain : goal.returns-clause-door_in_vain
+returns-clause-door_in_vain g c = untouched_door_in_vain (g.D.Door.doorway c.args.door.now)
 
 pub returns-clause-notes_in_vain : goal.returns-clause-notes_in_vain
 returns-clause-notes_in_vain g c = notes_in_vain (g.N.Sink.outlet c.args.notes.now) (g.N.Sink.outlet c.note_ending.new.notes) _ c.note_ending.ensures.line
@@ -236,6 +249,10 @@ returns-in-Serve-clause-usage g c = (
   λ e. absurd (task.never_usage c.serve.ensures.end (sym c.serve.ensures.is_status ∙ e)),
   λ none. absurd (none (Serve c.in-Serve.address c.in-Serve.to c.in-Serve.count) (spelled g (goal.at.returns-in-Serve-clause-usage g c).In-Serve)),
 )
+
+pub returns-in-Serve-clause-door_in_vain : goal.returns-in-Serve-clause-door_in_vain
+returns-in-Serve-clause-door_in_vain g c =
+    served_in_vain (g.D.Door.doorway c.args.door.now) (g.D.Door.doorway c.serve.new.door) c.serve.ensures.end c.serve.ensures.door.course
 
 pub returns-in-Serve-clause-serves : goal.returns-in-Serve-clause-serves
 returns-in-Serve-clause-serves g c =

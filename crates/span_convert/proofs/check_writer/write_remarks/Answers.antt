@@ -7,4 +7,4 @@ remarks-init c = flat_start (remark_text c.args.number) c.args.out.now c.args.re
 
 pub remarks-preserved : goal.remarks-preserved
 remarks-preserved c =
-    flat_next (remark_text c.args.number) c.args.out.now c.remarks.out c.remark_line.new.out c.args.remarks.now c.remarks.remark-index c.remark-item.result c.remarks-test.true c.remark-item.is c.remarks.invariant c.in_ok-remark_line.ensures
+    flat_next (remark_text c.args.number) c.args.out.now c.remarks.out c.remark_line.new.out c.args.remarks.now c.remarks.remark-index c.remark-item.result c.remarks-test.true c.remark-item.is c.remarks.invariant c.in_ok-remark_line.ensures.ok

@@ -1,3 +1,4 @@
+use Rattle.span_convert.proofs.ReadHeld.{normal_holds, normal_itself}
 use Rattle.span_convert.proofs.Sources.{one_noted, one_trace}
 use Rattle.span_convert.proofs.TextLaws.{normal_held, normal_again, normal_spans, faultless_read, normal_read}
 use Rattle.span_convert.proofs.laws.normal_forms.Goals as goal
@@ -7,6 +8,12 @@ returns-clause-held c = normal_held c.normal_forms.ensures c.input_laws.ensures.
 
 pub returns-clause-again : goal.returns-clause-again
 returns-clause-again c = normal_again c.normal_forms.ensures c.input_laws.ensures.spans
+
+pub returns-clause-can_hold : goal.returns-clause-can_hold
+returns-clause-can_hold c = normal_holds c.normal_forms.ensures c.input_laws.ensures.spans.normal
+
+pub returns-clause-itself : goal.returns-clause-itself
+returns-clause-itself c = normal_itself c.normal_forms.ensures c.input_laws.ensures.spans.normal
 
 pub returns-clause-spans : goal.returns-clause-spans
 returns-clause-spans c = normal_spans c.input_laws.ensures.spans

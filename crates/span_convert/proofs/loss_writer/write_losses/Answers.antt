@@ -7,4 +7,4 @@ losses-init c = flat_start (loss_text c.args.number) c.args.out.now c.args.losse
 
 pub losses-preserved : goal.losses-preserved
 losses-preserved c =
-    flat_next (loss_text c.args.number) c.args.out.now c.losses.out c.loss_line.new.out c.args.losses.now c.losses.loss-index c.loss-item.result c.losses-test.true c.loss-item.is c.losses.invariant c.in_ok-loss_line.ensures
+    flat_next (loss_text c.args.number) c.args.out.now c.losses.out c.loss_line.new.out c.args.losses.now c.losses.loss-index c.loss-item.result c.losses-test.true c.loss-item.is c.losses.invariant c.in_ok-loss_line.ensures.ok

@@ -59,7 +59,7 @@ pub values_in-returns-clause-judged : goal.values_in-returns-clause-judged
 values_in-returns-clause-judged t c = clean_held c.args.left (inner_value_offends c.args.left) _ _ c.in-Some.ensures c.in_ok-read.ensures.judged
 
 pub read_elements-elements-init : goal.read_elements-elements-init
-read_elements-elements-init t c = held_begin (json_value_in c.args.left) ValuesTold (inner_value_offends c.args.left) c.args.left _ _ (record { values = c.in_ok-means.ensures; noted = c.new-notes.ensures })
+read_elements-elements-init t c = held_begin (json_value_in c.args.left) ValuesTold (inner_value_offends c.args.left) c.args.left _ _ (record { values = c.in_ok-means.ensures.empty; noted = c.new-notes.ensures })
 
 pub read_elements-returns-in_err-read-clause-judged : goal.read_elements-returns-in_err-read-clause-judged
 read_elements-returns-in_err-read-clause-judged t c =
@@ -110,7 +110,7 @@ pub pairs_in-returns-clause-judged : goal.pairs_in-returns-clause-judged
 pairs_in-returns-clause-judged t c = clean_held c.args.left (inner_pair_offends c.args.left) _ _ c.in-Some.ensures c.in_ok-read.ensures.judged
 
 pub read_pairs-elements-init : goal.read_pairs-elements-init
-read_pairs-elements-init t c = held_begin (json_key_value_in c.args.left) PairsTold (inner_pair_offends c.args.left) c.args.left _ _ (record { entries = c.in_ok-means.ensures; noted = c.new-notes.ensures })
+read_pairs-elements-init t c = held_begin (json_key_value_in c.args.left) PairsTold (inner_pair_offends c.args.left) c.args.left _ _ (record { entries = c.in_ok-means.ensures.empty; noted = c.new-notes.ensures })
 
 pub read_pairs-returns-in_err-read-clause-judged : goal.read_pairs-returns-in_err-read-clause-judged
 read_pairs-returns-in_err-read-clause-judged t c =
