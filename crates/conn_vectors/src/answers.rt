@@ -89,8 +89,8 @@ fn answered(
 fn writes_parts(rt: &impl Abort, alloc: Global, status: u16, line: &str) -> Result<(), OutOfMemory>
     requires { IsTrue (told.is_status status) }
 {
-    for (kind, body, close, rest) in PARTS {
-        let out = answered(alloc, "", status, kind, body, close)?;
+    for (kind, body, close, rest) in &PARTS {
+        let out = answered(alloc, "", status, kind, body, *close)?;
         let wanted = format!(in alloc; "{line}{rest}")?;
         assert!(rt;
             out.as_slice() == wanted.as_bytes(),
@@ -102,9 +102,9 @@ fn writes_parts(rt: &impl Abort, alloc: Global, status: u16, line: &str) -> Resu
 
 #[test]
 fn writes_each_status(rt: HostRuntime) -> Result<(), Fail> {
-    for (status, line) in STATUSES {
-        assert!(rt; is_status(status));
-        writes_parts(&rt, rt.alloc(), status, line)?;
+    for (status, line) in &STATUSES {
+        assert!(rt; is_status(*status));
+        writes_parts(&rt, rt.alloc(), *status, line)?;
     }
     Ok(())
 }
@@ -141,9 +141,9 @@ HTTP/1.1 422 Unprocessable Content\r\nContent-Type: text/plain\r\nContent-Length
 
 #[test]
 fn writes_answers(rt: HostRuntime) -> Result<(), Fail> {
-    for (front, status, kind, body, close, wanted) in ANSWERS {
-        assert!(rt; is_status(status));
-        let out = answered(rt.alloc(), front, status, kind, body, close)?;
+    for (front, status, kind, body, close, wanted) in &ANSWERS {
+        assert!(rt; is_status(*status));
+        let out = answered(rt.alloc(), front, *status, kind, body, *close)?;
         assert!(rt; out.as_slice() == wanted.as_bytes(), "{status}");
     }
     Ok(())

@@ -89,8 +89,8 @@ fn expect_pieces(rt: &impl Abort, alloc: Global, cut: usize, pieces: &[&str]) ->
 
 #[test]
 fn gives_bytes_in_pieces(rt: HostRuntime) -> Result<(), Fail> {
-    for (cut, pieces) in CUTS {
-        expect_pieces(&rt, rt.alloc(), cut, pieces)?;
+    for (cut, pieces) in &CUTS {
+        expect_pieces(&rt, rt.alloc(), *cut, pieces)?;
     }
     Ok(())
 }
@@ -116,9 +116,9 @@ fn bytes_of(piece: &Result<Blob, Failed>) -> Option<&[u8]> {
 #[test]
 fn fails_to_read_in_memory(rt: HostRuntime) -> Result<(), Fail> {
     let mut conn = connection(rt.alloc(), b"abcde", SECOND_FAILS)?;
-    for wanted in READS {
+    for wanted in &READS {
         let piece = read_piece(rt.alloc(), &mut conn);
-        assert!(rt; bytes_of(&piece) == wanted);
+        assert!(rt; bytes_of(&piece) == *wanted);
     }
     Ok(())
 }
@@ -136,8 +136,8 @@ const WRITES: [(&str, Result<(), Failed>); 6] = [
 #[test]
 fn fails_to_write_in_memory(rt: HostRuntime) -> Result<(), Fail> {
     let mut conn = connection(rt.alloc(), b"", SECOND_FAILS)?;
-    for (text, taken) in WRITES {
-        assert!(rt; send(&mut conn, text.as_bytes()) == taken, "{text:?}");
+    for (text, taken) in &WRITES {
+        assert!(rt; send(&mut conn, text.as_bytes()) == *taken, "{text:?}");
     }
     assert!(rt; conn.written() == b"xyz12".as_slice());
     Ok(())
@@ -172,8 +172,8 @@ const ADDRESSES: [(&str, Result<(), Failed>); 5] = [
 #[test]
 fn listens_at_its_address_alone(rt: HostRuntime) -> Result<(), Fail> {
     let mut door = door_of_two(rt.alloc(), &[])?;
-    for (address, told) in ADDRESSES {
-        assert!(rt; door.listen(address) == told, "{address}");
+    for (address, told) in &ADDRESSES {
+        assert!(rt; door.listen(address) == *told, "{address}");
     }
     Ok(())
 }
@@ -209,8 +209,8 @@ const TURNS: [bool; 6] = [false, false, true, false, true, false];
 #[test]
 fn fails_at_the_door(rt: HostRuntime) -> Result<(), Fail> {
     let mut door = door_of_two(rt.alloc(), &[1, 3, 6])?;
-    for well in TURNS {
-        assert!(rt; echo_next(rt.alloc(), &mut door).is_ok() == well);
+    for well in &TURNS {
+        assert!(rt; echo_next(rt.alloc(), &mut door).is_ok() == *well);
     }
     expect_closed(&rt, &door, &["first", "second"]);
     Ok(())

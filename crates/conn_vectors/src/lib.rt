@@ -12,3 +12,5 @@ mod pieces;
 mod requests;
 #[cfg(test)]
 mod served;
+#[cfg(test)]
+mod texts;

@@ -1,99 +1,75 @@
 //! The first request of bytes that come in pieces, and of bytes that stand behind a request.
 ghost use Rattle.std.specs.Prelude.{◌<◌};
 
-use crate::requests::repeated;
-use crate::served::joined;
+use crate::requests::Told;
+use crate::texts::{after_word, append_often, joined};
 use http_conn::laws::known_stays;
-use http_conn::{Known, Next, Request, next_request, next_request_from};
+use http_conn::{Known, Next, next_request, next_request_from};
+use row_tables::{Row, rows};
 use span_io::{Blob, Form, Limits, OutOfMemory};
 use span_vectors::texts::POSTED;
 use std::alloc::Global;
+use std::process::Abort;
 use std::test::Fail;
 
-// A post without its last byte.
-pub(crate) const CUT_POST: &str =
-    "POST /api/v2/spans HTTP/1.1\r\nHost: x\r\nContent-Type: application/json\r\nContent-Length: 2\r\n\r\n[";
+// Streams, and behind what is told how many of their bytes have come by an answer other than the want of more. Of a whole
+// request the place of the body and whether the connection ends are told, too.
+const STREAMS: &str = r"
+a post of no spans
+stream @POSTED
+form zipkin-json 93 91 open
 
-// A post that asks first whether its body is wanted.
-pub(crate) const ASKED: &str =
-    "POST /api/v2/spans HTTP/1.1\r\nHost: x\r\nContent-Type: application/json\r\nContent-Length: 2\r\nExpect: 100-continue\r\n\r\n[]";
+a post without its last byte
+stream @CUT_POST
+need 92
 
-// What a post of no spans is.
-const WHOLE: Next = Next::Whole(Request {
-    verdict: 0,
-    form: Some(Form::ZipkinJson),
-    body_at: 91,
-    length: 93,
-    close: false,
-});
+two posts
+stream @POSTED @POSTED
+form zipkin-json 93 91 open
 
-// Bytes, how many of them have come by an answer other than the want of more, and the answer.
-const STREAMS: [(&[&str], usize, Next); 14] = [
-    (&[POSTED], 93, WHOLE),
-    (&[CUT_POST], 92, Next::Need),
-    (&[POSTED, POSTED], 93, WHOLE),
-    (
-        &[ASKED],
-        115,
-        Next::Whole(Request {
-            verdict: 0,
-            form: Some(Form::ZipkinJson),
-            body_at: 113,
-            length: 115,
-            close: false,
-        }),
-    ),
-    (
-        &["\r\nGET / HTTP/1.0\r\n\r\n[]"],
-        20,
-        Next::Whole(Request {
-            verdict: 404,
-            form: None,
-            body_at: 20,
-            length: 20,
-            close: true,
-        }),
-    ),
-    (
-        &["GET / HTTP/1.1\nHost: x\r\n\r\n[]"],
-        26,
-        Next::Refuse(400),
-    ),
-    (&["\r\n\r\nGET /"], 4, Next::Refuse(400)),
-    (&["\r\n\n\r\n\r\nGET /"], 7, Next::Refuse(400)),
-    (
-        &["POST / HTTP/1.1\r\nContent-Length: 67108865\r\n\r\n[]"],
-        45,
-        Next::Refuse(413),
-    ),
-    (
-        &["POST / HTTP/1.1\r\nHost: x\r\n\r\n[]"],
-        28,
-        Next::Refuse(411),
-    ),
-    (&[], 0, Next::Need),
-    (
-        &["GET /v1/traces HTTP/1.1\r\nContent-Length: 2\r\n\r\n[]GET"],
-        48,
-        Next::Whole(Request {
-            verdict: 405,
-            form: None,
-            body_at: 46,
-            length: 48,
-            close: false,
-        }),
-    ),
-    (
-        &["GET /v1/traces HTTP/1.1\r\nContent-Length: 2\r\n\r\n["],
-        47,
-        Next::Need,
-    ),
-    (
-        &["GET /v1/traces HTTP/1.1\r\nContent-Length: 67108865\r\n\r\n"],
-        53,
-        Next::Refuse(413),
-    ),
-];
+a post that asks first
+stream @ASKED
+form zipkin-json 115 113 open
+
+an empty line, HTTP/1.0 and a body without a length
+stream \r\nGET / HTTP/1.0\r\n\r\n[]
+verdict 404 20 20 close
+
+an LF alone
+stream GET / HTTP/1.1\nHost: x\r\n\r\n[]
+refused 400 26
+
+two empty lines
+stream \r\n\r\nGET /
+refused 400 4
+
+three empty lines, the second by an LF alone
+stream \r\n\n\r\n\r\nGET /
+refused 400 7
+
+a long body
+stream POST / HTTP/1.1\r\nContent-Length: 67108865\r\n\r\n[]
+refused 413 45
+
+no length
+stream POST / HTTP/1.1\r\nHost: x\r\n\r\n[]
+refused 411 28
+
+nothing
+need 0
+
+a body of a method that isn't taken
+stream GET /v1/traces HTTP/1.1\r\nContent-Length: 2\r\n\r\n[]GET
+verdict 405 48 46 open
+
+the same without its last byte
+stream GET /v1/traces HTTP/1.1\r\nContent-Length: 2\r\n\r\n[
+need 47
+
+a long body of a method that isn't taken
+stream GET /v1/traces HTTP/1.1\r\nContent-Length: 67108865\r\n\r\n
+refused 413 53
+";
 
 // How many bytes came by an answer other than the want of more, where they come in pieces of this size, and the
 // answer.
@@ -114,32 +90,66 @@ fn in_pieces(alloc: Global, bytes: &[u8], size: usize) -> Result<(usize, Next), 
     Ok((came.len(), Next::Need))
 }
 
+// How many bytes have come, and the answer.
+fn told_of(row: &Row, streams: usize) -> Result<(usize, Next), Fail> {
+    if row.fields().len() != streams.saturating_add(1) {
+        return Err(row.fail("one line is told", "behind the streams"));
+    }
+    let Some(field) = row.fields().last() else {
+        return Err(row.fail("no line", "behind the name"));
+    };
+    let (told, text) = Told::of(row, field.key(), field.text())?;
+    let (came, rest) = after_word(text);
+    let came = row.count_in(came)?;
+    if matches!(told, Told::Need | Told::Refused(_)) {
+        return Ok((came, told.next(0, 0, false)));
+    }
+    let (place, close) = after_word(rest);
+    let place = row.count_in(place)?;
+    match close {
+        "open" => Ok((came, told.next(place, came, false))),
+        "close" => Ok((came, told.next(place, came, true))),
+        _ => Err(row.fail("no end", close)),
+    }
+}
+
+fn expect_stream(rt: &impl Abort, alloc: Global, row: &Row) -> Result<(), Fail> {
+    row.expect_keys(&["stream", "need", "refused", "verdict", "form"])?;
+    let name = row.name();
+    let streams = row.texts(alloc, "stream")?.len();
+    let (came, next) = told_of(row, streams)?;
+    let stream = joined(alloc, row, "stream")?;
+    let bytes = stream.as_slice();
+    assert!(rt; next_request(bytes, &Limits::shipped()) == next, "{name}");
+    assert!(rt; in_pieces(alloc, bytes, 1)? == (came, next), "{name}");
+    Ok(())
+}
+
 #[test]
 fn reads_bytes_one_by_one(rt: HostRuntime) -> Result<(), Fail> {
-    for (texts, count, next) in STREAMS {
-        let stream = joined(rt.alloc(), texts)?;
-        let bytes = stream.as_slice();
-        assert!(rt;
-            next_request(bytes, &Limits::shipped()) == next,
-            "{texts:?}"
-        );
-        assert!(rt;
-            in_pieces(rt.alloc(), bytes, 1)? == (count, next),
-            "{texts:?}"
-        );
+    for row in &rows(rt.alloc(), STREAMS)? {
+        expect_stream(&rt, rt.alloc(), row)?;
     }
-    let long = repeated(rt.alloc(), "GET /", "a", 20_000, "")?;
+    Ok(())
+}
+
+#[test]
+fn refuses_a_long_line_in_pieces(rt: HostRuntime) -> Result<(), Fail> {
+    let mut line = Blob::new(rt.alloc());
+    line.append(b"GET /")?;
+    append_often(&mut line, b"a", 20_000)?;
     let refused = (16_384, Next::Refuse(431));
-    assert!(rt; in_pieces(rt.alloc(), long.as_bytes(), 1)? == refused);
+    assert!(rt; in_pieces(rt.alloc(), line.as_slice(), 1)? == refused);
     Ok(())
 }
 
 // Among them are pieces that end between any two bytes of the end of the head.
 #[test]
 fn reads_bytes_in_pieces(rt: HostRuntime) -> Result<(), Fail> {
+    let next = Told::Body(Form::ZipkinJson).next(91, 93, false);
     for size in 1..94 {
         let told = in_pieces(rt.alloc(), POSTED.as_bytes(), size)?;
-        assert!(rt; told == (93, WHOLE), "pieces of {size}");
+        assert!(rt; told == (93, next), "pieces of {size}");
     }
     Ok(())
 }

@@ -1,13 +1,16 @@
 //! The first request of the bytes of a connection (RFC 9110 and RFC 9112): rows that a step refuses beside
 //! neighbours that it lets pass.
+use crate::texts::{after_word, append_often, form_of};
 use http_conn::{Next, Request, Service, next_request};
-use span_io::{Blob, Form, Limits, OutOfMemory};
+use row_tables::{Field, Row, rows, unescaped};
+use span_io::{Blob, Form, Limits};
 use std::alloc::Global;
+use std::process::Abort;
 use std::test::Fail;
 
-/// What is told of a head and of the body behind it, where the connection stays open.
+/// What is told of a head and of the body behind it.
 #[derive(Clone, Copy)]
-enum Told {
+pub(crate) enum Told {
     /// More bytes are wanted.
     Need,
     /// Refused by this status.
@@ -19,8 +22,22 @@ enum Told {
 }
 
 impl Told {
-    // The first request, where nothing stands behind the body.
-    fn next(self, head: &str, body: &str) -> Next {
+    /// What a key and the first word of its text tell, and what stands behind that.
+    pub(crate) fn of<'a>(row: &Row, key: &str, text: &'a str) -> Result<(Told, &'a str), Fail> {
+        if key == "need" {
+            return Ok((Told::Need, text));
+        }
+        let (word, rest) = after_word(text);
+        match key {
+            "refused" => Ok((Told::Refused(status_of(row, word)?), rest)),
+            "verdict" => Ok((Told::Verdict(status_of(row, word)?), rest)),
+            "form" => Ok((Told::Body(form_of(row, word)?), rest)),
+            _ => Err(row.fail("unknown key", key)),
+        }
+    }
+
+    /// The first request, where it has so many bytes.
+    pub(crate) fn next(self, body_at: usize, length: usize, close: bool) -> Next {
         let (verdict, form) = match self {
             Told::Need => return Next::Need,
             Told::Refused(status) => return Next::Refuse(status),
@@ -30,550 +47,450 @@ impl Told {
         Next::Whole(Request {
             verdict,
             form,
-            body_at: head.len(),
-            length: head.len() + body.len(),
-            close: false,
+            body_at,
+            length,
+            close,
         })
     }
 }
 
-// The first request of a head and of what came behind it.
-fn next_of(alloc: Global, head: &str, body: &str) -> Result<Next, OutOfMemory> {
-    let mut bytes = Blob::new(alloc);
-    bytes.append_both(head.as_bytes(), body.as_bytes())?;
-    Ok(next_request(bytes.as_slice(), &Limits::shipped()))
+fn status_of(row: &Row, word: &str) -> Result<u16, Fail> {
+    match word.parse::<u16>() {
+        Ok(status) => Ok(status),
+        Err(_) => Err(row.fail("no status", word)),
+    }
 }
 
-const TAIL: &str = " HTTP/1.1\r\nHost: x\r\nContent-Length: 0\r\n\r\n";
+// Heads, each between the front and the back of its row and before the body of its row, or behind ` | ` its own: how lines
+// end, and what is no head; the lengths of bodies; targets and methods; content codings; media types; and where connections
+// end, with the length of the head.
+const HEADS: &str = r"
+what ends a head, and what stands before one
+need
+need \r\n
+need \r\n\r
+refused 400 \r\n\r\n
+verdict 404 GET / HTTP/1.1\r\nHost: x\r\n\r\n
+verdict 404 \r\nGET / HTTP/1.1\r\nHost: x\r\n\r\n
 
-// A front, a piece and how often it follows, a back, the number of all bytes, and what is told of them: heads of
-// 16,384 bytes, and of 64 lines.
-const LONG: [(&str, &str, usize, &str, usize, Told); 14] = [
-    ("GET /", "a", 16_375, "", 16_380, Told::Need),
-    ("GET /", "a", 16_378, "", 16_383, Told::Need),
-    ("GET /", "a", 16_379, "", 16_384, Told::Refused(431)),
-    ("GET /", "a", 16_380, "", 16_385, Told::Refused(431)),
-    ("POST /", "a", 16_337, TAIL, 16_384, Told::Verdict(404)),
-    ("POST /", "a", 16_338, TAIL, 16_385, Told::Refused(431)),
-    (
-        "POST /",
-        "a",
-        16_338,
-        " HTTP/1.1\r\nHost: x\r\nContent-Length: 0\r\n",
-        16_383,
-        Told::Need,
-    ),
-    (
-        "POST /",
-        "a",
-        16_338,
-        " HTTP/1.1\r\nHost: x\r\nContent-Length: 0\r\n\r",
-        16_384,
-        Told::Refused(431),
-    ),
-    (
-        "GET /v1/traces HTTP/1.1\r\nHost: x\r\n",
-        "a: b\r\n",
-        63,
-        "\r\n",
-        414,
-        Told::Verdict(405),
-    ),
-    (
-        "GET /v1/traces HTTP/1.1\r\nHost: x\r\n",
-        "a: b\r\n",
-        64,
-        "\r\n",
-        420,
-        Told::Refused(431),
-    ),
-    (
-        "\r\nGET /v1/traces HTTP/1.1\r\nHost: x\r\n",
-        "a: b\r\n",
-        63,
-        "\r\n",
-        416,
-        Told::Verdict(405),
-    ),
-    (
-        "\r\nGET /v1/traces HTTP/1.1\r\nHost: x\r\n",
-        "a: b\r\n",
-        64,
-        "\r\n",
-        422,
-        Told::Refused(431),
-    ),
-    (
-        "GET /v1/traces HTTP/1.1\r\nHost: x\n",
-        "a: b\r\n",
-        64,
-        "\r\n",
-        419,
-        Told::Refused(400),
-    ),
-    (
-        "GET /v1/traces HTTP/1.1\r\nHost: x\r\n",
-        "a: b\r\n",
-        64,
-        "",
-        418,
-        Told::Need,
-    ),
-];
+how lines end
+verdict 404 GET / HTTP/1.1\r\n\r\n
+need GET / HTTP/1.1\r\nHost: x\r\n\r
+need GET / HTTP/1.1\r\nHost: x\r\n
+refused 400 GET / HTTP/1.1\nHost: x\r\n\r\n
+need GET / HTTP/1.1\nHost: x\r\n
+refused 400 \nGET / HTTP/1.1\r\nHost: x\r\n\r\n
 
-pub(crate) fn repeated(
-    alloc: Global,
-    front: &str,
-    piece: &str,
-    times: usize,
-    back: &str,
-) -> Result<String, OutOfMemory> {
-    let mut text = String::new(alloc);
-    text.push_str(front)?;
-    for _ in 0..times {
-        text.push_str(piece)?;
+names of fields
+refused 400 GET / HTTP/1.1\r\nHo st: x\r\n\r\n
+refused 400 GET / HTTP/1.1\r\nHost : x\r\n\r\n
+refused 400 GET / HTTP/1.1\r\n: x\r\n\r\n
+refused 400 GET / HTTP/1.1\r\nHost\r\n\r\n
+verdict 404 GET / HTTP/1.1\r\nHost:\r\n\r\n
+refused 400 GET / HTTP/1.1\r\nHost: x\r\n y\r\n\r\n
+refused 400 GET / HTTP/1.1\r\nHost: x\r\n a: b\r\n\r\n
+verdict 404 GET / HTTP/1.1\r\nHost: x\r\na: b\r\n\r\n
+
+request lines
+refused 400 GET  / HTTP/1.1\r\nHost: x\r\n\r\n
+refused 400 GET /  HTTP/1.1\r\nHost: x\r\n\r\n
+refused 400 GET / HTTP/2.0\r\nHost: x\r\n\r\n
+refused 400 GET / HTTP/1.2\r\nHost: x\r\n\r\n
+refused 400 GET /\r\nHost: x\r\n\r\n
+
+values
+refused 400 GET / HTTP/1.1\r\nHost: x\ry\r\n\r\n
+verdict 404 GET / HTTP/1.1\r\nHost: x\ty\r\n\r\n
+
+methods and lengths
+refused 411 POST /v1/traces HTTP/1.1\r\nHost: x\r\n\r\n
+refused 411 POST /nowhere HTTP/1.1\r\nHost: x\r\n\r\n
+verdict 405 GET /v1/traces HTTP/1.1\r\nHost: x\r\n\r\n
+
+lengths of bodies
+front POST /v1/traces HTTP/1.1\r\nHost: x\r\nContent-Type: application/json\r\n
+back \r\n
+refused 501 Transfer-Encoding: chunked\r\nContent-Length: x\r\n
+refused 400 Content-Length: x\r\n
+refused 501 Content-Length: 2\r\ntransfer-encoding: identity\r\n | []
+refused 400 Content-Length: 2\r\nContent-Length: 2\r\n | []
+form otlp-json Content-Length: 2\r\n | []
+form otlp-json content-length:2\r\n | []
+form otlp-json Content-Length: \t2 \r\n | []
+form otlp-json Content-Length: 000000000000000002\r\n | []
+refused 400 Content-Length: 0000000000000000002\r\n | []
+refused 400 Content-Length: \r\n
+refused 400 Content-Length: +5\r\n | [7,8]
+refused 400 Content-Length: 5, 5\r\n | [7,8]
+refused 400 Content-Length: 0x1\r\n | 7
+form otlp-json Content-Length: 5\r\n | [7,8]
+form otlp-json Content-Length: 0\r\n
+refused 411
+need Content-Length: 67108864\r\n
+need Content-Length: 67108864\r\n | []
+refused 413 Content-Length: 67108865\r\n
+refused 413 Content-Length: 999999999999999999\r\n
+need Content-Length: 2\r\n
+need Content-Length: 2\r\n | [
+
+targets and methods
+back \x20HTTP/1.1\r\nHost: x\r\nContent-Type: application/json\r\nContent-Length: 0\r\n\r\n
+verdict 404 POST /v1/trace
+verdict 404 POST /v1/traces/
+verdict 404 POST /V1/traces
+verdict 404 POST http://h/v1/traces
+verdict 404 POST *
+verdict 404 POST ?x=1
+verdict 404 POST /
+form otlp-json POST /v1/traces?x=1
+form otlp-json POST /v1/traces?
+form otlp-json POST /v1/traces?/?
+form otlp-json POST /v1/traces
+verdict 415 POST /api/traces
+form zipkin-json POST /api/v2/spans
+verdict 405 GET /v1/traces
+verdict 405 GET /api/traces
+verdict 405 GET /api/v2/spans
+verdict 405 PUT /v1/traces
+verdict 405 PUT /api/traces
+verdict 405 PUT /api/v2/spans
+verdict 405 post /v1/traces
+verdict 405 post /api/traces
+verdict 405 post /api/v2/spans
+verdict 405 HEAD /v1/traces
+verdict 405 HEAD /api/traces
+verdict 405 HEAD /api/v2/spans
+verdict 404 GET /nowhere
+verdict 405 GET /v1/traces?x=1
+
+content codings
+front POST /v1/traces HTTP/1.1\r\nHost: x\r\n
+back Content-Type: application/json\r\nContent-Length: 2\r\n\r\n
+body []
+verdict 415 Content-Encoding: gzip\r\n
+verdict 415 Content-Encoding: \r\n
+verdict 415 Content-Encoding: identity\r\nContent-Encoding: gzip\r\n
+verdict 415 Content-Encoding: gzip\r\ncontent-encoding: identity\r\n
+verdict 415 Content-Encoding: identity, identity\r\n
+form otlp-json Content-Encoding: Identity\r\n
+form otlp-json Content-Encoding: identity\r\nContent-Encoding: identity\r\n
+form otlp-json
+
+media types at /v1/traces
+front POST /v1/traces HTTP/1.1\r\nHost: x\r\n
+back Content-Length: 2\r\n\r\n
+body []
+form otlp-proto Content-Type: application/x-protobuf\r\n
+form otlp-json Content-Type: application/json\r\n
+verdict 415 Content-Type: application/x-thrift\r\n
+verdict 415 Content-Type: application/vnd.apache.thrift.binary\r\n
+
+media types at /api/traces
+front POST /api/traces HTTP/1.1\r\nHost: x\r\n
+back Content-Length: 2\r\n\r\n
+body []
+verdict 415 Content-Type: application/x-protobuf\r\n
+verdict 415 Content-Type: application/json\r\n
+form jaeger-binary Content-Type: application/x-thrift\r\n
+form jaeger-binary Content-Type: application/vnd.apache.thrift.binary\r\n
+
+media types at /api/v2/spans
+front POST /api/v2/spans HTTP/1.1\r\nHost: x\r\n
+back Content-Length: 2\r\n\r\n
+body []
+verdict 415 Content-Type: application/x-protobuf\r\n
+form zipkin-json Content-Type: application/json\r\n
+verdict 415 Content-Type: application/x-thrift\r\n
+verdict 415 Content-Type: application/vnd.apache.thrift.binary\r\n
+
+spellings of media types
+front POST /v1/traces HTTP/1.1\r\nHost: x\r\n
+back Content-Length: 2\r\n\r\n
+body []
+form otlp-json Content-Type: Application/JSON ; charset=utf-8\r\n
+form otlp-json Content-Type: application/json;\r\n
+form otlp-json content-type:\tapplication/json\t\r\n
+form otlp-proto Content-Type: APPLICATION/X-PROTOBUF\r\n
+verdict 415 Content-Type: application/jsonx\r\n
+verdict 415 Content-Type: application/jso\r\n
+verdict 415 Content-Type: ;application/json\r\n
+verdict 415 Content-Type: application/json, x\r\n
+verdict 415 Content-Type: \r\n
+verdict 415
+verdict 415 Content-Type: application/json\r\nContent-Type: application/json\r\n
+
+media types at /v1/traces?x=1
+front POST /v1/traces?x=1 HTTP/1.1\r\nHost: x\r\n
+back Content-Length: 2\r\n\r\n
+body []
+form otlp-json Content-Type: application/json\r\n
+
+the end of connections in HTTP/1.0
+front GET /v1/traces HTTP/1.0\r\nHost: x\r\n
+back \r\n
+close 36
+close 60 Connection: keep-alive\r\n
+
+the end of connections in HTTP/1.1
+front GET /v1/traces HTTP/1.1\r\nHost: x\r\n
+back \r\n
+open 36
+open 60 Connection: keep-alive\r\n
+close 55 Connection: CLOSE\r\n
+close 79 connection: close\r\nConnection: keep-alive\r\n
+close 78 Connection: keep-alive\r\nCONNECTION:close\r\n
+open 58 Connection: close, x\r\n
+open 56 Connection: closed\r\n
+open 55 Close: Connection\r\n
+";
+
+// What a head is put together of.
+#[derive(Clone, Copy)]
+struct Around<'a> {
+    front: &'a str,
+    back: &'a str,
+    body: &'a str,
+}
+
+fn text_or_none<'a>(row: &'a Row, key: &str) -> Result<&'a str, Fail> {
+    Ok(row.text_if_any(key)?.unwrap_or(""))
+}
+
+impl<'a> Around<'a> {
+    fn of(row: &'a Row) -> Result<Around<'a>, Fail> {
+        Ok(Around {
+            front: text_or_none(row, "front")?,
+            back: text_or_none(row, "back")?,
+            body: text_or_none(row, "body")?,
+        })
     }
-    text.push_str(back)?;
-    Ok(text)
+
+    // The head around some lines.
+    fn head(&self, alloc: Global, lines: &str) -> Result<Blob, Fail> {
+        let mut head = Blob::new(alloc);
+        head.append(unescaped(alloc, self.front)?.as_slice())?;
+        head.append(unescaped(alloc, lines)?.as_slice())?;
+        head.append(unescaped(alloc, self.back)?.as_slice())?;
+        Ok(head)
+    }
+}
+
+// Holds what is told against the head around some lines, and a body.
+fn expect_head(
+    rt: &impl Abort,
+    alloc: Global,
+    row: &Row,
+    around: &Around,
+    field: &Field,
+) -> Result<(), Fail> {
+    let (told, text) = Told::of(row, field.key(), field.text())?;
+    let (lines, body) = text.split_once(" | ").unwrap_or((text, around.body));
+    let mut bytes = around.head(alloc, lines)?;
+    let body_at = bytes.len();
+    bytes.append(body.as_bytes())?;
+    let next = next_request(bytes.as_slice(), &Limits::shipped());
+    let name = row.name();
+    assert!(rt;
+        next == told.next(body_at, bytes.len(), false),
+        "{name}: {text}"
+    );
+    Ok(())
+}
+
+// The same of a method that isn't taken, where the length of the head and whether the connection ends are told.
+fn expect_close(
+    rt: &impl Abort,
+    alloc: Global,
+    row: &Row,
+    around: &Around,
+    field: &Field,
+) -> Result<(), Fail> {
+    let (length, lines) = after_word(field.text());
+    let length = row.count_in(length)?;
+    let head = around.head(alloc, lines)?;
+    let next = next_request(head.as_slice(), &Limits::shipped());
+    let wanted = Told::Verdict(405).next(length, length, field.key() == "close");
+    assert!(rt; next == wanted, "{}: {lines}", row.name());
+    Ok(())
+}
+
+fn expect_heads(rt: &impl Abort, alloc: Global, row: &Row) -> Result<(), Fail> {
+    let around = Around::of(row)?;
+    for field in row.fields() {
+        match field.key() {
+            "front" | "back" | "body" => {}
+            "open" | "close" => expect_close(rt, alloc, row, &around, field)?,
+            _ => expect_head(rt, alloc, row, &around, field)?,
+        }
+    }
+    Ok(())
+}
+
+#[test]
+fn reads_heads(rt: HostRuntime) -> Result<(), Fail> {
+    for row in &rows(rt.alloc(), HEADS)? {
+        expect_heads(&rt, rt.alloc(), row)?;
+    }
+    Ok(())
+}
+
+// Heads of 16,384 bytes, and of 64 lines: what is told of them, how often the piece follows the front, and the number of
+// all bytes.
+const LONG: &str = r"
+a target that fills a head
+front GET /
+piece a
+need 16375 16380
+need 16378 16383
+refused 431 16379 16384
+refused 431 16380 16385
+
+a head that a target fills
+front POST /
+piece a
+back \x20HTTP/1.1\r\nHost: x\r\nContent-Length: 0\r\n\r\n
+verdict 404 16337 16384
+refused 431 16338 16385
+
+the same without its last two bytes
+front POST /
+piece a
+back \x20HTTP/1.1\r\nHost: x\r\nContent-Length: 0\r\n
+need 16338 16383
+
+the same without its last byte
+front POST /
+piece a
+back \x20HTTP/1.1\r\nHost: x\r\nContent-Length: 0\r\n\r
+refused 431 16338 16384
+
+64 lines and more
+front GET /v1/traces HTTP/1.1\r\nHost: x\r\n
+piece a: b\r\n
+back \r\n
+verdict 405 63 414
+refused 431 64 420
+
+the same behind an empty line
+front \r\nGET /v1/traces HTTP/1.1\r\nHost: x\r\n
+piece a: b\r\n
+back \r\n
+verdict 405 63 416
+refused 431 64 422
+
+an LF alone in the first of too many lines
+front GET /v1/traces HTTP/1.1\r\nHost: x\n
+piece a: b\r\n
+back \r\n
+refused 400 64 419
+
+as many lines without their end
+front GET /v1/traces HTTP/1.1\r\nHost: x\r\n
+piece a: b\r\n
+need 64 418
+";
+
+fn expect_long(
+    rt: &impl Abort,
+    alloc: Global,
+    row: &Row,
+    around: &Around,
+    field: &Field,
+) -> Result<(), Fail> {
+    let piece = row.text("piece")?;
+    let (told, text) = Told::of(row, field.key(), field.text())?;
+    let (times, count) = after_word(text);
+    let times = row.count_in(times)?;
+    let count = row.count_in(count)?;
+    let mut head = Blob::new(alloc);
+    head.append(unescaped(alloc, around.front)?.as_slice())?;
+    append_often(&mut head, unescaped(alloc, piece)?.as_slice(), times)?;
+    head.append(unescaped(alloc, around.back)?.as_slice())?;
+    let name = row.name();
+    assert!(rt; head.len() == count, "{name} with {times}");
+    let next = next_request(head.as_slice(), &Limits::shipped());
+    assert!(rt;
+        next == told.next(count, count, false),
+        "{name} with {times}"
+    );
+    Ok(())
+}
+
+fn expect_each_long(rt: &impl Abort, alloc: Global, row: &Row) -> Result<(), Fail> {
+    let around = Around::of(row)?;
+    for field in row.fields() {
+        match field.key() {
+            "front" | "back" | "piece" => {}
+            _ => expect_long(rt, alloc, row, &around, field)?,
+        }
+    }
+    Ok(())
 }
 
 #[test]
 fn ends_heads_within_their_limits(rt: HostRuntime) -> Result<(), Fail> {
-    for (front, piece, times, back, count, told) in LONG {
-        let head = repeated(rt.alloc(), front, piece, times, back)?;
-        assert!(rt; head.len() == count, "{front:?} with {times}");
-        assert!(rt;
-            next_of(rt.alloc(), head.as_str(), "")? == told.next(head.as_str(), ""),
-            "{front:?} with {times}"
-        );
+    for row in &rows(rt.alloc(), LONG)? {
+        expect_each_long(&rt, rt.alloc(), row)?;
     }
     Ok(())
 }
 
-// Whole bytes, and what is told of them: how lines end, and what is no head.
-const HEADS: [(&str, Told); 30] = [
-    ("", Told::Need),
-    ("\r\n", Told::Need),
-    ("\r\n\r", Told::Need),
-    ("\r\n\r\n", Told::Refused(400)),
-    ("GET / HTTP/1.1\r\nHost: x\r\n\r\n", Told::Verdict(404)),
-    ("\r\nGET / HTTP/1.1\r\nHost: x\r\n\r\n", Told::Verdict(404)),
-    ("GET / HTTP/1.1\r\n\r\n", Told::Verdict(404)),
-    ("GET / HTTP/1.1\r\nHost: x\r\n\r", Told::Need),
-    ("GET / HTTP/1.1\r\nHost: x\r\n", Told::Need),
-    ("GET / HTTP/1.1\nHost: x\r\n\r\n", Told::Refused(400)),
-    ("GET / HTTP/1.1\nHost: x\r\n", Told::Need),
-    ("\nGET / HTTP/1.1\r\nHost: x\r\n\r\n", Told::Refused(400)),
-    ("GET / HTTP/1.1\r\nHo st: x\r\n\r\n", Told::Refused(400)),
-    ("GET / HTTP/1.1\r\nHost : x\r\n\r\n", Told::Refused(400)),
-    ("GET / HTTP/1.1\r\n: x\r\n\r\n", Told::Refused(400)),
-    ("GET / HTTP/1.1\r\nHost\r\n\r\n", Told::Refused(400)),
-    ("GET / HTTP/1.1\r\nHost:\r\n\r\n", Told::Verdict(404)),
-    (
-        "GET / HTTP/1.1\r\nHost: x\r\n y\r\n\r\n",
-        Told::Refused(400),
-    ),
-    (
-        "GET / HTTP/1.1\r\nHost: x\r\n a: b\r\n\r\n",
-        Told::Refused(400),
-    ),
-    (
-        "GET / HTTP/1.1\r\nHost: x\r\na: b\r\n\r\n",
-        Told::Verdict(404),
-    ),
-    ("GET  / HTTP/1.1\r\nHost: x\r\n\r\n", Told::Refused(400)),
-    ("GET /  HTTP/1.1\r\nHost: x\r\n\r\n", Told::Refused(400)),
-    ("GET / HTTP/2.0\r\nHost: x\r\n\r\n", Told::Refused(400)),
-    ("GET / HTTP/1.2\r\nHost: x\r\n\r\n", Told::Refused(400)),
-    ("GET /\r\nHost: x\r\n\r\n", Told::Refused(400)),
-    ("GET / HTTP/1.1\r\nHost: x\ry\r\n\r\n", Told::Refused(400)),
-    ("GET / HTTP/1.1\r\nHost: x\ty\r\n\r\n", Told::Verdict(404)),
-    (
-        "POST /v1/traces HTTP/1.1\r\nHost: x\r\n\r\n",
-        Told::Refused(411),
-    ),
-    (
-        "POST /nowhere HTTP/1.1\r\nHost: x\r\n\r\n",
-        Told::Refused(411),
-    ),
-    (
-        "GET /v1/traces HTTP/1.1\r\nHost: x\r\n\r\n",
-        Told::Verdict(405),
-    ),
-];
+// What is served at a path, the form of a body of a media type, the path and the media type.
+const SERVICES: &str = r"
+services
+otlp otlp-proto /v1/traces application/x-protobuf
+otlp otlp-json /v1/traces application/json ;
+otlp none /v1/traces text/plain
+jaeger jaeger-binary /api/traces application/x-thrift
+zipkin zipkin-json /api/v2/spans application/JSON
+none none /v1/traces? application/json
+none none /api/v1/spans application/json
+none none  application/json
+";
 
-#[test]
-fn reads_heads(rt: HostRuntime) -> Result<(), Fail> {
-    for (head, told) in HEADS {
-        assert!(rt;
-            next_of(rt.alloc(), head, "")? == told.next(head, ""),
-            "{head:?}"
-        );
+fn service_of(row: &Row, word: &str) -> Result<Option<Service>, Fail> {
+    match word {
+        "otlp" => Ok(Some(Service::Otlp)),
+        "jaeger" => Ok(Some(Service::Jaeger)),
+        "zipkin" => Ok(Some(Service::Zipkin)),
+        "none" => Ok(None),
+        _ => Err(row.fail("no service", word)),
+    }
+}
+
+fn form_if_any(row: &Row, word: &str) -> Result<Option<Form>, Fail> {
+    match word {
+        "none" => Ok(None),
+        _ => Ok(Some(form_of(row, word)?)),
+    }
+}
+
+fn expect_service(rt: &impl Abort, row: &Row, field: &Field) -> Result<(), Fail> {
+    let wanted = service_of(row, field.key())?;
+    let (form, rest) = after_word(field.text());
+    let form = form_if_any(row, form)?;
+    let (path, media) = after_word(rest);
+    let service = Service::at(path.as_bytes());
+    assert!(rt; service == wanted, "{path}");
+    let taken = match service {
+        Some(service) => service.form_of(media.as_bytes()),
+        None => None,
+    };
+    assert!(rt; taken == form, "{path} and {media}");
+    Ok(())
+}
+
+fn expect_services(rt: &impl Abort, row: &Row) -> Result<(), Fail> {
+    for field in row.fields() {
+        expect_service(rt, row, field)?;
     }
     Ok(())
 }
 
-// The lines behind the media type of a request that is posted, what came of its body, and what is told of both.
-const LENGTHS: [(&str, &str, Told); 22] = [
-    (
-        "Transfer-Encoding: chunked\r\nContent-Length: x\r\n",
-        "",
-        Told::Refused(501),
-    ),
-    ("Content-Length: x\r\n", "", Told::Refused(400)),
-    (
-        "Content-Length: 2\r\ntransfer-encoding: identity\r\n",
-        "[]",
-        Told::Refused(501),
-    ),
-    (
-        "Content-Length: 2\r\nContent-Length: 2\r\n",
-        "[]",
-        Told::Refused(400),
-    ),
-    ("Content-Length: 2\r\n", "[]", Told::Body(Form::OtlpJson)),
-    ("content-length:2\r\n", "[]", Told::Body(Form::OtlpJson)),
-    ("Content-Length: \t2 \r\n", "[]", Told::Body(Form::OtlpJson)),
-    (
-        "Content-Length: 000000000000000002\r\n",
-        "[]",
-        Told::Body(Form::OtlpJson),
-    ),
-    (
-        "Content-Length: 0000000000000000002\r\n",
-        "[]",
-        Told::Refused(400),
-    ),
-    ("Content-Length: \r\n", "", Told::Refused(400)),
-    ("Content-Length: +5\r\n", "[7,8]", Told::Refused(400)),
-    ("Content-Length: 5, 5\r\n", "[7,8]", Told::Refused(400)),
-    ("Content-Length: 0x1\r\n", "7", Told::Refused(400)),
-    ("Content-Length: 5\r\n", "[7,8]", Told::Body(Form::OtlpJson)),
-    ("Content-Length: 0\r\n", "", Told::Body(Form::OtlpJson)),
-    ("", "", Told::Refused(411)),
-    ("Content-Length: 67108864\r\n", "", Told::Need),
-    ("Content-Length: 67108864\r\n", "[]", Told::Need),
-    ("Content-Length: 67108865\r\n", "", Told::Refused(413)),
-    (
-        "Content-Length: 999999999999999999\r\n",
-        "",
-        Told::Refused(413),
-    ),
-    ("Content-Length: 2\r\n", "", Told::Need),
-    ("Content-Length: 2\r\n", "[", Told::Need),
-];
-
 #[test]
-fn finds_the_lengths_of_bodies(rt: HostRuntime) -> Result<(), Fail> {
-    for (lines, body, told) in LENGTHS {
-        let head = format!(in rt.alloc();
-            "POST /v1/traces HTTP/1.1\r\nHost: x\r\nContent-Type: application/json\r\n{lines}\r\n"
-        )?;
-        assert!(rt;
-            next_of(rt.alloc(), head.as_str(), body)? == told.next(head.as_str(), body),
-            "{lines:?} and {body:?}"
-        );
+fn serves_paths(rt: HostRuntime) -> Result<(), Fail> {
+    for row in &rows(rt.alloc(), SERVICES)? {
+        expect_services(&rt, row)?;
     }
     Ok(())
-}
-
-// Methods and targets, and what is told of a request with them and an empty body of JSON.
-const TARGETS: [(&str, &str, Told); 27] = [
-    ("POST", "/v1/trace", Told::Verdict(404)),
-    ("POST", "/v1/traces/", Told::Verdict(404)),
-    ("POST", "/V1/traces", Told::Verdict(404)),
-    ("POST", "http://h/v1/traces", Told::Verdict(404)),
-    ("POST", "*", Told::Verdict(404)),
-    ("POST", "?x=1", Told::Verdict(404)),
-    ("POST", "/", Told::Verdict(404)),
-    ("POST", "/v1/traces?x=1", Told::Body(Form::OtlpJson)),
-    ("POST", "/v1/traces?", Told::Body(Form::OtlpJson)),
-    ("POST", "/v1/traces?/?", Told::Body(Form::OtlpJson)),
-    ("POST", "/v1/traces", Told::Body(Form::OtlpJson)),
-    ("POST", "/api/traces", Told::Verdict(415)),
-    ("POST", "/api/v2/spans", Told::Body(Form::ZipkinJson)),
-    ("GET", "/v1/traces", Told::Verdict(405)),
-    ("GET", "/api/traces", Told::Verdict(405)),
-    ("GET", "/api/v2/spans", Told::Verdict(405)),
-    ("PUT", "/v1/traces", Told::Verdict(405)),
-    ("PUT", "/api/traces", Told::Verdict(405)),
-    ("PUT", "/api/v2/spans", Told::Verdict(405)),
-    ("post", "/v1/traces", Told::Verdict(405)),
-    ("post", "/api/traces", Told::Verdict(405)),
-    ("post", "/api/v2/spans", Told::Verdict(405)),
-    ("HEAD", "/v1/traces", Told::Verdict(405)),
-    ("HEAD", "/api/traces", Told::Verdict(405)),
-    ("HEAD", "/api/v2/spans", Told::Verdict(405)),
-    ("GET", "/nowhere", Told::Verdict(404)),
-    ("GET", "/v1/traces?x=1", Told::Verdict(405)),
-];
-
-#[test]
-fn judges_targets_and_methods(rt: HostRuntime) -> Result<(), Fail> {
-    for (method, target, told) in TARGETS {
-        let head = format!(in rt.alloc();
-            "{method} {target} HTTP/1.1\r\nHost: x\r\nContent-Type: application/json\r\nContent-Length: 0\r\n\r\n"
-        )?;
-        assert!(rt;
-            next_of(rt.alloc(), head.as_str(), "")? == told.next(head.as_str(), ""),
-            "{method} {target}"
-        );
-    }
-    Ok(())
-}
-
-// The lines of content codings, and what is told of an array of JSON with them.
-const CODINGS: [(&str, Told); 8] = [
-    ("Content-Encoding: gzip\r\n", Told::Verdict(415)),
-    ("Content-Encoding: \r\n", Told::Verdict(415)),
-    (
-        "Content-Encoding: identity\r\nContent-Encoding: gzip\r\n",
-        Told::Verdict(415),
-    ),
-    (
-        "Content-Encoding: gzip\r\ncontent-encoding: identity\r\n",
-        Told::Verdict(415),
-    ),
-    (
-        "Content-Encoding: identity, identity\r\n",
-        Told::Verdict(415),
-    ),
-    ("Content-Encoding: Identity\r\n", Told::Body(Form::OtlpJson)),
-    (
-        "Content-Encoding: identity\r\nContent-Encoding: identity\r\n",
-        Told::Body(Form::OtlpJson),
-    ),
-    ("", Told::Body(Form::OtlpJson)),
-];
-
-#[test]
-fn judges_content_codings(rt: HostRuntime) -> Result<(), Fail> {
-    for (lines, told) in CODINGS {
-        let head = format!(in rt.alloc();
-            "POST /v1/traces HTTP/1.1\r\nHost: x\r\n{lines}Content-Type: application/json\r\nContent-Length: 2\r\n\r\n"
-        )?;
-        assert!(rt;
-            next_of(rt.alloc(), head.as_str(), "[]")? == told.next(head.as_str(), "[]"),
-            "{lines:?}"
-        );
-    }
-    Ok(())
-}
-
-// Targets, the lines of media types, and what is told of an array of JSON with them.
-const TYPES: [(&str, &str, Told); 24] = [
-    (
-        "/v1/traces",
-        "Content-Type: application/x-protobuf\r\n",
-        Told::Body(Form::OtlpProto),
-    ),
-    (
-        "/v1/traces",
-        "Content-Type: application/json\r\n",
-        Told::Body(Form::OtlpJson),
-    ),
-    (
-        "/v1/traces",
-        "Content-Type: application/x-thrift\r\n",
-        Told::Verdict(415),
-    ),
-    (
-        "/v1/traces",
-        "Content-Type: application/vnd.apache.thrift.binary\r\n",
-        Told::Verdict(415),
-    ),
-    (
-        "/api/traces",
-        "Content-Type: application/x-protobuf\r\n",
-        Told::Verdict(415),
-    ),
-    (
-        "/api/traces",
-        "Content-Type: application/json\r\n",
-        Told::Verdict(415),
-    ),
-    (
-        "/api/traces",
-        "Content-Type: application/x-thrift\r\n",
-        Told::Body(Form::JaegerBinary),
-    ),
-    (
-        "/api/traces",
-        "Content-Type: application/vnd.apache.thrift.binary\r\n",
-        Told::Body(Form::JaegerBinary),
-    ),
-    (
-        "/api/v2/spans",
-        "Content-Type: application/x-protobuf\r\n",
-        Told::Verdict(415),
-    ),
-    (
-        "/api/v2/spans",
-        "Content-Type: application/json\r\n",
-        Told::Body(Form::ZipkinJson),
-    ),
-    (
-        "/api/v2/spans",
-        "Content-Type: application/x-thrift\r\n",
-        Told::Verdict(415),
-    ),
-    (
-        "/api/v2/spans",
-        "Content-Type: application/vnd.apache.thrift.binary\r\n",
-        Told::Verdict(415),
-    ),
-    (
-        "/v1/traces",
-        "Content-Type: Application/JSON ; charset=utf-8\r\n",
-        Told::Body(Form::OtlpJson),
-    ),
-    (
-        "/v1/traces",
-        "Content-Type: application/json;\r\n",
-        Told::Body(Form::OtlpJson),
-    ),
-    (
-        "/v1/traces",
-        "content-type:\tapplication/json\t\r\n",
-        Told::Body(Form::OtlpJson),
-    ),
-    (
-        "/v1/traces",
-        "Content-Type: APPLICATION/X-PROTOBUF\r\n",
-        Told::Body(Form::OtlpProto),
-    ),
-    (
-        "/v1/traces",
-        "Content-Type: application/jsonx\r\n",
-        Told::Verdict(415),
-    ),
-    (
-        "/v1/traces",
-        "Content-Type: application/jso\r\n",
-        Told::Verdict(415),
-    ),
-    (
-        "/v1/traces",
-        "Content-Type: ;application/json\r\n",
-        Told::Verdict(415),
-    ),
-    (
-        "/v1/traces",
-        "Content-Type: application/json, x\r\n",
-        Told::Verdict(415),
-    ),
-    ("/v1/traces", "Content-Type: \r\n", Told::Verdict(415)),
-    ("/v1/traces", "", Told::Verdict(415)),
-    (
-        "/v1/traces",
-        "Content-Type: application/json\r\nContent-Type: application/json\r\n",
-        Told::Verdict(415),
-    ),
-    (
-        "/v1/traces?x=1",
-        "Content-Type: application/json\r\n",
-        Told::Body(Form::OtlpJson),
-    ),
-];
-
-#[test]
-fn judges_media_types(rt: HostRuntime) -> Result<(), Fail> {
-    for (target, lines, told) in TYPES {
-        let head = format!(in rt.alloc();
-            "POST {target} HTTP/1.1\r\nHost: x\r\n{lines}Content-Length: 2\r\n\r\n"
-        )?;
-        assert!(rt;
-            next_of(rt.alloc(), head.as_str(), "[]")? == told.next(head.as_str(), "[]"),
-            "{target} and {lines:?}"
-        );
-    }
-    Ok(())
-}
-
-// Versions, the lines behind the host, the length of the head, and whether the connection ends.
-const CLOSES: [(&str, &str, usize, bool); 10] = [
-    ("HTTP/1.0", "", 36, true),
-    ("HTTP/1.0", "Connection: keep-alive\r\n", 60, true),
-    ("HTTP/1.1", "", 36, false),
-    ("HTTP/1.1", "Connection: keep-alive\r\n", 60, false),
-    ("HTTP/1.1", "Connection: CLOSE\r\n", 55, true),
-    (
-        "HTTP/1.1",
-        "connection: close\r\nConnection: keep-alive\r\n",
-        79,
-        true,
-    ),
-    (
-        "HTTP/1.1",
-        "Connection: keep-alive\r\nCONNECTION:close\r\n",
-        78,
-        true,
-    ),
-    ("HTTP/1.1", "Connection: close, x\r\n", 58, false),
-    ("HTTP/1.1", "Connection: closed\r\n", 56, false),
-    ("HTTP/1.1", "Close: Connection\r\n", 55, false),
-];
-
-#[test]
-fn tells_where_connections_end(rt: HostRuntime) -> Result<(), Fail> {
-    for (version, lines, length, close) in CLOSES {
-        let head = format!(in rt.alloc(); "GET /v1/traces {version}\r\nHost: x\r\n{lines}\r\n")?;
-        let wanted = Next::Whole(Request {
-            verdict: 405,
-            form: None,
-            body_at: length,
-            length,
-            close,
-        });
-        assert!(rt;
-            next_of(rt.alloc(), head.as_str(), "")? == wanted,
-            "{version} and {lines:?}"
-        );
-    }
-    Ok(())
-}
-
-// Paths, what is served there, a media type, and the form of a body of that type.
-const SERVICES: [(&[u8], Option<Service>, &[u8], Option<Form>); 8] = [
-    (
-        b"/v1/traces",
-        Some(Service::Otlp),
-        b"application/x-protobuf",
-        Some(Form::OtlpProto),
-    ),
-    (
-        b"/v1/traces",
-        Some(Service::Otlp),
-        b"application/json ;",
-        Some(Form::OtlpJson),
-    ),
-    (b"/v1/traces", Some(Service::Otlp), b"text/plain", None),
-    (
-        b"/api/traces",
-        Some(Service::Jaeger),
-        b"application/x-thrift",
-        Some(Form::JaegerBinary),
-    ),
-    (
-        b"/api/v2/spans",
-        Some(Service::Zipkin),
-        b"application/JSON",
-        Some(Form::ZipkinJson),
-    ),
-    (b"/v1/traces?", None, b"application/json", None),
-    (b"/api/v1/spans", None, b"application/json", None),
-    (b"", None, b"application/json", None),
-];
-
-#[test]
-fn serves_paths(rt: HostRuntime) {
-    for (path, wanted, media, form) in SERVICES {
-        let service = Service::at(path);
-        assert!(rt; service == wanted, "{path:?}");
-        let taken = match service {
-            Some(service) => service.form_of(media),
-            None => None,
-        };
-        assert!(rt; taken == form, "{path:?} and {media:?}");
-    }
 }

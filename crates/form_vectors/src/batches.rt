@@ -5,32 +5,48 @@ ghost use Rattle.thrift_binary.specs.Spelling.{binary_spells};
 
 use jaeger_model::laws::reads_times;
 use jaeger_model::{Batch, JSpan, Log, SpanRef, TagValue, proper_sizes, read_batch, write_batch};
-use span_io::{Blob, Cause, Halt, OutOfMemory, Scan, Step};
+use row_tables::{Words, append_spelled, rows};
+use span_io::{Blob, Cause, Halt, Scan, Step};
 use std::alloc::Global;
 use std::test::Fail;
 use thrift_binary::Binary;
 use thrift_core::StructScanner;
 
-// A batch of a process `s`, up to the fields of its one span.
-const BEFORE: &[u8] = b"\x0c\0\x01\x0b\0\x01\0\0\0\x01s\0\x0f\0\x02\x0c\0\0\0\x01";
+// The fields of a span that it must have.
+const SPAN: &str = "
+0a0001 0000000000000001 0a0002 0000000000000000 0a0003 0000000000000002 0a0004 0000000000000000
+0b0005 00000001 'a' 080007 00000000 0a0008 0000000000000000 0a0009 0000000000000000
+";
 
-// The fields that a span must have.
-const LOW: &[u8] = b"\x0a\0\x01\0\0\0\0\0\0\0\x01";
+// The bytes of a text in words, which may name a field of a batch or the fields of a span that it must have.
+fn bytes_of(alloc: Global, text: &str) -> Result<Vec<u8>, Fail> {
+    let mut bytes = Vec::new(alloc);
+    for word in text.split_ascii_whitespace() {
+        append_spelled(alloc, &mut bytes, named(word))?;
+    }
+    Ok(bytes)
+}
 
-const HIGH: &[u8] = b"\x0a\0\x02\0\0\0\0\0\0\0\0";
-
-const ID: &[u8] = b"\x0a\0\x03\0\0\0\0\0\0\0\x02";
-
-const PARENT: &[u8] = b"\x0a\0\x04\0\0\0\0\0\0\0\0";
-
-const NAME: &[u8] = b"\x0b\0\x05\0\0\0\x01a";
-
-const FLAGS: &[u8] = b"\x08\0\x07\0\0\0\0";
-
-const SPAN: &[u8] =
-    b"\x0a\0\x01\0\0\0\0\0\0\0\x01\x0a\0\x02\0\0\0\0\0\0\0\0\x0a\0\x03\0\0\0\0\0\0\0\x02\
-    \x0a\0\x04\0\0\0\0\0\0\0\0\x0b\0\x05\0\0\0\x01a\x08\0\x07\0\0\0\0\x0a\0\x08\0\0\0\0\
-    \0\0\0\0\x0a\0\x09\0\0\0\0\0\0\0\0";
+fn named(word: &str) -> &str {
+    match word {
+        "@PROCESS" => "0c0001 0b0001 00000001 's' 00",
+        "@NO_SPANS" => "0f0002 0c 00000000",
+        "@ONE_SPAN" => "0f0002 0c 00000001",
+        "@BEFORE" => "0c0001 0b0001 00000001 's' 00 0f0002 0c 00000001",
+        "@SPAN" => SPAN,
+        "@LOW" => "0a0001 0000000000000001",
+        "@HIGH" => "0a0002 0000000000000000",
+        "@ID" => "0a0003 0000000000000002",
+        "@NO_ID" => "0a0003 0000000000000000",
+        "@PARENT" => "0a0004 0000000000000000",
+        "@NAME" => "0b0005 00000001 'a'",
+        "@FLAGS" => "080007 00000000",
+        "@START" => "0a0008 0000000000000000",
+        "@LATE" => "0a0008 004189374bc6a7ef 0a0009 0000000000000001",
+        "@END" => "0a0009 0000000000000000",
+        _ => word,
+    }
+}
 
 // Reads the batch that the bytes are.
 fn read_text(alloc: Global, bytes: &[u8]) -> Result<Batch, Halt<Cause>>
@@ -54,215 +70,93 @@ fn written(alloc: Global, bytes: &[u8]) -> Result<Blob, Halt<Cause>> {
     Ok(out)
 }
 
-fn refusal(alloc: Global, bytes: &[u8]) -> Option<Cause> {
-    match read_text(alloc, bytes) {
-        Err(Halt::Why(cause)) => Some(cause),
-        _ => None,
-    }
-}
-
-// The batch whose one span has these fields, in pieces.
-fn with_span(alloc: Global, pieces: &[&[u8]]) -> Result<Blob, OutOfMemory> {
-    let mut bytes = Blob::new(alloc);
-    bytes.append(BEFORE)?;
-    for piece in pieces {
-        bytes.append(piece)?;
-    }
-    bytes.append(b"\0\0")?;
-    Ok(bytes)
-}
-
 // Whole batches, and the canonical text of each.
-const BATCHES: [(&str, &[u8], &[u8]); 3] = [
-    (
-        "no span",
-        b"\x0c\0\x01\x0b\0\x01\0\0\0\x01s\0\x0f\0\x02\x0c\0\0\0\0\0",
-        b"\x0c\0\x01\x0b\0\x01\0\0\0\x01s\0\x0f\0\x02\x0c\0\0\0\0\0",
-    ),
-    (
-        "a number, counts and other fields",
-        b"\x0c\0\x04\x0b\0\x01\0\0\0\x01s\0\x08\0\x03\0\0\0\x01\x0a\0\x03\0\0\0\0\0\0\0\x01\
-\x0f\0\x02\x0c\0\0\0\0\x0b\0\x01\0\0\0\0\x0c\0\x01\x0b\0\x01\0\0\0\x01s\0\x0c\0\x05\
-\0\0",
-        b"\x0c\0\x01\x0b\0\x01\0\0\0\x01s\0\x0f\0\x02\x0c\0\0\0\0\0",
-    ),
-    (
-        "tags of a process, each read",
-        b"\x0f\0\x02\x0c\0\0\0\0\x0c\0\x01\x0f\0\x02\x0c\0\0\0\x02\x0b\0\x01\0\0\0\x01b\x08\0\
-\x02\0\0\0\x02\0\x0b\0\x01\0\0\0\x01a\x08\0\x02\0\0\0\0\0\x0b\0\x01\0\0\0\0\0\0",
-        b"\x0c\0\x01\x0b\0\x01\0\0\0\0\x0f\0\x02\x0c\0\0\0\x02\x0b\0\x01\0\0\0\x01b\x08\0\x02\
-\0\0\0\x02\x02\0\x05\0\0\x0b\0\x01\0\0\0\x01a\x08\0\x02\0\0\0\0\x0b\0\x03\0\0\0\0\0\
-\0\x0f\0\x02\x0c\0\0\0\0\0",
-    ),
-];
+const BATCHES: &str = "
+no span
+read @PROCESS @NO_SPANS 00
+written @PROCESS @NO_SPANS 00
+
+a number, counts and other fields
+read 0c0004 0b0001 00000001 's' 00 080003 00000001 0a0003 0000000000000001 @NO_SPANS 0b0001 00000000 @PROCESS 0c0005 00 00
+written @PROCESS @NO_SPANS 00
+
+tags of a process, each read
+read @NO_SPANS 0c0001 0f0002 0c 00000002 0b0001 00000001 'b' 080002 00000002 00 0b0001 00000001 'a' 080002 00000000 00 0b0001
+  00000000 00 00
+written 0c0001 0b0001 00000000 0f0002 0c 00000002 0b0001 00000001 'b' 080002 00000002 020005 00 00 0b0001 00000001 'a' 080002
+  00000000 0b0003 00000000 00 00 @NO_SPANS 00
+";
 
 #[test]
 fn writes_what_was_read(rt: HostRuntime) -> Result<(), Fail> {
-    for (name, read, expected) in BATCHES {
-        assert!(rt; written(rt.alloc(), read)?.as_slice() == expected, "{name}");
+    let table = rows(rt.alloc(), BATCHES)?;
+    for row in &table {
+        row.expect_keys(&["read", "written"])?;
+        let bytes = bytes_of(rt.alloc(), row.text("read")?)?;
+        let wanted = bytes_of(rt.alloc(), row.text("written")?)?;
+        let found = written(rt.alloc(), bytes.as_slice())?;
+        assert!(rt; found.as_slice() == wanted.as_slice(), "{}", row.name());
     }
     Ok(())
 }
 
-// Batches that are refused, and the cause of each.
-const REFUSED_BATCHES: [(&str, &[u8], Cause); 13] = [
-    ("nothing", b"\0", Cause::Missing),
-    (
-        "no spans",
-        b"\x0c\0\x01\x0b\0\x01\0\0\0\x01s\0\0",
-        Cause::Missing,
-    ),
-    ("no process", b"\x0f\0\x02\x0c\0\0\0\0\0", Cause::Missing),
-    (
-        "a process without a service",
-        b"\x0c\0\x01\0\x0f\0\x02\x0c\0\0\0\0\0",
-        Cause::Missing,
-    ),
-    (
-        "two processes",
-        b"\x0c\0\x01\x0b\0\x01\0\0\0\x01s\0\x0f\0\x02\x0c\0\0\0\0\x0c\0\x01\x0b\0\x01\0\0\0\
-\x01s\0\0",
-        Cause::FieldTwice,
-    ),
-    (
-        "two lists of spans",
-        b"\x0c\0\x01\x0b\0\x01\0\0\0\x01s\0\x0f\0\x02\x0c\0\0\0\0\x0f\0\x02\x0c\0\0\0\0\0",
-        Cause::FieldTwice,
-    ),
-    (
-        "two numbers",
-        b"\x0c\0\x01\x0b\0\x01\0\0\0\x01s\0\x0f\0\x02\x0c\0\0\0\0\x0a\0\x03\0\0\0\0\0\0\0\x01\
-\x0a\0\x03\0\0\0\0\0\0\0\x01\0",
-        Cause::FieldTwice,
-    ),
-    (
-        "two counts",
-        b"\x0c\0\x01\x0b\0\x01\0\0\0\x01s\0\x0f\0\x02\x0c\0\0\0\0\x0c\0\x04\0\x0c\0\x04\0\0",
-        Cause::FieldTwice,
-    ),
-    (
-        "a service that is not UTF-8",
-        b"\x0c\0\x01\x0b\0\x01\0\0\0\x01\xff\0\x0f\0\x02\x0c\0\0\0\0\0",
-        Cause::NotText,
-    ),
-    (
-        "numbers as spans",
-        b"\x0c\0\x01\x0b\0\x01\0\0\0\x01s\0\x0f\0\x02\x08\0\0\0\x01\0\0\0\x01\0",
-        Cause::BadElement,
-    ),
-    (
-        "numbers as tags of a process",
-        b"\x0c\0\x01\x0b\0\x01\0\0\0\x01s\x0f\0\x02\x03\0\0\0\x01\x01\0\x0f\0\x02\x0c\0\0\0\0\
-\0",
-        Cause::BadElement,
-    ),
-    (
-        "a tag of a process without a type",
-        b"\x0c\0\x01\x0b\0\x01\0\0\0\x01s\x0f\0\x02\x0c\0\0\0\x01\x0b\0\x01\0\0\0\x01k\0\0\x0f\
-\0\x02\x0c\0\0\0\0\0",
-        Cause::Missing,
-    ),
-    (
-        "a span of zero in a batch without a process",
-        b"\x0f\0\x02\x0c\0\0\0\x01\x0a\0\x01\0\0\0\0\0\0\0\x01\x0a\0\x02\0\0\0\0\0\0\0\0\x0a\0\
-\x03\0\0\0\0\0\0\0\0\x0a\0\x04\0\0\0\0\0\0\0\0\x0b\0\x05\0\0\0\x01a\x08\0\x07\0\0\0\
-\0\x0a\0\x08\0\0\0\0\0\0\0\0\x0a\0\x09\0\0\0\0\0\0\0\0\0\0",
-        Cause::BadId,
-    ),
-];
+// Batches that are refused, and the cause of each. Of several the first counts.
+const REFUSED: &str = "
+nothing: 00 => Missing
+no spans: @PROCESS 00 => Missing
+no process: @NO_SPANS 00 => Missing
+a process without a service: 0c0001 00 @NO_SPANS 00 => Missing
+two processes: @PROCESS @NO_SPANS @PROCESS 00 => FieldTwice
+two lists of spans: @PROCESS @NO_SPANS @NO_SPANS 00 => FieldTwice
+two numbers: @PROCESS @NO_SPANS 0a0003 0000000000000001 0a0003 0000000000000001 00 => FieldTwice
+two counts: @PROCESS @NO_SPANS 0c0004 00 0c0004 00 00 => FieldTwice
+a service that is not UTF-8: 0c0001 0b0001 00000001 ff 00 @NO_SPANS 00 => NotText
+numbers as spans: @PROCESS 0f0002 08 00000001 00000001 00 => BadElement
+numbers as tags of a process: 0c0001 0b0001 00000001 's' 0f0002 03 00000001 01 00 @NO_SPANS 00 => BadElement
+a tag of a process without a type: 0c0001 0b0001 00000001 's' @ONE_SPAN 0b0001 00000001 'k' 00 00 @NO_SPANS 00 => Missing
+a span of zero in a batch without a process: @ONE_SPAN @LOW @HIGH @NO_ID @PARENT @NAME @FLAGS @START @END 00 00 => BadId
+a field missing, a span of zero and a late end: @BEFORE @LOW @HIGH @PARENT @FLAGS @NO_ID @LATE 00 00 => Missing
+a span of zero and a late end: @BEFORE @LOW @HIGH @PARENT @NAME @FLAGS @NO_ID @LATE 00 00 => BadId
+a late end: @BEFORE @LOW @HIGH @ID @PARENT @NAME @FLAGS @LATE 00 00 => BadTime
+a type above the last in a tag without a key: @BEFORE @SPAN 0f000a 0c 00000001 080002 00000005 00 00 00 => BadEnum
+a tag without a key, and then a name twice: @BEFORE @SPAN 0f000a 0c 00000001 00 @NAME 00 00 => Missing
+a name twice, and then a tag without a key: @BEFORE @SPAN @NAME 0f000a 0c 00000001 00 00 00 => FieldTwice
+";
 
-#[test]
-fn refuses_batches(rt: HostRuntime) {
-    for (name, bytes, cause) in REFUSED_BATCHES {
-        assert!(rt; refusal(rt.alloc(), bytes) == Some(cause), "{name}");
+fn is_refused(alloc: Global, bytes: &[u8], name: &str) -> bool {
+    match read_text(alloc, bytes) {
+        Err(Halt::Why(cause)) => cause.name() == name,
+        _ => false,
     }
 }
 
-// The fields of a span, in pieces, and the cause.
-const ORDERED: [(&str, &[&[u8]], Cause); 6] = [
-    (
-        "a field missing, a span of zero and a late end",
-        &[
-            LOW,
-            HIGH,
-            PARENT,
-            FLAGS,
-            b"\x0a\0\x03\0\0\0\0\0\0\0\0",
-            b"\x0a\0\x08\0A\x897K\xc6\xa7\xef",
-            b"\x0a\0\x09\0\0\0\0\0\0\0\x01",
-        ],
-        Cause::Missing,
-    ),
-    (
-        "a span of zero and a late end",
-        &[
-            LOW,
-            HIGH,
-            PARENT,
-            NAME,
-            FLAGS,
-            b"\x0a\0\x03\0\0\0\0\0\0\0\0",
-            b"\x0a\0\x08\0A\x897K\xc6\xa7\xef",
-            b"\x0a\0\x09\0\0\0\0\0\0\0\x01",
-        ],
-        Cause::BadId,
-    ),
-    (
-        "a late end",
-        &[
-            LOW,
-            HIGH,
-            ID,
-            PARENT,
-            NAME,
-            FLAGS,
-            b"\x0a\0\x08\0A\x897K\xc6\xa7\xef",
-            b"\x0a\0\x09\0\0\0\0\0\0\0\x01",
-        ],
-        Cause::BadTime,
-    ),
-    (
-        "a type above the last in a tag without a key",
-        &[SPAN, b"\x0f\0\x0a\x0c\0\0\0\x01\x08\0\x02\0\0\0\x05\0"],
-        Cause::BadEnum,
-    ),
-    (
-        "a tag without a key, and then a name twice",
-        &[SPAN, b"\x0f\0\x0a\x0c\0\0\0\x01\0", NAME],
-        Cause::Missing,
-    ),
-    (
-        "a name twice, and then a tag without a key",
-        &[SPAN, NAME, b"\x0f\0\x0a\x0c\0\0\0\x01\0"],
-        Cause::FieldTwice,
-    ),
-];
-
 #[test]
-fn first_cause_counts(rt: HostRuntime) -> Result<(), Fail> {
-    for (name, pieces, cause) in ORDERED {
-        let bytes = with_span(rt.alloc(), pieces)?;
+fn refuses_batches(rt: HostRuntime) -> Result<(), Fail> {
+    for row in REFUSED.trim_matches('\n').lines() {
+        let (_, told) = row.split_once(": ").expect(&rt, row);
+        let (batch, cause) = Words::sides(told)?;
+        let bytes = bytes_of(rt.alloc(), batch.rest())?;
         assert!(rt;
-            refusal(rt.alloc(), bytes.as_slice()) == Some(cause),
-            "{name}"
+            is_refused(rt.alloc(), bytes.as_slice(), cause.rest()),
+            "{row}"
         );
     }
     Ok(())
 }
 
-// The field of the references of a span, of which two of four point to no span.
-const REFERENCES: &[u8] =
-    b"\x0f\0\x06\x0c\0\0\0\x04\x08\0\x01\0\0\0\x01\x0a\0\x02\0\0\0\0\0\0\0\0\x0a\0\x03\xff\
-\xff\xff\xff\xff\xff\xff\xff\x0a\0\x04\xff\xff\xff\xff\xff\xff\xff\xfe\0\x08\0\x01\0\
-\0\0\0\x0a\0\x02\0\0\0\0\0\0\0\0\x0a\0\x03\0\0\0\0\0\0\0\0\x0a\0\x04\0\0\0\0\0\0\0\
-\x03\0\x08\0\x01\0\0\0\0\x0a\0\x02\0\0\0\0\0\0\0\x01\x0a\0\x03\0\0\0\0\0\0\0\0\x0a\0\
-\x04\0\0\0\0\0\0\0\0\0\x0a\0\x04\0\0\0\0\0\0\0\x03\x0a\0\x03\0\0\0\0\0\0\0\0\x0a\0\
-\x02\0\0\0\0\0\0\0\x01\x08\0\x01\0\0\0\0\0";
-
-// The field of the logs of a span.
-const LOGS: &[u8] =
-    b"\x0f\0\x0b\x0c\0\0\0\x01\x0f\0\x02\x0c\0\0\0\x01\x0b\0\x01\0\0\0\x01k\x08\0\x02\0\0\
-\0\x03\x0a\0\x06\0\0\0\0\0\0\0\x05\0\x0a\0\x01\0A\x897K\xc6\xa7\xef\0";
+// A batch of one span with references, of which two of four point to no span, and logs.
+const READ: &str = "
+@BEFORE
+0f0006 0c 00000004
+    080001 00000001 @HIGH 0a0003 ffffffffffffffff 0a0004 fffffffffffffffe 00
+    080001 00000000 @HIGH @NO_ID 0a0004 0000000000000003 00
+    080001 00000000 0a0002 0000000000000001 @NO_ID @PARENT 00
+    0a0004 0000000000000003 @NO_ID 0a0002 0000000000000001 080001 00000000 00
+@SPAN
+0f000b 0c 00000001
+    0f0002 0c 00000001 0b0001 00000001 'k' 080002 00000003 0a0006 0000000000000005 00 0a0001 004189374bc6a7ef 00
+00 00
+";
 
 fn are_kept(references: &[SpanRef]) -> bool {
     let [first, second] = references else {
@@ -294,7 +188,7 @@ fn is_read(span: &JSpan) -> bool {
 
 #[test]
 fn reads_each_part(rt: HostRuntime) -> Result<(), Fail> {
-    let text = with_span(rt.alloc(), &[REFERENCES, SPAN, LOGS])?;
+    let text = bytes_of(rt.alloc(), READ)?;
     let batch = read_text(rt.alloc(), text.as_slice())?;
     assert!(rt; batch.service.as_str() == "s" && batch.tags.len() == 0 && batch.spans.len() == 1);
     let span = batch.spans.as_slice().first().ok_or(Cause::Missing)?;

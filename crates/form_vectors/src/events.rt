@@ -26,85 +26,60 @@ fn writes_events_as_texts(rt: HostRuntime) -> Result<(), Fail> {
     let double = Value::Map(one(alloc, (Text::of(alloc, "l")?, double))?);
     let double = one(alloc, (Text::of(alloc, "k")?, double))?;
     let number = numbers(alloc, &[("k", -1)])?;
-    for (name, attributes, wanted) in [
-        ("a\"", Items::new(alloc), Some("a\"")),
-        ("a", number, Some(r#""a":{"k":-1}"#)),
-        ("a\"\n", members, Some(r#""a\"\n":{"":["+/8=",null]}"#)),
-        ("a", double, None),
-    ] {
-        assert!(rt; is_written(alloc, name, &attributes, wanted));
-    }
+    assert!(rt; is_written(alloc, "a\"", &Items::new(alloc), Some("a\"")));
+    assert!(rt; is_written(alloc, "a", &number, Some(r#""a":{"k":-1}"#)));
+    let wanted = r#""a\"\n":{"":["+/8=",null]}"#;
+    assert!(rt; is_written(alloc, "a\"\n", &members, Some(wanted)));
+    assert!(rt; is_written(alloc, "a", &double, None));
     Ok(())
 }
 
-/// Whether the text is read as this name, with attributes that have this JSON.
-fn is_read(alloc: Global, text: &str, wanted: Option<(&str, &str)>) -> bool {
-    let Ok(text) = Text::of(alloc, text) else {
-        return false;
+// Texts, and the name and the attributes that are read. Whole numbers have 64 bits, and values 16 levels.
+const TEXTS: &str = r#"
+"a":{"k":1} => 'a' {"k":1}
+ "a" : { "k" : [ true , null ] }  => 'a' {"k":[true,null]}
+"a\"\u00e9":{"\n":"\/"} => 'a"é' {"\n":"/"}
+"":{"b":{},"a":"AQ=="} => '' {"a":"AQ==","b":{}}
+"a":{"k":1,"k":2} => 'a' {"k":2}
+"a":{"k":1},"a":{"l":2} => 'a' {"l":2}
+"a":{"k":1},"b":{"l":2} => none
+"a":{} => none
+"a":[1] => none
+"a":1 => none
+{"a":{"k":1}} => none
+"a":{"k":1}} => none
+ => none
+a => none
+"a" => none
+"a":{"k":[-9223372036854775808,9223372036854775807]} => 'a' {"k":[-9223372036854775808,9223372036854775807]}
+"a":{"k":9223372036854775808} => none
+"a":{"k":-9223372036854775809} => none
+"a":{"k":-0} => none
+"a":{"k":{"l":1.0}} => none
+"a":{"k":[1e3]} => none
+"a":{"k":[[[[[[[[[[[[[[[[]]]]]]]]]]]]]]]]} => 'a' {"k":[[[[[[[[[[[[[[[[]]]]]]]]]]]]]]]]}
+"a":{"k":[[[[[[[[[[[[[[[0]]]]]]]]]]]]]]]} => 'a' {"k":[[[[[[[[[[[[[[[0]]]]]]]]]]]]]]]}
+"a":{"k":[[[[[[[[[[[[[[[[[]]]]]]]]]]]]]]]]]} => none
+"a":{"k":[[[[[[[[[[[[[[[[0]]]]]]]]]]]]]]]]} => none
+"a":{"k":{"l":[[[[[[[[[[[[[[[0]]]]]]]]]]]]]]]}} => none
+"#;
+
+/// Whether the text is read as a name, here in quotes, with attributes that have this JSON, or is none of an event.
+fn is_read(alloc: Global, text: &str, wanted: &str) -> Result<bool, Fail> {
+    let text = Text::of(alloc, text)?;
+    let Some((name, attributes)) = read_event_text(alloc, &text)? else {
+        return Ok(wanted == "none");
     };
-    let Ok(found) = read_event_text(alloc, &text) else {
-        return false;
-    };
-    let Some((name, attributes)) = found else {
-        return wanted.is_none();
-    };
-    match value_text(alloc, &Value::Map(attributes)) {
-        Ok(json) => wanted == Some((name.as_str(), json.as_str())),
-        Err(_) => false,
-    }
+    let json = value_text(alloc, &Value::Map(attributes))?;
+    let found = format!(in alloc; "'{}' {}", name.as_str(), json.as_str())?;
+    Ok(found.as_str() == wanted)
 }
 
-// Texts, and the name and the attributes that are read. Whole numbers have 64 bits, and values 16 levels.
-const TEXTS: [(&str, Option<(&str, &str)>); 26] = [
-    (r#""a":{"k":1}"#, Some(("a", r#"{"k":1}"#))),
-    (
-        r#" "a" : { "k" : [ true , null ] } "#,
-        Some(("a", r#"{"k":[true,null]}"#)),
-    ),
-    (
-        r#""a\"\u00e9":{"\n":"\/"}"#,
-        Some(("a\"é", r#"{"\n":"/"}"#)),
-    ),
-    (
-        r#""":{"b":{},"a":"AQ=="}"#,
-        Some(("", r#"{"a":"AQ==","b":{}}"#)),
-    ),
-    (r#""a":{"k":1,"k":2}"#, Some(("a", r#"{"k":2}"#))),
-    (r#""a":{"k":1},"a":{"l":2}"#, Some(("a", r#"{"l":2}"#))),
-    (r#""a":{"k":1},"b":{"l":2}"#, None),
-    (r#""a":{}"#, None),
-    (r#""a":[1]"#, None),
-    (r#""a":1"#, None),
-    (r#"{"a":{"k":1}}"#, None),
-    (r#""a":{"k":1}}"#, None),
-    ("", None),
-    ("a", None),
-    (r#""a""#, None),
-    (
-        r#""a":{"k":[-9223372036854775808,9223372036854775807]}"#,
-        Some(("a", r#"{"k":[-9223372036854775808,9223372036854775807]}"#)),
-    ),
-    (r#""a":{"k":9223372036854775808}"#, None),
-    (r#""a":{"k":-9223372036854775809}"#, None),
-    (r#""a":{"k":-0}"#, None),
-    (r#""a":{"k":{"l":1.0}}"#, None),
-    (r#""a":{"k":[1e3]}"#, None),
-    (
-        r#""a":{"k":[[[[[[[[[[[[[[[[]]]]]]]]]]]]]]]]}"#,
-        Some(("a", r#"{"k":[[[[[[[[[[[[[[[[]]]]]]]]]]]]]]]]}"#)),
-    ),
-    (
-        r#""a":{"k":[[[[[[[[[[[[[[[0]]]]]]]]]]]]]]]}"#,
-        Some(("a", r#"{"k":[[[[[[[[[[[[[[[0]]]]]]]]]]]]]]]}"#)),
-    ),
-    (r#""a":{"k":[[[[[[[[[[[[[[[[[]]]]]]]]]]]]]]]]]}"#, None),
-    (r#""a":{"k":[[[[[[[[[[[[[[[[0]]]]]]]]]]]]]]]]}"#, None),
-    (r#""a":{"k":{"l":[[[[[[[[[[[[[[[0]]]]]]]]]]]]]]]}}"#, None),
-];
-
 #[test]
-fn reads_events_from_texts(rt: HostRuntime) {
-    for (text, wanted) in TEXTS {
-        assert!(rt; is_read(rt.alloc(), text, wanted), "{text}");
+fn reads_events_from_texts(rt: HostRuntime) -> Result<(), Fail> {
+    for row in TEXTS.trim_matches('\n').lines() {
+        let (text, wanted) = row.split_once(" => ").expect(&rt, row);
+        assert!(rt; is_read(rt.alloc(), text, wanted)?, "{row}");
     }
+    Ok(())
 }

@@ -2,13 +2,15 @@
 ghost use Rattle.std.specs.Prelude.{◌≡◌, [], ◌∷◌, IfOk};
 ghost use Rattle.jaeger_model.specs.Counted.{IsCountedBatch};
 
+use crate::remarks::are_remarks;
 use jaeger_model::{Batch, JSpan, Tag, TagValue};
 use map_jaeger::group_of_batch;
+use row_tables::{Row, rows};
 use span_ids::{Nanos, SpanId, TraceId};
 use span_io::{Items, OutOfMemory, Text};
 use std::alloc::Global;
 use std::test::Fail;
-use trace_model::{Attrs, Code, Group, Kind, Place, Remark, RemarkKind, Span, Value};
+use trace_model::{Attrs, Code, Group, Kind, Span, Value};
 
 fn one<T: Drop>(alloc: Global, item: T) -> Result<Items<T>, OutOfMemory>
     ensures { IfOk result (λ items. items ≡ item ∷ []) }
@@ -18,9 +20,11 @@ fn one<T: Drop>(alloc: Global, item: T) -> Result<Items<T>, OutOfMemory>
     Ok(items)
 }
 
-fn texts(alloc: Global, list: &[(&str, &str)]) -> Result<Items<Tag>, OutOfMemory> {
+// Tags of a text each: a key and, behind a blank, a text.
+fn tags_of(alloc: Global, list: &[&str]) -> Result<Items<Tag>, OutOfMemory> {
     let mut tags = Items::new(alloc);
-    for (key, text) in list {
+    for tag in list {
+        let (key, text) = tag.split_once(' ').unwrap_or((*tag, ""));
         tags.push(Tag {
             key: Text::of(alloc, key)?,
             value: TagValue::Text(Text::of(alloc, text)?),
@@ -30,7 +34,7 @@ fn texts(alloc: Global, list: &[(&str, &str)]) -> Result<Items<Tag>, OutOfMemory
 }
 
 // A batch of the process `shop` with one span, which has these tags.
-fn batch_of(alloc: Global, tags: &[(&str, &str)]) -> Result<Batch, Fail>
+fn batch_of(alloc: Global, tags: &[&str]) -> Result<Batch, Fail>
     ensures { IfOk result IsCountedBatch }
 {
     let span = JSpan {
@@ -43,7 +47,7 @@ fn batch_of(alloc: Global, tags: &[(&str, &str)]) -> Result<Batch, Fail>
         flags: 1,
         start: Nanos(1_000),
         end: Nanos(3_000),
-        tags: texts(alloc, tags)?,
+        tags: tags_of(alloc, tags)?,
         logs: Items::new(alloc),
     };
     Ok(Batch {
@@ -53,171 +57,153 @@ fn batch_of(alloc: Global, tags: &[(&str, &str)]) -> Result<Batch, Fail>
     })
 }
 
-fn are_texts(attributes: &Attrs, list: &[(&str, &str)]) -> bool {
+fn are_texts(attributes: &Attrs, list: &[&str]) -> bool {
     let mut same = attributes.len() == list.len();
-    for ((key, value), (name, text)) in attributes.as_slice().iter().zip(list) {
-        same = same && key.as_str() == *name;
-        same = same && matches!(value, Value::Text(held) if held.as_str() == *text);
+    for ((key, value), wanted) in attributes.as_slice().iter().zip(list) {
+        let (name, text) = wanted.split_once(' ').unwrap_or((*wanted, ""));
+        same = same && key.as_str() == name;
+        same = same && matches!(value, Value::Text(held) if held.as_str() == text);
     }
     same
 }
 
-// These are the remarks, all of them on the first span.
-fn are_remarks(remarks: &Items<Remark>, list: &[(RemarkKind, &str)]) -> bool {
-    let mut same = remarks.len() == list.len();
-    for (remark, (kind, key)) in remarks.as_slice().iter().zip(list) {
-        same = same
-            && remark.place == Place::Span(1)
-            && remark.kind == *kind
-            && remark.key.as_str() == *key;
-    }
-    same
-}
+// The tags of a span, and the attributes, the kind, the code and the remarks that they make of it.
+const ROWS: &str = "
+the last of equal tags
+tag k 1
+tag a 2
+tag k 3
+attribute a 2
+attribute k 3
+kind Internal
+code Unset
+remark span 1 EqualKey k
 
-// The tags of a span, and what they make of it.
-#[derive(Clone, Copy)]
-struct Row {
-    name: &'static str,
-    tags: &'static [(&'static str, &'static str)],
-    attributes: &'static [(&'static str, &'static str)],
-    kind: Kind,
-    code: Code,
-    remarks: &'static [(RemarkKind, &'static str)],
-}
+a reserved tag that stands last
+tag span.kind client
+tag a 2
+tag span.kind server
+attribute a 2
+kind Server
+code Unset
+remark span 1 EqualKey span.kind
 
-const ROWS: [Row; 13] = [
-    Row {
-        name: "the last of equal tags",
-        tags: &[("k", "1"), ("a", "2"), ("k", "3")],
-        attributes: &[("a", "2"), ("k", "3")],
-        kind: Kind::Internal,
-        code: Code::Unset,
-        remarks: &[(RemarkKind::EqualKey, "k")],
-    },
-    Row {
-        name: "a reserved tag that stands last",
-        tags: &[("span.kind", "client"), ("a", "2"), ("span.kind", "server")],
-        attributes: &[("a", "2")],
-        kind: Kind::Server,
-        code: Code::Unset,
-        remarks: &[(RemarkKind::EqualKey, "span.kind")],
-    },
-    Row {
-        name: "a reserved tag that says nothing stands last",
-        tags: &[("span.kind", "client"), ("span.kind", "Client")],
-        attributes: &[],
-        kind: Kind::Internal,
-        code: Code::Unset,
-        remarks: &[
-            (RemarkKind::EqualKey, "span.kind"),
-            (RemarkKind::TagDropped, "span.kind"),
-        ],
-    },
-    Row {
-        name: "error beside a code",
-        tags: &[("error", "true"), ("otel.status_code", "OK")],
-        attributes: &[],
-        kind: Kind::Internal,
-        code: Code::Okay,
-        remarks: &[(RemarkKind::TagDropped, "error")],
-    },
-    Row {
-        name: "error alone",
-        tags: &[("error", "true"), ("otel.status_description", "late")],
-        attributes: &[],
-        kind: Kind::Internal,
-        code: Code::Fail,
-        remarks: &[],
-    },
-    Row {
-        name: "a code alone",
-        tags: &[("otel.status_code", "ERROR")],
-        attributes: &[],
-        kind: Kind::Internal,
-        code: Code::Fail,
-        remarks: &[],
-    },
-    Row {
-        name: "the text false alone",
-        tags: &[("a", "2"), ("error", "false")],
-        attributes: &[("a", "2")],
-        kind: Kind::Internal,
-        code: Code::Unset,
-        remarks: &[],
-    },
-    Row {
-        name: "the text false beside a code that it doesn't agree with",
-        tags: &[("error", "false"), ("otel.status_code", "ERROR")],
-        attributes: &[],
-        kind: Kind::Internal,
-        code: Code::Fail,
-        remarks: &[(RemarkKind::TagDropped, "error")],
-    },
-    Row {
-        name: "the kind internal",
-        tags: &[("span.kind", "internal")],
-        attributes: &[],
-        kind: Kind::Internal,
-        code: Code::Unset,
-        remarks: &[],
-    },
-    Row {
-        name: "the kind server",
-        tags: &[("span.kind", "server")],
-        attributes: &[],
-        kind: Kind::Server,
-        code: Code::Unset,
-        remarks: &[],
-    },
-    Row {
-        name: "the kind client",
-        tags: &[("span.kind", "client")],
-        attributes: &[],
-        kind: Kind::Client,
-        code: Code::Unset,
-        remarks: &[],
-    },
-    Row {
-        name: "the kind producer",
-        tags: &[("span.kind", "producer")],
-        attributes: &[],
-        kind: Kind::Producer,
-        code: Code::Unset,
-        remarks: &[],
-    },
-    Row {
-        name: "the kind consumer",
-        tags: &[("span.kind", "consumer")],
-        attributes: &[],
-        kind: Kind::Consumer,
-        code: Code::Unset,
-        remarks: &[],
-    },
-];
+a reserved tag that says nothing stands last
+tag span.kind client
+tag span.kind Client
+kind Internal
+code Unset
+remark span 1 EqualKey span.kind
+remark span 1 TagDropped span.kind
+
+error beside a code
+tag error true
+tag otel.status_code OK
+kind Internal
+code Okay
+remark span 1 TagDropped error
+
+error alone
+tag error true
+tag otel.status_description late
+kind Internal
+code Fail
+
+a code alone
+tag otel.status_code ERROR
+kind Internal
+code Fail
+
+the text false alone
+tag a 2
+tag error false
+attribute a 2
+kind Internal
+code Unset
+
+the text false beside a code that it doesn't agree with
+tag error false
+tag otel.status_code ERROR
+kind Internal
+code Fail
+remark span 1 TagDropped error
+
+the kind internal
+tag span.kind internal
+kind Internal
+code Unset
+
+the kind server
+tag span.kind server
+kind Server
+code Unset
+
+the kind client
+tag span.kind client
+kind Client
+code Unset
+
+the kind producer
+tag span.kind producer
+kind Producer
+code Unset
+
+the kind consumer
+tag span.kind consumer
+kind Consumer
+code Unset
+";
 
 fn first_span(group: &Group) -> Option<&Span> {
     let scope = group.scopes.as_slice().first()?;
     scope.spans.as_slice().first()
 }
 
+fn word_of_kind(kind: Kind) -> &'static str {
+    match kind {
+        Kind::Unspecified => "Unspecified",
+        Kind::Internal => "Internal",
+        Kind::Server => "Server",
+        Kind::Client => "Client",
+        Kind::Producer => "Producer",
+        Kind::Consumer => "Consumer",
+    }
+}
+
+fn word_of_code(code: Code) -> &'static str {
+    match code {
+        Code::Unset => "Unset",
+        Code::Okay => "Okay",
+        Code::Fail => "Fail",
+    }
+}
+
+fn is_span(alloc: Global, span: &Span, row: &Row) -> Result<bool, Fail> {
+    let attributes = row.texts(alloc, "attribute")?;
+    let same = word_of_kind(span.kind) == row.text("kind")?
+        && word_of_code(span.status.code) == row.text("code")?;
+    Ok(same && are_texts(&span.attributes, attributes.as_slice()))
+}
+
+fn is_read(alloc: Global, row: &Row) -> Result<bool, Fail> {
+    row.expect_keys(&["tag", "attribute", "kind", "code", "remark"])?;
+    let tags = row.texts(alloc, "tag")?;
+    let batch = batch_of(alloc, tags.as_slice())?;
+    let (group, remarks) = group_of_batch(alloc, batch)?;
+    let wanted = row.texts(alloc, "remark")?;
+    let span = first_span(&group).ok_or(OutOfMemory)?;
+    Ok(
+        are_texts(&group.resource, &["service.name shop"])
+            && are_remarks(&remarks, wanted.as_slice())?
+            && is_span(alloc, span, row)?,
+    )
+}
+
 #[test]
 fn reads_tags(rt: HostRuntime) -> Result<(), Fail> {
-    for row in &ROWS {
-        let batch = batch_of(rt.alloc(), row.tags)?;
-        let (group, remarks) = group_of_batch(rt.alloc(), batch)?;
-        assert!(rt; are_remarks(&remarks, row.remarks), "{}", row.name);
-        assert!(rt;
-            are_texts(&group.resource, &[("service.name", "shop")]),
-            "{}",
-            row.name
-        );
-        let span = first_span(&group).ok_or(OutOfMemory)?;
-        assert!(rt; are_texts(&span.attributes, row.attributes), "{}", row.name);
-        assert!(rt;
-            (span.kind, span.status.code) == (row.kind, row.code),
-            "{}",
-            row.name
-        );
+    let table = rows(rt.alloc(), ROWS)?;
+    for row in &table {
+        assert!(rt; is_read(rt.alloc(), row)?, "{}", row.name());
     }
     Ok(())
 }

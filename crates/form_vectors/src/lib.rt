@@ -11,6 +11,8 @@ mod groups_json;
 #[cfg(test)]
 mod jaeger_map;
 #[cfg(test)]
+mod remarks;
+#[cfg(test)]
 mod requests;
 #[cfg(test)]
 mod spans_json;

@@ -1,42 +1,13 @@
 //! A conversion under way, which is held against its row behind each call.
-ghost use Rattle.span_io.specs.Limits.{AreLimits};
-
-use crate::rows::{End, Found, Row};
+use crate::rows::{End, Found, Worked};
 use span_convert::{Converter, Stop, Tally, Why, Written};
-use span_io::{Blob, Items, Limits, MemSink};
+use span_io::{Items, MemSink};
 use std::alloc::Global;
 use std::process::Abort;
 use std::test::Fail;
 
 // More than any output of a row has.
 const ROOM: usize = 4_096;
-
-/// A row with the bytes of its input and its output, and the limits that it is converted under.
-#[derive(Drop)]
-pub struct Worked {
-    row: Row,
-    input: Blob,
-    output: Blob,
-    limits: Limits,
-    ghost valid: { AreLimits limits },
-}
-
-impl Worked {
-    pub fn new(alloc: Global, row: &Row, limits: Limits) -> Result<Worked, Fail>
-        requires { AreLimits limits }
-    {
-        Ok(Worked {
-            row: *row,
-            input: row.input(alloc)?,
-            output: row.output(alloc)?,
-            limits,
-        })
-    }
-
-    pub fn input(&self) -> &[u8] {
-        self.input.as_slice()
-    }
-}
 
 /// A conversion of a row, of which so many bytes were fed.
 #[derive(Drop)]
@@ -50,18 +21,26 @@ pub struct Conversion<'a> {
 // Why the converter stopped, if it did.
 fn found_by(converter: &Converter) -> Option<Found> {
     match converter.why() {
-        Why::Refusal(refusal) => Some(Found::Refusal(refusal.unit, refusal.cause)),
-        Why::Fault(found) => Some(Found::Fault(found.unit, found.fault.number())),
+        Why::Refusal(refusal) => Some(Found {
+            stop: Stop::Refused,
+            unit: refusal.unit,
+            number: refusal.cause.number(),
+        }),
+        Why::Fault(found) => Some(Found {
+            stop: Stop::Faulted,
+            unit: found.unit,
+            number: found.fault.number(),
+        }),
         Why::Nothing => None,
     }
 }
 
 impl<'a> Conversion<'a> {
     pub fn new(alloc: Global, worked: &'a Worked) -> Result<Conversion<'a>, Fail> {
-        let row = &worked.row;
+        let what = Written::Form(worked.to);
         Ok(Conversion {
             worked,
-            converter: Converter::new(alloc, row.from, Written::Form(row.to), &worked.limits),
+            converter: Converter::new(alloc, worked.from, what, &worked.limits),
             out: MemSink::new(alloc, ROOM, Items::new(alloc))?,
             fed: 0,
         })
@@ -70,28 +49,26 @@ impl<'a> Conversion<'a> {
     /// Feeds a piece. All that was written since the beginning is the text of the whole units that were fed.
     pub fn feed(&mut self, rt: &impl Abort, piece: &[u8]) {
         let worked = self.worked;
-        let row = worked.row;
         self.fed = self.fed.saturating_add(piece.len());
-        assert!(rt; !self.converter.ended(), "{} ended", row.name);
+        assert!(rt; !self.converter.ended(), "{} ended", worked.name);
         let stop = self.converter.feed(piece, &mut self.out).err();
-        self.expect(rt, stop, row.found(self.fed), row.written(self.fed));
+        self.expect(rt, stop, worked.found(self.fed), worked.written(self.fed));
     }
 
     /// Ends the input.
     pub fn finish(&mut self, rt: &impl Abort) {
         let worked = self.worked;
-        let row = worked.row;
-        assert!(rt; !self.converter.ended(), "{} ended", row.name);
+        let name = worked.name;
+        assert!(rt; !self.converter.ended(), "{name} ended");
         let answer = self.converter.finish(&mut self.out);
-        let whole = worked.output.len();
-        match row.end {
+        match worked.end {
             End::Whole(units, spans) => {
-                assert!(rt; answer == Ok(Tally { units, spans }), "end of {}", row.name);
-                assert!(rt; self.converter.ended(), "{} didn't end", row.name);
-                self.expect(rt, None, None, whole);
+                assert!(rt; answer == Ok(Tally { units, spans }), "end of {name}");
+                assert!(rt; self.converter.ended(), "{name} didn't end");
+                self.expect(rt, None, None, worked.output.len());
             }
             End::AtByte(_, found) | End::AtEnd(found) => {
-                self.expect(rt, answer.err(), Some(found), whole);
+                self.expect(rt, answer.err(), Some(found), worked.output.len());
                 self.expect_stopped(rt, found);
             }
         }
@@ -99,10 +76,9 @@ impl<'a> Conversion<'a> {
 
     // Behind a stop each call answers the same, and writes nothing.
     fn expect_stopped(&mut self, rt: &impl Abort, found: Found) {
-        let worked = self.worked;
-        let name = worked.row.name;
-        let whole = worked.output.len();
-        for piece in [b"".as_slice(), b"\x0a\0".as_slice()] {
+        let name = self.worked.name;
+        let whole = self.worked.output.len();
+        for piece in &[b"".as_slice(), b"\x0a\0".as_slice()] {
             assert!(rt; !self.converter.ended(), "{name} ended");
             let fed = self.converter.feed(piece, &mut self.out).err();
             self.expect(rt, fed, Some(found), whole);
@@ -115,9 +91,10 @@ impl<'a> Conversion<'a> {
     // Looks at what was answered, at what is told of it, and at all that was written.
     fn expect(&self, rt: &impl Abort, stop: Option<Stop>, found: Option<Found>, written: usize) {
         let worked = self.worked;
-        let name = worked.row.name;
+        let name = worked.name;
         let fed = self.fed;
-        assert!(rt; stop == found.map(Found::stop), "answer to {name} at {fed}");
+        let wanted = found.map(|found| found.stop);
+        assert!(rt; stop == wanted, "answer to {name} at {fed}");
         assert!(rt;
             found_by(&self.converter) == found,
             "stop of {name} at {fed}"

@@ -12,3 +12,5 @@ mod rows;
 mod runs;
 #[cfg(test)]
 mod sinks;
+#[cfg(test)]
+mod texts;

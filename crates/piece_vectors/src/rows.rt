@@ -1,32 +1,39 @@
 //! Inputs by their frames, and what is written of each as its bytes come.
+ghost use Rattle.std.specs.Prelude.{IfOk};
+ghost use Rattle.span_io.specs.Limits.{AreLimits};
+
 pub mod batches;
 pub mod documents;
 pub mod limits;
 pub mod requests;
 pub mod stops;
 
+use crate::texts::{append_told, form_of, parted};
+use row_tables::Row;
 use span_convert::Stop;
-use span_io::{Blob, Cause, Form};
+use span_io::{Blob, Cause, Form, Items, Limits};
 use std::alloc::Global;
 use std::test::Fail;
 
-/// Why a conversion stops.
-#[derive(Clone, Copy, Debug, PartialEq, Eq)]
-pub enum Found {
-    /// The unit that is refused, and the cause.
-    Refusal(u64, Cause),
-    /// The unit that the target can't hold, and the number of its fault.
-    Fault(u64, u8),
-}
+/// All tables of inputs that are converted.
+pub const TABLES: [&str; 9] = [
+    requests::REQUESTS,
+    batches::BATCHES,
+    batches::SDK,
+    documents::DOCUMENTS,
+    stops::REQUESTS,
+    stops::BATCHES,
+    limits::REQUESTS,
+    limits::BATCHES,
+    limits::INPUTS,
+];
 
-impl Found {
-    /// What a converter answers there.
-    pub fn stop(self) -> Stop {
-        match self {
-            Found::Refusal(..) => Stop::Refused,
-            Found::Fault(..) => Stop::Faulted,
-        }
-    }
+/// Why a conversion stops: what is answered, the unit, and the number of its cause or fault.
+#[derive(Clone, Copy, PartialEq, Eq)]
+pub struct Found {
+    pub stop: Stop,
+    pub unit: u64,
+    pub number: u8,
 }
 
 /// How an input ends.
@@ -40,69 +47,176 @@ pub enum End {
     AtEnd(Found),
 }
 
-/// An input, and what is written of it. What is no JSON is in hexadecimal.
+/// Where a frame of an input ends, and how many bytes of the output stand once its last byte has come.
 #[derive(Clone, Copy)]
-pub struct Row {
+struct Frame {
+    end: usize,
+    written: usize,
+}
+
+/// A row, read: an input by its frames, what is written of it, how it ends, and the limits that it is converted under.
+#[derive(Drop)]
+pub struct Worked {
     /// What the row shows.
     pub name: &'static str,
     pub from: Form,
     pub to: Form,
-    /// The input by its frames, and beside each how many bytes of the output stand once its last byte has come.
-    pub frames: &'static [(&'static str, usize)],
+    pub input: Blob,
+    frames: Items<Frame>,
     /// All that is written in the end.
-    pub output: &'static [&'static str],
+    pub output: Blob,
     pub end: End,
+    pub limits: Limits,
+    ghost valid: { AreLimits limits },
 }
 
-fn is_json(form: Form) -> bool {
-    matches!(form, Form::OtlpJson | Form::ZipkinJson)
-}
+const KEYS: [&str; 11] = [
+    "forms", "frame", "output", "whole", "stop", "unit", "binary", "json", "cuts", "status", "note",
+];
 
-// Appends what is told in a form.
-fn append_told(alloc: Global, bytes: &mut Blob, form: Form, told: &str) -> Result<(), Fail> {
-    if is_json(form) {
-        bytes.append(told.as_bytes())?;
-    } else {
-        bytes.append(hex::decode(alloc, told)?.as_slice())?;
-    }
-    Ok(())
-}
+const CAUSES: [Cause; 17] = [
+    Cause::Truncated,
+    Cause::BadVarint,
+    Cause::BadWire,
+    Cause::BadSize,
+    Cause::TooDeep,
+    Cause::UnitTooLong,
+    Cause::FieldTwice,
+    Cause::Missing,
+    Cause::NotText,
+    Cause::BadJson,
+    Cause::BadShape,
+    Cause::BadId,
+    Cause::BadEnum,
+    Cause::BadElement,
+    Cause::DoubleInJson,
+    Cause::BadTime,
+    Cause::InputTooLong,
+];
 
-/// What is told in a form, piece by piece.
-pub fn told_in(alloc: Global, form: Form, pieces: &[&str]) -> Result<Blob, Fail> {
-    let mut bytes = Blob::new(alloc);
-    for piece in pieces {
-        append_told(alloc, &mut bytes, form, piece)?;
-    }
-    Ok(bytes)
-}
-
-impl Row {
-    pub fn input(&self, alloc: Global) -> Result<Blob, Fail> {
-        let mut bytes = Blob::new(alloc);
-        for (told, _) in self.frames {
-            append_told(alloc, &mut bytes, self.from, told)?;
+fn cause_number(row: &Row, name: &str) -> Result<u8, Fail> {
+    for cause in &CAUSES {
+        if cause.name() == name {
+            return Ok(cause.number());
         }
-        Ok(bytes)
+    }
+    Err(row.fail("no cause", name))
+}
+
+fn small_number(row: &Row, text: &str) -> Result<u8, Fail> {
+    match text.parse::<u8>() {
+        Ok(number) => Ok(number),
+        Err(_) => Err(row.fail("no small number", text)),
+    }
+}
+
+// A refusal or a fault, its unit, and the name of its cause or the number of the fault.
+fn found_of(row: &Row, text: &str) -> Result<Found, Fail> {
+    let (kind, rest) = parted(row, text)?;
+    let (unit, what) = parted(row, rest)?;
+    let unit = row.number_in(unit)?;
+    match kind {
+        "refused" => Ok(Found {
+            stop: Stop::Refused,
+            unit,
+            number: cause_number(row, what)?,
+        }),
+        "fault" => Ok(Found {
+            stop: Stop::Faulted,
+            unit,
+            number: small_number(row, what)?,
+        }),
+        _ => Err(row.fail("no stop", text)),
+    }
+}
+
+// The numbers of units and of spans, or where the conversion stops and why.
+fn end_of(row: &Row) -> Result<End, Fail> {
+    match (row.text_if_any("whole")?, row.text_if_any("stop")?) {
+        (Some(text), None) => {
+            let (units, spans) = parted(row, text)?;
+            Ok(End::Whole(row.number_in(units)?, row.number_in(spans)?))
+        }
+        (None, Some(text)) => {
+            let (place, rest) = parted(row, text)?;
+            let found = found_of(row, rest)?;
+            match place {
+                "end" => Ok(End::AtEnd(found)),
+                _ => Ok(End::AtByte(row.count_in(place)?, found)),
+            }
+        }
+        _ => Err(row.fail("no end, or two", "whole, stop")),
+    }
+}
+
+// A limit of the row, if it has one of this key.
+fn lowered(row: &Row, key: &str) -> Result<Option<u8>, Fail> {
+    match row.text_if_any(key)? {
+        Some(text) => Ok(Some(small_number(row, text)?.max(1))),
+        None => Ok(None),
+    }
+}
+
+// The shipped limits, but for that which the row lowers.
+fn limits_of(row: &Row) -> Result<Limits, Fail>
+    ensures { IfOk result (λ limits. AreLimits limits) }
+{
+    let mut limits = Limits::shipped();
+    if let Some(most) = lowered(row, "unit")? {
+        limits.unit = usize::from(most.max(1));
+    }
+    if let Some(most) = lowered(row, "binary")? {
+        limits.binary = u64::from(most.max(1));
+    }
+    if let Some(most) = lowered(row, "json")? {
+        limits.json = usize::from(most.max(1));
+    }
+    Ok(limits)
+}
+
+impl Worked {
+    pub fn read(alloc: Global, row: &Row) -> Result<Worked, Fail> {
+        row.expect_keys(&KEYS)?;
+        let (from, to) = parted(row, row.text("forms")?)?;
+        let mut worked = Worked {
+            name: row.name(),
+            from: form_of(row, from)?,
+            to: form_of(row, to)?,
+            input: Blob::new(alloc),
+            frames: Items::new(alloc),
+            output: Blob::new(alloc),
+            end: end_of(row)?,
+            limits: limits_of(row)?,
+        };
+        for text in &row.texts(alloc, "frame")? {
+            worked.take_frame(alloc, row, text)?;
+        }
+        worked.take_output(alloc, row)?;
+        Ok(worked)
     }
 
-    pub fn output(&self, alloc: Global) -> Result<Blob, Fail> {
-        told_in(alloc, self.to, self.output)
+    // Takes a frame: how much is written behind it, and its bytes.
+    fn take_frame(&mut self, alloc: Global, row: &Row, text: &str) -> Result<(), Fail> {
+        let (written, told) = parted(row, text)?;
+        let written = row.count_in(written)?;
+        append_told(alloc, row, &mut self.input, self.from, told)?;
+        let end = self.input.len();
+        Ok(self.frames.push(Frame { end, written })?)
+    }
+
+    fn take_output(&mut self, alloc: Global, row: &Row) -> Result<(), Fail> {
+        for text in &row.texts(alloc, "output")? {
+            append_told(alloc, row, &mut self.output, self.to, text)?;
+        }
+        Ok(())
     }
 
     /// How many bytes of the output stand behind so many bytes of the input.
     pub fn written(&self, fed: usize) -> usize {
-        let mut place = 0_usize;
         let mut written = 0;
-        for (told, count) in self.frames {
-            let size = if is_json(self.from) {
-                told.len()
-            } else {
-                told.len() / 2
-            };
-            place = place.saturating_add(size);
-            if place <= fed {
-                written = *count;
+        for frame in self.frames.as_slice() {
+            if frame.end <= fed {
+                written = frame.written;
             }
         }
         written

@@ -1,26 +1,16 @@
 //! Conversions by a converter and in one call: limits of their own, long texts, and what stays behind a refusal.
-ghost use Rattle.std.specs.Prelude.{◌≢◌, true};
+ghost use Rattle.std.specs.Prelude.{◌≢◌, true, IfOk, IfSome};
 ghost use Rattle.span_convert.specs.Converters.{has_ended};
 ghost use Rattle.span_io.specs.Limits.{AreLimits};
 
+use crate::told::bytes_told;
+use row_tables::{Row, rows};
 use span_convert::{Bad, Converter, Stop, Tally, Why, Written, convert_all};
 use span_io::{Blob, Cause, Form, Items, Limits, MemSink, Refusal};
-use span_vectors::texts::{CUT_SPAN, LONG_NAME, LONGER_NAME, ONE_GROUP, ONE_SPAN};
+use span_vectors::texts::ONE_SPAN;
 use std::alloc::Global;
 use std::process::Abort;
 use std::test::Fail;
-
-// What is told in a form by pieces. What is no JSON is in hexadecimal.
-fn joined_in(alloc: Global, form: Form, pieces: &[&str]) -> Result<Blob, Fail> {
-    let mut bytes = Blob::new(alloc);
-    for piece in pieces {
-        match form {
-            Form::OtlpJson | Form::ZipkinJson => bytes.append(piece.as_bytes())?,
-            _ => bytes.append(hex::decode(alloc, piece)?.as_slice())?,
-        }
-    }
-    Ok(bytes)
-}
 
 const TO_REQUEST: Written = Written::Form(Form::OtlpProto);
 
@@ -67,99 +57,144 @@ fn refused_at_once(alloc: Global, from: Form, input: &[u8], limits: &Limits) -> 
     }
 }
 
-// Which limit isn't the shipped one.
-#[derive(Clone, Copy)]
-enum Lowered {
-    None,
-    Unit,
-    Binary,
-    LongJson,
-    ShortJson,
-}
-
-fn limits_of(lowered: Lowered) -> Limits
-    ensures { AreLimits result }
+// The shipped limits but for the one of this word.
+fn limits_of(lowered: Option<&str>) -> Option<Limits>
+    ensures { IfSome result AreLimits }
 {
     let mut limits = Limits::shipped();
     match lowered {
-        Lowered::None => {}
-        Lowered::Unit => limits.unit = 64,
-        Lowered::Binary => limits.binary = 40,
-        Lowered::LongJson => limits.json = 100,
-        Lowered::ShortJson => limits.json = 2,
+        None => {}
+        Some("unit-64") => limits.unit = 64,
+        Some("binary-40") => limits.binary = 40,
+        Some("json-100") => limits.json = 100,
+        Some("json-2") => limits.json = 2,
+        Some(_) => return None,
     }
-    limits
+    Some(limits)
 }
 
-// An input under limits, what is written of it as a request, and the unit and cause of its refusal.
-type LimitRow = (
-    Form,
-    &'static [&'static str],
-    Lowered,
-    &'static str,
-    Option<(u64, Cause)>,
-);
+// Inputs under limits, what is written of each as a request, and the unit and the cause of its refusal.
+const LIMITED: &str = r#"
+a request
+form otlp-proto
+input-hex @ONE_SPAN
+output-hex @ONE_SPAN
 
-const LIMITED: [LimitRow; 7] = [
-    (Form::OtlpProto, &[ONE_SPAN], Lowered::None, ONE_SPAN, None),
-    (
-        Form::OtlpProto,
-        &[ONE_SPAN, CUT_SPAN],
-        Lowered::None,
-        ONE_SPAN,
-        Some((2, Cause::Truncated)),
-    ),
-    (
-        Form::OtlpProto,
-        &[ONE_SPAN, CUT_SPAN],
-        Lowered::Binary,
-        ONE_SPAN,
-        Some((2, Cause::InputTooLong)),
-    ),
-    (
-        Form::OtlpProto,
-        &[LONG_NAME],
-        Lowered::Unit,
-        LONG_NAME,
-        None,
-    ),
-    (
-        Form::OtlpProto,
-        &[LONGER_NAME],
-        Lowered::Unit,
-        "",
-        Some((1, Cause::UnitTooLong)),
-    ),
-    (
-        Form::OtlpJson,
-        &[ONE_GROUP],
-        Lowered::LongJson,
-        "",
-        Some((0, Cause::InputTooLong)),
-    ),
-    (
-        Form::ZipkinJson,
-        &["[ ]"],
-        Lowered::ShortJson,
-        "",
-        Some((0, Cause::InputTooLong)),
-    ),
+a request that is cut
+form otlp-proto
+input-hex @ONE_SPAN
+input-hex @CUT_SPAN
+output-hex @ONE_SPAN
+unit 2
+cause 1
+
+a request that is longer than its form may be
+form otlp-proto
+lowered binary-40
+input-hex @ONE_SPAN
+input-hex @CUT_SPAN
+output-hex @ONE_SPAN
+unit 2
+cause 17
+
+a unit as long as one may be
+form otlp-proto
+lowered unit-64
+input-hex @LONG_NAME
+output-hex @LONG_NAME
+
+a unit that is longer
+form otlp-proto
+lowered unit-64
+input-hex @LONGER_NAME
+unit 1
+cause 6
+
+a document of groups that is too long
+form otlp-json
+lowered json-100
+input @ONE_GROUP
+unit 0
+cause 17
+
+a document of spans that is too long
+form zipkin-json
+lowered json-2
+input [ ]
+unit 0
+cause 17
+"#;
+
+const KEYS: [&str; 8] = [
+    "form",
+    "lowered",
+    "input",
+    "input-hex",
+    "output",
+    "output-hex",
+    "unit",
+    "cause",
 ];
+
+fn form_told(row: &Row) -> Result<Form, Fail> {
+    let word = row.text("form")?;
+    match Form::of_word(word.as_bytes()) {
+        Some(form) => Ok(form),
+        None => Err(row.fail("no form", word)),
+    }
+}
+
+fn limits_told(row: &Row) -> Result<Limits, Fail>
+    ensures { IfOk result AreLimits }
+{
+    match limits_of(row.text_if_any("lowered")?) {
+        Some(limits) => Ok(limits),
+        None => Err(row.fail("no limit", "lowered")),
+    }
+}
+
+// The unit and the number of the cause of a refusal.
+fn place_of(refusal: Refusal) -> (u64, u64) {
+    (refusal.unit, u64::from(refusal.cause.number()))
+}
+
+// The refusal of a row, or none where it tells none.
+fn refusal_told(row: &Row) -> Result<Option<(u64, u64)>, Fail> {
+    match row.number_if_any("cause")? {
+        Some(cause) => Ok(Some((row.number("unit")?, cause))),
+        None => Ok(None),
+    }
+}
+
+fn expect_limited(rt: &impl Abort, alloc: Global, row: &Row) -> Result<(), Fail> {
+    row.expect_keys(&KEYS)?;
+    let name = row.name();
+    let form = form_told(row)?;
+    let limits = limits_told(row)?;
+    let refusal = refusal_told(row)?;
+    let input = bytes_told(alloc, row, "input")?;
+    let written = bytes_told(alloc, row, "output")?;
+    let mut out = MemSink::new(alloc, 100, Items::new(alloc))?;
+    let converter = Converter::new(alloc, form, TO_REQUEST, &limits);
+    let answer = converted(converter, input.as_slice(), &mut out);
+    assert!(rt;
+        answer.err().flatten().map(place_of) == refusal,
+        "refusal of {name}"
+    );
+    assert!(rt; out.bytes() == written.as_slice(), "text of {name}");
+    let at_once = refused_at_once(alloc, form, input.as_slice(), &limits);
+    assert!(rt;
+        at_once.map(place_of) == refusal,
+        "refusal of {name} in one call"
+    );
+    Ok(())
+}
 
 #[test]
 fn keeps_limits(rt: HostRuntime) -> Result<(), Fail> {
-    for (form, pieces, lowered, told, found) in LIMITED {
-        let limits = limits_of(lowered);
-        let input = joined_in(rt.alloc(), form, pieces)?;
-        let written = joined_in(rt.alloc(), Form::OtlpProto, &[told])?;
-        let refusal = found.map(|(unit, cause)| Refusal { unit, cause });
-        let mut out = MemSink::new(rt.alloc(), 100, Items::new(rt.alloc()))?;
-        let converter = Converter::new(rt.alloc(), form, TO_REQUEST, &limits);
-        let answer = converted(converter, input.as_slice(), &mut out);
-        assert!(rt; answer.err().flatten() == refusal);
-        assert!(rt; out.bytes() == written.as_slice());
-        let at_once = refused_at_once(rt.alloc(), form, input.as_slice(), &limits);
-        assert!(rt; at_once == refusal);
+    let rows = rows(rt.alloc(), LIMITED)?;
+    for row in &rows {
+        expect_limited(&rt, rt.alloc(), row)?;
     }
     Ok(())
 }
@@ -286,7 +321,7 @@ fn stays_stopped(rt: HostRuntime) -> Result<(), Fail> {
     let fed = converter.feed(&[0x0a, 0, 0x0b], &mut out);
     assert!(rt; fed == Err(Stop::Refused));
     assert!(rt; converter.finish(&mut out) == Err(Stop::Refused));
-    let more = joined_in(rt.alloc(), Form::OtlpProto, &[ONE_SPAN])?;
+    let more = hex::decode(rt.alloc(), ONE_SPAN)?;
     let fed = converter.feed(more.as_slice(), &mut out);
     assert!(rt; fed == Err(Stop::Refused));
     assert!(rt;

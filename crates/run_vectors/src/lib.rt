@@ -5,3 +5,7 @@
 mod conversions;
 #[cfg(test)]
 mod runs;
+#[cfg(test)]
+mod texts;
+#[cfg(test)]
+mod told;

@@ -11,6 +11,8 @@ mod outside;
 #[cfg(test)]
 mod pieces;
 #[cfg(test)]
+mod texts;
+#[cfg(test)]
 mod thrift;
 #[cfg(test)]
 mod wire;

@@ -23,14 +23,14 @@ const MEMBERS: [(&str, Option<u64>); 7] = [
 
 #[test]
 fn finds_members(rt: HostRuntime) -> Result<(), Fail> {
-    for (given, number) in MEMBERS {
+    for (given, number) in &MEMBERS {
         let mut scratch = Scratch::new(rt.alloc());
         let nodes = text_nodes(rt.alloc(), given, &mut scratch)?;
         let found = match member_of(&Lent::of(nodes.as_slice()), "a") {
             Some(member) => member.as_u64(),
             None => None,
         };
-        assert!(rt; found == number, "{given}");
+        assert!(rt; found == *number, "{given}");
     }
     Ok(())
 }
@@ -70,13 +70,13 @@ fn read_truth(v: &Lent<'_, '_>) -> Result<bool, Halt<Cause>> {
 
 #[test]
 fn reads_texts_and_truth_values(rt: HostRuntime) -> Result<(), Fail> {
-    for (given, wanted, truth) in LEAVES {
+    for (given, wanted, truth) in &LEAVES {
         let mut scratch = Scratch::new(rt.alloc());
         let nodes = text_nodes(rt.alloc(), given, &mut scratch)?;
         let v = Lent::of(nodes.as_slice());
         let read = if_shaped(text_of(rt.alloc(), &v))?;
         let read_truth = if_shaped(read_truth(&v))?;
-        assert!(rt; str_of(&read) == wanted && read_truth == truth, "{given}");
+        assert!(rt; str_of(&read) == *wanted && read_truth == *truth, "{given}");
     }
     Ok(())
 }
@@ -91,12 +91,12 @@ const TEXTS: [(&str, Option<&str>); 4] = [
 
 #[test]
 fn reads_texts_that_may_be_absent(rt: HostRuntime) -> Result<(), Fail> {
-    for (given, wanted) in TEXTS {
+    for (given, wanted) in &TEXTS {
         let mut scratch = Scratch::new(rt.alloc());
         let nodes = text_nodes(rt.alloc(), given, &mut scratch)?;
         let v = Lent::of(nodes.as_slice());
         let read = if_shaped(text(rt.alloc(), &v, "a"))?;
-        assert!(rt; str_of(&read) == wanted, "{given}");
+        assert!(rt; str_of(&read) == *wanted, "{given}");
     }
     Ok(())
 }
@@ -110,7 +110,7 @@ fn refuses_what_is_no_value(rt: HostRuntime) {
         unit: 0,
         cause: Cause::BadJson,
     };
-    for bytes in NO_VALUES {
+    for bytes in &NO_VALUES {
         let mut scratch = Scratch::new(rt.alloc());
         match bytes_nodes(rt.alloc(), bytes, &mut scratch) {
             Ok(_) => panic!(rt; "a value: {bytes:?}"),
@@ -153,10 +153,10 @@ const VALUES: [(&str, u64, bool, &str); 2] = [
 
 #[test]
 fn writes_values(rt: HostRuntime) -> Result<(), Fail> {
-    for (text, number, truth, written) in VALUES {
+    for (text, number, truth, written) in &VALUES {
         let text = Text::of(rt.alloc(), text)?;
         let mut out = Writer::new(Vec::new(rt.alloc()));
-        write_values(&mut out, &text, number, truth)?;
+        write_values(&mut out, &text, *number, *truth)?;
         assert!(rt; out.into_inner().as_slice() == written.as_bytes());
     }
     Ok(())

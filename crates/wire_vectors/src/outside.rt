@@ -1,143 +1,131 @@
 //! The outside: bytes of the proto3 documentation ("Base 128 Varints") and around its limits, sources and sinks that
 //! fail, and the names of forms and causes.
+use crate::texts::{CAUSES, bytes_of, last_number, lines};
+use row_tables::Words;
 use span_io::{
-    Blob, Cause, Cursor, Failed, Form, Lack, Limits, ReaderSource, Source, Varint, WriterSink,
-    write_all, zigzag,
+    Blob, Cursor, Failed, Form, Lack, Limits, ReaderSource, Source, Varint, WriterSink, write_all,
+    zigzag,
 };
 use std::io::{self, Read, Write};
 use std::test::Fail;
 
-// Bytes, what is read of them, and where the cursor stands then.
-const VARINTS: [(&[u8], Result<u64, Lack>, usize); 16] = [
-    (b"\x01", Ok(1), 1),
-    (b"\x00\xff", Ok(0), 1),
-    (b"\x7f\x01", Ok(127), 1),
-    (b"\x96\x01", Ok(150), 2),
-    (b"\xac\x02\x05", Ok(300), 2),
-    (b"\x80\x00", Ok(0), 2),
-    (
-        b"\xff\xff\xff\xff\xff\xff\xff\xff\x7f",
-        Ok(0x7fff_ffff_ffff_ffff),
-        9,
-    ),
-    (
-        b"\xff\xff\xff\xff\xff\xff\xff\xff\xff\x01",
-        Ok(0xffff_ffff_ffff_ffff),
-        10,
-    ),
-    (b"\x80\x80\x80\x80\x80\x80\x80\x80\x80\x00\x07", Ok(0), 10),
-    (b"", Err(Lack::Short), 0),
-    (b"\x96", Err(Lack::Short), 0),
-    (b"\xff\xff\xff\xff\xff\xff\xff\xff\xff", Err(Lack::Short), 0),
-    (
-        b"\xff\xff\xff\xff\xff\xff\xff\xff\xff\x02",
-        Err(Lack::BadVarint),
-        0,
-    ),
-    (
-        b"\x80\x80\x80\x80\x80\x80\x80\x80\x80\x7f",
-        Err(Lack::BadVarint),
-        0,
-    ),
-    (
-        b"\x80\x80\x80\x80\x80\x80\x80\x80\x80\x80",
-        Err(Lack::BadVarint),
-        0,
-    ),
-    (
-        b"\x80\x80\x80\x80\x80\x80\x80\x80\x80\x80\x00",
-        Err(Lack::BadVarint),
-        0,
-    ),
-];
+// Bytes; where the cursor stands then, and what is read of them.
+const VARINTS: &str = "
+01 => 1 1
+00ff => 1 0
+7f01 => 1 127
+9601 => 2 150
+ac0205 => 2 300
+8000 => 2 0
+ffffffffffffffff7f => 9 9223372036854775807
+ffffffffffffffffff01 => 10 18446744073709551615
+8080808080808080800007 => 10 0
+ => 0 Short
+96 => 0 Short
+ffffffffffffffffff => 0 Short
+ffffffffffffffffff02 => 0 BadVarint
+8080808080808080807f => 0 BadVarint
+80808080808080808080 => 0 BadVarint
+8080808080808080808000 => 0 BadVarint
+";
 
 // The same of signed numbers ("Signed Integers"), and the limits.
-const SIGNED: [(&[u8], Result<i64, Lack>, usize); 9] = [
-    (b"\x00\xff", Ok(0), 1),
-    (b"\x01", Ok(-1), 1),
-    (b"\x02", Ok(1), 1),
-    (b"\x03", Ok(-2), 1),
-    (b"\x82\x00", Ok(1), 2),
-    (b"\xff\xff\xff\xff\x0f", Ok(-0x8000_0000), 5),
-    (
-        b"\xfe\xff\xff\xff\xff\xff\xff\xff\xff\x01",
-        Ok(i64::MAX),
-        10,
-    ),
-    (
-        b"\xff\xff\xff\xff\xff\xff\xff\xff\xff\x01",
-        Ok(i64::MIN),
-        10,
-    ),
-    (b"\x96", Err(Lack::Short), 0),
-];
+const SIGNED: &str = "
+00ff => 1 0
+01 => 1 -1
+02 => 1 1
+03 => 1 -2
+8200 => 2 1
+ffffffff0f => 5 -2147483648
+feffffffffffffffff01 => 10 9223372036854775807
+ffffffffffffffffff01 => 10 -9223372036854775808
+96 => 0 Short
+";
+
+fn lack_of(name: &str) -> Option<Lack> {
+    match name {
+        "Short" => Some(Lack::Short),
+        "BadVarint" => Some(Lack::BadVarint),
+        _ => None,
+    }
+}
 
 #[test]
-fn reads_varints(rt: HostRuntime) {
-    for (bytes, number, place) in VARINTS {
-        let mut cursor = Cursor::new(bytes);
+fn reads_varints(rt: HostRuntime) -> Result<(), Fail> {
+    for row in lines(VARINTS) {
+        let (given, mut answer) = Words::sides(row)?;
+        let place: usize = answer.number()?;
+        let wanted = match lack_of(answer.rest()) {
+            Some(lack) => Err(lack),
+            None => Ok(last_number(&mut answer)?),
+        };
+        let bytes = bytes_of(rt.alloc(), given.rest())?;
+        let mut cursor = Cursor::new(bytes.as_slice());
         let read = cursor.varint();
-        assert!(rt; read == number && cursor.place() == place, "{bytes:?}");
-    }
-}
-
-#[test]
-fn reads_signed_varints(rt: HostRuntime) {
-    for (bytes, number, place) in SIGNED {
-        let mut cursor = Cursor::new(bytes);
-        let read = cursor.zigzag();
-        assert!(rt; read == number && cursor.place() == place, "{bytes:?}");
-    }
-}
-
-// Numbers, and their shortest spelling.
-const SHORTEST: [(u64, &[u8]); 5] = [
-    (0, b"\x00"),
-    (127, b"\x7f"),
-    (128, b"\x80\x01"),
-    (300, b"\xac\x02"),
-    (16_384, b"\x80\x80\x01"),
-];
-
-const SHORTEST_SIGNED: [(i64, &[u8]); 3] = [
-    (1, b"\x02"),
-    (-0x8000_0000, b"\xff\xff\xff\xff\x0f"),
-    (i64::MIN, b"\xff\xff\xff\xff\xff\xff\xff\xff\xff\x01"),
-];
-
-#[test]
-fn writes_varints(rt: HostRuntime) -> Result<(), Fail> {
-    let mut blob = Blob::new(rt.alloc());
-    for (number, text) in SHORTEST {
-        blob.clear();
-        blob.append_varint(number)?;
-        assert!(rt; blob.as_slice() == text, "{number}");
-    }
-    for (number, text) in SHORTEST_SIGNED {
-        assert!(rt; Varint::new(zigzag(number)).as_slice() == text, "{number}");
+        assert!(rt; read == wanted && cursor.place() == place, "{row}");
     }
     Ok(())
 }
 
-const CAUSES: [(Cause, u8, &str); 17] = [
-    (Cause::Truncated, 1, "Truncated"),
-    (Cause::BadVarint, 2, "BadVarint"),
-    (Cause::BadWire, 3, "BadWire"),
-    (Cause::BadSize, 4, "BadSize"),
-    (Cause::TooDeep, 5, "TooDeep"),
-    (Cause::UnitTooLong, 6, "UnitTooLong"),
-    (Cause::FieldTwice, 7, "FieldTwice"),
-    (Cause::Missing, 8, "Missing"),
-    (Cause::NotText, 9, "NotText"),
-    (Cause::BadJson, 10, "BadJson"),
-    (Cause::BadShape, 11, "BadShape"),
-    (Cause::BadId, 12, "BadId"),
-    (Cause::BadEnum, 13, "BadEnum"),
-    (Cause::BadElement, 14, "BadElement"),
-    (Cause::DoubleInJson, 15, "DoubleInJson"),
-    (Cause::BadTime, 16, "BadTime"),
-    (Cause::InputTooLong, 17, "InputTooLong"),
-];
+#[test]
+fn reads_signed_varints(rt: HostRuntime) -> Result<(), Fail> {
+    for row in lines(SIGNED) {
+        let (given, mut answer) = Words::sides(row)?;
+        let place: usize = answer.number()?;
+        let wanted = match lack_of(answer.rest()) {
+            Some(lack) => Err(lack),
+            None => Ok(last_number(&mut answer)?),
+        };
+        let bytes = bytes_of(rt.alloc(), given.rest())?;
+        let mut cursor = Cursor::new(bytes.as_slice());
+        let read = cursor.zigzag();
+        assert!(rt; read == wanted && cursor.place() == place, "{row}");
+    }
+    Ok(())
+}
+
+// Numbers, and their shortest spelling.
+const SHORTEST: &str = "
+0 => 00
+127 => 7f
+128 => 8001
+300 => ac02
+16384 => 808001
+";
+
+const SHORTEST_SIGNED: &str = "
+1 => 02
+-2147483648 => ffffffff0f
+-9223372036854775808 => ffffffffffffffffff01
+";
+
+#[test]
+fn writes_varints(rt: HostRuntime) -> Result<(), Fail> {
+    let mut blob = Blob::new(rt.alloc());
+    for row in lines(SHORTEST) {
+        let (mut given, answer) = Words::sides(row)?;
+        let number: u64 = last_number(&mut given)?;
+        let bytes = bytes_of(rt.alloc(), answer.rest())?;
+        blob.clear();
+        blob.append_varint(number)?;
+        assert!(rt; blob.as_slice() == bytes.as_slice(), "{row}");
+    }
+    Ok(())
+}
+
+#[test]
+fn writes_signed_varints(rt: HostRuntime) -> Result<(), Fail> {
+    for row in lines(SHORTEST_SIGNED) {
+        let (mut given, answer) = Words::sides(row)?;
+        let number: i64 = last_number(&mut given)?;
+        let bytes = bytes_of(rt.alloc(), answer.rest())?;
+        assert!(rt;
+            Varint::new(zigzag(number)).as_slice() == bytes.as_slice(),
+            "{row}"
+        );
+    }
+    Ok(())
+}
 
 const FORMS: [(&[u8], Option<Form>); 10] = [
     (b"otlp-proto", Some(Form::OtlpProto)),
@@ -154,11 +142,14 @@ const FORMS: [(&[u8], Option<Form>); 10] = [
 
 #[test]
 fn names_causes_and_forms(rt: HostRuntime) {
-    for (cause, number, name) in CAUSES {
-        assert!(rt; cause.number() == number && cause.name() == name, "{name}");
+    for (cause, number, name) in &CAUSES {
+        assert!(rt;
+            cause.number() == *number && cause.name() == *name,
+            "{name}"
+        );
     }
-    for (word, form) in FORMS {
-        assert!(rt; Form::of_word(word) == form, "{word:?}");
+    for (word, form) in &FORMS {
+        assert!(rt; Form::of_word(word) == *form, "{word:?}");
     }
 }
 
@@ -253,9 +244,8 @@ fn writes_writers(rt: HostRuntime) -> Result<(), Fail> {
     assert!(rt; held.as_slice() == b"abc".as_slice());
     let mut narrow = Narrow { calls: 0, taken: 0 };
     let mut sink = WriterSink::new(&mut narrow);
-    for (piece, answer, faults) in NARROWED {
-        assert!(rt; write_all(&mut sink, piece) == answer);
-        assert!(rt; sink.faults() == faults);
+    for (piece, answer, faults) in &NARROWED {
+        assert!(rt; write_all(&mut sink, piece) == *answer && sink.faults() == *faults);
     }
     assert!(rt; narrow.taken == 8);
     Ok(())

@@ -1,36 +1,36 @@
 //! Records of protobuf. Those of the bytes 150 and "testing" are the examples of the proto3 encoding guide.
-use crate::pieces::FrameRow;
+use crate::texts::{bytes_of, cause_of, ends, lines};
 use proto_wire::{
     Payload, WireRecord, close_record, next_record, open_record, opening_size, record_size,
     write_record,
 };
-use span_io::{Blob, Cause, Cursor, Step};
+use row_tables::Words;
+use span_io::{Blob, Cause, Cursor};
 use std::test::Fail;
 
-// Records in their shortest spelling.
-pub(crate) const SHORTEST: [(&[u8], u32, Payload<'static>); 9] = [
-    (b"\x08\x05", 1, Payload::Varint(5)),
-    (b"\x08\x96\x01", 1, Payload::Varint(150)),
-    (b"\x12\x07testing", 2, Payload::Bytes(b"testing")),
-    (b"\x0a\x01a", 1, Payload::Bytes(b"a")),
-    (b"\x0d\x01\0\0\0", 1, Payload::Fixed32(1)),
-    (
-        b"\x09\x01\0\0\0\0\0\0\x80",
-        1,
-        Payload::Fixed64(0x8000_0000_0000_0001),
-    ),
-    (b"\x82\x01\0", 16, Payload::Bytes(b"")),
-    (
-        b"\xf8\xff\xff\xff\x0f\x80\x80\x01",
-        536_870_911,
-        Payload::Varint(16_384),
-    ),
-    (
-        b"\x08\xff\xff\xff\xff\xff\xff\xff\xff\xff\x01",
-        1,
-        Payload::Varint(u64::MAX),
-    ),
-];
+// Records in their shortest spelling, the number of each and what it holds.
+pub(crate) const SHORTEST: &str = "
+0805 => 1 varint 5
+089601 => 1 varint 150
+1207 'testing' => 2 bytes testing
+0a0161 => 1 bytes a
+0d01000000 => 1 fixed32 1
+090100000000000080 => 1 fixed64 9223372036854775809
+820100 => 16 bytes
+f8ffffff0f808001 => 536870911 varint 16384
+08ffffffffffffffffff01 => 1 varint 18446744073709551615
+";
+
+// What a record holds, or a cause.
+pub(crate) fn payload_of<'a>(words: &mut Words<'a>) -> Result<Result<Payload<'a>, Cause>, Fail> {
+    match words.word() {
+        "varint" => Ok(Ok(Payload::Varint(words.number()?))),
+        "fixed64" => Ok(Ok(Payload::Fixed64(words.number()?))),
+        "fixed32" => Ok(Ok(Payload::Fixed32(words.number()?))),
+        "bytes" => Ok(Ok(Payload::Bytes(words.word().as_bytes()))),
+        name => Ok(Err(cause_of(name)?)),
+    }
+}
 
 // Whether the one record is read, and then the end.
 fn is_record(bytes: &[u8], record: WireRecord<'_>) -> bool {
@@ -40,79 +40,68 @@ fn is_record(bytes: &[u8], record: WireRecord<'_>) -> bool {
 
 #[test]
 fn reads_and_writes_records(rt: HostRuntime) -> Result<(), Fail> {
-    for (bytes, number, payload) in SHORTEST {
-        assert!(rt;
-            is_record(bytes, WireRecord { number, payload }),
-            "{bytes:?}"
-        );
+    for row in lines(SHORTEST) {
+        let (given, mut answer) = Words::sides(row)?;
+        let number: u32 = answer.number()?;
+        let payload = payload_of(&mut answer)??;
+        ends(&answer)?;
+        let bytes = bytes_of(rt.alloc(), given.rest())?;
+        let bytes = bytes.as_slice();
+        assert!(rt; is_record(bytes, WireRecord { number, payload }), "{row}");
         assert!(rt; 1 <= number && number <= 536_870_911);
         let size = record_size(number, &payload);
         let mut out = Blob::new(rt.alloc());
         write_record(&mut out, number, payload)?;
         assert!(rt;
             out.as_slice() == bytes && size == bytes.len() as u64,
-            "{bytes:?}"
+            "{row}"
         );
     }
     Ok(())
 }
 
-// A varint may be longer than it need be, and what follows a record is left. What is refused is not passed.
-pub(crate) const READ: [(&[u8], Result<Payload<'static>, Cause>, usize); 21] = [
-    (b"\x88\x80\0\x85\0", Ok(Payload::Varint(5)), 5),
-    (
-        b"\x88\0\x85\x80\x80\x80\x80\x80\x80\x80\x80\0",
-        Ok(Payload::Varint(5)),
-        12,
-    ),
-    (b"\x8a\0\x81\0ab", Ok(Payload::Bytes(b"a")), 5),
-    (
-        b"\x8d\0\0\0\x80\x3f\x08",
-        Ok(Payload::Fixed32(0x3f80_0000)),
-        6,
-    ),
-    (b"\x0a", Err(Cause::Truncated), 0),
-    (b"\x8a", Err(Cause::Truncated), 0),
-    (b"\x08", Err(Cause::Truncated), 0),
-    (b"\x08\x85", Err(Cause::Truncated), 0),
-    (b"\x0a\x05a", Err(Cause::Truncated), 0),
-    (b"\x0d\x01\0\0", Err(Cause::Truncated), 0),
-    (b"\x09\x01\0\0\0\0\0\0", Err(Cause::Truncated), 0),
-    (b"\0", Err(Cause::BadWire), 0),
-    (b"\x07\x01", Err(Cause::BadWire), 0),
-    (b"\x0b", Err(Cause::BadWire), 0),
-    (b"\x0c", Err(Cause::BadWire), 0),
-    (b"\x0e", Err(Cause::BadWire), 0),
-    (b"\x0f", Err(Cause::BadWire), 0),
-    (b"\x80\x80\x80\x80\x10\0", Err(Cause::BadWire), 0),
-    (
-        b"\xff\xff\xff\xff\xff\xff\xff\xff\xff\x02",
-        Err(Cause::BadVarint),
-        0,
-    ),
-    (
-        b"\x88\x80\x80\x80\x80\x80\x80\x80\x80\x80\0\0",
-        Err(Cause::BadVarint),
-        0,
-    ),
-    (
-        b"\x0a\x81\x80\x80\x80\x80\x80\x80\x80\x80\x80\0a",
-        Err(Cause::BadVarint),
-        0,
-    ),
-];
+// A varint may be longer than it need be, and what follows a record is left. What is refused is not passed. Behind each text
+// the place, and what the record of number 1 holds.
+pub(crate) const READ: &str = "
+8880008500 => 5 varint 5
+880085808080808080808000 => 12 varint 5
+8a008100 'ab' => 5 bytes a
+8d000000803f08 => 6 fixed32 1065353216
+0a => 0 Truncated
+8a => 0 Truncated
+08 => 0 Truncated
+0885 => 0 Truncated
+0a0561 => 0 Truncated
+0d010000 => 0 Truncated
+0901000000000000 => 0 Truncated
+00 => 0 BadWire
+0701 => 0 BadWire
+0b => 0 BadWire
+0c => 0 BadWire
+0e => 0 BadWire
+0f => 0 BadWire
+808080801000 => 0 BadWire
+ffffffffffffffffff02 => 0 BadVarint
+888080808080808080800000 => 0 BadVarint
+0a818080808080808080800061 => 0 BadVarint
+";
 
 #[test]
-fn reads_other_spellings(rt: HostRuntime) {
-    for (bytes, read, place) in READ {
-        let mut c = Cursor::new(bytes);
-        let wanted = match read {
+fn reads_other_spellings(rt: HostRuntime) -> Result<(), Fail> {
+    for row in lines(READ) {
+        let (given, mut answer) = Words::sides(row)?;
+        let place: usize = answer.number()?;
+        let wanted = match payload_of(&mut answer)? {
             Ok(payload) => Ok(Some(WireRecord { number: 1, payload })),
             Err(cause) => Err(cause),
         };
+        ends(&answer)?;
+        let bytes = bytes_of(rt.alloc(), given.rest())?;
+        let mut c = Cursor::new(bytes.as_slice());
         let found = next_record(&mut c);
-        assert!(rt; found == wanted && c.place() == place, "{bytes:?}");
+        assert!(rt; found == wanted && c.place() == place, "{row}");
     }
+    Ok(())
 }
 
 #[test]
@@ -127,40 +116,3 @@ fn opens_records(rt: HostRuntime) -> Result<(), Fail> {
     assert!(rt; opening_size(536_870_911, u64::MAX) == 15);
     Ok(())
 }
-
-const TOO_LONG: Step = Step::Refused(Cause::UnitTooLong);
-
-pub(crate) const FRAMES: [FrameRow; 20] = [
-    (b"", 64, Step::Need),
-    (b"\x0a", 64, Step::Need),
-    (b"\x0a\x02a", 64, Step::Need),
-    (b"\x0a\x01a", 64, Step::Unit(3)),
-    (b"\x0a\x01a\xff", 64, Step::Unit(3)),
-    (b"\x0b", 64, Step::Refused(Cause::BadWire)),
-    (
-        b"\xff\xff\xff\xff\xff\xff\xff\xff\xff\x02",
-        64,
-        Step::Refused(Cause::BadVarint),
-    ),
-    (b"\x0a\x01a", 3, Step::Unit(3)),
-    (b"\x0a\x01aaaa", 3, Step::Unit(3)),
-    (b"\x0a\x02", 3, TOO_LONG),
-    (b"\x0a\x02aa", 3, TOO_LONG),
-    (b"\x08\x80", 2, TOO_LONG),
-    (b"\x08", 1, TOO_LONG),
-    (b"\x0b", 1, Step::Refused(Cause::BadWire)),
-    (b"\x8b\0", 1, TOO_LONG),
-    (b"\x8b\0", 2, Step::Refused(Cause::BadWire)),
-    (b"\xff\xff\xff\xff\xff\xff\xff\xff\xff\x02", 9, TOO_LONG),
-    (
-        b"\x0a\x80\x80\x80\x80\x80\x80\x80\x80\x80\x01",
-        64,
-        TOO_LONG,
-    ),
-    (
-        b"\x0a\xff\xff\xff\xff\xff\xff\xff\xff\xff\x01",
-        64,
-        TOO_LONG,
-    ),
-    (b"\x09\0\0\0\0\0\0\0", 9, Step::Need),
-];

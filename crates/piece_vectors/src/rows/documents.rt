@@ -1,132 +1,88 @@
 //! Texts in JSON, of which nothing is written before they end.
-use super::{End, Found, Row};
-use span_io::{Cause, Form};
-use span_vectors::texts::{
-    CLIENT_SPANS, CLIENT_SPANS_WRITTEN, ONE_GROUP, ONE_SPAN, ONE_ZIPKIN_SPAN, SDK_GROUPS,
-    SDK_REQUEST, SHARED_SPANS,
-};
 
-// An empty group, and one with a span that ends before it starts.
-const EARLY_SPAN: &str =
-    r#"{"resourceSpans":[{},{"scopeSpans":[{"spans":[{"spanId":"0000000000000002","startTimeUnixNano":"1","traceId":"00000000000000000000000000000001"}]}]}]}"#;
+/// Texts of groups and of spans. Of a text that stops in its second group the text of the first stands.
+pub const DOCUMENTS: &str = r#"
+groups to a request
+forms otlp-json otlp-proto
+frame 0 @SDK_GROUPS
+output @SDK_REQUEST
+whole 1 1
 
-pub const GROUP_TO_SPANS: Row = Row {
-    name: "groups to spans of Zipkin",
-    from: Form::OtlpJson,
-    to: Form::ZipkinJson,
-    frames: &[(ONE_GROUP, 0)],
-    output: &[ONE_ZIPKIN_SPAN],
-    end: End::Whole(1, 1),
-};
+groups to spans of Zipkin
+forms otlp-json zipkin-json
+frame 0 @ONE_GROUP
+output @ONE_ZIPKIN_SPAN
+whole 1 1
+status 0
 
-/// The text of the first group stands.
-pub const EARLY_TO_SPANS: Row = Row {
-    name: "a span in the second group that ends before it starts",
-    from: Form::OtlpJson,
-    to: Form::ZipkinJson,
-    frames: &[(EARLY_SPAN, 0)],
-    output: &["["],
-    end: End::AtEnd(Found::Fault(2, 20)),
-};
+groups, and spaces behind them
+forms otlp-json otlp-proto
+frame 0 @ONE_GROUP
+frame 0 \x20\n
+output @ONE_SPAN
+whole 1 1
 
-/// Texts of groups and of spans.
-pub const DOCUMENTS: [Row; 14] = [
-    Row {
-        name: "groups to a request",
-        from: Form::OtlpJson,
-        to: Form::OtlpProto,
-        frames: &[(SDK_GROUPS, 0)],
-        output: &[SDK_REQUEST],
-        end: End::Whole(1, 1),
-    },
-    GROUP_TO_SPANS,
-    Row {
-        name: "groups, and spaces behind them",
-        from: Form::OtlpJson,
-        to: Form::OtlpProto,
-        frames: &[(ONE_GROUP, 0), (" \n", 0)],
-        output: &[ONE_SPAN],
-        end: End::Whole(1, 1),
-    },
-    Row {
-        name: "spans of a client",
-        from: Form::ZipkinJson,
-        to: Form::ZipkinJson,
-        frames: &[(CLIENT_SPANS, 0)],
-        output: &[CLIENT_SPANS_WRITTEN],
-        end: End::Whole(1, 1),
-    },
-    Row {
-        name: "two spans that share an identifier",
-        from: Form::ZipkinJson,
-        to: Form::ZipkinJson,
-        frames: &[(SHARED_SPANS, 0)],
-        output: &[SHARED_SPANS],
-        end: End::Whole(1, 2),
-    },
-    Row {
-        name: "an empty list of spans",
-        from: Form::ZipkinJson,
-        to: Form::ZipkinJson,
-        frames: &[("[]", 0)],
-        output: &["[]"],
-        end: End::Whole(0, 0),
-    },
-    Row {
-        name: "an empty object",
-        from: Form::OtlpJson,
-        to: Form::ZipkinJson,
-        frames: &[("{}", 0)],
-        output: &["[]"],
-        end: End::Whole(0, 0),
-    },
-    Row {
-        name: "no text",
-        from: Form::ZipkinJson,
-        to: Form::ZipkinJson,
-        frames: &[],
-        output: &[],
-        end: End::AtEnd(Found::Refusal(0, Cause::BadJson)),
-    },
-    Row {
-        name: "groups without their last bracket",
-        from: Form::OtlpJson,
-        to: Form::OtlpProto,
-        frames: &[(r#"{"resourceSpans":[{}]"#, 0)],
-        output: &[],
-        end: End::AtEnd(Found::Refusal(0, Cause::BadJson)),
-    },
-    Row {
-        name: "a bracket behind groups",
-        from: Form::OtlpJson,
-        to: Form::OtlpProto,
-        frames: &[(r#"{"resourceSpans":[{}]}{"#, 0)],
-        output: &[],
-        end: End::AtEnd(Found::Refusal(0, Cause::BadJson)),
-    },
-    Row {
-        name: "an object in place of spans",
-        from: Form::ZipkinJson,
-        to: Form::OtlpJson,
-        frames: &[("{}", 0)],
-        output: &[],
-        end: End::AtEnd(Found::Refusal(0, Cause::BadShape)),
-    },
-    Row {
-        name: "a number in the second group",
-        from: Form::OtlpJson,
-        to: Form::OtlpProto,
-        frames: &[(r#"{"resourceSpans":[{},{"schemaUrl":1}]}"#, 0)],
-        output: &[],
-        end: End::AtEnd(Found::Refusal(2, Cause::BadShape)),
-    },
-    EARLY_TO_SPANS,
-    Row {
-        name: "the same to a batch in the compact protocol",
-        from: Form::OtlpJson,
-        to: Form::JaegerCompact,
-        frames: &[(EARLY_SPAN, 0)],
-        output: &["1c180000190c00"],
-        end: End::AtEnd(Found::Fault(2, 20)),
-    },
-];
+spans of a client
+forms zipkin-json zipkin-json
+frame 0 @CLIENT_SPANS
+output @CLIENT_SPANS_WRITTEN
+whole 1 1
+
+two spans that share an identifier
+forms zipkin-json zipkin-json
+frame 0 @SHARED_SPANS
+output @SHARED_SPANS
+whole 1 2
+
+an empty list of spans
+forms zipkin-json zipkin-json
+frame 0 []
+output []
+whole 0 0
+
+an empty object
+forms otlp-json zipkin-json
+frame 0 {}
+output []
+whole 0 0
+
+no text
+forms zipkin-json zipkin-json
+stop end refused 0 BadJson
+
+groups without their last bracket
+forms otlp-json otlp-proto
+frame 0 {"resourceSpans":[{}]
+stop end refused 0 BadJson
+
+a bracket behind groups
+forms otlp-json otlp-proto
+frame 0 {"resourceSpans":[{}]}{
+stop end refused 0 BadJson
+
+an object in place of spans
+forms zipkin-json otlp-json
+frame 0 {}
+stop end refused 0 BadShape
+
+a number in the second group
+forms otlp-json otlp-proto
+frame 0 {"resourceSpans":[{},{"schemaUrl":1}]}
+stop end refused 2 BadShape
+
+a span in the second group that ends before it starts
+forms otlp-json zipkin-json
+frame 0 {"resourceSpans":[{},{"scopeSpans":[{"spans":[{"spanId":"0000000000000002","startTimeUnixNano":"1",
+ "traceId":"00000000000000000000000000000001"}]}]}]}
+output [
+stop end fault 2 20
+status 4
+note unit 2: fault 20 EndBeforeStart\n
+
+the same to a batch in the compact protocol
+forms otlp-json jaeger-compact
+frame 0 {"resourceSpans":[{},{"scopeSpans":[{"spans":[{"spanId":"0000000000000002","startTimeUnixNano":"1",
+ "traceId":"00000000000000000000000000000001"}]}]}]}
+output 1c180000190c00
+stop end fault 2 20
+"#;

@@ -1,149 +1,115 @@
 //! Requests of OTLP.
-use super::{End, Row};
-use span_io::Form;
-use span_vectors::texts::{
-    FULL_GROUP, FULL_REQUEST, ONE_SPAN, ONE_ZIPKIN_SPAN, SDK_BATCH, SDK_COMPACT, SDK_GROUPS,
-    SDK_REQUEST, SDK_SPANS, UNKNOWN_FIELDS,
-};
-
-pub const TWO_GROUPS: Row = Row {
-    name: "two groups",
-    from: Form::OtlpProto,
-    to: Form::OtlpProto,
-    frames: &[(ONE_SPAN, 37), (ONE_SPAN, 74)],
-    output: &[ONE_SPAN, ONE_SPAN],
-    end: End::Whole(2, 2),
-};
 
 /// Requests, and what stands of their texts as each frame ends.
-pub const REQUESTS: [Row; 17] = [
-    Row {
-        name: "a request as an SDK writes it",
-        from: Form::OtlpProto,
-        to: Form::OtlpProto,
-        frames: &[(SDK_REQUEST, 195)],
-        output: &[SDK_REQUEST],
-        end: End::Whole(1, 1),
-    },
-    Row {
-        name: "the same to groups in JSON",
-        from: Form::OtlpProto,
-        to: Form::OtlpJson,
-        frames: &[(SDK_REQUEST, 551)],
-        output: &[SDK_GROUPS],
-        end: End::Whole(1, 1),
-    },
-    Row {
-        name: "the same to a batch",
-        from: Form::OtlpProto,
-        to: Form::JaegerBinary,
-        frames: &[(SDK_REQUEST, 378)],
-        output: &[SDK_BATCH],
-        end: End::Whole(1, 1),
-    },
-    Row {
-        name: "the same to a batch in the compact protocol",
-        from: Form::OtlpProto,
-        to: Form::JaegerCompact,
-        frames: &[(SDK_REQUEST, 231)],
-        output: &[SDK_COMPACT],
-        end: End::Whole(1, 1),
-    },
-    Row {
-        name: "the same to spans of Zipkin",
-        from: Form::OtlpProto,
-        to: Form::ZipkinJson,
-        frames: &[(SDK_REQUEST, 345)],
-        output: &[SDK_SPANS],
-        end: End::Whole(1, 1),
-    },
-    Row {
-        name: "each field",
-        from: Form::OtlpProto,
-        to: Form::OtlpProto,
-        frames: &[(FULL_REQUEST, 253)],
-        output: &[FULL_REQUEST],
-        end: End::Whole(1, 1),
-    },
-    Row {
-        name: "each field to groups in JSON",
-        from: Form::OtlpProto,
-        to: Form::OtlpJson,
-        frames: &[(FULL_REQUEST, 1_036)],
-        output: &[FULL_GROUP],
-        end: End::Whole(1, 1),
-    },
-    Row {
-        name: "fields that no span has",
-        from: Form::OtlpProto,
-        to: Form::OtlpProto,
-        frames: &[(UNKNOWN_FIELDS, 37)],
-        output: &[ONE_SPAN],
-        end: End::Whole(1, 1),
-    },
-    Row {
-        name: "fields that no span has, to spans of Zipkin",
-        from: Form::OtlpProto,
-        to: Form::ZipkinJson,
-        frames: &[(UNKNOWN_FIELDS, 82)],
-        output: &[ONE_ZIPKIN_SPAN],
-        end: End::Whole(1, 1),
-    },
-    TWO_GROUPS,
-    Row {
-        name: "records between groups that are none",
-        from: Form::OtlpProto,
-        to: Form::OtlpProto,
-        frames: &[(ONE_SPAN, 37), ("1200", 37), ("0801", 37), (ONE_SPAN, 74)],
-        output: &[ONE_SPAN, ONE_SPAN],
-        end: End::Whole(2, 2),
-    },
-    Row {
-        name: "empty groups",
-        from: Form::OtlpProto,
-        to: Form::OtlpProto,
-        frames: &[("0a00", 2), (ONE_SPAN, 39), ("0a00", 41)],
-        output: &["0a00", ONE_SPAN, "0a00"],
-        end: End::Whole(3, 1),
-    },
-    Row {
-        name: "empty groups to spans of Zipkin",
-        from: Form::OtlpProto,
-        to: Form::ZipkinJson,
-        frames: &[("0a00", 1), (ONE_SPAN, 82), ("0a00", 82)],
-        output: &[ONE_ZIPKIN_SPAN],
-        end: End::Whole(3, 1),
-    },
-    Row {
-        name: "empty groups to groups in JSON",
-        from: Form::OtlpProto,
-        to: Form::OtlpJson,
-        frames: &[("0a00", 20), ("0a00", 23)],
-        output: &[r#"{"resourceSpans":[{},{}]}"#],
-        end: End::Whole(2, 0),
-    },
-    Row {
-        name: "a record alone that is no group",
-        from: Form::OtlpProto,
-        to: Form::ZipkinJson,
-        frames: &[("1200", 0)],
-        output: &["[]"],
-        end: End::Whole(0, 0),
-    },
-    Row {
-        name: "nothing",
-        from: Form::OtlpProto,
-        to: Form::ZipkinJson,
-        frames: &[],
-        output: &["[]"],
-        end: End::Whole(0, 0),
-    },
-    Row {
-        name: "nothing to groups in JSON",
-        from: Form::OtlpProto,
-        to: Form::OtlpJson,
-        frames: &[],
-        output: &[r#"{"resourceSpans":[]}"#],
-        end: End::Whole(0, 0),
-    },
-];
+pub const REQUESTS: &str = r#"
+a request as an SDK writes it
+forms otlp-proto otlp-proto
+frame 195 @SDK_REQUEST
+output @SDK_REQUEST
+whole 1 1
+
+the same to groups in JSON
+forms otlp-proto otlp-json
+frame 551 @SDK_REQUEST
+output @SDK_GROUPS
+whole 1 1
+
+the same to a batch
+forms otlp-proto jaeger-binary
+frame 378 @SDK_REQUEST
+output @SDK_BATCH
+whole 1 1
+
+the same to a batch in the compact protocol
+forms otlp-proto jaeger-compact
+frame 231 @SDK_REQUEST
+output @SDK_COMPACT
+whole 1 1
+
+the same to spans of Zipkin
+forms otlp-proto zipkin-json
+frame 345 @SDK_REQUEST
+output @SDK_SPANS
+whole 1 1
+
+each field
+forms otlp-proto otlp-proto
+frame 253 @FULL_REQUEST
+output @FULL_REQUEST
+whole 1 1
+
+each field to groups in JSON
+forms otlp-proto otlp-json
+frame 1036 @FULL_REQUEST
+output @FULL_GROUP
+whole 1 1
+
+fields that no span has
+forms otlp-proto otlp-proto
+frame 37 @UNKNOWN_FIELDS
+output @ONE_SPAN
+whole 1 1
+
+fields that no span has, to spans of Zipkin
+forms otlp-proto zipkin-json
+frame 82 @UNKNOWN_FIELDS
+output @ONE_ZIPKIN_SPAN
+whole 1 1
+
+two groups
+forms otlp-proto otlp-proto
+frame 37 @ONE_SPAN
+frame 74 @ONE_SPAN
+output @ONE_SPAN @ONE_SPAN
+whole 2 2
+status 0
+
+records between groups that are none
+forms otlp-proto otlp-proto
+frame 37 @ONE_SPAN
+frame 37 1200
+frame 37 0801
+frame 74 @ONE_SPAN
+output @ONE_SPAN @ONE_SPAN
+whole 2 2
+
+empty groups
+forms otlp-proto otlp-proto
+frame 2 0a00
+frame 39 @ONE_SPAN
+frame 41 0a00
+output 0a00
+output @ONE_SPAN 0a00
+whole 3 1
+
+empty groups to spans of Zipkin
+forms otlp-proto zipkin-json
+frame 1 0a00
+frame 82 @ONE_SPAN
+frame 82 0a00
+output @ONE_ZIPKIN_SPAN
+whole 3 1
+
+empty groups to groups in JSON
+forms otlp-proto otlp-json
+frame 20 0a00
+frame 23 0a00
+output {"resourceSpans":[{},{}]}
+whole 2 0
+
+a record alone that is no group
+forms otlp-proto zipkin-json
+frame 0 1200
+output []
+whole 0 0
+
+nothing
+forms otlp-proto zipkin-json
+output []
+whole 0 0
+
+nothing to groups in JSON
+forms otlp-proto otlp-json
+output {"resourceSpans":[]}
+whole 0 0
+"#;

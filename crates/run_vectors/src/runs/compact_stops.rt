@@ -1,215 +1,119 @@
 //! What stops batches in the compact protocol.
-use super::texts::ERROR_REQUEST;
-use super::{BATCHES, COMPACT, REQUESTS, Stop};
 
 /// What stops batches in the compact protocol.
-pub const STOPPED: [Stop; 23] = [
-    Stop {
-        name: "reserved error",
-        from: REQUESTS,
-        to: COMPACT,
-        input: ERROR_REQUEST,
-        status: 4,
-        output: "",
-        note: "unit 1: fault 21 Reserved \"error\"\n",
-    },
-    Stop {
-        name: "containers 33 deep",
-        from: COMPACT,
-        to: BATCHES,
-        input: "1c1c1c1c1c1c1c1c1c1c1c1c1c1c1c1c1c1c1c1c1c1c1c1c1c1c1c1c1c1c1c1c",
-        status: 3,
-        output: "",
-        note: "unit 1: cause 5 TooDeep\n",
-    },
-    Stop {
-        name: "containers 31 deep, without an end",
-        from: COMPACT,
-        to: BATCHES,
-        input: "1c1c1c1c1c1c1c1c1c1c1c1c1c1c1c1c1c1c1c1c1c1c1c1c1c1c1c1c1c1c1c",
-        status: 3,
-        output: "",
-        note: "unit 1: cause 1 Truncated\n",
-    },
-    Stop {
-        name: "a list of spans of another type",
-        from: COMPACT,
-        to: BATCHES,
-        input: "1c1801730019150000",
-        status: 3,
-        output: "",
-        note: "unit 1: cause 14 BadElement\n",
-    },
-    Stop {
-        name: "nothing in a batch",
-        from: COMPACT,
-        to: BATCHES,
-        input: "00",
-        status: 3,
-        output: "",
-        note: "unit 1: cause 8 Missing\n",
-    },
-    Stop {
-        name: "a field of no type",
-        from: COMPACT,
-        to: BATCHES,
-        input: "1d",
-        status: 3,
-        output: "",
-        note: "unit 1: cause 3 BadWire\n",
-    },
-    Stop {
-        name: "a difference of ids without a type",
-        from: COMPACT,
-        to: BATCHES,
-        input: "10",
-        status: 3,
-        output: "",
-        note: "unit 1: cause 3 BadWire\n",
-    },
-    Stop {
-        name: "an id above 32767",
-        from: COMPACT,
-        to: BATCHES,
-        input: "0c80800400",
-        status: 3,
-        output: "",
-        note: "unit 1: cause 3 BadWire\n",
-    },
-    Stop {
-        name: "a number above 32 bits",
-        from: COMPACT,
-        to: BATCHES,
-        input: "158080808010",
-        status: 3,
-        output: "",
-        note: "unit 1: cause 2 BadVarint\n",
-    },
-    Stop {
-        name: "a number above 16 bits",
-        from: COMPACT,
-        to: BATCHES,
-        input: "14808004",
-        status: 3,
-        output: "",
-        note: "unit 1: cause 2 BadVarint\n",
-    },
-    Stop {
-        name: "a number in eleven bytes",
-        from: COMPACT,
-        to: BATCHES,
-        input: "1680808080808080808002",
-        status: 3,
-        output: "",
-        note: "unit 1: cause 2 BadVarint\n",
-    },
-    Stop {
-        name: "a number without its end",
-        from: COMPACT,
-        to: BATCHES,
-        input: "16808080808080808080",
-        status: 3,
-        output: "",
-        note: "unit 1: cause 1 Truncated\n",
-    },
-    Stop {
-        name: "a size above 2147483647",
-        from: COMPACT,
-        to: BATCHES,
-        input: "188080808008",
-        status: 3,
-        output: "",
-        note: "unit 1: cause 4 BadSize\n",
-    },
-    Stop {
-        name: "a binary longer than a unit",
-        from: COMPACT,
-        to: BATCHES,
-        input: "18ffffffff07",
-        status: 3,
-        output: "",
-        note: "unit 1: cause 6 UnitTooLong\n",
-    },
-    Stop {
-        name: "the size of a map above 2147483647",
-        from: COMPACT,
-        to: BATCHES,
-        input: "1b8080808008",
-        status: 3,
-        output: "",
-        note: "unit 1: cause 4 BadSize\n",
-    },
-    Stop {
-        name: "a map of a type that isn't there",
-        from: COMPACT,
-        to: BATCHES,
-        input: "1b010d",
-        status: 3,
-        output: "",
-        note: "unit 1: cause 3 BadWire\n",
-    },
-    Stop {
-        name: "a list of a type that isn't there",
-        from: COMPACT,
-        to: BATCHES,
-        input: "191d",
-        status: 3,
-        output: "",
-        note: "unit 1: cause 3 BadWire\n",
-    },
-    Stop {
-        name: "the same in the long spelling",
-        from: COMPACT,
-        to: BATCHES,
-        input: "19fd01",
-        status: 3,
-        output: "",
-        note: "unit 1: cause 3 BadWire\n",
-    },
-    Stop {
-        name: "a text that isn't UTF-8",
-        from: COMPACT,
-        to: REQUESTS,
-        input: "1c18017300191c16021600160416001801ff2500160016000000",
-        status: 3,
-        output: "",
-        note: "unit 1: cause 9 NotText\n",
-    },
-    Stop {
-        name: "a type of tag outside its table",
-        from: COMPACT,
-        to: BATCHES,
-        input: "1c180000191c1602160016041600180161250016001600191c180f6f74656c2e617474722e6572726f72150a\
-        31000000",
-        status: 3,
-        output: "",
-        note: "unit 1: cause 13 BadEnum\n",
-    },
-    Stop {
-        name: "a kind of reference outside its table",
-        from: COMPACT,
-        to: BATCHES,
-        input: "1c18017300191c1602160016041606180161191c1504160216001608001500160016000000",
-        status: 3,
-        output: "",
-        note: "unit 1: cause 13 BadEnum\n",
-    },
-    Stop {
-        name: "a field twice",
-        from: COMPACT,
-        to: REQUESTS,
-        input: "1c18017300191c1602160016041600180161250016001600050e000000",
-        status: 3,
-        output: "",
-        note: "unit 1: cause 7 FieldTwice\n",
-    },
-    Stop {
-        name: "a byte is missing",
-        from: COMPACT,
-        to: COMPACT,
-        input: "1c18017300191c160216001604160018016125001600160000",
-        status: 3,
-        output: "",
-        note: "unit 1: cause 1 Truncated\n",
-    },
-];
+pub const STOPPED: &str = r#"
+reserved error
+run convert --from otlp-proto --to jaeger-compact
+input-hex @ERROR_REQUEST
+stops 4 unit 1: fault 21 Reserved "error"
+
+containers 33 deep
+run convert --from jaeger-compact --to jaeger-binary
+input-hex 1c1c1c1c1c1c1c1c1c1c1c1c1c1c1c1c1c1c1c1c1c1c1c1c1c1c1c1c1c1c1c1c
+stops 3 unit 1: cause 5 TooDeep
+
+containers 31 deep, without an end
+run convert --from jaeger-compact --to jaeger-binary
+input-hex 1c1c1c1c1c1c1c1c1c1c1c1c1c1c1c1c1c1c1c1c1c1c1c1c1c1c1c1c1c1c1c
+stops 3 unit 1: cause 1 Truncated
+
+a list of spans of another type
+run convert --from jaeger-compact --to jaeger-binary
+input-hex 1c1801730019150000
+stops 3 unit 1: cause 14 BadElement
+
+nothing in a batch
+run convert --from jaeger-compact --to jaeger-binary
+input-hex 00
+stops 3 unit 1: cause 8 Missing
+
+a field of no type
+run convert --from jaeger-compact --to jaeger-binary
+input-hex 1d
+stops 3 unit 1: cause 3 BadWire
+
+a difference of ids without a type
+run convert --from jaeger-compact --to jaeger-binary
+input-hex 10
+stops 3 unit 1: cause 3 BadWire
+
+an id above 32767
+run convert --from jaeger-compact --to jaeger-binary
+input-hex 0c80800400
+stops 3 unit 1: cause 3 BadWire
+
+a number above 32 bits
+run convert --from jaeger-compact --to jaeger-binary
+input-hex 158080808010
+stops 3 unit 1: cause 2 BadVarint
+
+a number above 16 bits
+run convert --from jaeger-compact --to jaeger-binary
+input-hex 14808004
+stops 3 unit 1: cause 2 BadVarint
+
+a number in eleven bytes
+run convert --from jaeger-compact --to jaeger-binary
+input-hex 1680808080808080808002
+stops 3 unit 1: cause 2 BadVarint
+
+a number without its end
+run convert --from jaeger-compact --to jaeger-binary
+input-hex 16808080808080808080
+stops 3 unit 1: cause 1 Truncated
+
+a size above 2147483647
+run convert --from jaeger-compact --to jaeger-binary
+input-hex 188080808008
+stops 3 unit 1: cause 4 BadSize
+
+a binary longer than a unit
+run convert --from jaeger-compact --to jaeger-binary
+input-hex 18ffffffff07
+stops 3 unit 1: cause 6 UnitTooLong
+
+the size of a map above 2147483647
+run convert --from jaeger-compact --to jaeger-binary
+input-hex 1b8080808008
+stops 3 unit 1: cause 4 BadSize
+
+a map of a type that isn't there
+run convert --from jaeger-compact --to jaeger-binary
+input-hex 1b010d
+stops 3 unit 1: cause 3 BadWire
+
+a list of a type that isn't there
+run convert --from jaeger-compact --to jaeger-binary
+input-hex 191d
+stops 3 unit 1: cause 3 BadWire
+
+the same in the long spelling
+run convert --from jaeger-compact --to jaeger-binary
+input-hex 19fd01
+stops 3 unit 1: cause 3 BadWire
+
+a text that isn't UTF-8
+run convert --from jaeger-compact --to otlp-proto
+input-hex 1c18017300191c16021600160416001801ff2500160016000000
+stops 3 unit 1: cause 9 NotText
+
+a type of tag outside its table
+run convert --from jaeger-compact --to jaeger-binary
+input-hex 1c180000191c1602160016041600180161250016001600191c180f6f74656c2e617474722e6572726f72150a31000000
+stops 3 unit 1: cause 13 BadEnum
+
+a kind of reference outside its table
+run convert --from jaeger-compact --to jaeger-binary
+input-hex 1c18017300191c1602160016041606180161191c1504160216001608001500160016000000
+stops 3 unit 1: cause 13 BadEnum
+
+a field twice
+run convert --from jaeger-compact --to otlp-proto
+input-hex 1c18017300191c1602160016041600180161250016001600050e000000
+stops 3 unit 1: cause 7 FieldTwice
+
+a byte is missing
+run convert --from jaeger-compact --to jaeger-compact
+input-hex 1c18017300191c160216001604160018016125001600160000
+stops 3 unit 1: cause 1 Truncated
+"#;

@@ -1,343 +1,358 @@
 //! Documents in JSON that differ in one place, and the line that is noted of each.
-use super::{GROUPS, SPANS};
+use super::{NO_FAILS, WHOLE, conversion, run_cut, status_told};
+use crate::told::bytes_told;
+use row_tables::{Row, rows};
+use span_io::Blob;
+use std::alloc::Global;
+use std::process::Abort;
+use std::test::Fail;
 
-/// Documents of a form that differ in one place. They are converted to requests.
-#[derive(Clone, Copy)]
-pub struct Documents {
-    pub form: &'static str,
-    /// What stands before and behind what differs.
-    pub around: (&'static str, &'static str),
-    /// The line that is noted of each, and none where it is read.
-    pub note: &'static str,
-    pub texts: &'static [&'static str],
+// Documents of a form that differ in one place, with what stands before and behind it. They are converted to requests.
+const DOCUMENTS: &str = r#"
+documents of spans, BadJson of unit 0
+form zipkin-json
+stops 3 unit 0: cause 10 BadJson
+text [1,]
+
+documents of spans, BadShape of unit 0
+form zipkin-json
+stops 3 unit 0: cause 11 BadShape
+text {}
+text null
+
+documents of spans, BadShape of unit 1
+form zipkin-json
+stops 3 unit 1: cause 11 BadShape
+text [null]
+text [{"traceId":"1","id":1}]
+text [{"traceId":"1","id":"1","timestamp":-0}]
+text [{"traceId":"1","id":"1","timestamp":1.0}]
+text [{"traceId":"1","id":"1","timestamp":1e3}]
+text [{"traceId":"1","id":"1","timestamp":"1"}]
+text [{"traceId":"1","id":"1","localEndpoint":{"port":65536}}]
+text [{"traceId":"1","id":"1","annotations":[null]}]
+text [{"traceId":"1","id":"1","tags":{"a":null,"b":1}}]
+
+documents of spans, Missing of unit 1
+form zipkin-json
+stops 3 unit 1: cause 8 Missing
+text [{"id":"1"}]
+text [{"traceId":"1"}]
+text [{"traceId":null,"id":"1"}]
+text [{"traceId":"1","id":"1","annotations":[{"value":"a"}]}]
+text [{"id":1,"name":2}]
+
+documents of spans, BadId of unit 1
+form zipkin-json
+stops 3 unit 1: cause 12 BadId
+text [{"traceId":"0","id":"1"}]
+text [{"traceId":"1","id":"+1"}]
+text [{"traceId":"1","id":"00000000000000001"}]
+text [{"traceId":"1","id":"1","parentId":""}]
+
+documents of spans, BadEnum of unit 1
+form zipkin-json
+stops 3 unit 1: cause 13 BadEnum
+text [{"traceId":"1","id":"1","kind":"client"}]
+text [{"traceId":"1","id":"1","kind":""}]
+text [{"traceId":"1","id":"1","timestamp":18446744073709551,"duration":1,"kind":"x"}]
+
+documents of spans, BadTime of unit 1
+form zipkin-json
+stops 3 unit 1: cause 16 BadTime
+text [{"traceId":"1","id":"1","timestamp":-1}]
+text [{"traceId":"1","id":"1","timestamp":18446744073709552}]
+text [{"traceId":"1","id":"1","timestamp":18446744073709551,"duration":1}]
+text [{"traceId":"1","id":"1","timestamp":18446744073709551,"duration":1,"debug":0}]
+
+documents of spans, BadId of unit 2
+form zipkin-json
+stops 3 unit 2: cause 12 BadId
+text [{"traceId":"1","id":"1"},{"traceId":"1","id":"0"}]
+
+documents of groups, BadJson of unit 0
+form otlp-json
+stops 3 unit 0: cause 10 BadJson
+text {"resourceSpans":[]
+text {"resour
+
+documents of groups that are read
+form otlp-json
+text {"resourceSpans":null}
+text {"resourceSpans":[{"resource":{"attributes":[{"value":{"doubleValue":null,"stringValue":""}}]}}]}
+text {"resourceSpans":[{"resource":{"attributes":[{"value":{"arrayValue":{"values":[{"arrayValue":{"values":[{"arrayValue":{
+ "values":[{"arrayValue":{"values":[{"arrayValue":{"values":[{"arrayValue":{"values":[{"arrayValue":{"values":[{
+ "arrayValue":{"values":[{"arrayValue":{"values":[{"arrayValue":{"values":[{"arrayValue":{"values":[{"arrayValue":{"values":
+ [{"arrayValue":{"values":[{"arrayValue":{"values":[{"arrayValue":{"values":[
+ {}]}}]}}]}}]}}]}}]}}]}}]}}]}}]}}]}}]}}]}}]}}]}}}]}}]}
+
+documents of groups, BadShape of unit 2
+form otlp-json
+stops 3 unit 2: cause 11 BadShape
+text {"resourceSpans":[{},{"schemaUrl":1}]}
+text {"resourceSpans":[{},7]}
+
+documents of groups, BadId of unit 2
+form otlp-json
+stops 3 unit 2: cause 12 BadId
+text {"resourceSpans":[{},{"scopeSpans":[{"spans":[{}]}]}]}
+
+documents of groups, DoubleInJson of unit 1
+form otlp-json
+stops 3 unit 1: cause 15 DoubleInJson
+text {"resourceSpans":[{"resource":{"attributes":[{"value":{"doubleValue":1}}]}}]}
+text {"resourceSpans":[{"scopeSpans":[{"spans":[{}],"scope":{"attributes":[{"value":{"doubleValue":1}}]}}]}]}
+
+documents of groups, BadShape of unit 1
+form otlp-json
+stops 3 unit 1: cause 11 BadShape
+text {"resourceSpans":[{"scopeSpans":1},{"scopeSpans":[{"spans":[{}]}]}]}
+text {"resourceSpans":[{"resource":{"attributes":[{"value":{"doubleValue":1,"stringValue":""}}]}}]}
+
+documents of groups, TooDeep of unit 1
+form otlp-json
+stops 3 unit 1: cause 5 TooDeep
+text {"resourceSpans":[{"resource":{"attributes":[{"value":{"arrayValue":{"values":[{"arrayValue":{"values":[{"arrayValue":{
+ "values":[{"arrayValue":{"values":[{"arrayValue":{"values":[{"arrayValue":{"values":[{"arrayValue":{"values":[{
+ "arrayValue":{"values":[{"arrayValue":{"values":[{"arrayValue":{"values":[{"arrayValue":{"values":[{"arrayValue":{"values":
+ [{"arrayValue":{"values":[{"arrayValue":{"values":[{"arrayValue":{"values":[{"arrayValue":{"values":[
+ {}]}}]}}]}}]}}]}}]}}]}}]}}]}}]}}]}}]}}]}}]}}]}}]}}}]}}]}
+
+members of a span that are read
+form otlp-json
+front @MEMBERS
+back }]}]}]}
+text "traceId":"0AF7651916CD43DD8448EB211C80319C"
+text "parentSpanId":""
+text "parentSpanId":"0000000000000000"
+text "kind":5
+text "status":{"code":2}
+text "links":[{}]
+text "attributes":[{"value":{"bytesValue":"AA=="}}]
+
+members of a span, BadId of unit 1
+form otlp-json
+front @MEMBERS
+back }]}]}]}
+stops 3 unit 1: cause 12 BadId
+text "traceId":null
+text "traceId":"00000000000000000000000000000000"
+text "traceId":"8448eb211c80319c"
+text "traceId":"CvdlGRbNQ92ESOshHIAxnA=="
+text "spanId":"t61rcWkgMzE="
+text "parentSpanId":"0"
+text "links":[{"spanId":"0"}]
+text "traceId":""
+text "traceId":"0000000000000000000000000000001"
+text "spanId":"000000000000002g"
+text "spanId":"00000000000000002"
+text "spanId":"AAAAAAAAAAI="
+text "parentSpanId":"2"
+text "parentSpanId":"AAAAAAAAAAI="
+text "links":[{"traceId":"0"}]
+text "links":[{"spanId":"00000000000000000"}]
+
+members of a span, BadShape of unit 1
+form otlp-json
+front @MEMBERS
+back }]}]}]}
+stops 3 unit 1: cause 11 BadShape
+text "traceId":1
+text "kind":3.0
+text "kind":"SPAN_KIND_CLIENT"
+text "events":[{"timeUnixNano":"1.0"}]
+text "attributes":[{"value":{"bytesValue":"AA"}}]
+text "attributes":[{"value":{"bytesValue":"AB=="}}]
+text "attributes":[{"value":{"bytesValue":"-_8="}}]
+text "attributes":{}
+text "kind":"SPAN_KIND_SERVER"
+text "kind":"1"
+text "kind":1.0
+text "status":{"code":"STATUS_CODE_OK"}
+text "status":7
+text "name":7
+text "attributes":[null]
+text "attributes":[{"key":1}]
+text "traceId":7
+text "flags":4294967296
+text "flags":"4294967296"
+text "flags":-1
+text "flags":"-1"
+text "droppedLinksCount":"4294967296"
+text "events":[{"droppedAttributesCount":4294967296}]
+text "startTimeUnixNano":18446744073709551616
+text "startTimeUnixNano":"18446744073709551616"
+text "endTimeUnixNano":-1
+text "endTimeUnixNano":"-1"
+text "events":[{"timeUnixNano":"340282366920938463463374607431768211456"}]
+text "events":[{"timeUnixNano":-9223372036854775809}]
+text "startTimeUnixNano":-0
+text "startTimeUnixNano":1.0
+text "startTimeUnixNano":1e3
+text "startTimeUnixNano":"1.0"
+text "startTimeUnixNano":"1e3"
+text "startTimeUnixNano":"+1"
+text "startTimeUnixNano":""
+text "startTimeUnixNano":"-"
+text "startTimeUnixNano":" 1"
+text "startTimeUnixNano":"1 "
+text "startTimeUnixNano":"0x1"
+text "startTimeUnixNano":"١"
+text "startTimeUnixNano":true
+text "flags":9223372036854775807
+text "flags":"9223372036854775807"
+text "flags":9223372036854775808
+text "flags":"9223372036854775808"
+text "flags":18446744073709551615
+text "flags":"18446744073709551615"
+text "flags":18446744073709551616
+text "flags":"18446744073709551616"
+text "flags":-9223372036854775808
+text "flags":"-9223372036854775808"
+text "flags":-9223372036854775809
+text "flags":"-9223372036854775809"
+text "startTimeUnixNano":-1
+text "startTimeUnixNano":"-1"
+text "startTimeUnixNano":-9223372036854775808
+text "startTimeUnixNano":"-9223372036854775808"
+text "startTimeUnixNano":-9223372036854775809
+text "startTimeUnixNano":"-9223372036854775809"
+text "flags":"340282366920938463463374607431768211456"
+text "startTimeUnixNano":"340282366920938463463374607431768211456"
+text "flags":1.0
+text "flags":1e3
+text "flags":"1.0"
+text "flags":"+1"
+text "flags":" 1"
+text "flags":"-"
+text "flags":""
+
+members of a span, BadEnum of unit 1
+form otlp-json
+front @MEMBERS
+back }]}]}]}
+stops 3 unit 1: cause 13 BadEnum
+text "kind":6
+text "kind":-1
+text "status":{"code":3}
+text "status":{"code":-1}
+
+values of an attribute, DoubleInJson of unit 1
+form otlp-json
+front @VALUE
+back }]}]}]}]}
+stops 3 unit 1: cause 15 DoubleInJson
+text {"doubleValue":1.5}
+text {"doubleValue":"NaN"}
+
+values of an attribute, BadShape of unit 1
+form otlp-json
+front @VALUE
+back }]}]}]}]}
+stops 3 unit 1: cause 11 BadShape
+text {"doubleValue":1,"intValue":1}
+text {"stringValue":7,"boolValue":"x"}
+text "x"
+text {"intValue":9223372036854775808}
+text {"intValue":"-9223372036854775809"}
+text {"boolValue":"true"}
+text {"bytesValue":"/+9="}
+text {"bytesValue":"_-8="}
+text {"bytesValue":"/+8"}
+text {"arrayValue":[]}
+text {"arrayValue":{"values":[{"arrayValue":{"values":[{"arrayValue":{"values":[{"arrayValue":{"values":[{"arrayValue":{
+ "values":[{"arrayValue":{"values":[{"arrayValue":{"values":[{"arrayValue":{"values":[{"arrayValue":{"values":[{
+ "arrayValue":{"values":[{"arrayValue":{"values":[{"arrayValue":{"values":[{"arrayValue":{"values":[{"arrayValue":{"values":
+ [{"arrayValue":{"values":[{"arrayValue":{"values":7}}]}}]}}]}}]}}]}}]}}]}}]}}]}}]}}]}}]}}]}}]}}]}}
+text {"arrayValue":{"values":[{"boolValue":1},{"arrayValue":{"values":[{"arrayValue":{"values":[{"arrayValue":{"values":[{
+ "arrayValue":{"values":[{"arrayValue":{"values":[{"arrayValue":{"values":[{"arrayValue":{"values":[{"arrayValue":{"values":
+ [{"arrayValue":{"values":[{"arrayValue":{"values":[{"arrayValue":{"values":[{"arrayValue":{"values":[{"arrayValue":{
+ "values":[{"arrayValue":{"values":[{"arrayValue":{"values":[{"arrayValue":{}}]}}]}}]}}]}}]}}]}}]}}]}}]}}]}}]}}]}}]}}]}}]}}]}}
+text {"intValue":"9223372036854775808"}
+text {"intValue":18446744073709551615}
+text {"intValue":"18446744073709551615"}
+text {"intValue":18446744073709551616}
+text {"intValue":"18446744073709551616"}
+text {"intValue":-9223372036854775809}
+text {"intValue":"340282366920938463463374607431768211456"}
+text {"intValue":1.0}
+text {"intValue":1e3}
+text {"intValue":"1.0"}
+text {"intValue":"+1"}
+text {"intValue":" 1"}
+text {"intValue":"-"}
+text {"intValue":""}
+
+values of an attribute, TooDeep of unit 1
+form otlp-json
+front @VALUE
+back }]}]}]}]}
+stops 3 unit 1: cause 5 TooDeep
+text {"arrayValue":{"values":[{"arrayValue":{"values":[{"arrayValue":{"values":[{"arrayValue":{"values":[{"arrayValue":{
+ "values":[{"arrayValue":{"values":[{"arrayValue":{"values":[{"arrayValue":{"values":[{"arrayValue":{"values":[{
+ "arrayValue":{"values":[{"arrayValue":{"values":[{"arrayValue":{"values":[{"arrayValue":{"values":[{"arrayValue":{"values":
+ [{"arrayValue":{"values":[{"arrayValue":{"values":[{"arrayValue":{}}]}}]}}]}}]}}]}}]}}]}}]}}]}}]}}]}}]}}]}}]}}]}}]}}
+text {"kvlistValue":{"values":[{"value":{"kvlistValue":{"values":[{"value":{"kvlistValue":{"values":[{"value":{
+ "kvlistValue":{"values":[{"value":{"kvlistValue":{"values":[{"value":{"kvlistValue":{"values":[{"value":{"kvlistValue":{
+ "values":[{"value":{"kvlistValue":{"values":[{"value":{"kvlistValue":{"values":[{"value":{"kvlistValue":{"values":[{
+ "value":{"kvlistValue":{"values":[{"value":{"kvlistValue":{"values":[{"value":{"kvlistValue":{"values":[{"value":{
+ "kvlistValue":{"values":[{"value":{"kvlistValue":{"values":[{"value":{"kvlistValue":{"values":[{"value":{"kvlistValue":
+ {}}}]}}}]}}}]}}}]}}}]}}}]}}}]}}}]}}}]}}}]}}}]}}}]}}}]}}}]}}}]}}}]}}
+text {"arrayValue":{"values":[{"arrayValue":{"values":[{"arrayValue":{"values":[{"arrayValue":{"values":[{"arrayValue":{
+ "values":[{"arrayValue":{"values":[{"arrayValue":{"values":[{"arrayValue":{"values":[{"arrayValue":{"values":[{
+ "arrayValue":{"values":[{"arrayValue":{"values":[{"arrayValue":{"values":[{"arrayValue":{"values":[{"arrayValue":{"values":
+ [{"arrayValue":{"values":[{"arrayValue":{"values":[{}]}}]}}]}}]}}]}}]}}]}}]}}]}}]}}]}}]}}]}}]}}]}}]}}
+text {"arrayValue":{"values":[{"arrayValue":{"values":[{"arrayValue":{"values":[{"arrayValue":{"values":[{"arrayValue":{
+ "values":[{"arrayValue":{"values":[{"arrayValue":{"values":[{"arrayValue":{"values":[{"arrayValue":{"values":[{
+ "arrayValue":{"values":[{"arrayValue":{"values":[{"arrayValue":{"values":[{"arrayValue":{"values":[{"arrayValue":{"values":
+ [{"arrayValue":{"values":[{"arrayValue":{"values":[7]}}]}}]}}]}}]}}]}}]}}]}}]}}]}}]}}]}}]}}]}}]}}]}}
+text {"kvlistValue":{"values":[{"value":{"kvlistValue":{"values":[{"value":{"kvlistValue":{"values":[{"value":{
+ "kvlistValue":{"values":[{"value":{"kvlistValue":{"values":[{"value":{"kvlistValue":{"values":[{"value":{"kvlistValue":{
+ "values":[{"value":{"kvlistValue":{"values":[{"value":{"kvlistValue":{"values":[{"value":{"kvlistValue":{"values":[{
+ "value":{"kvlistValue":{"values":[{"value":{"kvlistValue":{"values":[{"value":{"kvlistValue":{"values":[{"value":{
+ "kvlistValue":{"values":[{"value":{"kvlistValue":{"values":[{"value":{"kvlistValue":{"values":[
+ {}]}}}]}}}]}}}]}}}]}}}]}}}]}}}]}}}]}}}]}}}]}}}]}}}]}}}]}}}]}}}]}}
+text {"arrayValue":{"values":[{"arrayValue":{"values":[{"arrayValue":{"values":[{"arrayValue":{"values":[{"arrayValue":{
+ "values":[{"arrayValue":{"values":[{"arrayValue":{"values":[{"arrayValue":{"values":[{"arrayValue":{"values":[{
+ "arrayValue":{"values":[{"arrayValue":{"values":[{"arrayValue":{"values":[{"arrayValue":{"values":[{"arrayValue":{"values":
+ [{"arrayValue":{"values":[{"arrayValue":{"values":[{"arrayValue":{}}]}}]}}]}}]}}]}}]}}]}}]}}]}}]}}]}}]}}]}}]}}]}},
+ {"boolValue":1}]}}
+"#;
+
+const KEYS: [&str; 5] = ["form", "front", "back", "stops", "text"];
+
+// The document with this text where documents differ.
+fn document_of(alloc: Global, row: &Row, text: &str) -> Result<Blob, Fail> {
+    let mut document = bytes_told(alloc, row, "front")?;
+    document.append(text.as_bytes())?;
+    document.append(bytes_told(alloc, row, "back")?.as_slice())?;
+    Ok(document)
 }
 
-// What differs is the whole document.
-const WHOLE: (&str, &str) = ("", "");
+fn expect_document(rt: &impl Abort, alloc: Global, row: &Row, text: &str) -> Result<(), Fail> {
+    let words = conversion(alloc, row.text("form")?, "otlp-proto")?;
+    let input = document_of(alloc, row, text)?;
+    let answer = run_cut(alloc, words.as_slice(), input, WHOLE, NO_FAILS)?;
+    let mut note = Blob::new(alloc);
+    let status = status_told(row, &mut note)?;
+    assert_eq!(rt; answer.status, status, "status of {text}");
+    assert_eq!(rt; answer.note.as_slice(), note.as_slice(), "note of {text}");
+    Ok(())
+}
 
-// What differs are members of a span.
-const MEMBERS: (&str, &str) = (
-    r#"{"resourceSpans":[{"scopeSpans":[{"spans":[{"traceId":"00000000000000000000000000000001","spanId":"0000000000000002","name":"a","#,
-    "}]}]}]}",
-);
+fn expect_documents(rt: &impl Abort, alloc: Global, row: &Row) -> Result<(), Fail> {
+    row.expect_keys(&KEYS)?;
+    for text in &row.texts(alloc, "text")? {
+        expect_document(rt, alloc, row, text)?;
+    }
+    Ok(())
+}
 
-// What differs is the value of an attribute.
-const VALUE: (&str, &str) = (
-    r#"{"resourceSpans":[{"scopeSpans":[{"spans":[{"traceId":"00000000000000000000000000000001","spanId":"0000000000000002","name":"a","attributes":[{"key":"k","value":"#,
-    "}]}]}]}]}",
-);
-
-/// The documents.
-pub const DOCUMENTS: [Documents; 22] = [
-    Documents {
-        form: SPANS,
-        around: WHOLE,
-        note: "unit 0: cause 10 BadJson\n",
-        texts: &["[1,]"],
-    },
-    Documents {
-        form: SPANS,
-        around: WHOLE,
-        note: "unit 0: cause 11 BadShape\n",
-        texts: &["{}", "null"],
-    },
-    Documents {
-        form: SPANS,
-        around: WHOLE,
-        note: "unit 1: cause 11 BadShape\n",
-        texts: &[
-            "[null]",
-            r#"[{"traceId":"1","id":1}]"#,
-            r#"[{"traceId":"1","id":"1","timestamp":-0}]"#,
-            r#"[{"traceId":"1","id":"1","timestamp":1.0}]"#,
-            r#"[{"traceId":"1","id":"1","timestamp":1e3}]"#,
-            r#"[{"traceId":"1","id":"1","timestamp":"1"}]"#,
-            r#"[{"traceId":"1","id":"1","localEndpoint":{"port":65536}}]"#,
-            r#"[{"traceId":"1","id":"1","annotations":[null]}]"#,
-            r#"[{"traceId":"1","id":"1","tags":{"a":null,"b":1}}]"#,
-        ],
-    },
-    Documents {
-        form: SPANS,
-        around: WHOLE,
-        note: "unit 1: cause 8 Missing\n",
-        texts: &[
-            r#"[{"id":"1"}]"#,
-            r#"[{"traceId":"1"}]"#,
-            r#"[{"traceId":null,"id":"1"}]"#,
-            r#"[{"traceId":"1","id":"1","annotations":[{"value":"a"}]}]"#,
-            r#"[{"id":1,"name":2}]"#,
-        ],
-    },
-    Documents {
-        form: SPANS,
-        around: WHOLE,
-        note: "unit 1: cause 12 BadId\n",
-        texts: &[
-            r#"[{"traceId":"0","id":"1"}]"#,
-            r#"[{"traceId":"1","id":"+1"}]"#,
-            r#"[{"traceId":"1","id":"00000000000000001"}]"#,
-            r#"[{"traceId":"1","id":"1","parentId":""}]"#,
-        ],
-    },
-    Documents {
-        form: SPANS,
-        around: WHOLE,
-        note: "unit 1: cause 13 BadEnum\n",
-        texts: &[
-            r#"[{"traceId":"1","id":"1","kind":"client"}]"#,
-            r#"[{"traceId":"1","id":"1","kind":""}]"#,
-            r#"[{"traceId":"1","id":"1","timestamp":18446744073709551,"duration":1,"kind":"x"}]"#,
-        ],
-    },
-    Documents {
-        form: SPANS,
-        around: WHOLE,
-        note: "unit 1: cause 16 BadTime\n",
-        texts: &[
-            r#"[{"traceId":"1","id":"1","timestamp":-1}]"#,
-            r#"[{"traceId":"1","id":"1","timestamp":18446744073709552}]"#,
-            r#"[{"traceId":"1","id":"1","timestamp":18446744073709551,"duration":1}]"#,
-            r#"[{"traceId":"1","id":"1","timestamp":18446744073709551,"duration":1,"debug":0}]"#,
-        ],
-    },
-    Documents {
-        form: SPANS,
-        around: WHOLE,
-        note: "unit 2: cause 12 BadId\n",
-        texts: &[r#"[{"traceId":"1","id":"1"},{"traceId":"1","id":"0"}]"#],
-    },
-    Documents {
-        form: GROUPS,
-        around: WHOLE,
-        note: "unit 0: cause 10 BadJson\n",
-        texts: &[r#"{"resourceSpans":[]"#, r#"{"resour"#],
-    },
-    Documents {
-        form: GROUPS,
-        around: WHOLE,
-        note: "",
-        texts: &[
-            r#"{"resourceSpans":null}"#,
-            r#"{"resourceSpans":[{"resource":{"attributes":[{"value":{"doubleValue":null,"stringValue":""}}]}}]}"#,
-            r#"{"resourceSpans":[{"resource":{"attributes":[{"value":{"arrayValue":{"values":[{"arrayValue":{"values":[{"arrayValue":{"values":[{"arrayValue":{"values":[{"arrayValue":{"values":[{"arrayValue":{"values":[{"arrayValue":{"values":[{"arrayValue":{"values":[{"arrayValue":{"values":[{"arrayValue":{"values":[{"arrayValue":{"values":[{"arrayValue":{"values":[{"arrayValue":{"values":[{"arrayValue":{"values":[{"arrayValue":{"values":[{}]}}]}}]}}]}}]}}]}}]}}]}}]}}]}}]}}]}}]}}]}}]}}}]}}]}"#,
-        ],
-    },
-    Documents {
-        form: GROUPS,
-        around: WHOLE,
-        note: "unit 2: cause 11 BadShape\n",
-        texts: &[
-            r#"{"resourceSpans":[{},{"schemaUrl":1}]}"#,
-            r#"{"resourceSpans":[{},7]}"#,
-        ],
-    },
-    Documents {
-        form: GROUPS,
-        around: WHOLE,
-        note: "unit 2: cause 12 BadId\n",
-        texts: &[r#"{"resourceSpans":[{},{"scopeSpans":[{"spans":[{}]}]}]}"#],
-    },
-    Documents {
-        form: GROUPS,
-        around: WHOLE,
-        note: "unit 1: cause 15 DoubleInJson\n",
-        texts: &[
-            r#"{"resourceSpans":[{"resource":{"attributes":[{"value":{"doubleValue":1}}]}}]}"#,
-            r#"{"resourceSpans":[{"scopeSpans":[{"spans":[{}],"scope":{"attributes":[{"value":{"doubleValue":1}}]}}]}]}"#,
-        ],
-    },
-    Documents {
-        form: GROUPS,
-        around: WHOLE,
-        note: "unit 1: cause 11 BadShape\n",
-        texts: &[
-            r#"{"resourceSpans":[{"scopeSpans":1},{"scopeSpans":[{"spans":[{}]}]}]}"#,
-            r#"{"resourceSpans":[{"resource":{"attributes":[{"value":{"doubleValue":1,"stringValue":""}}]}}]}"#,
-        ],
-    },
-    Documents {
-        form: GROUPS,
-        around: WHOLE,
-        note: "unit 1: cause 5 TooDeep\n",
-        texts: &[
-            r#"{"resourceSpans":[{"resource":{"attributes":[{"value":{"arrayValue":{"values":[{"arrayValue":{"values":[{"arrayValue":{"values":[{"arrayValue":{"values":[{"arrayValue":{"values":[{"arrayValue":{"values":[{"arrayValue":{"values":[{"arrayValue":{"values":[{"arrayValue":{"values":[{"arrayValue":{"values":[{"arrayValue":{"values":[{"arrayValue":{"values":[{"arrayValue":{"values":[{"arrayValue":{"values":[{"arrayValue":{"values":[{"arrayValue":{"values":[{}]}}]}}]}}]}}]}}]}}]}}]}}]}}]}}]}}]}}]}}]}}]}}]}}}]}}]}"#,
-        ],
-    },
-    Documents {
-        form: GROUPS,
-        around: MEMBERS,
-        note: "",
-        texts: &[
-            r#""traceId":"0AF7651916CD43DD8448EB211C80319C""#,
-            r#""parentSpanId":"""#,
-            r#""parentSpanId":"0000000000000000""#,
-            r#""kind":5"#,
-            r#""status":{"code":2}"#,
-            r#""links":[{}]"#,
-            r#""attributes":[{"value":{"bytesValue":"AA=="}}]"#,
-        ],
-    },
-    Documents {
-        form: GROUPS,
-        around: MEMBERS,
-        note: "unit 1: cause 12 BadId\n",
-        texts: &[
-            r#""traceId":null"#,
-            r#""traceId":"00000000000000000000000000000000""#,
-            r#""traceId":"8448eb211c80319c""#,
-            r#""traceId":"CvdlGRbNQ92ESOshHIAxnA==""#,
-            r#""spanId":"t61rcWkgMzE=""#,
-            r#""parentSpanId":"0""#,
-            r#""links":[{"spanId":"0"}]"#,
-            r#""traceId":"""#,
-            r#""traceId":"0000000000000000000000000000001""#,
-            r#""spanId":"000000000000002g""#,
-            r#""spanId":"00000000000000002""#,
-            r#""spanId":"AAAAAAAAAAI=""#,
-            r#""parentSpanId":"2""#,
-            r#""parentSpanId":"AAAAAAAAAAI=""#,
-            r#""links":[{"traceId":"0"}]"#,
-            r#""links":[{"spanId":"00000000000000000"}]"#,
-        ],
-    },
-    Documents {
-        form: GROUPS,
-        around: MEMBERS,
-        note: "unit 1: cause 11 BadShape\n",
-        texts: &[
-            r#""traceId":1"#,
-            r#""kind":3.0"#,
-            r#""kind":"SPAN_KIND_CLIENT""#,
-            r#""events":[{"timeUnixNano":"1.0"}]"#,
-            r#""attributes":[{"value":{"bytesValue":"AA"}}]"#,
-            r#""attributes":[{"value":{"bytesValue":"AB=="}}]"#,
-            r#""attributes":[{"value":{"bytesValue":"-_8="}}]"#,
-            r#""attributes":{}"#,
-            r#""kind":"SPAN_KIND_SERVER""#,
-            r#""kind":"1""#,
-            r#""kind":1.0"#,
-            r#""status":{"code":"STATUS_CODE_OK"}"#,
-            r#""status":7"#,
-            r#""name":7"#,
-            r#""attributes":[null]"#,
-            r#""attributes":[{"key":1}]"#,
-            r#""traceId":7"#,
-            r#""flags":4294967296"#,
-            r#""flags":"4294967296""#,
-            r#""flags":-1"#,
-            r#""flags":"-1""#,
-            r#""droppedLinksCount":"4294967296""#,
-            r#""events":[{"droppedAttributesCount":4294967296}]"#,
-            r#""startTimeUnixNano":18446744073709551616"#,
-            r#""startTimeUnixNano":"18446744073709551616""#,
-            r#""endTimeUnixNano":-1"#,
-            r#""endTimeUnixNano":"-1""#,
-            r#""events":[{"timeUnixNano":"340282366920938463463374607431768211456"}]"#,
-            r#""events":[{"timeUnixNano":-9223372036854775809}]"#,
-            r#""startTimeUnixNano":-0"#,
-            r#""startTimeUnixNano":1.0"#,
-            r#""startTimeUnixNano":1e3"#,
-            r#""startTimeUnixNano":"1.0""#,
-            r#""startTimeUnixNano":"1e3""#,
-            r#""startTimeUnixNano":"+1""#,
-            r#""startTimeUnixNano":"""#,
-            r#""startTimeUnixNano":"-""#,
-            r#""startTimeUnixNano":" 1""#,
-            r#""startTimeUnixNano":"1 ""#,
-            r#""startTimeUnixNano":"0x1""#,
-            r#""startTimeUnixNano":"١""#,
-            r#""startTimeUnixNano":true"#,
-            r#""flags":9223372036854775807"#,
-            r#""flags":"9223372036854775807""#,
-            r#""flags":9223372036854775808"#,
-            r#""flags":"9223372036854775808""#,
-            r#""flags":18446744073709551615"#,
-            r#""flags":"18446744073709551615""#,
-            r#""flags":18446744073709551616"#,
-            r#""flags":"18446744073709551616""#,
-            r#""flags":-9223372036854775808"#,
-            r#""flags":"-9223372036854775808""#,
-            r#""flags":-9223372036854775809"#,
-            r#""flags":"-9223372036854775809""#,
-            r#""startTimeUnixNano":-1"#,
-            r#""startTimeUnixNano":"-1""#,
-            r#""startTimeUnixNano":-9223372036854775808"#,
-            r#""startTimeUnixNano":"-9223372036854775808""#,
-            r#""startTimeUnixNano":-9223372036854775809"#,
-            r#""startTimeUnixNano":"-9223372036854775809""#,
-            r#""flags":"340282366920938463463374607431768211456""#,
-            r#""startTimeUnixNano":"340282366920938463463374607431768211456""#,
-            r#""flags":1.0"#,
-            r#""flags":1e3"#,
-            r#""flags":"1.0""#,
-            r#""flags":"+1""#,
-            r#""flags":" 1""#,
-            r#""flags":"-""#,
-            r#""flags":"""#,
-        ],
-    },
-    Documents {
-        form: GROUPS,
-        around: MEMBERS,
-        note: "unit 1: cause 13 BadEnum\n",
-        texts: &[
-            r#""kind":6"#,
-            r#""kind":-1"#,
-            r#""status":{"code":3}"#,
-            r#""status":{"code":-1}"#,
-        ],
-    },
-    Documents {
-        form: GROUPS,
-        around: VALUE,
-        note: "unit 1: cause 15 DoubleInJson\n",
-        texts: &[r#"{"doubleValue":1.5}"#, r#"{"doubleValue":"NaN"}"#],
-    },
-    Documents {
-        form: GROUPS,
-        around: VALUE,
-        note: "unit 1: cause 11 BadShape\n",
-        texts: &[
-            r#"{"doubleValue":1,"intValue":1}"#,
-            r#"{"stringValue":7,"boolValue":"x"}"#,
-            r#""x""#,
-            r#"{"intValue":9223372036854775808}"#,
-            r#"{"intValue":"-9223372036854775809"}"#,
-            r#"{"boolValue":"true"}"#,
-            r#"{"bytesValue":"/+9="}"#,
-            r#"{"bytesValue":"_-8="}"#,
-            r#"{"bytesValue":"/+8"}"#,
-            r#"{"arrayValue":[]}"#,
-            r#"{"arrayValue":{"values":[{"arrayValue":{"values":[{"arrayValue":{"values":[{"arrayValue":{"values":[{"arrayValue":{"values":[{"arrayValue":{"values":[{"arrayValue":{"values":[{"arrayValue":{"values":[{"arrayValue":{"values":[{"arrayValue":{"values":[{"arrayValue":{"values":[{"arrayValue":{"values":[{"arrayValue":{"values":[{"arrayValue":{"values":[{"arrayValue":{"values":[{"arrayValue":{"values":7}}]}}]}}]}}]}}]}}]}}]}}]}}]}}]}}]}}]}}]}}]}}]}}"#,
-            r#"{"arrayValue":{"values":[{"boolValue":1},{"arrayValue":{"values":[{"arrayValue":{"values":[{"arrayValue":{"values":[{"arrayValue":{"values":[{"arrayValue":{"values":[{"arrayValue":{"values":[{"arrayValue":{"values":[{"arrayValue":{"values":[{"arrayValue":{"values":[{"arrayValue":{"values":[{"arrayValue":{"values":[{"arrayValue":{"values":[{"arrayValue":{"values":[{"arrayValue":{"values":[{"arrayValue":{"values":[{"arrayValue":{}}]}}]}}]}}]}}]}}]}}]}}]}}]}}]}}]}}]}}]}}]}}]}}]}}"#,
-            r#"{"intValue":"9223372036854775808"}"#,
-            r#"{"intValue":18446744073709551615}"#,
-            r#"{"intValue":"18446744073709551615"}"#,
-            r#"{"intValue":18446744073709551616}"#,
-            r#"{"intValue":"18446744073709551616"}"#,
-            r#"{"intValue":-9223372036854775809}"#,
-            r#"{"intValue":"340282366920938463463374607431768211456"}"#,
-            r#"{"intValue":1.0}"#,
-            r#"{"intValue":1e3}"#,
-            r#"{"intValue":"1.0"}"#,
-            r#"{"intValue":"+1"}"#,
-            r#"{"intValue":" 1"}"#,
-            r#"{"intValue":"-"}"#,
-            r#"{"intValue":""}"#,
-        ],
-    },
-    Documents {
-        form: GROUPS,
-        around: VALUE,
-        note: "unit 1: cause 5 TooDeep\n",
-        texts: &[
-            r#"{"arrayValue":{"values":[{"arrayValue":{"values":[{"arrayValue":{"values":[{"arrayValue":{"values":[{"arrayValue":{"values":[{"arrayValue":{"values":[{"arrayValue":{"values":[{"arrayValue":{"values":[{"arrayValue":{"values":[{"arrayValue":{"values":[{"arrayValue":{"values":[{"arrayValue":{"values":[{"arrayValue":{"values":[{"arrayValue":{"values":[{"arrayValue":{"values":[{"arrayValue":{"values":[{"arrayValue":{}}]}}]}}]}}]}}]}}]}}]}}]}}]}}]}}]}}]}}]}}]}}]}}]}}"#,
-            r#"{"kvlistValue":{"values":[{"value":{"kvlistValue":{"values":[{"value":{"kvlistValue":{"values":[{"value":{"kvlistValue":{"values":[{"value":{"kvlistValue":{"values":[{"value":{"kvlistValue":{"values":[{"value":{"kvlistValue":{"values":[{"value":{"kvlistValue":{"values":[{"value":{"kvlistValue":{"values":[{"value":{"kvlistValue":{"values":[{"value":{"kvlistValue":{"values":[{"value":{"kvlistValue":{"values":[{"value":{"kvlistValue":{"values":[{"value":{"kvlistValue":{"values":[{"value":{"kvlistValue":{"values":[{"value":{"kvlistValue":{"values":[{"value":{"kvlistValue":{}}}]}}}]}}}]}}}]}}}]}}}]}}}]}}}]}}}]}}}]}}}]}}}]}}}]}}}]}}}]}}}]}}"#,
-            r#"{"arrayValue":{"values":[{"arrayValue":{"values":[{"arrayValue":{"values":[{"arrayValue":{"values":[{"arrayValue":{"values":[{"arrayValue":{"values":[{"arrayValue":{"values":[{"arrayValue":{"values":[{"arrayValue":{"values":[{"arrayValue":{"values":[{"arrayValue":{"values":[{"arrayValue":{"values":[{"arrayValue":{"values":[{"arrayValue":{"values":[{"arrayValue":{"values":[{"arrayValue":{"values":[{}]}}]}}]}}]}}]}}]}}]}}]}}]}}]}}]}}]}}]}}]}}]}}]}}"#,
-            r#"{"arrayValue":{"values":[{"arrayValue":{"values":[{"arrayValue":{"values":[{"arrayValue":{"values":[{"arrayValue":{"values":[{"arrayValue":{"values":[{"arrayValue":{"values":[{"arrayValue":{"values":[{"arrayValue":{"values":[{"arrayValue":{"values":[{"arrayValue":{"values":[{"arrayValue":{"values":[{"arrayValue":{"values":[{"arrayValue":{"values":[{"arrayValue":{"values":[{"arrayValue":{"values":[7]}}]}}]}}]}}]}}]}}]}}]}}]}}]}}]}}]}}]}}]}}]}}]}}"#,
-            r#"{"kvlistValue":{"values":[{"value":{"kvlistValue":{"values":[{"value":{"kvlistValue":{"values":[{"value":{"kvlistValue":{"values":[{"value":{"kvlistValue":{"values":[{"value":{"kvlistValue":{"values":[{"value":{"kvlistValue":{"values":[{"value":{"kvlistValue":{"values":[{"value":{"kvlistValue":{"values":[{"value":{"kvlistValue":{"values":[{"value":{"kvlistValue":{"values":[{"value":{"kvlistValue":{"values":[{"value":{"kvlistValue":{"values":[{"value":{"kvlistValue":{"values":[{"value":{"kvlistValue":{"values":[{"value":{"kvlistValue":{"values":[{}]}}}]}}}]}}}]}}}]}}}]}}}]}}}]}}}]}}}]}}}]}}}]}}}]}}}]}}}]}}}]}}"#,
-            r#"{"arrayValue":{"values":[{"arrayValue":{"values":[{"arrayValue":{"values":[{"arrayValue":{"values":[{"arrayValue":{"values":[{"arrayValue":{"values":[{"arrayValue":{"values":[{"arrayValue":{"values":[{"arrayValue":{"values":[{"arrayValue":{"values":[{"arrayValue":{"values":[{"arrayValue":{"values":[{"arrayValue":{"values":[{"arrayValue":{"values":[{"arrayValue":{"values":[{"arrayValue":{"values":[{"arrayValue":{}}]}}]}}]}}]}}]}}]}}]}}]}}]}}]}}]}}]}}]}}]}}]}},{"boolValue":1}]}}"#,
-        ],
-    },
-];
+#[test]
+fn reads_documents(rt: HostRuntime) -> Result<(), Fail> {
+    let rows = rows(rt.alloc(), DOCUMENTS)?;
+    for row in &rows {
+        expect_documents(&rt, rt.alloc(), row)?;
+    }
+    Ok(())
+}

@@ -1,296 +1,181 @@
 //! What stops a conversion to OTLP/JSON, or of it: faults and causes.
-use super::texts::{DOUBLE_REQUEST, ENDS_BEFORE_START, EVENT_GROUP, LINK_OF_TRACE, PLAIN_BATCH};
-use super::{BATCHES, COMPACT, GROUPS, REQUESTS, SPANS, Stop};
-use span_vectors::texts::DOUBLE_COMPACT;
 
 /// What a target can't hold.
-pub const FAULTS: [Stop; 18] = [
-    Stop {
-        name: "ends before it starts, to batches",
-        from: GROUPS,
-        to: BATCHES,
-        input: ENDS_BEFORE_START,
-        status: 4,
-        output: "",
-        note: "unit 1: fault 20 EndBeforeStart\n",
-    },
-    Stop {
-        name: "ends before it starts, to Zipkin",
-        from: GROUPS,
-        to: SPANS,
-        input: ENDS_BEFORE_START,
-        status: 4,
-        output: "",
-        note: "unit 1: fault 20 EndBeforeStart\n",
-    },
-    Stop {
-        name: "a reserved key",
-        from: GROUPS,
-        to: COMPACT,
-        input: r#"{"resourceSpans":[{"scopeSpans":[{"spans":[{"traceId":"00000000000000000000000000000001","spanId":"0000000000000002","name":"a","attributes":[{"key":"error","value":{"boolValue":true}}]}]}]}]}"#,
-        status: 4,
-        output: "",
-        note: "unit 1: fault 21 Reserved \"error\"\n",
-    },
-    Stop {
-        name: "a reserved key of an event",
-        from: GROUPS,
-        to: BATCHES,
-        input: EVENT_GROUP,
-        status: 4,
-        output: "",
-        note: "unit 1: fault 21 Reserved \"event\"\n",
-    },
-    Stop {
-        name: "a name that reads as event text",
-        from: GROUPS,
-        to: SPANS,
-        input: r#"{"resourceSpans":[{"scopeSpans":[{"spans":[{"traceId":"00000000000000000000000000000001","spanId":"0000000000000002","name":"a","events":[{"timeUnixNano":"1000","name":"\"a\":{\"b\":\"c\"}"}]}]}]}]}"#,
-        status: 4,
-        output: "",
-        note: "unit 1: fault 23 EventText\n",
-    },
-    Stop {
-        name: "own key",
-        from: GROUPS,
-        to: SPANS,
-        input: r#"{"resourceSpans":[{"scopeSpans":[{"spans":[{"traceId":"00000000000000000000000000000001","spanId":"0000000000000002","name":"a","attributes":[{"key":"zipkin.debug","value":{"boolValue":true}}]}]}]}]}"#,
-        status: 4,
-        output: "",
-        note: "unit 1: fault 22 OwnKey \"zipkin.debug\"\n",
-    },
-    Stop {
-        name: "a link that would be the parent",
-        from: GROUPS,
-        to: BATCHES,
-        input: LINK_OF_TRACE,
-        status: 4,
-        output: "",
-        note: "unit 1: fault 24 ChildOfLink\n",
-    },
-    Stop {
-        name: "a cause behind a fault",
-        from: GROUPS,
-        to: SPANS,
-        input: r#"{"resourceSpans":[{"scopeSpans":[{"spans":[{"traceId":"00000000000000000000000000000001","spanId":"0000000000000002","name":"a","startTimeUnixNano":"2001","endTimeUnixNano":"2000"}]}]},{"schemaUrl":1}]}"#,
-        status: 3,
-        output: "",
-        note: "unit 2: cause 11 BadShape\n",
-    },
-    Stop {
-        name: "in a resource",
-        from: REQUESTS,
-        to: GROUPS,
-        input: "0a120a100a0e0a0164120921000000000000f83f",
-        status: 4,
-        output: "",
-        note: "unit 1: fault 25 DoubleInText\n",
-    },
-    Stop {
-        name: "in a scope",
-        from: REQUESTS,
-        to: GROUPS,
-        input: "0a1412120a101a0e0a0164120921000000000000f83f",
-        status: 4,
-        output: "",
-        note: "unit 1: fault 25 DoubleInText\n",
-    },
-    Stop {
-        name: "in a span",
-        from: REQUESTS,
-        to: GROUPS,
-        input: DOUBLE_REQUEST,
-        status: 4,
-        output: "",
-        note: "unit 1: fault 25 DoubleInText\n",
-    },
-    Stop {
-        name: "in an event",
-        from: REQUESTS,
-        to: GROUPS,
-        input: "0a37123512330a1000000000000000000000000000000001120800000000000000022a01615a005a101a0e0a\
-        0164120921000000000000f83f",
-        status: 4,
-        output: "",
-        note: "unit 1: fault 25 DoubleInText\n",
-    },
-    Stop {
-        name: "in a link",
-        from: REQUESTS,
-        to: GROUPS,
-        input: "0a51124f124d0a1000000000000000000000000000000001120800000000000000022a01616a2c0a10000000\
-        0000000000000000000000000112080000000000000001220e0a0164120921000000000000f83f",
-        status: 4,
-        output: "",
-        note: "unit 1: fault 25 DoubleInText\n",
-    },
-    Stop {
-        name: "in a list",
-        from: REQUESTS,
-        to: GROUPS,
-        input: "0a3b123912370a1000000000000000000000000000000001120800000000000000022a01614a160a01611211\
-        2a0f0a0218010a0921000000000000f83f",
-        status: 4,
-        output: "",
-        note: "unit 1: fault 25 DoubleInText\n",
-    },
-    Stop {
-        name: "in a map",
-        from: REQUESTS,
-        to: GROUPS,
-        input: "0a49124712450a1000000000000000000000000000000001120800000000000000022a01614a240a0161121f\
-        321d0a1b0a016212162a140a1232100a0e0a0164120921000000000000f83f",
-        status: 4,
-        output: "",
-        note: "unit 1: fault 25 DoubleInText\n",
-    },
-    Stop {
-        name: "in a batch",
-        from: COMPACT,
-        to: GROUPS,
-        input: DOUBLE_COMPACT,
-        status: 4,
-        output: "",
-        note: "unit 1: fault 25 DoubleInText\n",
-    },
-    Stop {
-        name: "behind a group without spans",
-        from: REQUESTS,
-        to: GROUPS,
-        input: "0a000a331231122f0a1000000000000000000000000000000001120800000000000000022a01614a0e0a0164\
-        120921000000000000f83f",
-        status: 4,
-        output: r#"{"resourceSpans":[{}"#,
-        note: "unit 2: fault 25 DoubleInText\n",
-    },
-    Stop {
-        name: "a fault of the second group",
-        from: GROUPS,
-        to: BATCHES,
-        input: r#"{"resourceSpans":[{"scopeSpans":[{"spans":[{"traceId":"00000000000000000000000000000001","spanId":"0000000000000002","name":"a"}]}]},{"scopeSpans":[{"spans":[{"traceId":"00000000000000000000000000000001","spanId":"0000000000000002","name":"a","startTimeUnixNano":"2001","endTimeUnixNano":"2000"}]}]}]}"#,
-        status: 4,
-        output: PLAIN_BATCH,
-        note: "unit 2: fault 20 EndBeforeStart\n",
-    },
-];
+pub const FAULTS: &str = r#"
+ends before it starts, to batches
+run convert --from otlp-json --to jaeger-binary
+input @ENDS_BEFORE_START
+stops 4 unit 1: fault 20 EndBeforeStart
+
+ends before it starts, to Zipkin
+run convert --from otlp-json --to zipkin-json
+input @ENDS_BEFORE_START
+stops 4 unit 1: fault 20 EndBeforeStart
+
+a reserved key
+run convert --from otlp-json --to jaeger-compact
+input {"resourceSpans":[{"scopeSpans":[{"spans":[{"traceId":"00000000000000000000000000000001","spanId":"0000000000000002",
+ "name":"a","attributes":[{"key":"error","value":{"boolValue":true}}]}]}]}]}
+stops 4 unit 1: fault 21 Reserved "error"
+
+a reserved key of an event
+run convert --from otlp-json --to jaeger-binary
+input @EVENT_GROUP
+stops 4 unit 1: fault 21 Reserved "event"
+
+a name that reads as event text
+run convert --from otlp-json --to zipkin-json
+input {"resourceSpans":[{"scopeSpans":[{"spans":[{"traceId":"00000000000000000000000000000001","spanId":"0000000000000002",
+ "name":"a","events":[{"timeUnixNano":"1000","name":"\"a\":{\"b\":\"c\"}"}]}]}]}]}
+stops 4 unit 1: fault 23 EventText
+
+own key
+run convert --from otlp-json --to zipkin-json
+input {"resourceSpans":[{"scopeSpans":[{"spans":[{"traceId":"00000000000000000000000000000001","spanId":"0000000000000002",
+ "name":"a","attributes":[{"key":"zipkin.debug","value":{"boolValue":true}}]}]}]}]}
+stops 4 unit 1: fault 22 OwnKey "zipkin.debug"
+
+a link that would be the parent
+run convert --from otlp-json --to jaeger-binary
+input @LINK_OF_TRACE
+stops 4 unit 1: fault 24 ChildOfLink
+
+a cause behind a fault
+run convert --from otlp-json --to zipkin-json
+input {"resourceSpans":[{"scopeSpans":[{"spans":[{"traceId":"00000000000000000000000000000001","spanId":"0000000000000002",
+ "name":"a","startTimeUnixNano":"2001","endTimeUnixNano":"2000"}]}]},{"schemaUrl":1}]}
+stops 3 unit 2: cause 11 BadShape
+
+in a resource
+run convert --from otlp-proto --to otlp-json
+input-hex 0a120a100a0e0a0164120921000000000000f83f
+stops 4 unit 1: fault 25 DoubleInText
+
+in a scope
+run convert --from otlp-proto --to otlp-json
+input-hex 0a1412120a101a0e0a0164120921000000000000f83f
+stops 4 unit 1: fault 25 DoubleInText
+
+in a span
+run convert --from otlp-proto --to otlp-json
+input-hex @DOUBLE_REQUEST
+stops 4 unit 1: fault 25 DoubleInText
+
+in an event
+run convert --from otlp-proto --to otlp-json
+input-hex 0a37123512330a1000000000000000000000000000000001120800000000000000022a01615a005a101a0e0a0164120921000000000000f83f
+stops 4 unit 1: fault 25 DoubleInText
+
+in a link
+run convert --from otlp-proto --to otlp-json
+input-hex 0a51124f124d0a1000000000000000000000000000000001120800000000000000022a01616a2c0a1000000000000000000000000000000001
+ 12080000000000000001220e0a0164120921000000000000f83f
+stops 4 unit 1: fault 25 DoubleInText
+
+in a list
+run convert --from otlp-proto --to otlp-json
+input-hex 0a3b123912370a1000000000000000000000000000000001120800000000000000022a01614a160a016112112a0f0a0218010a092100000000
+ 0000f83f
+stops 4 unit 1: fault 25 DoubleInText
+
+in a map
+run convert --from otlp-proto --to otlp-json
+input-hex 0a49124712450a1000000000000000000000000000000001120800000000000000022a01614a240a0161121f321d0a1b0a016212162a140a12
+ 32100a0e0a0164120921000000000000f83f
+stops 4 unit 1: fault 25 DoubleInText
+
+in a batch
+run convert --from jaeger-compact --to otlp-json
+input-hex @DOUBLE_COMPACT
+stops 4 unit 1: fault 25 DoubleInText
+
+behind a group without spans
+run convert --from otlp-proto --to otlp-json
+input-hex 0a000a331231122f0a1000000000000000000000000000000001120800000000000000022a01614a0e0a0164120921000000000000f83f
+output {"resourceSpans":[{}
+stops 4 unit 2: fault 25 DoubleInText
+
+a fault of the second group
+run convert --from otlp-json --to jaeger-binary
+input {"resourceSpans":[{"scopeSpans":[{"spans":[{"traceId":"00000000000000000000000000000001","spanId":"0000000000000002",
+ "name":"a"}]}]},{"scopeSpans":[{"spans":[{"traceId":"00000000000000000000000000000001","spanId":"0000000000000002",
+ "name":"a","startTimeUnixNano":"2001","endTimeUnixNano":"2000"}]}]}]}
+output-hex @PLAIN_BATCH
+stops 4 unit 2: fault 20 EndBeforeStart
+"#;
 
 /// What stops the reading of groups.
-pub const CAUSES: [Stop; 13] = [
-    Stop {
-        name: "no JSON",
-        from: GROUPS,
-        to: GROUPS,
-        input: "",
-        status: 3,
-        output: "",
-        note: "unit 0: cause 10 BadJson\n",
-    },
-    Stop {
-        name: "an array",
-        from: GROUPS,
-        to: GROUPS,
-        input: "[]",
-        status: 3,
-        output: "",
-        note: "unit 0: cause 11 BadShape\n",
-    },
-    Stop {
-        name: "groups that are no array",
-        from: GROUPS,
-        to: GROUPS,
-        input: r#"{"resourceSpans":{}}"#,
-        status: 3,
-        output: "",
-        note: "unit 0: cause 11 BadShape\n",
-    },
-    Stop {
-        name: "a group that is null",
-        from: GROUPS,
-        to: GROUPS,
-        input: r#"{"resourceSpans":[null]}"#,
-        status: 3,
-        output: "",
-        note: "unit 1: cause 11 BadShape\n",
-    },
-    Stop {
-        name: "half of a surrogate pair",
-        from: GROUPS,
-        to: GROUPS,
-        input: r#"{"x":"\ud83d"}"#,
-        status: 3,
-        output: "",
-        note: "unit 0: cause 10 BadJson\n",
-    },
-    Stop {
-        name: "cut",
-        from: GROUPS,
-        to: GROUPS,
-        input: r#"{"resourceSpans":[{"resource":{"attributes":[{"key":"host.name","value":{"stringValue":"n1"}},{"key":"service.name","value":{"stringValue":"shop"}}]},"scopeSpans":[{"scope":{"name":"lib","version":"1.0"},"spans":[{"attributes":[{"key":"http.request.method","value":{"stringValue":"GET"}},{"key":"http.response.status_code","value":{"intValue":"200"}}],"endTimeUnixNano":"1700000000223456789","flags":257,"kind":3,"name":"GET /cart","spanId":"b7ad6b7169203331","startTimeUnixNano":"1700000000123456789","traceId":"0af7651916cd43dd8448eb211c80319c"}]}]}]"#,
-        status: 3,
-        output: "",
-        note: "unit 0: cause 10 BadJson\n",
-    },
-    Stop {
-        name: "nested 128 deep",
-        from: GROUPS,
-        to: GROUPS,
-        input: r#"{"x":[[[[[[[[[[[[[[[[[[[[[[[[[[[[[[[[[[[[[[[[[[[[[[[[[[[[[[[[[[[[[[[[[[[[[[[[[[[[[[[[[[[[[[[[[[[[[[[[[[[[[[[[[[[[[[[[[[[[[[[[[[[[[[[]]]]]]]]]]]]]]]]]]]]]]]]]]]]]]]]]]]]]]]]]]]]]]]]]]]]]]]]]]]]]]]]]]]]]]]]]]]]]]]]]]]]]]]]]]]]]]]]]]]]]]]]]]]]]]]]]]]]]]]]]]]]]]]}"#,
-        status: 3,
-        output: "",
-        note: "unit 0: cause 10 BadJson\n",
-    },
-    Stop {
-        name: "scopes that are no array",
-        from: GROUPS,
-        to: GROUPS,
-        input: r#"{"resourceSpans":[{},{"scopeSpans":{}}]}"#,
-        status: 3,
-        output: "",
-        note: "unit 2: cause 11 BadShape\n",
-    },
-    Stop {
-        name: "a resource that is a text",
-        from: GROUPS,
-        to: GROUPS,
-        input: r#"{"resourceSpans":[{"resource":"x"}]}"#,
-        status: 3,
-        output: "",
-        note: "unit 1: cause 11 BadShape\n",
-    },
-    Stop {
-        name: "spans of a text each",
-        from: GROUPS,
-        to: GROUPS,
-        input: r#"{"resourceSpans":[{"scopeSpans":[{"spans":["x"]}]}]}"#,
-        status: 3,
-        output: "",
-        note: "unit 1: cause 11 BadShape\n",
-    },
-    Stop {
-        name: "a cause of a group before the last",
-        from: GROUPS,
-        to: GROUPS,
-        input: r#"{"resourceSpans":[{},{"schemaUrl":1},{"resource":1}]}"#,
-        status: 3,
-        output: "",
-        note: "unit 2: cause 11 BadShape\n",
-    },
-    Stop {
-        name: "identifiers as stock JSON printers write them",
-        from: GROUPS,
-        to: GROUPS,
-        input: r#"{"resourceSpans":[{"scopeSpans":[{"spans":[{"traceId":"CvdlGRbNQ92ESOshHIAxnA==","spanId":"t61rcWkgMzE=","kind":"SPAN_KIND_CLIENT"}]}]}]}"#,
-        status: 3,
-        output: "",
-        note: "unit 1: cause 12 BadId\n",
-    },
-    Stop {
-        name: "a cause of the second group",
-        from: GROUPS,
-        to: REQUESTS,
-        input: r#"{"resourceSpans":[{"scopeSpans":[{"spans":[{"traceId":"00000000000000000000000000000001","spanId":"0000000000000002","name":"a"}]}]},{"scopeSpans":[{"spans":[{"traceId":"00000000000000000000000000000001","spanId":"0000000000000002","name":"a","kind":6}]}]}]}"#,
-        status: 3,
-        output: "",
-        note: "unit 2: cause 13 BadEnum\n",
-    },
-];
+pub const CAUSES: &str = r#"
+no JSON
+run convert --from otlp-json --to otlp-json
+stops 3 unit 0: cause 10 BadJson
+
+an array
+run convert --from otlp-json --to otlp-json
+input []
+stops 3 unit 0: cause 11 BadShape
+
+groups that are no array
+run convert --from otlp-json --to otlp-json
+input {"resourceSpans":{}}
+stops 3 unit 0: cause 11 BadShape
+
+a group that is null
+run convert --from otlp-json --to otlp-json
+input {"resourceSpans":[null]}
+stops 3 unit 1: cause 11 BadShape
+
+half of a surrogate pair
+run convert --from otlp-json --to otlp-json
+input {"x":"\ud83d"}
+stops 3 unit 0: cause 10 BadJson
+
+cut
+run convert --from otlp-json --to otlp-json
+input {"resourceSpans":[{"resource":{"attributes":[{"key":"host.name","value":{"stringValue":"n1"}},{"key":"service.name",
+ "value":{"stringValue":"shop"}}]},"scopeSpans":[{"scope":{"name":"lib","version":"1.0"},
+ "spans":[{"attributes":[{"key":"http.request.method","value":{"stringValue":"GET"}},{"key":"http.response.status_code",
+ "value":{"intValue":"200"}}],"endTimeUnixNano":"1700000000223456789","flags":257,"kind":3,"name":"GET /cart",
+ "spanId":"b7ad6b7169203331","startTimeUnixNano":"1700000000123456789","traceId":"0af7651916cd43dd8448eb211c80319c"}]}]}]
+stops 3 unit 0: cause 10 BadJson
+
+nested 128 deep
+run convert --from otlp-json --to otlp-json
+input {"x":[[[[[[[[[[[[[[[[[[[[[[[[[[[[[[[[[[[[[[[[[[[[[[[[[[[[[[[[[[[[[[[[[[[[[[[[[[[[[[[[[[[[[[[[[[[[[[[[[[[[[[[[[[[[[[[[[
+ [[[[[[[[[[[[[[]]]]]]]]]]]]]]]]]]]]]]]]]]]]]]]]]]]]]]]]]]]]]]]]]]]]]]]]]]]]]]]]]]]]]]]]]]]]]]]]]]]]]]]]]]]]]]]]]]]]]]]]]]]]]
+ ]]]]]]]]]]]]]]]]]]}
+stops 3 unit 0: cause 10 BadJson
+
+scopes that are no array
+run convert --from otlp-json --to otlp-json
+input {"resourceSpans":[{},{"scopeSpans":{}}]}
+stops 3 unit 2: cause 11 BadShape
+
+a resource that is a text
+run convert --from otlp-json --to otlp-json
+input {"resourceSpans":[{"resource":"x"}]}
+stops 3 unit 1: cause 11 BadShape
+
+spans of a text each
+run convert --from otlp-json --to otlp-json
+input {"resourceSpans":[{"scopeSpans":[{"spans":["x"]}]}]}
+stops 3 unit 1: cause 11 BadShape
+
+a cause of a group before the last
+run convert --from otlp-json --to otlp-json
+input {"resourceSpans":[{},{"schemaUrl":1},{"resource":1}]}
+stops 3 unit 2: cause 11 BadShape
+
+identifiers as stock JSON printers write them
+run convert --from otlp-json --to otlp-json
+input {"resourceSpans":[{"scopeSpans":[{"spans":[{"traceId":"CvdlGRbNQ92ESOshHIAxnA==","spanId":"t61rcWkgMzE=",
+ "kind":"SPAN_KIND_CLIENT"}]}]}]}
+stops 3 unit 1: cause 12 BadId
+
+a cause of the second group
+run convert --from otlp-json --to otlp-proto
+input {"resourceSpans":[{"scopeSpans":[{"spans":[{"traceId":"00000000000000000000000000000001","spanId":"0000000000000002",
+ "name":"a"}]}]},{"scopeSpans":[{"spans":[{"traceId":"00000000000000000000000000000001","spanId":"0000000000000002",
+ "name":"a","kind":6}]}]}]}
+stops 3 unit 2: cause 13 BadEnum
+"#;

@@ -1,267 +1,164 @@
 //! Inputs of several units, each of which is told by itself.
-use super::texts::{
-    BATCH_OF_TWO, DOUBLE_REQUEST, EQUAL_TAGS, PLAIN_BATCH, SERVICE_SPAN, TWO_GROUPS,
-};
-use super::{BATCHES, COMPACT, GROUPS, REQUESTS, SPANS};
-use span_vectors::texts::{
-    CUT_SPAN, DOUBLE_BATCH, DOUBLE_COMPACT, FLAGS_COMPACT, ONE_SPAN, SERVICE_ZIPKIN_SPAN,
-    SPAN_BATCH, SPAN_COMPACT,
-};
 
-/// A run on the units of an input, and what is answered.
-#[derive(Clone, Copy)]
-pub struct Joined {
-    pub name: &'static str,
-    pub words: &'static [&'static str],
-    pub from: &'static str,
-    pub inputs: &'static [&'static str],
-    pub status: u8,
-    /// The form of what is written, or none where that is lines.
-    pub to: Option<&'static str>,
-    pub outputs: &'static [&'static str],
-    pub note: &'static str,
-}
+pub const JOINED: &str = r#"
+a byte is missing behind a group
+run convert --from otlp-proto --to otlp-proto
+input-hex @ONE_SPAN
+input-hex @CUT_SPAN
+output-hex @ONE_SPAN
+stops 3 unit 2: cause 1 Truncated
 
-// A request of one span that ends before it starts.
-const EARLY_SPAN: &str =
-    "0a2c122a12280a1000000000000000000000000000000001120800000000000000022a016139010000000000\
-    0000";
+two batches, one with a double
+run convert --from jaeger-binary --to jaeger-binary
+input-hex @SPAN_BATCH
+input-hex @DOUBLE_BATCH
+output-hex @SPAN_BATCH
+output-hex @DOUBLE_BATCH
 
-// The group of `ONE_SPAN` in JSON, in a text that has no end.
-const OPEN_GROUP: &str =
-    r#"{"resourceSpans":[{"scopeSpans":[{"spans":[{"name":"a","spanId":"0000000000000002","traceId":"00000000000000000000000000000001"}]}]}"#;
+two batches of one process
+run convert --from jaeger-binary --to otlp-proto
+input-hex @SPAN_BATCH
+input-hex @SPAN_BATCH
+output-hex @SERVICE_SPAN
+output-hex @SERVICE_SPAN
 
-pub const JOINED: [Joined; 22] = [
-    Joined {
-        name: "a byte is missing behind a group",
-        words: &["convert", "--from", REQUESTS, "--to", REQUESTS],
-        from: REQUESTS,
-        inputs: &[ONE_SPAN, CUT_SPAN],
-        status: 3,
-        to: Some(REQUESTS),
-        outputs: &[ONE_SPAN],
-        note: "unit 2: cause 1 Truncated\n",
-    },
-    Joined {
-        name: "two batches, one with a double",
-        words: &["convert", "--from", BATCHES, "--to", BATCHES],
-        from: BATCHES,
-        inputs: &[SPAN_BATCH, DOUBLE_BATCH],
-        status: 0,
-        to: Some(BATCHES),
-        outputs: &[SPAN_BATCH, DOUBLE_BATCH],
-        note: "",
-    },
-    Joined {
-        name: "two batches of one process",
-        words: &["convert", "--from", BATCHES, "--to", REQUESTS],
-        from: BATCHES,
-        inputs: &[SPAN_BATCH, SPAN_BATCH],
-        status: 0,
-        to: Some(REQUESTS),
-        outputs: &[SERVICE_SPAN, SERVICE_SPAN],
-        note: "",
-    },
-    Joined {
-        name: "behind a batch",
-        words: &["convert", "--from", BATCHES, "--to", BATCHES],
-        from: BATCHES,
-        inputs: &[SPAN_BATCH, "00"],
-        status: 3,
-        to: Some(BATCHES),
-        outputs: &[SPAN_BATCH],
-        note: "unit 2: cause 8 Missing\n",
-    },
-    Joined {
-        name: "behind a good group",
-        words: &["convert", "--from", REQUESTS, "--to", BATCHES],
-        from: REQUESTS,
-        inputs: &[ONE_SPAN, EARLY_SPAN],
-        status: 4,
-        to: Some(BATCHES),
-        outputs: &[PLAIN_BATCH],
-        note: "unit 2: fault 20 EndBeforeStart\n",
-    },
-    Joined {
-        name: "two batches of one process, the second with a double",
-        words: &["convert", "--from", BATCHES, "--to", COMPACT],
-        from: BATCHES,
-        inputs: &[SPAN_BATCH, DOUBLE_BATCH],
-        status: 0,
-        to: Some(COMPACT),
-        outputs: &[SPAN_COMPACT, DOUBLE_COMPACT],
-        note: "",
-    },
-    Joined {
-        name: "the same back",
-        words: &["convert", "--from", COMPACT, "--to", BATCHES],
-        from: COMPACT,
-        inputs: &[SPAN_COMPACT, DOUBLE_COMPACT],
-        status: 0,
-        to: Some(BATCHES),
-        outputs: &[SPAN_BATCH, DOUBLE_BATCH],
-        note: "",
-    },
-    Joined {
-        name: "a good batch before one that is cut",
-        words: &["convert", "--from", COMPACT, "--to", BATCHES],
-        from: COMPACT,
-        inputs: &[
-            SPAN_COMPACT,
-            "1c18017300191c160216001604160018016125001600160000",
-        ],
-        status: 3,
-        to: Some(BATCHES),
-        outputs: &[SPAN_BATCH],
-        note: "unit 2: cause 1 Truncated\n",
-    },
-    Joined {
-        name: "a double behind a good batch",
-        words: &["convert", "--from", BATCHES, "--to", SPANS],
-        from: BATCHES,
-        inputs: &[SPAN_BATCH, DOUBLE_BATCH],
-        status: 4,
-        to: Some(SPANS),
-        outputs: &["[", SERVICE_ZIPKIN_SPAN],
-        note: "unit 2: fault 25 DoubleInText\n",
-    },
-    Joined {
-        name: "two batches of one process as spans of Zipkin",
-        words: &["convert", "--from", BATCHES, "--to", SPANS],
-        from: BATCHES,
-        inputs: &[SPAN_BATCH, SPAN_BATCH],
-        status: 0,
-        to: Some(SPANS),
-        outputs: &["[", SERVICE_ZIPKIN_SPAN, ",", SERVICE_ZIPKIN_SPAN, "]"],
-        note: "",
-    },
-    Joined {
-        name: "two spans of Zipkin of one process, back",
-        words: &["convert", "--from", SPANS, "--to", BATCHES],
-        from: SPANS,
-        inputs: &["[", SERVICE_ZIPKIN_SPAN, ",", SERVICE_ZIPKIN_SPAN, "]"],
-        status: 0,
-        to: Some(BATCHES),
-        outputs: &[BATCH_OF_TWO],
-        note: "",
-    },
-    Joined {
-        name: "two batches",
-        words: &["convert", "--from", BATCHES, "--to", GROUPS],
-        from: BATCHES,
-        inputs: &[SPAN_BATCH, SPAN_BATCH],
-        status: 0,
-        to: Some(GROUPS),
-        outputs: &[
-            r#"{"resourceSpans":[{"resource":{"attributes":[{"key":"service.name","value":{"stringValue":"s"}}]},"scopeSpans":[{"spans":[{"kind":1,"name":"a","spanId":"0000000000000002","traceId":"00000000000000000000000000000001"}]}]},{"resource":{"attributes":[{"key":"service.name","value":{"stringValue":"s"}}]},"scopeSpans":[{"spans":[{"kind":1,"name":"a","spanId":"0000000000000002","traceId":"00000000000000000000000000000001"}]}]}]}"#,
-        ],
-        note: "",
-    },
-    Joined {
-        name: "a span twice, to JSON",
-        words: &["convert", "--from", REQUESTS, "--to", GROUPS],
-        from: REQUESTS,
-        inputs: &[ONE_SPAN, ONE_SPAN],
-        status: 0,
-        to: Some(GROUPS),
-        outputs: &[TWO_GROUPS],
-        note: "",
-    },
-    Joined {
-        name: "a span twice, of JSON",
-        words: &["convert", "--from", GROUPS, "--to", REQUESTS],
-        from: GROUPS,
-        inputs: &[TWO_GROUPS],
-        status: 0,
-        to: Some(REQUESTS),
-        outputs: &[ONE_SPAN, ONE_SPAN],
-        note: "",
-    },
-    Joined {
-        name: "a double of the second group",
-        words: &["convert", "--from", REQUESTS, "--to", GROUPS],
-        from: REQUESTS,
-        inputs: &[ONE_SPAN, DOUBLE_REQUEST],
-        status: 4,
-        to: Some(GROUPS),
-        outputs: &[OPEN_GROUP],
-        note: "unit 2: fault 25 DoubleInText\n",
-    },
-    Joined {
-        name: "a double of the second batch",
-        words: &["convert", "--from", BATCHES, "--to", GROUPS],
-        from: BATCHES,
-        inputs: &[SPAN_BATCH, DOUBLE_BATCH],
-        status: 4,
-        to: Some(GROUPS),
-        outputs: &[
-            r#"{"resourceSpans":[{"resource":{"attributes":[{"key":"service.name","value":{"stringValue":"s"}}]},"scopeSpans":[{"spans":[{"kind":1,"name":"a","spanId":"0000000000000002","traceId":"00000000000000000000000000000001"}]}]}"#,
-        ],
-        note: "unit 2: fault 25 DoubleInText\n",
-    },
-    Joined {
-        name: "a double behind a span",
-        words: &["convert", "--from", REQUESTS, "--to", GROUPS],
-        from: REQUESTS,
-        inputs: &[ONE_SPAN, "0a120a100a0e0a016b120921000000000000f03f"],
-        status: 4,
-        to: Some(GROUPS),
-        outputs: &[OPEN_GROUP],
-        note: "unit 2: fault 25 DoubleInText\n",
-    },
-    Joined {
-        name: "a second unit that is cut",
-        words: &["losses", "--from", REQUESTS, "--to", COMPACT],
-        from: REQUESTS,
-        inputs: &[ONE_SPAN, CUT_SPAN],
-        status: 3,
-        to: None,
-        outputs: &["unit 1 span 1: kind\n"],
-        note: "unit 2: cause 1 Truncated\n",
-    },
-    Joined {
-        name: "a second unit that ends before it starts",
-        words: &["losses", "--from", REQUESTS, "--to", SPANS],
-        from: REQUESTS,
-        inputs: &[ONE_SPAN, EARLY_SPAN],
-        status: 4,
-        to: None,
-        outputs: &["unit 1 span 1: kind\n"],
-        note: "unit 2: fault 20 EndBeforeStart\n",
-    },
-    Joined {
-        name: "a second batch with a double",
-        words: &["losses", "--from", COMPACT, "--to", SPANS],
-        from: COMPACT,
-        inputs: &[
-            FLAGS_COMPACT,
-            "1c18017300191c1602160016041600180161250616001600191c180164150227000000000000f03f000000",
-        ],
-        status: 4,
-        to: None,
-        outputs: &["unit 1 span 1: flags\n"],
-        note: "unit 2: fault 25 DoubleInText\n",
-    },
-    Joined {
-        name: "the spans before a unit that is cut",
-        words: &["show", "--from", REQUESTS],
-        from: REQUESTS,
-        inputs: &[ONE_SPAN, CUT_SPAN],
-        status: 3,
-        to: None,
-        outputs: &[
-            "00000000000000000000000000000001 0000000000000002 - UNSPECIFIED 0 0 UNSET \"a\"\n",
-        ],
-        note: "unit 2: cause 1 Truncated\n",
-    },
-    Joined {
-        name: "a remark before a unit that is cut",
-        words: &["check", "--from", COMPACT],
-        from: COMPACT,
-        inputs: &[EQUAL_TAGS, "1c18"],
-        status: 3,
-        to: None,
-        outputs: &["unit 1 span 1: equal key \"k\"\n"],
-        note: "unit 2: cause 1 Truncated\n",
-    },
-];
+behind a batch
+run convert --from jaeger-binary --to jaeger-binary
+input-hex @SPAN_BATCH
+input-hex 00
+output-hex @SPAN_BATCH
+stops 3 unit 2: cause 8 Missing
+
+behind a good group
+run convert --from otlp-proto --to jaeger-binary
+input-hex @ONE_SPAN
+input-hex @EARLY_SPAN
+output-hex @PLAIN_BATCH
+stops 4 unit 2: fault 20 EndBeforeStart
+
+two batches of one process, the second with a double
+run convert --from jaeger-binary --to jaeger-compact
+input-hex @SPAN_BATCH
+input-hex @DOUBLE_BATCH
+output-hex @SPAN_COMPACT
+output-hex @DOUBLE_COMPACT
+
+the same back
+run convert --from jaeger-compact --to jaeger-binary
+input-hex @SPAN_COMPACT
+input-hex @DOUBLE_COMPACT
+output-hex @SPAN_BATCH
+output-hex @DOUBLE_BATCH
+
+a good batch before one that is cut
+run convert --from jaeger-compact --to jaeger-binary
+input-hex @SPAN_COMPACT
+input-hex 1c18017300191c160216001604160018016125001600160000
+output-hex @SPAN_BATCH
+stops 3 unit 2: cause 1 Truncated
+
+a double behind a good batch
+run convert --from jaeger-binary --to zipkin-json
+input-hex @SPAN_BATCH
+input-hex @DOUBLE_BATCH
+output [
+output @SERVICE_ZIPKIN_SPAN
+stops 4 unit 2: fault 25 DoubleInText
+
+two batches of one process as spans of Zipkin
+run convert --from jaeger-binary --to zipkin-json
+input-hex @SPAN_BATCH
+input-hex @SPAN_BATCH
+output [
+output @SERVICE_ZIPKIN_SPAN
+output ,
+output @SERVICE_ZIPKIN_SPAN
+output ]
+
+two spans of Zipkin of one process, back
+run convert --from zipkin-json --to jaeger-binary
+input [
+input @SERVICE_ZIPKIN_SPAN
+input ,
+input @SERVICE_ZIPKIN_SPAN
+input ]
+output-hex @BATCH_OF_TWO
+
+two batches
+run convert --from jaeger-binary --to otlp-json
+input-hex @SPAN_BATCH
+input-hex @SPAN_BATCH
+output {"resourceSpans":[{"resource":{"attributes":[{"key":"service.name","value":{"stringValue":"s"}}]},
+ "scopeSpans":[{"spans":[{"kind":1,"name":"a","spanId":"0000000000000002","traceId":"00000000000000000000000000000001"}]}]},
+ {"resource":{"attributes":[{"key":"service.name","value":{"stringValue":"s"}}]},"scopeSpans":[{"spans":[{"kind":1,
+ "name":"a","spanId":"0000000000000002","traceId":"00000000000000000000000000000001"}]}]}]}
+
+a span twice, to JSON
+run convert --from otlp-proto --to otlp-json
+input-hex @ONE_SPAN
+input-hex @ONE_SPAN
+output @TWO_GROUPS
+
+a span twice, of JSON
+run convert --from otlp-json --to otlp-proto
+input @TWO_GROUPS
+output-hex @ONE_SPAN
+output-hex @ONE_SPAN
+
+a double of the second group
+run convert --from otlp-proto --to otlp-json
+input-hex @ONE_SPAN
+input-hex @DOUBLE_REQUEST
+output @OPEN_GROUP
+stops 4 unit 2: fault 25 DoubleInText
+
+a double of the second batch
+run convert --from jaeger-binary --to otlp-json
+input-hex @SPAN_BATCH
+input-hex @DOUBLE_BATCH
+output {"resourceSpans":[{"resource":{"attributes":[{"key":"service.name","value":{"stringValue":"s"}}]},
+ "scopeSpans":[{"spans":[{"kind":1,"name":"a","spanId":"0000000000000002","traceId":"00000000000000000000000000000001"}]}]}
+stops 4 unit 2: fault 25 DoubleInText
+
+a double behind a span
+run convert --from otlp-proto --to otlp-json
+input-hex @ONE_SPAN
+input-hex 0a120a100a0e0a016b120921000000000000f03f
+output @OPEN_GROUP
+stops 4 unit 2: fault 25 DoubleInText
+
+a second unit that is cut
+run losses --from otlp-proto --to jaeger-compact
+input-hex @ONE_SPAN
+input-hex @CUT_SPAN
+output-lines unit 1 span 1: kind\n
+stops 3 unit 2: cause 1 Truncated
+
+a second unit that ends before it starts
+run losses --from otlp-proto --to zipkin-json
+input-hex @ONE_SPAN
+input-hex @EARLY_SPAN
+output-lines unit 1 span 1: kind\n
+stops 4 unit 2: fault 20 EndBeforeStart
+
+a second batch with a double
+run losses --from jaeger-compact --to zipkin-json
+input-hex @FLAGS_COMPACT
+input-hex 1c18017300191c1602160016041600180161250616001600191c180164150227000000000000f03f000000
+output-lines unit 1 span 1: flags\n
+stops 4 unit 2: fault 25 DoubleInText
+
+the spans before a unit that is cut
+run show --from otlp-proto
+input-hex @ONE_SPAN
+input-hex @CUT_SPAN
+output-lines 00000000000000000000000000000001 0000000000000002 - UNSPECIFIED 0 0 UNSET "a"\n
+stops 3 unit 2: cause 1 Truncated
+
+a remark before a unit that is cut
+run check --from jaeger-compact
+input-hex @EQUAL_TAGS
+input-hex 1c18
+output-lines unit 1 span 1: equal key "k"\n
+stops 3 unit 2: cause 1 Truncated
+"#;

@@ -1,445 +1,270 @@
 //! Runs of `serve` at a door in memory, at which two equal connections wait.
-use super::devices::USAGE;
-use span_vectors::texts::{ANSWERED, POSTED, POSTED_OBJECT, REFUSED_OBJECT};
+ghost use Rattle.std.specs.Prelude.{IfOk};
+ghost use Rattle.span_io.specs.Connections.{HasNoFault};
 
-/// A run of `serve`, and what is answered. The door is at `m`.
-#[derive(Clone, Copy)]
-pub struct Serving {
-    pub name: &'static str,
-    pub words: &'static [&'static str],
-    /// What each connection gives.
-    pub stream: &'static str,
-    /// The reads and the writes of each connection that fail.
-    pub reads: &'static [u64],
-    pub writes: &'static [u64],
-    /// The calls of the door that fail.
-    pub door: &'static [u64],
-    pub status: u8,
-    /// What each connection took that was given back.
-    pub answers: &'static [&'static str],
-    pub note: &'static str,
+use super::{UNREADABLE, WHOLE, calls, expect_answer, run_at, status_told, words_told};
+use crate::told::{bytes_told, line_told};
+use row_tables::{Row, rows};
+use span_io::{Blob, DoorCourse, Items, MemDoor, MemDuplex, MemSink, MemSource, Text};
+use std::alloc::Global;
+use std::process::Abort;
+use std::test::Fail;
+
+// The door is at `m`. Told are the words, what each connection gives, the read and the write of each and the calls of the
+// door that fail, and what each connection took that was given back.
+const SERVINGS: &str = r#"
+one connection
+run serve --listen m --to zipkin-json --count 1
+stream @POSTED
+answer @ANSWERED
+
+two connections
+run serve --listen m --to zipkin-json --count 2
+stream @POSTED
+answer @ANSWERED
+answer @ANSWERED
+
+one more than wait
+run serve --listen m --to zipkin-json --count 3
+stream @POSTED
+answer @ANSWERED
+answer @ANSWERED
+stops 5 door failed
+
+a door that doesn't listen
+run serve --listen m --to zipkin-json --count 1
+stream @POSTED
+door-fails 1
+stops 5 door failed
+
+another address
+run serve --listen n --to zipkin-json --count 1
+stream @POSTED
+stops 5 door failed
+
+a door that gives no connection
+run serve --listen m --to zipkin-json --count 2
+stream @POSTED
+door-fails 2
+stops 5 door failed
+
+a door that isn't asked again when it didn't listen
+run serve --listen m --to zipkin-json --count 2
+stream @POSTED
+door-fails 1
+door-fails 2
+stops 5 door failed
+
+a door that isn't asked again when it gave no connection
+run serve --listen m --to zipkin-json --count 2
+stream @POSTED
+door-fails 2
+door-fails 3
+stops 5 door failed
+
+a door whose failing call never comes
+run serve --listen m --to zipkin-json --count 2
+stream @POSTED
+door-fails 4
+answer @ANSWERED
+answer @ANSWERED
+
+a door that gives one connection
+run serve --listen m --to zipkin-json --count 2
+stream @POSTED
+door-fails 3
+answer @ANSWERED
+stops 5 door failed
+
+connections that fail to give
+run serve --listen m --to zipkin-json --count 2
+stream @POSTED
+reads-fail 1
+answer
+answer
+note-lines connection 1: read failed\nconnection 2: read failed\n
+
+connections that fail to take
+run serve --listen m --to zipkin-json --count 2
+stream @POSTED
+writes-fail 1
+answer
+answer
+note-lines connection 1: write failed\nconnection 2: write failed\n
+
+a connection that fails, and then the door
+run serve --listen m --to zipkin-json --count 2
+stream @POSTED
+reads-fail 2
+door-fails 3
+status 5
+answer @ANSWERED
+note-lines connection 1: read failed\ndoor failed\n
+
+a body with a cause
+run serve --listen m --to zipkin-json --count 1
+stream @POSTED_OBJECT
+answer @REFUSED_OBJECT
+
+no post
+run serve --listen m --to zipkin-json --count 1
+stream GET /v1/traces HTTP/1.1\r\nHost: x\r\n\r\n
+answer HTTP/1.1 405 Method Not Allowed\r\nContent-Length: 0\r\n\r\n
+
+a stream of nothing
+run serve --listen m --to zipkin-json --count 1
+stream
+answer
+
+the count first
+run serve --count 1 --listen m --to zipkin-json
+stream @POSTED
+answer @ANSWERED
+
+the form first
+run serve --to zipkin-json --count 1 --listen m
+stream @POSTED
+answer @ANSWERED
+
+the form first and the count last
+run serve --to zipkin-json --listen m --count 1
+stream @POSTED
+answer @ANSWERED
+
+no connection
+run serve --listen m --to zipkin-json --count 0
+stream @POSTED
+stops 2 usage: spanx convert|losses|show|check|headers|gauge|serve OPTIONS
+
+a zero in front
+run serve --listen m --to zipkin-json --count 01
+stream @POSTED
+stops 2 usage: spanx convert|losses|show|check|headers|gauge|serve OPTIONS
+
+a sign
+run serve --listen m --to zipkin-json --count +1
+stream @POSTED
+stops 2 usage: spanx convert|losses|show|check|headers|gauge|serve OPTIONS
+
+more than 32 bits
+run serve --listen m --to zipkin-json --count 4294967296
+stream @POSTED
+stops 2 usage: spanx convert|losses|show|check|headers|gauge|serve OPTIONS
+
+an empty count
+run serve --listen m --to zipkin-json --count
+last-word
+stream @POSTED
+stops 2 usage: spanx convert|losses|show|check|headers|gauge|serve OPTIONS
+
+no form
+run serve --listen m --to zipkin --count 1
+stream @POSTED
+stops 2 usage: spanx convert|losses|show|check|headers|gauge|serve OPTIONS
+
+an option twice
+run serve --listen m --to zipkin-json --listen m
+stream @POSTED
+stops 2 usage: spanx convert|losses|show|check|headers|gauge|serve OPTIONS
+
+no count
+run serve --listen m --to zipkin-json
+stream @POSTED
+stops 2 usage: spanx convert|losses|show|check|headers|gauge|serve OPTIONS
+"#;
+
+const KEYS: [&str; 11] = [
+    "run",
+    "last-word",
+    "stream",
+    "reads-fail",
+    "writes-fail",
+    "door-fails",
+    "stops",
+    "status",
+    "answer",
+    "note",
+    "note-lines",
+];
+
+// A connection of a row.
+fn connection(alloc: Global, row: &Row) -> Result<MemDuplex, Fail>
+    ensures { IfOk result (λ conn. HasNoFault conn) }
+{
+    let left = line_told(alloc, row.text("stream")?)?;
+    let source = MemSource::new(left, WHOLE, calls(alloc, row.number_if_any("reads-fail")?)?);
+    let fail = calls(alloc, row.number_if_any("writes-fail")?)?;
+    let sink = MemSink::new(alloc, 4096, fail)?;
+    Ok(MemDuplex::new(source, sink))
 }
 
-pub const SERVINGS: [Serving; 23] = [
-    Serving {
-        name: "one connection",
-        words: &[
-            "serve",
-            "--listen",
-            "m",
-            "--to",
-            "zipkin-json",
-            "--count",
-            "1",
-        ],
-        stream: POSTED,
-        reads: &[],
-        writes: &[],
-        door: &[],
-        status: 0,
-        answers: &[ANSWERED],
-        note: "",
-    },
-    Serving {
-        name: "two connections",
-        words: &[
-            "serve",
-            "--listen",
-            "m",
-            "--to",
-            "zipkin-json",
-            "--count",
-            "2",
-        ],
-        stream: POSTED,
-        reads: &[],
-        writes: &[],
-        door: &[],
-        status: 0,
-        answers: &[ANSWERED, ANSWERED],
-        note: "",
-    },
-    Serving {
-        name: "one more than wait",
-        words: &[
-            "serve",
-            "--listen",
-            "m",
-            "--to",
-            "zipkin-json",
-            "--count",
-            "3",
-        ],
-        stream: POSTED,
-        reads: &[],
-        writes: &[],
-        door: &[],
-        status: 5,
-        answers: &[ANSWERED, ANSWERED],
-        note: "door failed\n",
-    },
-    Serving {
-        name: "a door that doesn't listen",
-        words: &[
-            "serve",
-            "--listen",
-            "m",
-            "--to",
-            "zipkin-json",
-            "--count",
-            "1",
-        ],
-        stream: POSTED,
-        reads: &[],
-        writes: &[],
-        door: &[1],
-        status: 5,
-        answers: &[],
-        note: "door failed\n",
-    },
-    Serving {
-        name: "another address",
-        words: &[
-            "serve",
-            "--listen",
-            "n",
-            "--to",
-            "zipkin-json",
-            "--count",
-            "1",
-        ],
-        stream: POSTED,
-        reads: &[],
-        writes: &[],
-        door: &[],
-        status: 5,
-        answers: &[],
-        note: "door failed\n",
-    },
-    Serving {
-        name: "a door that gives one connection",
-        words: &[
-            "serve",
-            "--listen",
-            "m",
-            "--to",
-            "zipkin-json",
-            "--count",
-            "2",
-        ],
-        stream: POSTED,
-        reads: &[],
-        writes: &[],
-        door: &[3],
-        status: 5,
-        answers: &[ANSWERED],
-        note: "door failed\n",
-    },
-    Serving {
-        name: "connections that fail to give",
-        words: &[
-            "serve",
-            "--listen",
-            "m",
-            "--to",
-            "zipkin-json",
-            "--count",
-            "2",
-        ],
-        stream: POSTED,
-        reads: &[1],
-        writes: &[],
-        door: &[],
-        status: 0,
-        answers: &["", ""],
-        note: "connection 1: read failed\nconnection 2: read failed\n",
-    },
-    Serving {
-        name: "connections that fail to take",
-        words: &[
-            "serve",
-            "--listen",
-            "m",
-            "--to",
-            "zipkin-json",
-            "--count",
-            "2",
-        ],
-        stream: POSTED,
-        reads: &[],
-        writes: &[1],
-        door: &[],
-        status: 0,
-        answers: &["", ""],
-        note: "connection 1: write failed\nconnection 2: write failed\n",
-    },
-    Serving {
-        name: "a connection that fails, and then the door",
-        words: &[
-            "serve",
-            "--listen",
-            "m",
-            "--to",
-            "zipkin-json",
-            "--count",
-            "2",
-        ],
-        stream: POSTED,
-        reads: &[2],
-        writes: &[],
-        door: &[3],
-        status: 5,
-        answers: &[ANSWERED],
-        note: "connection 1: read failed\ndoor failed\n",
-    },
-    Serving {
-        name: "a body with a cause",
-        words: &[
-            "serve",
-            "--listen",
-            "m",
-            "--to",
-            "zipkin-json",
-            "--count",
-            "1",
-        ],
-        stream: POSTED_OBJECT,
-        reads: &[],
-        writes: &[],
-        door: &[],
-        status: 0,
-        answers: &[REFUSED_OBJECT],
-        note: "",
-    },
-    Serving {
-        name: "no post",
-        words: &[
-            "serve",
-            "--listen",
-            "m",
-            "--to",
-            "zipkin-json",
-            "--count",
-            "1",
-        ],
-        stream: "GET /v1/traces HTTP/1.1\r\nHost: x\r\n\r\n",
-        reads: &[],
-        writes: &[],
-        door: &[],
-        status: 0,
-        answers: &["HTTP/1.1 405 Method Not Allowed\r\nContent-Length: 0\r\n\r\n"],
-        note: "",
-    },
-    Serving {
-        name: "a stream of nothing",
-        words: &[
-            "serve",
-            "--listen",
-            "m",
-            "--to",
-            "zipkin-json",
-            "--count",
-            "1",
-        ],
-        stream: "",
-        reads: &[],
-        writes: &[],
-        door: &[],
-        status: 0,
-        answers: &[""],
-        note: "",
-    },
-    Serving {
-        name: "the count first",
-        words: &[
-            "serve",
-            "--count",
-            "1",
-            "--listen",
-            "m",
-            "--to",
-            "zipkin-json",
-        ],
-        stream: POSTED,
-        reads: &[],
-        writes: &[],
-        door: &[],
-        status: 0,
-        answers: &[ANSWERED],
-        note: "",
-    },
-    Serving {
-        name: "the form first",
-        words: &[
-            "serve",
-            "--to",
-            "zipkin-json",
-            "--count",
-            "1",
-            "--listen",
-            "m",
-        ],
-        stream: POSTED,
-        reads: &[],
-        writes: &[],
-        door: &[],
-        status: 0,
-        answers: &[ANSWERED],
-        note: "",
-    },
-    Serving {
-        name: "the form first and the count last",
-        words: &[
-            "serve",
-            "--to",
-            "zipkin-json",
-            "--listen",
-            "m",
-            "--count",
-            "1",
-        ],
-        stream: POSTED,
-        reads: &[],
-        writes: &[],
-        door: &[],
-        status: 0,
-        answers: &[ANSWERED],
-        note: "",
-    },
-    Serving {
-        name: "no connection",
-        words: &[
-            "serve",
-            "--listen",
-            "m",
-            "--to",
-            "zipkin-json",
-            "--count",
-            "0",
-        ],
-        stream: POSTED,
-        reads: &[],
-        writes: &[],
-        door: &[],
-        status: 2,
-        answers: &[],
-        note: USAGE,
-    },
-    Serving {
-        name: "a zero in front",
-        words: &[
-            "serve",
-            "--listen",
-            "m",
-            "--to",
-            "zipkin-json",
-            "--count",
-            "01",
-        ],
-        stream: POSTED,
-        reads: &[],
-        writes: &[],
-        door: &[],
-        status: 2,
-        answers: &[],
-        note: USAGE,
-    },
-    Serving {
-        name: "a sign",
-        words: &[
-            "serve",
-            "--listen",
-            "m",
-            "--to",
-            "zipkin-json",
-            "--count",
-            "+1",
-        ],
-        stream: POSTED,
-        reads: &[],
-        writes: &[],
-        door: &[],
-        status: 2,
-        answers: &[],
-        note: USAGE,
-    },
-    Serving {
-        name: "more than 32 bits",
-        words: &[
-            "serve",
-            "--listen",
-            "m",
-            "--to",
-            "zipkin-json",
-            "--count",
-            "4294967296",
-        ],
-        stream: POSTED,
-        reads: &[],
-        writes: &[],
-        door: &[],
-        status: 2,
-        answers: &[],
-        note: USAGE,
-    },
-    Serving {
-        name: "an empty count",
-        words: &[
-            "serve",
-            "--listen",
-            "m",
-            "--to",
-            "zipkin-json",
-            "--count",
-            "",
-        ],
-        stream: POSTED,
-        reads: &[],
-        writes: &[],
-        door: &[],
-        status: 2,
-        answers: &[],
-        note: USAGE,
-    },
-    Serving {
-        name: "no form",
-        words: &["serve", "--listen", "m", "--to", "zipkin", "--count", "1"],
-        stream: POSTED,
-        reads: &[],
-        writes: &[],
-        door: &[],
-        status: 2,
-        answers: &[],
-        note: USAGE,
-    },
-    Serving {
-        name: "an option twice",
-        words: &[
-            "serve",
-            "--listen",
-            "m",
-            "--to",
-            "zipkin-json",
-            "--listen",
-            "m",
-        ],
-        stream: POSTED,
-        reads: &[],
-        writes: &[],
-        door: &[],
-        status: 2,
-        answers: &[],
-        note: USAGE,
-    },
-    Serving {
-        name: "no count",
-        words: &["serve", "--listen", "m", "--to", "zipkin-json"],
-        stream: POSTED,
-        reads: &[],
-        writes: &[],
-        door: &[],
-        status: 2,
-        answers: &[],
-        note: USAGE,
-    },
-];
+fn door_of(alloc: Global, row: &Row) -> Result<MemDoor, Fail> {
+    let mut conns = Items::new(alloc);
+    conns.push(connection(alloc, row)?)?;
+    conns.push(connection(alloc, row)?)?;
+    let address = Text::of(alloc, "m")?;
+    let mut fail = Items::new(alloc);
+    for call in &row.texts(alloc, "door-fails")? {
+        fail.push(row.number_in(call)?)?;
+    }
+    Ok(MemDoor::new(alloc, address, conns, fail)?)
+}
+
+// How the calls of a door went that a run of this status left: none came behind a failed one.
+fn course_behind(status: u64) -> DoorCourse {
+    match status {
+        0 => DoorCourse::Listening,
+        5 => DoorCourse::Stopped,
+        _ => DoorCourse::Fresh,
+    }
+}
+
+// Looks at what the connections took that were given back.
+fn expect_taken(rt: &impl Abort, alloc: Global, row: &Row, door: &MemDoor) -> Result<(), Fail> {
+    let texts = row.texts(alloc, "answer")?;
+    let name = row.name();
+    assert_eq!(rt; door.closed().len(), texts.len(), "connections of {name}");
+    for (conn, text) in door.closed().iter().zip(&texts) {
+        let taken = line_told(alloc, text)?;
+        assert!(rt; conn.written() == taken.as_slice(), "answers of {name}");
+    }
+    Ok(())
+}
+
+// Serves at the door of a row, and looks at the answer and at the connections.
+fn expect_serving(rt: &impl Abort, alloc: Global, row: &Row) -> Result<(), Fail> {
+    row.expect_keys(&KEYS)?;
+    let words = words_told(alloc, row)?;
+    let mut door = door_of(alloc, row)?;
+    let answer = run_at(
+        alloc,
+        words.as_slice(),
+        Blob::new(alloc),
+        1,
+        UNREADABLE,
+        &mut door,
+    )?;
+    let mut note = bytes_told(alloc, row, "note")?;
+    let status = status_told(row, &mut note)?;
+    expect_answer(rt, row.name(), &answer, (status, b"", note.as_slice()));
+    assert!(rt;
+        door.course() == course_behind(status),
+        "course of {}",
+        row.name()
+    );
+    assert!(rt;
+        door.waiting().saturating_add(door.closed().len()) == 2,
+        "left at {}",
+        row.name()
+    );
+    expect_taken(rt, alloc, row, &door)
+}
+
+#[test]
+fn serves(rt: HostRuntime) -> Result<(), Fail> {
+    let rows = rows(rt.alloc(), SERVINGS)?;
+    for row in &rows {
+        expect_serving(&rt, rt.alloc(), row)?;
+    }
+    Ok(())
+}

@@ -1,96 +1,77 @@
 //! A move to a form and back: what was written is what the form of the input holds as well, so that it is written again.
-use super::devices::NO_FAILS;
-use super::{Answer, BATCHES, COMPACT, GROUPS, REQUESTS, SPANS, bytes_in, run_cut};
+use super::{Answer, NO_FAILS, WHOLE, conversion, run_cut};
+use crate::told::bytes_told;
+use row_tables::{Row, rows};
 use span_io::Blob;
-use span_vectors::texts::{
-    CLIENT_COMPACT, CLIENT_SPANS, FLAGS_COMPACT, ROOT_COMPACT, SDK_BATCH, SDK_REQUEST, SPAN_BATCH,
-};
 use std::alloc::Global;
 use std::process::Abort;
 use std::test::Fail;
 
-// A text in its form.
-#[derive(Clone, Copy)]
-struct Start {
-    name: &'static str,
-    form: &'static str,
-    text: &'static str,
-}
-
 // The forms to which each text goes: none of these moves is a fault.
-const TARGETS: [&str; 5] = [REQUESTS, GROUPS, BATCHES, COMPACT, SPANS];
-
-const STARTS: [Start; 7] = [
-    Start {
-        name: "a request as an SDK writes it",
-        form: REQUESTS,
-        text: SDK_REQUEST,
-    },
-    Start {
-        name: "a batch of the same span",
-        form: BATCHES,
-        text: SDK_BATCH,
-    },
-    Start {
-        name: "a batch as a client writes it",
-        form: COMPACT,
-        text: CLIENT_COMPACT,
-    },
-    Start {
-        name: "a root with two references to its own trace",
-        form: COMPACT,
-        text: ROOT_COMPACT,
-    },
-    Start {
-        name: "the flags 3",
-        form: COMPACT,
-        text: FLAGS_COMPACT,
-    },
-    Start {
-        name: "a span and its service alone",
-        form: BATCHES,
-        text: SPAN_BATCH,
-    },
-    Start {
-        name: "a span of Zipkin as a client writes it",
-        form: SPANS,
-        text: CLIENT_SPANS,
-    },
+const TARGETS: [&str; 5] = [
+    "otlp-proto",
+    "otlp-json",
+    "jaeger-binary",
+    "jaeger-compact",
+    "zipkin-json",
 ];
 
+const STARTS: &str = r#"
+a request as an SDK writes it
+form otlp-proto
+text-hex @SDK_REQUEST
+
+a batch of the same span
+form jaeger-binary
+text-hex @SDK_BATCH
+
+a batch as a client writes it
+form jaeger-compact
+text-hex @CLIENT_COMPACT
+
+a root with two references to its own trace
+form jaeger-compact
+text-hex @ROOT_COMPACT
+
+the flags 3
+form jaeger-compact
+text-hex @FLAGS_COMPACT
+
+a span and its service alone
+form jaeger-binary
+text-hex @SPAN_BATCH
+
+a span of Zipkin as a client writes it
+form zipkin-json
+text @CLIENT_SPANS
+"#;
+
 // What is answered to an input that goes from form to form.
-fn converted(alloc: Global, from: &str, to: &str, input: &[u8]) -> Result<Answer, Fail> {
-    let mut text = Blob::new(alloc);
-    text.append(input)?;
-    run_cut(
-        alloc,
-        &["convert", "--from", from, "--to", to],
-        text,
-        65_536,
-        NO_FAILS,
-    )
+fn converted(alloc: Global, from: &str, to: &str, input: &Blob) -> Result<Answer, Fail> {
+    let words = conversion(alloc, from, to)?;
+    run_cut(alloc, words.as_slice(), input.copy()?, WHOLE, NO_FAILS)
 }
 
 // Converts a text to a form, back, and there again: the last output is the first one.
-fn expect_again(rt: &impl Abort, alloc: Global, start: &Start, target: &str) -> Result<(), Fail> {
-    let name = start.name;
-    let input = bytes_in(alloc, start.form, start.text)?;
-    let there = converted(alloc, start.form, target, input.as_slice())?;
+fn expect_again(rt: &impl Abort, alloc: Global, start: &Row, target: &str) -> Result<(), Fail> {
+    let name = start.name();
+    let form = start.text("form")?;
+    let there = converted(alloc, form, target, &bytes_told(alloc, start, "text")?)?;
     assert_eq!(rt; there.status, 0, "status of {name}, to {target}");
-    let back = converted(alloc, target, start.form, there.output.as_slice())?;
+    let back = converted(alloc, target, form, &there.output)?;
     assert_eq!(rt; back.status, 0, "status of {name}, back from {target}");
-    let again = converted(alloc, start.form, target, back.output.as_slice())?;
+    let again = converted(alloc, form, target, &back.output)?;
     assert_eq!(rt; again.status, 0, "status of {name}, to {target} again");
-    assert_eq!(rt;
-        again.output.as_slice(),
-        there.output.as_slice(),
+    assert!(rt;
+        again.output.as_slice() == there.output.as_slice(),
         "output of {name}, to {target} again"
     );
     Ok(())
 }
 
-fn expect_each_way(rt: &impl Abort, alloc: Global, start: &Start) -> Result<(), Fail> {
-    for target in TARGETS {
+fn expect_each_way(rt: &impl Abort, alloc: Global, start: &Row) -> Result<(), Fail> {
+    start.expect_keys(&["form", "text", "text-hex"])?;
+    for target in &TARGETS {
         expect_again(rt, alloc, start, target)?;
     }
     Ok(())
@@ -98,7 +79,8 @@ fn expect_each_way(rt: &impl Abort, alloc: Global, start: &Start) -> Result<(), 
 
 #[test]
 fn comes_there_again(rt: HostRuntime) -> Result<(), Fail> {
-    for start in &STARTS {
+    let starts = rows(rt.alloc(), STARTS)?;
+    for start in &starts {
         expect_each_way(&rt, rt.alloc(), start)?;
     }
     Ok(())

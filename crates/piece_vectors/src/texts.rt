@@ -1,0 +1,99 @@
+//! What the texts of a row say: worked texts by their names, words, numbers and forms.
+use row_tables::{Row, unescaped};
+use span_io::{Blob, Form};
+use span_vectors::texts;
+use std::alloc::Global;
+use std::test::Fail;
+
+// The worked texts, by their names.
+const WORKED: [(&str, &str); 27] = [
+    ("CLIENT_COMPACT", texts::CLIENT_COMPACT),
+    ("CLIENT_SPANS", texts::CLIENT_SPANS),
+    ("CLIENT_SPANS_WRITTEN", texts::CLIENT_SPANS_WRITTEN),
+    ("CUT_SPAN", texts::CUT_SPAN),
+    ("DOUBLE_BATCH", texts::DOUBLE_BATCH),
+    ("DOUBLE_COMPACT", texts::DOUBLE_COMPACT),
+    ("FULL_GROUP", texts::FULL_GROUP),
+    ("FULL_REQUEST", texts::FULL_REQUEST),
+    ("LONGER_NAME", texts::LONGER_NAME),
+    ("LONG_NAME", texts::LONG_NAME),
+    ("MICROS_REQUEST", texts::MICROS_REQUEST),
+    ("ONE_GROUP", texts::ONE_GROUP),
+    ("ONE_SPAN", texts::ONE_SPAN),
+    ("ONE_ZIPKIN_SPAN", texts::ONE_ZIPKIN_SPAN),
+    ("PARENT_COMPACT", texts::PARENT_COMPACT),
+    ("ROOT_COMPACT", texts::ROOT_COMPACT),
+    ("SDK_BATCH", texts::SDK_BATCH),
+    ("SDK_COMPACT", texts::SDK_COMPACT),
+    ("SDK_GROUPS", texts::SDK_GROUPS),
+    ("SDK_REQUEST", texts::SDK_REQUEST),
+    ("SDK_SPANS", texts::SDK_SPANS),
+    ("SERVICE_ZIPKIN_SPAN", texts::SERVICE_ZIPKIN_SPAN),
+    ("SHARED_SPANS", texts::SHARED_SPANS),
+    ("SPANS_OF_CLIENT", texts::SPANS_OF_CLIENT),
+    ("SPAN_BATCH", texts::SPAN_BATCH),
+    ("SPAN_COMPACT", texts::SPAN_COMPACT),
+    ("UNKNOWN_FIELDS", texts::UNKNOWN_FIELDS),
+];
+
+fn worked(row: &Row, name: &str) -> Result<&'static str, Fail> {
+    for (known, text) in &WORKED {
+        if *known == name {
+            return Ok(text);
+        }
+    }
+    Err(row.fail("no worked text", name))
+}
+
+// Appends what is told in a form. What is no JSON is in hexadecimal.
+fn append_in(alloc: Global, bytes: &mut Blob, form: Form, told: &[u8]) -> Result<(), Fail> {
+    if matches!(form, Form::OtlpJson | Form::ZipkinJson) {
+        return Ok(bytes.append(told)?);
+    }
+    Ok(bytes.append(hex::decode(alloc, told)?.as_slice())?)
+}
+
+fn append_word(
+    alloc: Global,
+    row: &Row,
+    bytes: &mut Blob,
+    form: Form,
+    word: &str,
+) -> Result<(), Fail> {
+    if let Some(name) = word.strip_prefix('@') {
+        return append_in(alloc, bytes, form, worked(row, name)?.as_bytes());
+    }
+    append_in(alloc, bytes, form, unescaped(alloc, word)?.as_slice())
+}
+
+/// Appends what a text tells in a form: words, of which the first is the name of a worked text, or one text as it stands.
+pub fn append_told(
+    alloc: Global,
+    row: &Row,
+    bytes: &mut Blob,
+    form: Form,
+    text: &str,
+) -> Result<(), Fail> {
+    if !text.starts_with('@') {
+        return append_word(alloc, row, bytes, form, text);
+    }
+    for word in text.split(' ') {
+        append_word(alloc, row, bytes, form, word)?;
+    }
+    Ok(())
+}
+
+/// A text up to its first blank, and what stands behind that.
+pub fn parted<'a>(row: &Row, text: &'a str) -> Result<(&'a str, &'a str), Fail> {
+    match text.split_once(' ') {
+        Some(parts) => Ok(parts),
+        None => Err(row.fail("no blank", text)),
+    }
+}
+
+pub fn form_of(row: &Row, word: &str) -> Result<Form, Fail> {
+    match Form::of_word(word.as_bytes()) {
+        Some(form) => Ok(form),
+        None => Err(row.fail("no form", word)),
+    }
+}
