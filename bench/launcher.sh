@@ -71,7 +71,7 @@ holds() {
     if "$@"; then echo "ok: $name"; else echo "WRONG: $name"; wrong=1; fi
 }
 
-building="spanx: proving and building the program, which takes some minutes the first time"
+building="spanx: proving and building the program, which takes an hour or two the first time"
 failed="spanx: the program could not be built"
 
 run without "$copy/spanx" convert

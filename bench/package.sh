@@ -1,8 +1,10 @@
 #!/bin/bash
-# Makes the package twice, which must give the same bytes, and runs its program in a root that holds the C library and nothing
-# else: from each form to each it must write what ./spanx writes here, byte by byte. It ends with 0 where all of it holds.
+# Makes the packages twice, which must give the same bytes, and runs their programs in a root that holds the C library and nothing
+# else: from each form to each that of the archive must write what ./spanx writes here, byte by byte. The pages in both must link
+# what lies beside them, and name no script of bench/. Debian's package is installed in that root by dpkg and removed, and lintian,
+# where it is there, finds no error in it. It ends with 0 where all of it holds.
 # By bench/package.sh --debian URL the root is Debian's smallest system instead, which `debootstrap` makes. Who isn't root needs
-# `unshare`, which not every machine allows.
+# `unshare`, which not every machine allows, and leaves the installing out.
 cd "$(dirname "$0")/.." || exit 2
 room=$(mktemp -d) || exit 2
 trap 'rm -rf "$room"' EXIT
@@ -17,14 +19,37 @@ holds() {
 
 ./package || exit 2
 archive=spanx-$(cat VERSION)-linux-x86_64.tar.gz
-cp "$archive" "$room/first.tar.gz"
+deb=spanx_$(cat VERSION)_amd64.deb
+cp SHA256SUMS "$room/first"
 ./package >/dev/null || exit 2
-holds "two runs of ./package make the same bytes" cmp -s "$room/first.tar.gz" "$archive"
+holds "two runs of ./package make the same bytes" cmp -s "$room/first" SHA256SUMS
+holds "the sums are those of the archive and of Debian's package" [ "$(sha256sum -c SHA256SUMS)" = "$archive: OK
+$deb: OK" ]
 unpacked=$room/unpacked
 mkdir "$unpacked"
 tar -C "$unpacked" --strip-components 1 -xzf "$archive" || exit 2
 (cd "$unpacked" && find . -type f | sort | sed 's/^/    /')
-holds "its pages are those of the checkout" diff -r docs "$unpacked/share/doc/spanx/docs" --exclude=spanx.1
+
+# What is wrong with the pages of a folder: links to what isn't there, and names of what isn't packed.
+odd() {
+    local page target
+    for page in "$1"/README.md "$1"/docs/*.md; do
+        grep -o '](\([^)#]*\)' "$page" | sed 's/^](//' | sort -u | while read -r target; do
+            case $target in http*) ;; *) [ -e "$(dirname "$page")/$target" ] || echo "$page links $target" ;; esac
+        done
+        grep -n -e '`bench/' -e 'docs/spanx\.1' -e '``' "$page" /dev/null
+    done
+}
+same_pages() {
+    local page
+    for page in README.md docs/*.md; do
+        [ "$(grep -c '' "$page")" = "$(grep -c '' "$unpacked/share/doc/spanx/$page")" ] || { echo "$page"; return 1; }
+    done
+}
+odd "$unpacked/share/doc/spanx"
+holds "its pages link what is there, and name nothing that isn't" [ -z "$(odd "$unpacked/share/doc/spanx")" ]
+holds "its pages are all of those of the checkout, line by line" same_pages
+holds "the unit is in it" cmp -s examples/spanx@.service "$unpacked/share/doc/spanx/examples/spanx@.service"
 holds "its man page is that of the checkout" cmp -s docs/spanx.1 "$unpacked/share/man/man1/spanx.1"
 
 # The root.
@@ -38,6 +63,7 @@ else
     done
 fi
 cp "$unpacked/bin/spanx" "$root/spanx"
+cp "$deb" "$root/spanx.deb"
 inside=(chroot "$root")
 [ "$(id -u)" = 0 ] || inside=(unshare -r chroot "$root")
 (cd "$root" && find . -type f | head -n 10 | sed 's/^/    /')
@@ -68,4 +94,42 @@ done
 "${inside[@]}" /spanx </dev/null >"$room/there" 2>"$room/notes"
 told="status $?, $(cut -d ' ' -f 1 "$room/notes")"
 holds "no words: $told" [ "$told" = "status 2, usage:" ]
+
+# Debian's package.
+if command -v lintian >/dev/null; then
+    lintian "$deb" >"$room/said" 2>/dev/null
+    sed 's/^/    /' "$room/said"
+    holds "lintian finds no error" [ "$(grep -c '^E:' "$room/said")" = 0 ]
+else
+    echo "left out: lintian isn't there"
+fi
+if [ "$(id -u)" = 0 ]; then
+    if [ "$1" = --debian ]; then
+        dpkg=(chroot "$root" dpkg)
+        at=/spanx.deb
+    else
+        mkdir -p "$root/var/lib/dpkg/updates" "$root/var/lib/dpkg/info" "$root/var/lib/dpkg/triggers"
+        touch "$root/var/lib/dpkg/status"
+        # The root has the C library, but not as a package.
+        dpkg=(dpkg --root="$root" --force-depends --force-script-chrootless --log=/dev/null)
+        at=$deb
+    fi
+    holds "dpkg installs it" "${dpkg[@]}" --install "$at" >"$room/log" 2>&1
+    cat "$room/log"
+    for from in $forms; do
+        ./spanx convert --from "$from" --to otlp-proto <"$room/$from" >"$room/here"
+        "${inside[@]}" /usr/bin/spanx convert --from "$from" --to otlp-proto <"$room/$from" >"$room/there"
+        holds "its program, from $from" cmp "$room/here" "$room/there"
+    done
+    dpkg-deb --fsys-tarfile "$deb" | tar -t | sed 's/^/    /'
+    doc=$root/usr/share/doc/spanx
+    holds "its pages link what is there, and name nothing that isn't" [ -z "$(odd "$doc")" ]
+    holds "its man page is that of the checkout" cmp -s docs/spanx.1 <(gzip -dc "$root/usr/share/man/man1/spanx.1.gz")
+    holds "its unit is that of the checkout" cmp -s examples/spanx@.service "$root/lib/systemd/system/spanx@.service"
+    holds "dpkg removes it" "${dpkg[@]}" --purge spanx >"$room/log" 2>&1
+    cat "$room/log"
+    holds "nothing of it is left" [ -z "$(find "$root/usr/bin/spanx" "$doc" "$root/lib/systemd/system" -name '*spanx*' 2>/dev/null)" ]
+else
+    echo "left out: who isn't root installs nothing"
+fi
 exit $wrong

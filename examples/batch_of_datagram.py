@@ -3,7 +3,8 @@
 
 It is run as examples/batch_of_datagram.py < datagram.bin > batch.bin, or with the names of files, one datagram each, whose batches
 it writes one after the other. The batch is in the protocol of the datagram: jaeger-compact (port 6831 of an agent) or
-jaeger-binary (port 6832). It needs nothing but Python.
+jaeger-binary (port 6832). What is no such message, or no file, is told in one line on standard error, and the status is 1; the batches
+of the files before it were written. It needs nothing but Python.
 """
 import struct
 import sys
@@ -48,5 +49,9 @@ def batch_of(text):
 
 if __name__ == "__main__":
     for path in sys.argv[1:] or ["/dev/stdin"]:
-        with open(path, "rb") as file:
-            sys.stdout.buffer.write(batch_of(file.read()))
+        try:
+            with open(path, "rb") as file:
+                text = file.read()
+        except OSError as why:
+            sys.exit(f"{path}: {why.strerror}")
+        sys.stdout.buffer.write(batch_of(text))

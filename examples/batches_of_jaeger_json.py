@@ -3,7 +3,8 @@
 each trace, in the binary protocol.
 
 It is run as examples/batches_of_jaeger_json.py < trace.json > batches.bin, and needs nothing but Python. Spans keep their order.
-What the tables of spanx say of batches then holds. Warnings of the query service are left out.
+What the tables of spanx say of batches then holds. Warnings of the query service are left out. What isn't such JSON is told in one
+line on standard error, nothing is written, and the status is 1.
 """
 import base64
 import json
@@ -12,6 +13,7 @@ import sys
 
 TRUTH, DOUBLE, I32, I64, BINARY, STRUCT, LIST = 2, 4, 8, 10, 11, 12, 15
 STOP = b"\0"
+WRONG = (ValueError, TypeError, LookupError, AttributeError, OverflowError, RecursionError, struct.error)
 REFERENCES = {"CHILD_OF": 0, "FOLLOWS_FROM": 1}
 
 
@@ -78,12 +80,31 @@ def span(held):
 
 
 def batches(trace):
+    for number, one in enumerate(trace["spans"], 1):
+        if one["processID"] not in trace["processes"]:
+            raise ValueError(f"span {number} is of a process that isn't there")
     for name, process in trace["processes"].items():
         spans = [span(one) for one in trace["spans"] if one["processID"] == name]
         about = binary(1, process["serviceName"].encode()) + tags(2, process.get("tags")) + STOP
         yield field(STRUCT, 1, about) + structs(2, spans) + STOP
 
 
+def told(why):
+    """Why a value is none of the model, in a line."""
+    return " ".join(f"there is no {why}".split()) if isinstance(why, KeyError) else " ".join(str(why).split())
+
+
+def main():
+    try:
+        held = json.load(sys.stdin.buffer)
+        if held["data"] is None:
+            said = "; ".join(str(one.get("msg")) for one in held.get("errors") or [])
+            sys.exit(f"the query service answered no data{said and ': '}{said}".replace("\n", " "))
+        made = b"".join(text for one in held["data"] for text in batches(one))
+    except WRONG as why:
+        sys.exit(f"this is no JSON of Jaeger's query API: {told(why)}")
+    sys.stdout.buffer.write(made)
+
+
 if __name__ == "__main__":
-    for one in json.load(sys.stdin)["data"]:
-        sys.stdout.buffer.write(b"".join(batches(one)))
+    main()

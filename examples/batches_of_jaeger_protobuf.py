@@ -3,14 +3,15 @@
 
 It is run as examples/batches_of_jaeger_protobuf.py Batch < batch.bin > batches.bin; the word is the message that the file holds: Batch,
 PostSpansRequest or Trace. It needs nothing but Python. Spans of one process become a batch. Times are cut to microseconds, and
-warnings and the identifiers of processes are left out.
+warnings and the identifiers of processes are left out. What isn't such a message is told in one line on standard error, nothing is
+written, and the status is 1; so is an empty file.
 """
 import base64
 import struct
 import sys
 
-from batches_of_jaeger_json import batches
-from protobuf_fields import last, message
+from batches_of_jaeger_json import batches, told
+from protobuf_fields import WRONG, bytes_of, last, message
 
 REFERENCES = ["CHILD_OF", "FOLLOWS_FROM"]
 
@@ -45,7 +46,7 @@ def log(held):
 
 
 def reference(held):
-    return {"traceID": last(held, 1, b"").hex(), "spanID": last(held, 2, b"").hex(), "refType": REFERENCES[last(held, 3, 0)]}
+    return {"traceID": bytes_of(held, 1, 16).hex(), "spanID": bytes_of(held, 2, 8).hex(), "refType": REFERENCES[last(held, 3, 0)]}
 
 
 def process(held):
@@ -54,14 +55,16 @@ def process(held):
 
 def span(held):
     return {
-        "traceID": last(held, 1, b"").hex(), "spanID": last(held, 2, b"").hex(), "operationName": text(held, 3), "references": each(held, 4, reference),
+        "traceID": bytes_of(held, 1, 16).hex(), "spanID": bytes_of(held, 2, 8).hex(), "operationName": text(held, 3),
+        "references": each(held, 4, reference),
         "flags": last(held, 5, 0), "startTime": micros(message(last(held, 6, b""))), "duration": micros(message(last(held, 7, b""))),
         "tags": each(held, 8, tag), "logs": each(held, 9, log), "process": held.get(10, [b""])[-1], "processID": text(held, 11),
     }
 
 
-def main(kind):
-    held = message(sys.stdin.buffer.read())
+def batches_in(kind, whole):
+    """The batches of what a message holds."""
+    held = message(whole)
     if kind == "PostSpansRequest":
         held = message(last(held, 1, b""))
     spans = each(held, 1, span)
@@ -72,7 +75,18 @@ def main(kind):
         for one in spans:
             one["processID"] = one["process"] or last(held, 2, b"")
         processes = {one["processID"]: process(message(one["processID"])) for one in spans}
-    sys.stdout.buffer.write(b"".join(batches({"spans": spans, "processes": processes})))
+    return b"".join(batches({"spans": spans, "processes": processes}))
+
+
+def main(kind):
+    whole = sys.stdin.buffer.read()
+    if not whole:
+        sys.exit("the input is empty")
+    try:
+        made = batches_in(kind, whole)
+    except WRONG as why:
+        sys.exit(f"this is no {kind} of Jaeger's model in protobuf: {told(why)}")
+    sys.stdout.buffer.write(made)
 
 
 if __name__ == "__main__":

@@ -4,7 +4,8 @@
 It is run as examples/zipkin_v2_of_v1.py < v1.json > spans.json, and needs nothing but Python. A span of both sides becomes two,
 that of the server marked as shared. The core annotations (cs, cr, sr, ss, ms, mr) say the kind, and where they are absent the times;
 sa, ca and ma the other side. What has no place in v2 is left out: the endpoints of further annotations, the types of binary
-annotations, whose values become texts, and parts of a message on its wire (ws, wr).
+annotations, whose values become texts, and parts of a message on its wire (ws, wr). What isn't such an array is told in one line on standard error,
+nothing is written, and the status is 1; so is a span of v2, since what v1 doesn't have would be left out of it.
 """
 import json
 import sys
@@ -13,6 +14,7 @@ import sys
 SIDES = [("cs", "cr", "CLIENT", "sa"), ("sr", "ss", "SERVER", "ca"), ("ms", None, "PRODUCER", "ma"), ("mr", None, "CONSUMER", "ma")]
 CORE = {"cs", "cr", "sr", "ss", "ms", "mr", "ws", "wr"}
 ADDRESSES = {"sa", "ca", "ma"}
+OF_V2 = {"kind", "localEndpoint", "remoteEndpoint", "tags", "shared"}
 
 
 def without_none(held):
@@ -48,10 +50,29 @@ def side_of(span, side, is_other):
 
 
 def spans_of(span):
+    if not isinstance(span, dict):
+        raise ValueError("it is no object")
+    if OF_V2 & set(span):
+        raise ValueError("it is of v2 already")
     values = {one["value"] for one in span.get("annotations") or []}
     found = [side for side in SIDES if values & {side[0], side[1]}]
     return [side_of(span, side, number > 0) for number, side in enumerate(found or [(None, None, None, "sa")])]
 
 
+def main():
+    made, at = [], 0
+    try:
+        spans = json.load(sys.stdin.buffer)
+        if not isinstance(spans, list):
+            sys.exit("this is no array of spans of Zipkin's v1")
+        for at, span in enumerate(spans, 1):
+            made += spans_of(span)
+    except KeyError as why:
+        sys.exit(f"span {at} is none of Zipkin's v1: there is no {why}")
+    except (ValueError, TypeError, AttributeError, RecursionError) as why:
+        sys.exit(f"{f'span {at} is none of Zipkin' if at else 'this is no JSON of Zipkin'}'s v1: {' '.join(str(why).split())}")
+    json.dump(made, sys.stdout)
+
+
 if __name__ == "__main__":
-    json.dump([one for span in json.load(sys.stdin) for one in spans_of(span)], sys.stdout)
+    main()
