@@ -16,27 +16,28 @@ use Rattle.json_members.specs.Members.{AreHeld}
 use Rattle.otlp_json.specs.Attributes.{AreJsonPairs, AreJsonAttributes, pairs_offend}
 use Rattle.otlp_json.specs.Found.{AreGiven, PairsTold}
 use Rattle.otlp_json.specs.Values.{held_offends, json_key_value_in, inner_pair_offends}
+use Rattle.trace_model.specs.Values.{most_levels}
 
-same_offences : (d : Data) → held_offends 16 (inner_pair_offends 16) d ≡ pairs_offend d
+same_offences : (d : Data) → held_offends most_levels (inner_pair_offends most_levels) d ≡ pairs_offend d
 unfolding inner_pair_offends
 same_offences d = refl
 
-same_optional : (o : Option Data) → optional (held_offends 16 (inner_pair_offends 16)) o ≡ optional pairs_offend o
+same_optional : (o : Option Data) → optional (held_offends most_levels (inner_pair_offends most_levels)) o ≡ optional pairs_offend o
 same_optional None = refl
 same_optional (Some d) = same_offences d
 
-pub attributes_clean : (o : Option Data) → NothingOffends (optional (held_offends 16 (inner_pair_offends 16)) o) → NothingOffends (optional pairs_offend o)
+pub attributes_clean : (o : Option Data) → NothingOffends (optional (held_offends most_levels (inner_pair_offends most_levels)) o) → NothingOffends (optional pairs_offend o)
 attributes_clean o h = subst NothingOffends (same_optional o) h
 
-pub attributes_halt : (halt : Halt Cause) (o : Option Data) → Halts halt (optional (held_offends 16 (inner_pair_offends 16)) o) → Halts halt (optional pairs_offend o)
+pub attributes_halt : (halt : Halt Cause) (o : Option Data) → Halts halt (optional (held_offends most_levels (inner_pair_offends most_levels)) o) → Halts halt (optional pairs_offend o)
 attributes_halt halt o h = subst (Halts halt) (same_optional o) h
 
-given_pairs : (pairs : List KeyValue) (o : Option Data) → Given (AreHeld (json_key_value_in 16)) (λ ps. ps ≡ []) pairs o → Given AreJsonPairs (λ ps. ps ≡ []) pairs o
+given_pairs : (pairs : List KeyValue) (o : Option Data) → Given (AreHeld (json_key_value_in most_levels)) (λ ps. ps ≡ []) pairs o → Given AreJsonPairs (λ ps. ps ≡ []) pairs o
 unfolding json_key_value_in
 given_pairs pairs None h = h
 given_pairs pairs (Some d) h = record { held = h.held; shape = h.shape; means = h.means }
 
-pub made_attributes : (o : Option Data) (rows : Noted (List (List ℕ × Value)) Keys) (attributes : List (List ℕ × Value)) (keys : Keys) → AreGiven (json_key_value_in 16) PairsTold o rows → AreNotedAttributes rows.means rows.notes attributes keys → AreJsonAttributes attributes keys o
+pub made_attributes : (o : Option Data) (rows : Noted (List (List ℕ × Value)) Keys) (attributes : List (List ℕ × Value)) (keys : Keys) → AreGiven (json_key_value_in most_levels) PairsTold o rows → AreNotedAttributes rows.means rows.notes attributes keys → AreJsonAttributes attributes keys o
 made_attributes o rows attributes keys h make = record {
   pairs = h.found;
   each = given_pairs h.found o h.each;

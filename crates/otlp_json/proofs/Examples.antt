@@ -94,11 +94,11 @@ too_large = refl
 
 -- ---- refusals: a double, two members, a list below the last level, a kind outside its table, and no trace identifier
 
-double : json_value_offends 15 (object (member (codes "doubleValue") (number (unsigned 1)) no_members)) (3 ∷ []) 15
+double : json_value_offends 23 (object (member (codes "doubleValue") (number (unsigned 1)) no_members)) (3 ∷ []) 15
 unfolding standing_members member_in ◌▹◌
 double = refl
 
-two_members : json_value_offends 15 (object (member (codes "boolValue") (boolean true) (member (codes "stringValue") (string []) no_members))) [] 11
+two_members : json_value_offends 23 (object (member (codes "boolValue") (boolean true) (member (codes "stringValue") (string []) no_members))) [] 11
 unfolding standing_members member_in
 two_members = refl
 

@@ -55,63 +55,63 @@ code_fits statuses.Fail = omega arith
 
 -- ---- spans
 
-status_back : (s : Status) → IsProperStatus s → GivenGivesBack 68 (unless_empty (members_given (status_rows s)))
-status_back s proper = unless_empty_back 67 _ (rows_back 67 (status_rows s) refl (number_back 67 (code_number s.code) (code_fits s.code), (text_back 67 s.message proper.message, tt)))
+status_back : (s : Status) → IsProperStatus s → GivenGivesBack 100 (unless_empty (members_given (status_rows s)))
+status_back s proper = unless_empty_back 99 _ (rows_back 99 (status_rows s) refl (number_back 99 (code_number s.code) (code_fits s.code), (text_back 99 s.message proper.message, tt)))
 
 module _ (L : Laws) where
-  event_back : (e : Event) → IsSoundEvent e → IsProperEvent e → double_in_event e ≡ false → GivesBack 67 (event_data e)
+  event_back : (e : Event) → IsSoundEvent e → IsProperEvent e → double_in_event e ≡ false → GivesBack 99 (event_data e)
   event_back e sound proper none =
-      object_back 66 _ (rows_back 66 (event_rows e) refl (
-        attributes_back L 66 e.attributes (omega arith) sound proper.attributes none,
-        (number_back 66 e.dropped (wider e.dropped proper.dropped), (text_back 66 e.name proper.name, (decimal_back 66 e.time proper.time, tt))),
+      object_back 98 _ (rows_back 98 (event_rows e) refl (
+        attributes_back L 98 e.attributes (omega arith) sound proper.attributes none,
+        (number_back 98 e.dropped (wider e.dropped proper.dropped), (text_back 98 e.name proper.name, (decimal_back 98 e.time proper.time, tt))),
       ))
 
-  link_back : (l : Link) → IsSoundLink l → IsProperLink l → double_in_link l ≡ false → GivesBack 67 (link_data l)
+  link_back : (l : Link) → IsSoundLink l → IsProperLink l → double_in_link l ≡ false → GivesBack 99 (link_data l)
   link_back l sound proper none =
-      object_back 66 _ (rows_back 66 (link_rows l) refl (
-        attributes_back L 66 l.attributes (omega arith) sound proper.attributes none,
+      object_back 98 _ (rows_back 98 (link_rows l) refl (
+        attributes_back L 98 l.attributes (omega arith) sound proper.attributes none,
         (
-          number_back 66 l.dropped (wider l.dropped proper.dropped),
+          number_back 98 l.dropped (wider l.dropped proper.dropped),
           (
-            number_back 66 l.flags (wider l.flags proper.flags),
-            (id_back L.ids 66 l.span proper.span, (trace_back L.ids 66 l.trace proper.trace, (text_back 66 l.state proper.state, tt))),
+            number_back 98 l.flags (wider l.flags proper.flags),
+            (id_back L.ids 98 l.span proper.span, (trace_back L.ids 98 l.trace proper.trace, (text_back 98 l.state proper.state, tt))),
           ),
         ),
       ))
 
-  span_back : (s : Span) → IsSoundSpan s → IsProperSpan s → double_in_span s ≡ false → GivesBack 69 (otlp_span_data s)
+  span_back : (s : Span) → IsSoundSpan s → IsProperSpan s → double_in_span s ≡ false → GivesBack 101 (otlp_span_data s)
   span_back s sound proper none =
       let own = or_parts (holds_double s.attributes) _ none in
       let inside = or_parts (list_any double_in_event s.events) _ own.1 in
-      object_back 68 _ (rows_back 68 (otlp_span_rows s) refl (
-        attributes_back L 68 s.attributes (omega arith) sound.attributes proper.attributes own.0,
+      object_back 100 _ (rows_back 100 (otlp_span_rows s) refl (
+        attributes_back L 100 s.attributes (omega arith) sound.attributes proper.attributes own.0,
         (
-          number_back 68 s.dropped_attributes (wider s.dropped_attributes proper.dropped_attributes),
+          number_back 100 s.dropped_attributes (wider s.dropped_attributes proper.dropped_attributes),
           (
-            number_back 68 s.dropped_events (wider s.dropped_events proper.dropped_events),
+            number_back 100 s.dropped_events (wider s.dropped_events proper.dropped_events),
             (
-              number_back 68 s.dropped_links (wider s.dropped_links proper.dropped_links),
+              number_back 100 s.dropped_links (wider s.dropped_links proper.dropped_links),
               (
-                decimal_back 68 s.end proper.end,
+                decimal_back 100 s.end proper.end,
                 (
-                  list_back event_data 67 s.events
+                  list_back event_data 99 s.events
                       (λ k e lt. event_back (get_or s.events k e) (sound.events k e lt) (proper.events k e lt) (none_passes double_in_event s.events inside.0 k e lt)),
                   (
-                    number_back 68 s.flags (wider s.flags proper.flags),
+                    number_back 100 s.flags (wider s.flags proper.flags),
                     (
-                      number_back 68 (kind_number s.kind) (kind_fits s.kind),
+                      number_back 100 (kind_number s.kind) (kind_fits s.kind),
                       (
-                        list_back link_data 67 s.links
+                        list_back link_data 99 s.links
                             (λ k l lt. link_back (get_or s.links k l) (sound.links k l lt) (proper.links k l lt) (none_passes double_in_link s.links inside.1 k l lt)),
                         (
-                          text_back 68 s.name proper.name,
+                          text_back 100 s.name proper.name,
                           (
-                            parent_back L.ids 68 s.parent proper.parent,
+                            parent_back L.ids 100 s.parent proper.parent,
                             (
-                              id_back L.ids 68 s.id proper.id,
+                              id_back L.ids 100 s.id proper.id,
                               (
-                                decimal_back 68 s.start proper.start,
-                                (status_back s.status proper.status, (trace_back L.ids 68 s.trace proper.trace, (text_back 68 s.state proper.state, tt))),
+                                decimal_back 100 s.start proper.start,
+                                (status_back s.status proper.status, (trace_back L.ids 100 s.trace proper.trace, (text_back 100 s.state proper.state, tt))),
                               ),
                             ),
                           ),
@@ -128,40 +128,40 @@ module _ (L : Laws) where
 
   -- ---- groups
 
-  instrumentation_back : (s : Scope) → IsSoundScope s → IsProperScope s → holds_double s.attributes ≡ false → GivenGivesBack 70 (unless_empty (members_given (instrumentation_scope_rows s)))
+  instrumentation_back : (s : Scope) → IsSoundScope s → IsProperScope s → holds_double s.attributes ≡ false → GivenGivesBack 102 (unless_empty (members_given (instrumentation_scope_rows s)))
   instrumentation_back s sound proper none =
-      unless_empty_back 69 _ (rows_back 69 (instrumentation_scope_rows s) refl (
-        attributes_back L 69 s.attributes (omega arith) sound.attributes proper.attributes none,
-        (number_back 69 s.dropped (wider s.dropped proper.dropped), (text_back 69 s.name proper.name, (text_back 69 s.version proper.version, tt))),
+      unless_empty_back 101 _ (rows_back 101 (instrumentation_scope_rows s) refl (
+        attributes_back L 101 s.attributes (omega arith) sound.attributes proper.attributes none,
+        (number_back 101 s.dropped (wider s.dropped proper.dropped), (text_back 101 s.name proper.name, (text_back 101 s.version proper.version, tt))),
       ))
 
-  scope_back : (s : Scope) → IsSoundScope s → IsProperScope s → double_in_scope s ≡ false → GivesBack 71 (scope_data s)
+  scope_back : (s : Scope) → IsSoundScope s → IsProperScope s → double_in_scope s ≡ false → GivesBack 103 (scope_data s)
   scope_back s sound proper none =
       let own = or_parts (holds_double s.attributes) _ none in
-      object_back 70 _ (rows_back 70 (scope_rows s) refl (
-        text_back 70 s.schema_url proper.schema_url,
+      object_back 102 _ (rows_back 102 (scope_rows s) refl (
+        text_back 102 s.schema_url proper.schema_url,
         (
           instrumentation_back s sound proper own.0,
           (
-            list_back otlp_span_data 69 s.spans
+            list_back otlp_span_data 101 s.spans
                 (λ k x lt. span_back (get_or s.spans k x) (sound.spans k x lt) (proper.spans k x lt) (none_passes double_in_span s.spans own.1 k x lt)),
             tt,
           ),
         ),
       ))
 
-  group_back : (g : Group) → IsHeldByJson g → GivesBack 73 (group_data g)
+  group_back : (g : Group) → IsHeldByJson g → GivesBack 105 (group_data g)
   group_back g h =
       let own = or_parts (holds_double g.resource) _ h.no_fault in
-      object_back 72 _ (rows_back 72 (group_rows g) refl (
-        unless_empty_back 71 _ (rows_back 71 (resource_rows g) refl (
-          attributes_back L 71 g.resource (omega arith) h.sound.resource h.proper.resource own.0,
-          (number_back 71 g.dropped (wider g.dropped h.proper.dropped), tt),
+      object_back 104 _ (rows_back 104 (group_rows g) refl (
+        unless_empty_back 103 _ (rows_back 103 (resource_rows g) refl (
+          attributes_back L 103 g.resource (omega arith) h.sound.resource h.proper.resource own.0,
+          (number_back 103 g.dropped (wider g.dropped h.proper.dropped), tt),
         )),
         (
-          text_back 72 g.schema_url h.proper.schema_url,
+          text_back 104 g.schema_url h.proper.schema_url,
           (
-            list_back scope_data 71 g.scopes
+            list_back scope_data 103 g.scopes
                 (λ k x lt. scope_back (get_or g.scopes k x) (h.sound.scopes k x lt) (h.proper.scopes k x lt) (none_passes double_in_scope g.scopes own.1 k x lt)),
             tt,
           ),
@@ -170,8 +170,8 @@ module _ (L : Laws) where
 
   groups_back : (groups : List Group) → All IsHeldByJson groups → GivesBack 127 (groups_data groups)
   groups_back groups h =
-      let each : All (λ g. GivesBack 73 (group_data g)) groups = λ k g lt. group_back (get_or groups k g) (h k g lt) in
-      gives_deeper 75 127 (groups_data groups) (omega arith) (one_back 74 (codes "resourceSpans") _ refl (array_back 73 _ (each_back group_data 73 groups each)))
+      let each : All (λ g. GivesBack 105 (group_data g)) groups = λ k g lt. group_back (get_or groups k g) (h k g lt) in
+      gives_deeper 107 127 (groups_data groups) (omega arith) (one_back 106 (codes "resourceSpans") _ refl (array_back 105 _ (each_back group_data 105 groups each)))
 
 -- ---- the whole text
 

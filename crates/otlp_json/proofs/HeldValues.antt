@@ -16,7 +16,7 @@ use Rattle.trace_model.specs.declared.noted.KeyValue.{KeyValue}
 use Rattle.trace_model.specs.OtlpParts.{levels_below, NotedValue, leaf, entry}
 use Rattle.trace_model.specs.Proper.{IsProperValue, IsProperPair, AreProper}
 use Rattle.trace_model.specs.Remarks.{Keys}
-use Rattle.trace_model.specs.Values.{depth, MapsRise, IsSound, AreSound}
+use Rattle.trace_model.specs.Values.{depth, MapsRise, IsSound, AreSound, most_levels}
 use Rattle.trace_model.specs.ValueTexts.{has_double}
 use Rattle.trace_model.specs.declared.value.Value.{Value}
 use Rattle.trace_model.specs.declared.value.Value.TheVariants as values
@@ -236,17 +236,17 @@ module _ (L : ValueLaws) where
 
   -- ---- attributes
 
-  attribute_held : (p : KeyValue) (e : Data) → InUtf8 e → json_key_value_at levels_below p e → HeldPair 16 (entry p)
+  attribute_held : (p : KeyValue) (e : Data) → InUtf8 e → json_key_value_at levels_below p e → HeldPair most_levels (entry p)
   attribute_held p e utf8 is = pair_held levels_below (json_value_in levels_below) (json_key_value_in levels_below) (value_in_held levels_below) (pair_in_held levels_below) p e utf8 is
 
   pub attributes_held : (attributes : List (List ℕ × Value)) (noted : Keys) (o : Option Data) → HoldsOf InUtf8 o → AreJsonAttributes attributes noted o → HeldAttributes attributes
   attributes_held attributes noted o utf8 is =
-      let all = kept_all (HeldPair 16) attributes (map entry is.pairs) is.make.kept (each_has (json_key_value_at levels_below) entry (HeldPair 16) attribute_held is.pairs o utf8 is.each) in
-      let h = all_held (λ (p : List ℕ × Value). Sound 16 p.1) IsProperPair (λ p. has_double p.1) attributes all in
+      let all = kept_all (HeldPair most_levels) attributes (map entry is.pairs) is.make.kept (each_has (json_key_value_at levels_below) entry (HeldPair most_levels) attribute_held is.pairs o utf8 is.each) in
+      let h = all_held (λ (p : List ℕ × Value). Sound most_levels p.1) IsProperPair (λ p. has_double p.1) attributes all in
       record {
         sound = record {
           rising = is.make.kept.rising;
-          values = All-weaker (λ (p : List ℕ × Value). Sound 16 p.1) (λ p. IsSound p.1) (λ p s. record { shallow = s.shallow; rising = s.rising }) attributes h.sound;
+          values = All-weaker (λ (p : List ℕ × Value). Sound most_levels p.1) (λ p. IsSound p.1) (λ p s. record { shallow = s.shallow; rising = s.rising }) attributes h.sound;
         };
         proper = h.proper;
         no_double = h.no_double;

@@ -18,7 +18,7 @@ use Rattle.trace_model.specs.OtlpParts.{levels_below, NotedValue, leaf, entry, l
 use Rattle.trace_model.specs.laws.PartLaws.{Sound, kept_all, each_in_range}
 use Rattle.trace_model.specs.Remarks.{Keys}
 use Rattle.trace_model.specs.Soundness.{IsSoundEvent, IsSoundLink, IsSoundSpan, IsSoundScope, IsSoundGroup}
-use Rattle.trace_model.specs.Values.{depth, MapsRise, IsSound, AreSound}
+use Rattle.trace_model.specs.Values.{depth, MapsRise, IsSound, AreSound, most_levels}
 use Rattle.trace_model.specs.declared.span.Event.{Event}
 use Rattle.trace_model.specs.declared.span.Link.{Link}
 use Rattle.trace_model.specs.declared.span.Span.{Span}
@@ -119,15 +119,15 @@ module _ (L : MembersOfValues) where
 
   -- ---- attributes
 
-  attribute_sound : (p : KeyValue) (e : Data) → json_key_value_at levels_below p e → SoundPair 16 (entry p)
+  attribute_sound : (p : KeyValue) (e : Data) → json_key_value_at levels_below p e → SoundPair most_levels (entry p)
   attribute_sound p e is = pair_sound levels_below (json_value_in levels_below) (json_key_value_in levels_below) (value_in_sound levels_below) (pair_in_sound levels_below) p e is
 
   attributes_sound : (attributes : List (List ℕ × Value)) (noted : Keys) (o : Option Data) → AreJsonAttributes attributes noted o → AreSound attributes
   attributes_sound attributes noted o is =
-      let all = kept_all (SoundPair 16) attributes (map entry is.pairs) is.make.kept (each_is (json_key_value_at levels_below) entry (SoundPair 16) attribute_sound is.pairs o is.each) in
+      let all = kept_all (SoundPair most_levels) attributes (map entry is.pairs) is.make.kept (each_is (json_key_value_at levels_below) entry (SoundPair most_levels) attribute_sound is.pairs o is.each) in
       record {
         rising = is.make.kept.rising;
-        values = All-weaker (SoundPair 16) (λ p. IsSound p.1) (λ p s. record { shallow = s.shallow; rising = s.rising }) attributes all;
+        values = All-weaker (SoundPair most_levels) (λ p. IsSound p.1) (λ p s. record { shallow = s.shallow; rising = s.rising }) attributes all;
       }
 
 none_sound : AreSound []

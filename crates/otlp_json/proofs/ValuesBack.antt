@@ -12,7 +12,7 @@ use Rattle.serde_json.specs.Data.{Data, null, boolean, number, string, array, ob
 use Rattle.serde_json.specs.View.{items_of}
 use Rattle.trace_model.specs.EventTexts.{holds_double}
 use Rattle.trace_model.specs.Proper.{AreProper}
-use Rattle.trace_model.specs.Values.{AreSound}
+use Rattle.trace_model.specs.Values.{AreSound, most_levels}
 use Rattle.trace_model.specs.declared.value.Value.{Value}
 use Rattle.trace_model.specs.declared.value.Value.TheVariants as values
 use Rattle.trace_model.specs.laws.PartLaws.{by_variant}
@@ -108,8 +108,8 @@ module _ (L : Laws) where
   in_back zero v h = absurd (not_held v h)
   in_back (suc left) v h = value_back L left (in_back left) v (as_next left v h)
 
-  pub attributes_back : (n : ℕ) (attributes : List (List ℕ × Value)) → 66 ≤ n → AreSound attributes → AreProper attributes → holds_double attributes ≡ false → GivenGivesBack n (attributes_data attributes)
+  pub attributes_back : (n : ℕ) (attributes : List (List ℕ × Value)) → 98 ≤ n → AreSound attributes → AreProper attributes → holds_double attributes ≡ false → GivenGivesBack n (attributes_data attributes)
   attributes_back n attributes enough sound proper none =
       let held = held_attributes attributes sound proper none in
-      let each : All (λ p. GivesBack 65 (pair_data p)) attributes = λ k p lt. key_value_back 64 (get_or attributes k p) (held k p lt).key (in_back 16 (get_or attributes k p).1 (held k p lt).value) in
-      given_deeper 66 n (attributes_data attributes) enough (list_back pair_data 65 attributes each)
+      let each : All (λ p. GivesBack 97 (pair_data p)) attributes = λ k p lt. key_value_back 96 (get_or attributes k p) (held k p lt).key (in_back most_levels (get_or attributes k p).1 (held k p lt).value) in
+      given_deeper 98 n (attributes_data attributes) enough (list_back pair_data 97 attributes each)

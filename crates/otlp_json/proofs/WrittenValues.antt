@@ -11,7 +11,7 @@ use Rattle.trace_model.specs.EventTexts.{holds_double}
 use Rattle.trace_model.specs.declared.noted.KeyValue.{KeyValue}
 use Rattle.trace_model.specs.OtlpParts.{levels_below, NotedValue, leaf, entry}
 use Rattle.trace_model.specs.Proper.{IsProperValue, AreProper}
-use Rattle.trace_model.specs.Values.{depth, MapsRise, AreSound}
+use Rattle.trace_model.specs.Values.{depth, MapsRise, AreSound, most_levels}
 use Rattle.trace_model.specs.ValueTexts.{has_double}
 use Rattle.trace_model.specs.declared.value.Value.{Value, List as Several, Map as Named, List', Map', Row_of-Value, end_of-Value, more_of-Value, Row_of-Value-Map-0-2, end_of-Value-Map-0-2, more_of-Value-Map-0-2, items-the_row-Value, items-the_row-Value-Map-0-2, items_hidden-the_row-Value-0, items_hidden-the_row-Value-Map-0-2-1}
 use Rattle.trace_model.specs.declared.value.Value.TheVariants as values
@@ -96,7 +96,7 @@ module _ (L : Laws) where
     };
   }
 
-pub held_attributes : (attributes : List (List ℕ × Value)) → AreSound attributes → AreProper attributes → holds_double attributes ≡ false → All (IsHeldPair 16) attributes
+pub held_attributes : (attributes : List (List ℕ × Value)) → AreSound attributes → AreProper attributes → holds_double attributes ≡ false → All (IsHeldPair most_levels) attributes
 held_attributes attributes sound proper none = λ k p lt. record {
   key = (proper k p lt).key;
   value = record {
@@ -219,7 +219,7 @@ module _ (L : Laws) where
   in_again (suc left) v h = value_again L left (in_again left) v (as_next left v h)
 
   -- the pair of an attribute
-  attribute_again : (pair : List ℕ × Value) → IsHeldPair 16 pair → json_key_value_at levels_below (quiet_key_value pair) (pair_data pair)
+  attribute_again : (pair : List ℕ × Value) → IsHeldPair most_levels pair → json_key_value_at levels_below (quiet_key_value pair) (pair_data pair)
   attribute_again pair h = key_value_again levels_below pair (value_again L levels_below (in_again levels_below) pair.1 h.value)
 
   pub attributes_again : (attributes : List (List ℕ × Value)) → AreSound attributes → AreProper attributes → holds_double attributes ≡ false → AreJsonAttributes attributes [] (unless_null (attributes_data attributes))

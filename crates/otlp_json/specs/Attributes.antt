@@ -1,4 +1,4 @@
--- Attributes in OTLP/JSON: an array of `KeyValue`s. The value of an attribute stands at level 1 of 16.
+-- Attributes in OTLP/JSON: an array of `KeyValue`s. The value of an attribute stands at level 1 of 24.
 use Rattle.std.specs.Prelude.{◌≡◌, ℕ, List, [], map, Option}
 use Rattle.serde_json.specs.Data.{Data}
 use Rattle.span_io.specs.Paths.{Offences, Given}

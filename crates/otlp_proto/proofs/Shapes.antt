@@ -11,7 +11,7 @@ use Rattle.otlp_proto.specs.Attributes.{attributes, attribute_rules}
 use Rattle.otlp_proto.specs.Rows.{bytes_in, varint_in, fixed64_in, fixed32_in, bytes_row, number_row, text, time, flags, count, enum, trace_id, span_id, message, messages_of}
 use Rattle.otlp_proto.specs.Values.{Member, string_value, bool_value, int_value, double_value, array_value, kvlist_value, bytes_value, member_in, InMember, value_in, key_value_in, value_offends, key_value_offends, many_table, many_rules, value_table, key_value_table, table_of_value, value_rules, table_of_key_value, key_value_rules, list_rules, map_rules}
 use Rattle.trace_model.specs.declared.noted.KeyValue.{KeyValue}
-use Rattle.trace_model.specs.OtlpParts.{NotedValue}
+use Rattle.trace_model.specs.OtlpParts.{NotedValue, levels_below}
 
 -- what offends in some bytes does so within them, and at their end with no number above `top`
 pub record Bounded (top : ℕ) (Offends : List ℕ → ℕ → ℕ → Type 0) : Type 0 where
@@ -276,7 +276,7 @@ module _ (laws : FormatLaws messages) where
   key_value_laws left = endless_rules (table_of_key_value left) 3 (shape_of_key_value left)
 
   pub attribute_bounded : Bounded 3 (λ held p n. Offence messages attribute_rules held p n)
-  attribute_bounded = key_value_over 15 (value_bounded 15) (key_value_bounded 15)
+  attribute_bounded = key_value_over levels_below (value_bounded levels_below) (key_value_bounded levels_below)
 
   pub attributes_shape : (number : ℕ) → RowShape messages (attributes number) 3
   attributes_shape number = bytes_shape 3 number _ _ _ _ attribute_bounded

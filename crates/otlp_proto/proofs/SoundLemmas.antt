@@ -13,7 +13,7 @@ use Rattle.span_io.specs.Tables.{Singular}
 use Rattle.otlp_proto.specs.Rows.{bytes_of}
 use Rattle.otlp_proto.specs.Values.{Member, string_value, bool_value, int_value, double_value, array_value, kvlist_value, bytes_value, members_of, IsListText, IsMapText, MeansMember, IsValueText, IsKeyValueText, value_in, key_value_in, key_value_at}
 use Rattle.trace_model.specs.declared.noted.KeyValue.{KeyValue}
-use Rattle.trace_model.specs.OtlpParts.{NotedValue, leaf, entry}
+use Rattle.trace_model.specs.OtlpParts.{NotedValue, leaf, entry, levels_below}
 use Rattle.trace_model.specs.laws.PartLaws.{Sound, kept_all}
 
 pub each_all : {A B C : Type 0} (Is : A → B → Type 0) (f : B → C) (P : C → Type 0) → ((x : B) (a : A) → Is a x → P (f x)) → (held : List A) (xs : List B) → AllZip Is held xs → All P (map f xs)
@@ -86,11 +86,11 @@ module _ (list_depth : (d : ℕ) (members : List Value) → (depth (values.List 
     key_value_in_sound (suc left) p text is =
         let so = pair_sound left (value_in left) (key_value_in left) (value_in_sound left) (key_value_in_sound left) p text is in record { shallow = omega (arith, so.shallow); rising = so.rising }
 
-  pub attributes_sound : (texts : List (List ℕ)) (pairs : List KeyValue) → AllZip (λ held p. key_value_at 15 held p) texts pairs → All (λ pair. IsSound pair.1) (map entry pairs)
-  attributes_sound texts pairs each = each_all (λ held p. key_value_at 15 held p) entry (λ pair. IsSound pair.1) sound texts pairs each
+  pub attributes_sound : (texts : List (List ℕ)) (pairs : List KeyValue) → AllZip (λ held p. key_value_at levels_below held p) texts pairs → All (λ pair. IsSound pair.1) (map entry pairs)
+  attributes_sound texts pairs each = each_all (λ held p. key_value_at levels_below held p) entry (λ pair. IsSound pair.1) sound texts pairs each
     where
-      sound : (p : KeyValue) (held : List ℕ) → key_value_at 15 held p → IsSound p.value.means
-      sound p held is = let so = pair_sound 15 (value_in 15) (key_value_in 15) (value_in_sound 15) (key_value_in_sound 15) p held is in record { shallow = so.shallow; rising = so.rising }
+      sound : (p : KeyValue) (held : List ℕ) → key_value_at levels_below held p → IsSound p.value.means
+      sound p held is = let so = pair_sound levels_below (value_in levels_below) (key_value_in levels_below) (value_in_sound levels_below) (key_value_in_sound levels_below) p held is in record { shallow = so.shallow; rising = so.rising }
 
   pub attributes_of_sound : (texts : List (List ℕ)) (attributes : List (List ℕ × Value)) (keys : Keys) → AttributesOf texts attributes keys → AreSound attributes
   attributes_of_sound texts attributes keys is = record {

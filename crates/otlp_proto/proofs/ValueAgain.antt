@@ -14,7 +14,7 @@ use Rattle.proto_wire.specs.Records.{varint, fixed64, bytes, Record, IsProper, I
 use Rattle.proto_wire.specs.Wire.{record_text}
 use Rattle.trace_model.specs.Attributes.{Rise, keys, AreAttributes, AreRepeated}
 use Rattle.trace_model.specs.Proper.{IsProperValue, IsProperPair, AreProper}
-use Rattle.trace_model.specs.Values.{depth, MapsRise, AreSound}
+use Rattle.trace_model.specs.Values.{depth, MapsRise, AreSound, most_levels}
 use Rattle.trace_model.specs.declared.value.Value.{Value}
 use Rattle.trace_model.specs.declared.value.Value.TheVariants as values
 use Rattle.otlp_proto.specs.Attributes.{attribute_at, AttributesOf}
@@ -224,11 +224,11 @@ module _ (L : Laws) where
   in_again (suc left) v given = value_again left (in_again left) v (record { shallow = omega (arith, given.shallow); rising = given.rising; proper = given.proper; fits = given.fits })
 
   -- the pair of an attribute
-  attribute_again : (pair : List ℕ × Value) → GivenKeyValue 16 pair → attribute_at (key_value_text pair) (quiet_key_value pair)
-  attribute_again pair given = key_value_again levels_below 16 pair given (value_again levels_below (in_again levels_below) pair.1)
+  attribute_again : (pair : List ℕ × Value) → GivenKeyValue most_levels pair → attribute_at (key_value_text pair) (quiet_key_value pair)
+  attribute_again pair given = key_value_again levels_below most_levels pair given (value_again levels_below (in_again levels_below) pair.1)
 
   module _ (number : ℕ) (attributes : List (List ℕ × Value)) (sound : AreSound attributes) (proper : AreProper attributes) (fits : Fits (attributes_text number attributes)) where
-    all_given : All (GivenKeyValue 16) attributes
+    all_given : All (GivenKeyValue most_levels) attributes
     all_given = λ k d lt. record {
       shallow = (sound.values k d lt).shallow;
       rising = (sound.values k d lt).rising;

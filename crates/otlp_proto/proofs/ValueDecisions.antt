@@ -28,7 +28,7 @@ use Rattle.otlp_proto.proofs.Shapes.{shape_of_value, shape_of_key_value, many_sh
 use Rattle.otlp_proto.specs.Values.{Member, string_value, bool_value, int_value, double_value, array_value, kvlist_value, bytes_value, member_in, IsListText, IsMapText, MeansMember, value_in, key_value_in, value_at, key_value_at, BadMember, InMember, many_table, value_offends, key_value_offends, table_of_value, value_rules, table_of_key_value, key_value_rules, list_rules, map_rules}
 use Rattle.trace_model.specs.declared.noted.Noted.{Noted}
 use Rattle.trace_model.specs.declared.noted.KeyValue.{KeyValue}
-use Rattle.trace_model.specs.OtlpParts.{NotedValue, leaf, entry, keys_inside}
+use Rattle.trace_model.specs.OtlpParts.{NotedValue, leaf, entry, keys_inside, levels_below}
 use Rattle.otlp_proto.proofs.RowDecisions.{Chosen, chosen_decided, text_decides, message_decides, all_of}
 use Rattle.span_io.specs.laws.RowLaws.{twice_or, one_number, not_text, utf8_or, singular_exists}
 use Rattle.otlp_proto.proofs.ValueReadings.{list_reads, map_reads, value_at_reads, key_value_at_reads, attribute_reads}
@@ -258,7 +258,7 @@ module _ (facts : WireFacts) (once : AttributesOnce) (exist : AttributesExist) (
   -- ---- attributes
 
   pub attribute_chosen : (held : List ℕ) → Chosen attribute_at (λ text p n. Offence messages attribute_rules text p n) held
-  attribute_chosen held = key_value_over 15 (below_at 15) held
+  attribute_chosen held = key_value_over levels_below (below_at levels_below) held
 
   in_order : (pairs : List KeyValue) (repeated keys : List (List ℕ)) → AreRepeated repeated (map entry pairs) → ((key : List ℕ) → Contains keys key ↔ Contains (repeated ++ keys_inside pairs) key)
       → (key : List ℕ) → Contains keys key ↔ (StandsTwice key (map entry pairs) ⊎ Contains (keys_inside pairs) key)

@@ -19,7 +19,7 @@ use Rattle.otlp_proto.proofs.Shapes.{shape_of_value, shape_of_key_value, many_sh
 use Rattle.otlp_proto.specs.Values.{Member, string_value, bool_value, int_value, double_value, array_value, kvlist_value, bytes_value, members_of, IsListText, IsMapText, MeansMember, value_in, key_value_in, value_at, key_value_at, BadMember, InMember, value_table, many_table, many_rules, value_offends, key_value_offends, table_of_value, value_rules, table_of_key_value, key_value_rules, list_rules, map_rules}
 use Rattle.trace_model.specs.declared.noted.Noted.{Noted}
 use Rattle.trace_model.specs.declared.noted.KeyValue.{KeyValue}
-use Rattle.trace_model.specs.OtlpParts.{NotedValue, leaf, entry, keys_inside, IsNotedMap, AreNotedAttributes}
+use Rattle.trace_model.specs.OtlpParts.{NotedValue, leaf, entry, keys_inside, IsNotedMap, AreNotedAttributes, levels_below}
 use Rattle.span_io.specs.laws.RowLaws.{all_zip_split, all_zip_once, singular_split, singular_once}
 use Rattle.otlp_proto.proofs.RowMeanings.{Reads, text_meaning, message_meaning, repeated_meaning}
 
@@ -196,7 +196,7 @@ module _ (facts : WireFacts) (once : AttributesOnce) where
   -- ---- attributes
 
   pub attribute_reads : Reads attribute_at (λ held p n. Offence messages attribute_rules held p n)
-  attribute_reads = key_value_over 15 (value_reads 15) (key_value_reads 15)
+  attribute_reads = key_value_over levels_below (value_reads levels_below) (key_value_reads levels_below)
 
   attributes_made_once : (pairs : List (List ℕ × Value)) (inside : Keys) (a b : Noted (List (List ℕ × Value)) Keys) → AreNotedAttributes pairs inside a.means a.notes → AreNotedAttributes pairs inside b.means b.notes → a ≡ b
   attributes_made_once pairs inside a b h k = noted_same a b (once.attributes pairs a.means b.means h.kept k.kept)

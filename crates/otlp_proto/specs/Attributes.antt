@@ -1,4 +1,4 @@
--- Attributes of a message, by the bytes of its `KeyValue` records. The value of an attribute stands at level 1 of 16.
+-- Attributes of a message, by the bytes of its `KeyValue` records. The value of an attribute stands at level 1 of 24.
 use Rattle.std.specs.Prelude.{ℕ, List, map}
 use Rattle.std.specs.List.{AllZip}
 use Rattle.span_io.specs.Offences.{Rules, Offence}

@@ -1,6 +1,6 @@
 -- `AnyValue`, `ArrayValue`, `KeyValueList` and `KeyValue` (OTLP common.proto). Of the members of a value one at most stands. The
 -- `values` 1 of a list are values, those of a map are `KeyValue`s, and a `KeyValue` has `key` 1, a text, and `value` 2. How deep lists
--- and maps may stand goes by the levels that are left below one: an attribute's value stands at level 1 of 16, with 15 left.
+-- and maps may stand goes by the levels that are left below one: an attribute's value stands at level 1 of 24, with 23 left.
 use Rattle.std.specs.Prelude.{◌≡◌, ◌≢◌, ◌↔◌, ℕ, zero, suc, ◌⊎◌, ◌==◌, if◌then◌else◌, List, [], ◌∷◌, map, Bool, IsTrue, IsUtf8}
 use Rattle.std.specs.Int.{w64, cast_signed, to_be_bytes}
 use Rattle.std.specs.List.{AllZip, flat_map}

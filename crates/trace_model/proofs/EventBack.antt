@@ -1,5 +1,5 @@
 -- The text of an event with attributes is read back as that event.
-use Rattle.std.proofs.Common.{◌≡◌, ◌≢◌, ℕ, ℤ, pos, negsuc, ◌^◌, ◌<◌, ◌≤◌, List, [], ◌∷◌, ◌++◌, Bool, true, false, Option, Some, option_map, option_and_then, Ordering, refl, sym, ap, ◌∙◌, subst, arith, append_assoc, append-nil, lt-ltb, nat_cmp}
+use Rattle.std.proofs.Common.{◌+◌, ◌≡◌, ◌≢◌, ℕ, ℤ, pos, negsuc, ◌^◌, ◌<◌, ◌≤◌, List, [], ◌∷◌, ◌++◌, Bool, true, false, Option, Some, option_map, option_and_then, Ordering, refl, sym, ap, ◌∙◌, subst, arith, append_assoc, append-nil, lt-ltb, nat_cmp}
 use Rattle.std.specs.Prelude.{FitsSigned}
 use Rattle.std.specs.Int.{w64}
 use Rattle.std.specs.Fmt.{signed_decimal}
@@ -29,7 +29,7 @@ use Rattle.trace_model.specs.declared.value.Value.{Value, Text, Truth, Number, E
 use Rattle.trace_model.specs.Attributes.{Rise}
 use Rattle.trace_model.specs.EventTexts.{IsEventText, in_braces, event_text, value_of_json, values_of_json, pairs_of_json, bytes_as_texts, texts_in_each, texts_in_pairs, with_texts, holds_double}
 use Rattle.trace_model.specs.Proper.{IsProperValue, IsProperEach, IsProperEachPair, AreProper}
-use Rattle.trace_model.specs.Values.{depth, keys_of_row, MapsRise, MapsRiseInEach, MapsRiseInPairs, IsSound, AreSound}
+use Rattle.trace_model.specs.Values.{depth, keys_of_row, MapsRise, MapsRiseInEach, MapsRiseInPairs, IsSound, AreSound, most_levels}
 use Rattle.trace_model.specs.ValueTexts.{has_double, double_in_each, double_in_pairs, json_of, json_of_each, json_of_pairs}
 use Rattle.trace_model.proofs.DoubleRows.{map_double}
 use Rattle.trace_model.proofs.EventBytes.{pairs_texts, sound_texts}
@@ -172,7 +172,7 @@ braced name ts =
     ∙ ap (λ (l : List ℕ). quoted name ++ 58 ∷ l) (sym (print_from_push false ts end_object ∙ ap (λ (l : List ℕ). print ts ++ l) (closing _)))
     ∙ sym (member_print name (ts ++ end_object ∷ [])))
 
-module _ (name : List ℕ) (value : Value) (proper : IsProperValue value) (rising : MapsRise value) (shallow : depth value ≤ 17) where
+module _ (name : List ℕ) (value : Value) (proper : IsProperValue value) (rising : MapsRise value) (shallow : depth value ≤ most_levels + 1) where
   abbrev member_of : json.Json
   member_of = json.object (json.member name (json_of value) json.no_members)
 
@@ -194,9 +194,9 @@ module _ (attributes : List (List ℕ × Value)) (proper : AreProper attributes)
   rising_map = (map_rises attributes).1
       (sound.rising, All-weaker (λ (pair : List ℕ × Value). IsSound pair.1) (λ (pair : List ℕ × Value). MapsRise pair.1) (λ pair s. s.rising) attributes sound.values)
 
-  shallow_map : depth (Named attributes) ≤ 17
-  shallow_map = (map_depth 16 attributes).1
-      (All-weaker (λ (pair : List ℕ × Value). IsSound pair.1) (λ (pair : List ℕ × Value). depth pair.1 ≤ 16) (λ pair s. s.shallow) attributes sound.values)
+  shallow_map : depth (Named attributes) ≤ most_levels + 1
+  shallow_map = (map_depth most_levels attributes).1
+      (All-weaker (λ (pair : List ℕ × Value). IsSound pair.1) (λ (pair : List ℕ × Value). depth pair.1 ≤ most_levels) (λ pair s. s.shallow) attributes sound.values)
 
   back : (name : List ℕ) → with_texts attributes ≢ [] → holds_double attributes ≡ false
       → IsEventText (quoted name ++ 58 ∷ print (tree.json_tokens (json_of (Named attributes)))) name (with_texts attributes)

@@ -10,7 +10,7 @@ use Rattle.trace_model.specs.EventExact.{EventTextsExact, EventTextsAreUtf8}
 use Rattle.trace_model.specs.EventReading.{pairs_within, some_pairs, event_in, event_text_read}
 use Rattle.trace_model.specs.EventTexts.{IsEventJson, IsEventText, in_braces}
 use Rattle.trace_model.specs.ValueTexts.{json_text}
-use Rattle.trace_model.specs.Values.{depth}
+use Rattle.trace_model.specs.Values.{depth, most_levels}
 use Rattle.trace_model.specs.declared.value.Value.{Value, Map as Named}
 use Rattle.trace_model.proofs.EventDepths.{pairs_sound, pairs_complete}
 use Rattle.trace_model.proofs.EventOptions.{then_some}
@@ -58,8 +58,8 @@ module _ (name : List ℕ) (attributes : Pairs) where
   event_found (object (member k (array ds) ms)) o e = absurd (cc)
   event_found (object (member k (object inner) (member l d ms))) o e = absurd (cc)
   event_found (object (member k (object inner) no_members)) o e =
-      let is = taken k (pairs_within 16 inner) name attributes e in
-      let low = pairs_sound 16 inner attributes is.pairs in
+      let is = taken k (pairs_within most_levels inner) name attributes e in
+      let low = pairs_sound most_levels inner attributes is.pairs in
       let up = pairs_rise inner attributes low.0 o.1.0.1 in
       record {
         members = inner;
@@ -87,10 +87,10 @@ module _ (name : List ℕ) (attributes : Pairs) where
   text_read : (text : List ℕ) → IsEventText text name attributes → event_text_read text ≡ Some (name, attributes)
   unfolding event_text_read
   text_read text is =
-      let low : All (λ p. depth p.1 ≤ 16) attributes = λ i d lt. (is.event.sound.values i d lt).shallow in
+      let low : All (λ p. depth p.1 ≤ most_levels) attributes = λ i d lt. (is.event.sound.values i d lt).shallow in
       ap (option_and_then event_in) is.reading
       ∙ ap event_in is.event.one
-      ∙ ap (some_pairs name) (pairs_complete 16 is.event.members attributes is.event.values low)
+      ∙ ap (some_pairs name) (pairs_complete most_levels is.event.members attributes is.event.values low)
       ∙ given attributes is.event.some
 
 pub texts_exact : EventTextsExact

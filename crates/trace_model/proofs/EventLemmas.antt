@@ -13,7 +13,7 @@ use Rattle.trace_model.specs.declared.value.Value.{Value, List as Several, Map a
 use Rattle.trace_model.specs.EventReading.{IsRead, AreRead, pairs_within}
 use Rattle.trace_model.specs.EventTexts.{IsEventJson, IsEventText, in_braces}
 use Rattle.trace_model.specs.Proper.{IsProperValue}
-use Rattle.trace_model.specs.Values.{AreSound, depth, MapsRise}
+use Rattle.trace_model.specs.Values.{AreSound, depth, MapsRise, most_levels}
 use Rattle.trace_model.proofs.EventDepths.{pairs_sound, pairs_complete}
 use Rattle.trace_model.proofs.Rows.{list_rises, map_rises}
 use Rattle.trace_model.proofs.ProperRows.{list_proper, map_proper}
@@ -29,10 +29,10 @@ list_read list all = record {
 pub map_read : (pairs : List (List ℕ × Value)) → AreRead pairs → IsRead (Named pairs)
 map_read pairs r = record { rising = (map_rises pairs).1 (r.keys_rise, r.rising); proper = (map_proper pairs).1 r.proper }
 
-pub sound_read : (pairs : List (List ℕ × Value)) → AreRead pairs → All (λ p. depth p.1 ≤ 16) pairs → AreSound pairs
+pub sound_read : (pairs : List (List ℕ × Value)) → AreRead pairs → All (λ p. depth p.1 ≤ most_levels) pairs → AreSound pairs
 sound_read pairs r low = record { rising = r.keys_rise; values = λ k d lt. record { shallow = low k d lt; rising = r.rising k d lt } }
 
-pub shallow : (pairs : List (List ℕ × Value)) → AreSound pairs → All (λ p. depth p.1 ≤ 16) pairs
+pub shallow : (pairs : List (List ℕ × Value)) → AreSound pairs → All (λ p. depth p.1 ≤ most_levels) pairs
 shallow pairs s = λ k d lt. (s.values k d lt).shallow
 
 -- ---- the one member
@@ -67,10 +67,10 @@ module _ (json : Data) (entries : List Entry) (is_object : Some (members_view en
         let o : Some inner ≡ Some is.members = holds ∙ ap as_object v in
         cc
 
-    pub no_event : None ≡ pairs_within 16 inner → (name : List ℕ) (attributes : List (List ℕ × Value)) → IsEventJson json name attributes → ⊥
+    pub no_event : None ≡ pairs_within most_levels inner → (name : List ℕ) (attributes : List (List ℕ × Value)) → IsEventJson json name attributes → ⊥
     no_event none name attributes is =
-        let read : pairs_within 16 inner ≡ Some attributes =
-        ap (pairs_within 16) (inner_is name attributes is) ∙ pairs_complete 16 is.members attributes is.values (shallow attributes is.sound) in
+        let read : pairs_within most_levels inner ≡ Some attributes =
+        ap (pairs_within most_levels) (inner_is name attributes is) ∙ pairs_complete most_levels is.members attributes is.values (shallow attributes is.sound) in
         let e : None ≡ Some attributes = none ∙ read in
         cc
 
@@ -78,9 +78,9 @@ module _ (json : Data) (entries : List Entry) (is_object : Some (members_view en
     last_one [] e = refl
     last_one (y ∷ es) e = absurd (omega arith)
 
-    pub is_event : 1 ≡ length entries → (attributes : List (List ℕ × Value)) → Some attributes ≡ pairs_within 16 inner → AreRead attributes → attributes ≢ [] → IsEventJson json (string_bytes x.0) attributes
+    pub is_event : 1 ≡ length entries → (attributes : List (List ℕ × Value)) → Some attributes ≡ pairs_within most_levels inner → AreRead attributes → attributes ≢ [] → IsEventJson json (string_bytes x.0) attributes
     is_event one attributes is r some =
-        let s = pairs_sound 16 inner attributes (sym is) in
+        let s = pairs_sound most_levels inner attributes (sym is) in
         let e : members_view entries ≡ member (string_bytes x.0) (object inner) no_members =
         ap members_view split
         ∙ ap (λ d. member (string_bytes x.0) d (members_view more)) (of_object (view x.1) inner holds)

@@ -18,7 +18,7 @@ use Rattle.trace_model.specs.declared.value.Value.{Value, Text, Truth, Number, L
 use Rattle.trace_model.specs.Attributes.{Rise, keys}
 use Rattle.trace_model.specs.EventReading.{pairs_within}
 use Rattle.trace_model.specs.EventTexts.{IsEventJson, IsEventText, in_braces, value_of_json, values_of_json, pairs_of_json}
-use Rattle.trace_model.specs.Values.{MapsRise}
+use Rattle.trace_model.specs.Values.{MapsRise, most_levels}
 use Rattle.trace_model.proofs.EventBack.{names}
 use Rattle.trace_model.proofs.EventDepths.{pairs_sound, pairs_complete}
 use Rattle.trace_model.proofs.EventLemmas.{shallow}
@@ -161,20 +161,20 @@ HasEvent d = (name : List ℕ) × (attributes : List (List ℕ × Value)) × IsE
 abbrev HasNone : Data → Type 0
 HasNone d = (name : List ℕ) (attributes : List (List ℕ × Value)) → ¬ IsEventJson d name attributes
 
-held : (name : List ℕ) (ms : Members) → MembersRise ms → (o : Option (List (List ℕ × Value))) → pairs_within 16 ms ≡ o
+held : (name : List ℕ) (ms : Members) → MembersRise ms → (o : Option (List (List ℕ × Value))) → pairs_within most_levels ms ≡ o
     → HasEvent (object (member name (object ms) no_members)) ⊎ HasNone (object (member name (object ms) no_members))
 held name ms up None e = inr (λ other attributes is.
     let same : ms ≡ is.members = (let one = is.one in cc) in
-    let all : pairs_within 16 ms ≡ Some attributes = pairs_complete 16 ms attributes (ap pairs_of_json same ∙ is.values) (shallow attributes is.sound) in
+    let all : pairs_within most_levels ms ≡ Some attributes = pairs_complete most_levels ms attributes (ap pairs_of_json same ∙ is.values) (shallow attributes is.sound) in
     let no : None ≡ Some attributes = sym e ∙ all in
     cc)
 held name ms up (Some []) e = inr (λ other attributes is.
     let same : ms ≡ is.members = (let one = is.one in cc) in
-    let all : pairs_within 16 ms ≡ Some attributes = pairs_complete 16 ms attributes (ap pairs_of_json same ∙ is.values) (shallow attributes is.sound) in
+    let all : pairs_within most_levels ms ≡ Some attributes = pairs_complete most_levels ms attributes (ap pairs_of_json same ∙ is.values) (shallow attributes is.sound) in
     let empty : Some [] ≡ Some attributes = sym e ∙ all in
     is.some (sym (let s = empty in cc)))
 held name ms up (Some (p ∷ ps)) e =
-    let s = pairs_sound 16 ms (p ∷ ps) e in
+    let s = pairs_sound most_levels ms (p ∷ ps) e in
     let rising = pairs_rise ms (p ∷ ps) s.0 up.1 in
     inl (
       name,
@@ -201,7 +201,7 @@ event_or_none (object (member k (boolean b) no_members)) up = inr (λ name attri
 event_or_none (object (member k (number n) no_members)) up = inr (λ name attributes is. let one = is.one in cc)
 event_or_none (object (member k (string s) no_members)) up = inr (λ name attributes is. let one = is.one in cc)
 event_or_none (object (member k (array ds) no_members)) up = inr (λ name attributes is. let one = is.one in cc)
-event_or_none (object (member k (object ms) no_members)) up = held k ms up.1.0 (pairs_within 16 ms) refl
+event_or_none (object (member k (object ms) no_members)) up = held k ms up.1.0 (pairs_within most_levels ms) refl
 
 of_text : (text : List ℕ) (d : Data) → read (in_braces text) ≡ Some d → HasEvent d ⊎ HasNone d
     → ((name : List ℕ) × (attributes : List (List ℕ × Value)) × IsEventText text name attributes) ⊎ ((name : List ℕ) (attributes : List (List ℕ × Value)) → ¬ IsEventText text name attributes)

@@ -16,7 +16,7 @@ use Rattle.json.proofs.Printed.Trees.{document-print}
 use Rattle.json.proofs.Printed.Utf8.{IsUtf8-are_ascii, IsUtf8-quoted, IsUtf8-key, IsUtf8-boolean, IsUtf8-separator}
 use Rattle.trace_model.specs.declared.value.Value.{Value, Text, Truth, Number, Eight, Bytes, List', Map', Nothing, Row_of-Value, end_of-Value, more_of-Value, Row_of-Value-Map-0-2, end_of-Value-Map-0-2, more_of-Value-Map-0-2}
 use Rattle.trace_model.specs.Proper.{IsProperValue, IsProperEach, IsProperEachPair}
-use Rattle.trace_model.specs.Values.{depth, deepest, deepest_of_pairs}
+use Rattle.trace_model.specs.Values.{depth, deepest, deepest_of_pairs, most_levels}
 use Rattle.trace_model.specs.ValueTexts.{json_of, json_of_each, json_of_pairs, truth_text, json_text, value_text}
 
 -- ---- UTF-8
@@ -110,5 +110,5 @@ mutual
   pairs_no_deeper n end_of-Value-Map-0-2 = omega arith
   pairs_no_deeper n (more_of-Value-Map-0-2 key value rest) = omega (arith, no_deeper value, pairs_no_deeper _ rest)
 
-pub read_back : (value : Value) → IsProperValue value → depth value ≤ 16 → document (json_text value) ≡ Some (json_of value)
+pub read_back : (value : Value) → IsProperValue value → depth value ≤ most_levels → document (json_text value) ≡ Some (json_of value)
 read_back value proper shallow = document-print (json_of value) (has_numbers value proper) (omega (arith, no_deeper value))

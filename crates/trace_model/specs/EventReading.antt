@@ -8,7 +8,7 @@ use Rattle.serde_json.specs.Read.{read}
 use Rattle.trace_model.specs.Attributes.{Rise, keys}
 use Rattle.trace_model.specs.EventTexts.{in_braces}
 use Rattle.trace_model.specs.Proper.{IsProperValue, IsProperPair}
-use Rattle.trace_model.specs.Values.{MapsRise}
+use Rattle.trace_model.specs.Values.{MapsRise, most_levels}
 use Rattle.trace_model.specs.declared.value.Value.{Value, Text, Truth, Number, List as Several, Map as Named, Nothing}
 
 abbrev mutual
@@ -49,7 +49,7 @@ some_pairs name (Some (pair ∷ pairs)) = Some (name, pair ∷ pairs)
 
 -- an object of one member, which is an object itself
 abbrev pub event_in : Data → Option (List ℕ × List (List ℕ × Value))
-event_in (object (member name (object members) no_members)) = some_pairs name (pairs_within 16 members)
+event_in (object (member name (object members) no_members)) = some_pairs name (pairs_within most_levels members)
 event_in json = None
 
 -- what stands in braces is JSON of such an event

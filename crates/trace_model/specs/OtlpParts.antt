@@ -1,6 +1,6 @@
 -- Parts of OTLP's messages, as its readers of protobuf and of JSON gather them, with what is noted of them; and the numbers of its enums.
 -- Each form says in its own terms which parts stand in a text. What they make together is said here.
-use Rattle.std.specs.Prelude.{◌≡◌, ◌↔◌, ◌⊎◌, ℕ, List, [], ◌∷◌, ◌++◌, length, map, All, Contains, Option, Some, None, is_none}
+use Rattle.std.specs.Prelude.{◌≡◌, ◌↔◌, ◌⊎◌, ℕ, ◌-◌, List, [], ◌∷◌, ◌++◌, length, map, All, Contains, Option, Some, None, is_none}
 use Rattle.std.specs.List.{flat_map, list_any}
 use Rattle.trace_model.specs.Attributes.{AreAttributes, AreRepeated, Rise, StandsTwice}
 use Rattle.trace_model.specs.GroupRemarks.{group_remarks}
@@ -22,6 +22,7 @@ use Rattle.trace_model.specs.declared.span.Span.{Span}
 use Rattle.trace_model.specs.declared.span.Status.{Status}
 use Rattle.trace_model.specs.declared.trace.Group.{Group}
 use Rattle.trace_model.specs.declared.trace.Scope.{Scope}
+use Rattle.trace_model.specs.Values.{most_levels}
 use Rattle.trace_model.specs.declared.value.Value.{Value}
 use Rattle.trace_model.specs.declared.value.Value.TheVariants as values
 
@@ -29,7 +30,7 @@ use Rattle.trace_model.specs.declared.value.Value.TheVariants as values
 
 -- how many levels are left below the value of an attribute
 abbrev pub levels_below : ℕ
-levels_below = 15
+levels_below = most_levels - 1
 
 -- a value with the keys that are noted inside it
 abbrev pub NotedValue : Type 0

@@ -6,7 +6,7 @@ use Rattle.trace_model.specs.Attributes.{Rise, keys, AreKeysInOrder, AreAttribut
 use Rattle.trace_model.specs.EventTexts.{IsEventText, has_bytes, bytes_as_texts, event_text, holds_double, with_texts}
 use Rattle.trace_model.specs.Proper.{IsProperValue, AreProper}
 use Rattle.trace_model.specs.ValueTexts.{has_double, json_of, json_text, value_text}
-use Rattle.trace_model.specs.Values.{depth, MapsRise, AreSound}
+use Rattle.trace_model.specs.Values.{depth, MapsRise, AreSound, most_levels}
 use Rattle.trace_model.specs.declared.value.Value.{Value}
 use Rattle.trace_model.specs.declared.value.Value.TheVariants as values
 
@@ -46,7 +46,7 @@ pub record TextsOfValues : Type 0 where
   pub list_double : (members : List Value) → has_double (values.List members) ≡ list_any has_double members
   pub map_double : (pairs : List (List ℕ × Value)) → has_double (values.Map pairs) ≡ list_any (λ pair. has_double pair.1) pairs
   pub utf8 : (value : Value) → IsProperValue value → IsUtf8 (value_text value)
-  pub read_back : (value : Value) → IsProperValue value → depth value ≤ 16 → document (json_text value) ≡ Some (json_of value)
+  pub read_back : (value : Value) → IsProperValue value → depth value ≤ most_levels → document (json_text value) ≡ Some (json_of value)
 
 -- a text has one name and one list of attributes at most, which hold neither bytes nor doubles
 pub record EventTextsOnce : Type 0 where

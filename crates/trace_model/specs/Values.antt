@@ -1,7 +1,11 @@
--- Values that are sound: of depth at most 16, with the keys of every map in them rising.
+-- Values that are sound: of so many levels at most, with the keys of every map in them rising.
 use Rattle.std.specs.Prelude.{ℕ, ◌+◌, ◌≤◌, max, List, [], ◌∷◌, All, ⊤}
 use Rattle.trace_model.specs.Attributes.{Rise, keys}
 use Rattle.trace_model.specs.declared.value.Value.{Value, Row_of-Value, end_of-Value, more_of-Value, Row_of-Value-Map-0-2, end_of-Value-Map-0-2, more_of-Value-Map-0-2, List', Map'}
+
+-- how deep a value is at most, so that a list or map at the last level is empty
+abbrev pub most_levels : ℕ
+most_levels = 24
 
 abbrev mutual
   -- a leaf or an empty list or map has depth 1, another list or map one more than its deepest member
@@ -38,7 +42,7 @@ abbrev mutual
   MapsRiseInPairs (more_of-Value-Map-0-2 key value rest) = MapsRise value × MapsRiseInPairs rest
 
 pub record IsSound (value : Value) : Type 0 where
-  pub shallow : depth value ≤ 16
+  pub shallow : depth value ≤ most_levels
   pub rising : MapsRise value
 
 -- attributes are sound where their keys rise and each value is sound

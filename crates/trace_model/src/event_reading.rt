@@ -12,13 +12,10 @@ ghost use Rattle.trace_model.specs.Values.{AreSound, MapsRise};
 ghost use Rattle.trace_model.specs.declared.value.Value.{Value as Val};
 ghost use Rattle.trace_model.specs.declared.value.Value.TheVariants as values;
 
-use crate::value::{Attrs, Value};
+use crate::value::{Attrs, MOST_LEVELS, Value};
 use serde_json::{Map, Number, Value as Json};
 use span_io::{Items, OutOfMemory, Text};
 use std::alloc::Global;
-
-/// The levels of lists and maps that a value may have.
-const LEVELS: u8 = 16;
 
 /// Reads an event's name and attributes from its text, which is one member of a JSON object: the name,
 /// a colon, and an object that isn't empty. `None` where the text is no such member, as a name alone.
@@ -78,7 +75,7 @@ fn event_in(alloc: Global, json: &Json) -> Result<Option<(Text, Attrs)>, OutOfMe
     let Some(inner) = held.as_object() else {
         return Ok(None);
     };
-    let Some(attributes) = pairs_of(alloc, inner, LEVELS)? else {
+    let Some(attributes) = pairs_of(alloc, inner, MOST_LEVELS)? else {
         return Ok(None);
     };
     if attributes.len() == 0 {

@@ -35,4 +35,4 @@ pub use remarks::{remark_all, remark_dropped, remark_keys, remark_tag};
 pub use span::{Code, Event, Kind, Link, Span, Status};
 pub use texts::{has_no_text, value_text};
 pub use trace::{Group, Scope};
-pub use value::{Attrs, Value, attrs_copy};
+pub use value::{Attrs, MOST_LEVELS, Value, attrs_copy};

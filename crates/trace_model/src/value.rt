@@ -20,6 +20,10 @@ pub enum Value {
     Nothing,
 }
 
+/// How many levels a value has at most: an attribute's own value stands at level 1, what a list or map
+/// holds one below it, so that a list or map at the last level is empty.
+pub const MOST_LEVELS: u8 = 24;
+
 /// Attributes: pairs of a key and its value.
 pub type Attrs = Items<(Text, Value)>;
 

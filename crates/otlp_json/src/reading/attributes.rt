@@ -10,10 +10,7 @@ use crate::reading::values::{NotedPairs, note_keys, pairs_of};
 use json_nodes::Lent;
 use span_io::{Cause, Halt, Items, OutOfMemory, Text};
 use std::alloc::Global;
-use trace_model::{Attrs, attrs_of, keys_in_order};
-
-/// How many levels attributes have, with that of their own values.
-const LEVELS: u8 = 16;
+use trace_model::{Attrs, MOST_LEVELS, attrs_of, keys_in_order};
 
 // Attributes that may be absent, which are none then, and the keys of which there is a remark.
 pub fn attributes_of(
@@ -24,7 +21,7 @@ pub fn attributes_of(
     ensures value { IfOk result (λ r. AreJsonAttributes r.0 r.1 (member name.now (view v.now))) }
     ensures judged { JudgesValue result (optional pairs_offend (member name.now (view v.now))) }
 {
-    let rows = pairs_of(alloc, LEVELS, v, name)?;
+    let rows = pairs_of(alloc, MOST_LEVELS, v, name)?;
     let read = finish(alloc, rows)?;
     Ok(read)
 }

@@ -12,10 +12,7 @@ use crate::reading::value_rows::{note_all, push_key_value};
 use span_io::{Cause, Halt, Items, OutOfMemory, Text};
 use std::alloc::Global;
 use trace_model::laws::members_of_values;
-use trace_model::{Attrs, Value, attrs_of, keys_in_order};
-
-/// How many levels are left below the value of an attribute, which stands at level 1 of 16.
-const LEVELS_BELOW: u8 = 15;
+use trace_model::{Attrs, MOST_LEVELS, Value, attrs_of, keys_in_order};
 
 /// The pairs that were read of a message, and the keys that are noted inside their values.
 #[derive(Drop)]
@@ -40,7 +37,7 @@ impl AttributeRows {
         ensures ok { OnOk result (Adds GatheredAttributes held.now self.old self.new) }
         ensures judged { Judges result (Offence messages attribute_rules held.now) }
     {
-        let pair = read_key_value(alloc, LEVELS_BELOW, held)?;
+        let pair = read_key_value(alloc, MOST_LEVELS - 1, held)?;
         push_key_value(&mut self.pairs, &mut self.noted, pair)?;
         Ok(())
     }
