@@ -15,7 +15,7 @@ pub enum Cause {
     BadWire,
     /// A size or length is negative or above 2,147,483,647 (Thrift binary and compact protocols).
     BadSize,
-    /// A value lies deeper than 16 levels, or a Thrift container at level 33.
+    /// A value lies deeper than 24 levels, or a Thrift container at level 33.
     TooDeep,
     /// A unit has more bytes than its limit, or a length in it says so.
     UnitTooLong,

@@ -12,6 +12,7 @@ mod door;
 mod duplex;
 mod form;
 mod halt;
+mod interrupted;
 mod items;
 pub mod laws;
 mod limits;

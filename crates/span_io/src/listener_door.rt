@@ -4,7 +4,8 @@ ghost use Rattle.span_io.specs.Outside.{last_count};
 use crate::door::Door;
 use crate::source::Failed;
 use crate::stream_duplex::StreamDuplex;
-use std::net::{Net, OpenListener, TcpListener};
+use std::net::{Net, OpenListener, OpenStream, TcpListener};
+use std::time::Duration;
 
 /// A door over a listener of std. It counts each error of the listener, and the connections that are out, and
 /// tells neither its address nor its connections, nor how its calls went.
@@ -46,10 +47,18 @@ impl<R: Net> ListenerDoor<R> {
         }
         let listener = self.listener.as_ref()?;
         match listener.accept() {
-            Ok((stream, _)) => Some(stream),
+            Ok((stream, _)) => in_time(stream),
             Err(_) => None,
         }
     }
+}
+
+/// The stream, of which a read or a write fails once it has waited 30 seconds.
+fn in_time<S: OpenStream + Drop>(stream: S) -> Option<S> {
+    let longest = Some(Duration::from_secs(30));
+    stream.set_read_timeout(longest).ok()?;
+    stream.set_write_timeout(longest).ok()?;
+    Some(stream)
 }
 
 impl<R: Net> Door for ListenerDoor<R> {

@@ -1,8 +1,7 @@
-ghost use Rattle.std.specs.Prelude.{◌≡◌, ◌<◌, ◌≤◌, ◌↔◌, [], length, take, IfOk, OnErr, IsOk, IsErr, Ok, Err};
+ghost use Rattle.std.specs.Prelude.{◌≡◌, ◌<◌, ◌≤◌, ◌↔◌, [], length, min, take, IfOk, OnErr, IsOk, IsErr, Ok, Err};
 ghost use Rattle.span_io.specs.Courses.{course_of_writes, write_next};
 ghost use Rattle.span_io.specs.Outside.{Rose, Takes, Gains, counted};
-ghost use Rattle.span_io.specs.Memory.{outlet_of, Refuses, CountsFault};
-ghost use Rattle.span_io.specs.declared.course.WriteCourse.TheVariants as writes;
+ghost use Rattle.span_io.specs.Memory.{fresh_sink, outlet_of, Refuses, CountsFault};
 
 use crate::course::WriteCourse;
 use crate::halt::OutOfMemory;
@@ -12,13 +11,15 @@ use crate::source::Failed;
 use std::alloc::Global;
 use std::marker::Model;
 
-/// A sink in memory with room for so many bytes, which it takes when it is made. A write fails
-/// exactly where its call is listed, numbered from 1, or the piece doesn't fit in the room left.
-/// The counts of its calls and faults stay at the end of 64 bits.
+/// A sink in memory with room for so many bytes, which it takes when it is made. A write takes at
+/// most `cut` bytes a call, and at least one. It fails exactly where its call is listed, numbered
+/// from 1, or what it would take doesn't fit in the room left. The counts of its calls and faults
+/// stay at the end of 64 bits.
 #[derive(Drop)]
 pub struct MemSink {
     bytes: Vec<u8>,
     room: usize,
+    cut: usize,
     fail: Items<u64>,
     calls: u64,
     faults: u64,
@@ -26,24 +27,37 @@ pub struct MemSink {
 }
 
 impl Model for MemSink {
-    ghost use Rattle.std.specs.Prelude.{◌≤◌, vec_len, vec_capacity};
+    ghost use Rattle.std.specs.Prelude.{◌<◌, ◌≤◌, vec_len, vec_capacity};
     ghost use Rattle.span_io.specs.Memory.{SinkState};
 
     ghost Value = { SinkState };
 
-    ghost view = { λ s. record { held = s.bytes.items; room = s.room; fail = s.fail; calls = s.calls; faults = s.faults; course = s.course } };
+    ghost view = { λ s. record { held = s.bytes.items; room = s.room; cut = s.cut; fail = s.fail; calls = s.calls; faults = s.faults; course = s.course } };
 
-    ghost invariant = { λ s. (vec_len s.bytes ≤ s.room) × (s.room ≤ vec_capacity s.bytes) };
+    ghost invariant = { λ s. (vec_len s.bytes ≤ s.room) × (s.room ≤ vec_capacity s.bytes) × (0 < s.cut) };
 }
 
 impl MemSink {
+    /// A sink that takes a whole piece a call.
     pub fn new(alloc: Global, room: usize, fail: Items<u64>) -> Result<MemSink, OutOfMemory>
-        ensures { IfOk result (λ s. s
-            ≡ record { held = []; room = room; fail = fail; calls = 0; faults = 0; course = writes.Going }) }
+        ensures { IfOk result (λ s. s ≡ fresh_sink room usize.MAX fail) }
+    {
+        MemSink::slow(alloc, room, usize::MAX, fail)
+    }
+
+    /// A sink that takes at most `cut` bytes a call.
+    pub fn slow(
+        alloc: Global,
+        room: usize,
+        cut: usize,
+        fail: Items<u64>,
+    ) -> Result<MemSink, OutOfMemory>
+        ensures { IfOk result (λ s. s ≡ fresh_sink room cut fail) }
     {
         Ok(MemSink {
             bytes: Vec::with_capacity(alloc, room)?,
             room,
+            cut: cut.max(1),
             fail,
             calls: 0,
             faults: 0,
@@ -92,23 +106,25 @@ impl Sink for MemSink {
         ensures answers { 0 < length piece.now → Takes (outlet_of self.old).sure (length piece.now) → IsOk result }
         ensures course { (outlet_of self.new).course ≡ course_of_writes (outlet_of self.old).course piece.now result }
 
-        // It fails exactly on the listed calls and where the piece doesn't fit, and else takes all.
+        // It fails exactly on the listed calls and where what it would take doesn't fit, and else
+        // takes as many bytes as its cut allows.
         ensures fails { IsErr result ↔ Refuses self.old piece.now }
-        ensures takes { IfOk result (λ n. n ≡ length piece.now) }
+        ensures takes { IfOk result (λ n. n ≡ min self.old.cut (length piece.now)) }
         ensures calls { self.new.calls ≡ counted self.old.calls }
         ensures faults { CountsFault result self.old.faults self.new.faults }
-        ensures stays { (self.new.fail ≡ self.old.fail) × (self.new.room ≡ self.old.room) }
+        ensures stays { (self.new.fail ≡ self.old.fail) × (self.new.room ≡ self.old.room) × (self.new.cut ≡ self.old.cut) }
     {
         self.calls = self.calls.saturating_add(1);
         let listed = self.fail.as_slice().contains(&self.calls);
-        if listed || self.room - self.bytes.len() < piece.len() {
+        let taken = piece.len().min(self.cut);
+        if listed || self.room - self.bytes.len() < taken {
             self.faults = self.faults.saturating_add(1);
             self.course = behind_failure(self.course, piece);
             return Err(Failed);
         }
         self.course = behind_write(self.course, piece);
-        match self.bytes.extend_from_slice(piece) {
-            Ok(()) => Ok(piece.len()),
+        match self.bytes.extend_from_slice(&piece[..taken]) {
+            Ok(()) => Ok(taken),
             Err(_) => unreachable!(),
         }
     }

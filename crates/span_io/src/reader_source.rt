@@ -1,5 +1,6 @@
 ghost use Rattle.std.specs.Prelude.{◌≡◌, None, false};
 
+use crate::interrupted::read_again;
 use crate::source::{Failed, Source};
 use std::io::Read;
 
@@ -31,7 +32,7 @@ impl<R: Read> Source for ReaderSource<R> {
     ghost inlet = { λ s. record { left = R.remaining s.reader; faults = s.faults; steady = false; course = None } };
 
     fn read(&mut self, buf: &mut [u8]) -> Result<usize, Failed> {
-        match self.reader.read(buf) {
+        match read_again(&mut self.reader, buf) {
             Ok(given) => Ok(given),
             Err(_) => {
                 self.faults = self.faults.saturating_add(1);

@@ -2,6 +2,7 @@ ghost use Rattle.std.specs.Prelude.{◌≡◌, None, false};
 ghost use Rattle.span_io.specs.Outside.{so_many};
 
 use crate::duplex::Duplex;
+use crate::interrupted::{read_again, write_again};
 use crate::source::Failed;
 use std::io::{Read, Write};
 
@@ -40,7 +41,7 @@ impl<S: Read + Write> Duplex for StreamDuplex<S> {
     ghost tells = { λ s. tt };
 
     fn read(&mut self, buf: &mut [u8]) -> Result<usize, Failed> {
-        match self.stream.read(buf) {
+        match read_again(&mut self.stream, buf) {
             Ok(given) => Ok(given),
             Err(_) => {
                 self.read_faults = self.read_faults.saturating_add(1);
@@ -50,7 +51,7 @@ impl<S: Read + Write> Duplex for StreamDuplex<S> {
     }
 
     fn write(&mut self, piece: &[u8]) -> Result<usize, Failed> {
-        match self.stream.write(piece) {
+        match write_again(&mut self.stream, piece) {
             Ok(taken) if taken > 0 || piece.is_empty() => Ok(taken),
             _ => {
                 self.write_faults = self.write_faults.saturating_add(1);

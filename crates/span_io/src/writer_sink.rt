@@ -1,6 +1,7 @@
 ghost use Rattle.std.specs.Prelude.{◌≡◌, None};
 ghost use Rattle.span_io.specs.Outside.{so_many};
 
+use crate::interrupted::write_again;
 use crate::sink::Sink;
 use crate::source::Failed;
 use std::io::Write;
@@ -33,7 +34,7 @@ impl<W: Write> Sink for WriterSink<W> {
     ghost outlet = { λ s. record { held = W.contents s.writer; taken = None; faults = s.faults; sure = so_many 0; course = None } };
 
     fn write(&mut self, piece: &[u8]) -> Result<usize, Failed> {
-        match self.writer.write(piece) {
+        match write_again(&mut self.writer, piece) {
             Ok(taken) if taken > 0 || piece.is_empty() => Ok(taken),
             _ => {
                 self.faults = self.faults.saturating_add(1);
