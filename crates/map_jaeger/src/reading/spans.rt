@@ -62,13 +62,13 @@ fn read_span(
     let own_tags = mem::replace(&mut span.tags, Items::new(alloc));
     let own_logs = mem::replace(&mut span.logs, Items::new(alloc));
     let (tags, keys) = attributes_of(alloc, own_tags)?;
-    let read = events_of(alloc, number, own_logs)?;
-    let parts = part_tags(alloc, tags)?;
-    let attributes = span_attributes(alloc, &span, parts.free)?;
     remark_keys(remarks, Place::Span(number), keys)?;
     let dropped = 0 < span.invalid_refs;
     remark_dropped(alloc, remarks, Place::Span(number), dropped)?;
+    let parts = part_tags(alloc, tags)?;
     remark_columns(alloc, remarks, Place::Span(number), &parts.own, &COLUMNS)?;
+    let attributes = span_attributes(alloc, &span, parts.free)?;
+    let read = events_of(alloc, number, own_logs)?;
     remark_all(remarks, read.notes)?;
     span_by(alloc, span, &parts.own, attributes, read.means)
 }
