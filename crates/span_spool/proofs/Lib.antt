@@ -1,0 +1,4 @@
+mod Examples
+pub mod RowLemmas
+pub mod RunLemmas
+pub mod SpoolLemmas
