@@ -9,7 +9,6 @@ use span_io::{
 use std::alloc::Global;
 use std::io::{Read, Write};
 use std::net::{Net, TcpListener, TcpStream};
-use std::process::Abort;
 use std::test::Fail;
 
 /// How a connection in memory gives and takes bytes.
@@ -48,20 +47,25 @@ pub(crate) fn connection(
     Ok(MemDuplex::new(source, sink))
 }
 
-// The bytes of one read. Want of memory counts as a failure too.
-fn read_piece<C: Duplex>(alloc: Global, conn: &mut C) -> Result<Blob, Failed> {
+// Whether a read gives these bytes, or fails where there are none.
+fn gives<C: Duplex>(conn: &mut C, wanted: Option<&[u8]>) -> bool {
     let mut buf = [0; 64];
-    let given = conn.read(&mut buf)?;
-    let mut piece = Blob::new(alloc);
-    match piece.append(&buf[..given]) {
-        Ok(()) => Ok(piece),
-        Err(OutOfMemory) => Err(Failed),
+    match conn.read(&mut buf) {
+        Ok(given) => wanted == Some(&buf[..given]),
+        Err(Failed) => wanted == None,
     }
 }
 
 // Sends a text, of which no more is told than whether it was sent whole.
 fn send<C: Duplex>(conn: &mut C, text: &[u8]) -> Result<(), Failed> {
     send_all(conn, text)
+}
+
+// Sends back what one read gave.
+fn echo<C: Duplex>(conn: &mut C) -> Result<(), Failed> {
+    let mut buf = [0; 64];
+    let given = conn.read(&mut buf)?;
+    send(conn, &buf[..given])
 }
 
 // How many of five bytes a read gives at the most, and what each read gives.
@@ -72,7 +76,12 @@ const CUTS: [(usize, &[&str]); 4] = [
     (4_096, &["abcde", ""]),
 ];
 
-fn expect_pieces(rt: &impl Abort, alloc: Global, cut: usize, pieces: &[&str]) -> Result<(), Fail> {
+// What a read doesn't give of five bytes that come in such pieces.
+fn other_piece(
+    alloc: Global,
+    cut: usize,
+    pieces: &[&'static str],
+) -> Result<Option<&'static str>, OutOfMemory> {
     let course = Course {
         cut,
         room: 0,
@@ -81,16 +90,17 @@ fn expect_pieces(rt: &impl Abort, alloc: Global, cut: usize, pieces: &[&str]) ->
     };
     let mut conn = connection(alloc, b"abcde", course)?;
     for piece in pieces {
-        let came = read_piece(alloc, &mut conn)?;
-        assert!(rt; came.as_slice() == piece.as_bytes(), "{cut}");
+        if !gives(&mut conn, Some(piece.as_bytes())) {
+            return Ok(Some(*piece));
+        }
     }
-    Ok(())
+    Ok(None)
 }
 
 #[test]
 fn gives_bytes_in_pieces(rt: HostRuntime) -> Result<(), Fail> {
     for (cut, pieces) in &CUTS {
-        expect_pieces(&rt, rt.alloc(), *cut, pieces)?;
+        assert!(rt; other_piece(rt.alloc(), *cut, pieces)? == None, "{cut}");
     }
     Ok(())
 }
@@ -105,20 +115,11 @@ const SECOND_FAILS: Course = Course {
 // What each read gives of five bytes, where the second fails.
 const READS: [Option<&[u8]>; 5] = [Some(b"ab"), None, Some(b"cd"), Some(b"e"), Some(b"")];
 
-// The bytes of a read that didn't fail.
-fn bytes_of(piece: &Result<Blob, Failed>) -> Option<&[u8]> {
-    match piece {
-        Ok(piece) => Some(piece.as_slice()),
-        Err(_) => None,
-    }
-}
-
 #[test]
 fn fails_to_read_in_memory(rt: HostRuntime) -> Result<(), Fail> {
     let mut conn = connection(rt.alloc(), b"abcde", SECOND_FAILS)?;
     for wanted in &READS {
-        let piece = read_piece(rt.alloc(), &mut conn);
-        assert!(rt; bytes_of(&piece) == *wanted);
+        assert!(rt; gives(&mut conn, *wanted), "{wanted:?}");
     }
     Ok(())
 }
@@ -179,27 +180,23 @@ fn listens_at_its_address_alone(rt: HostRuntime) -> Result<(), Fail> {
 }
 
 // Listens, accepts a connection, sends back what one read gave, and gives the connection back.
-fn echo_next(alloc: Global, door: &mut MemDoor) -> Result<(), Failed> {
+fn echo_next(door: &mut MemDoor) -> Result<(), Failed> {
     door.listen(ADDRESS)?;
     let mut conn = door.accept()?;
-    echo(alloc, &mut conn)?;
+    echo(&mut conn)?;
     door.close(conn);
     Ok(())
 }
 
-// Sends back what one read gave.
-fn echo<C: Duplex>(alloc: Global, conn: &mut C) -> Result<(), Failed> {
-    let piece = read_piece(alloc, conn)?;
-    send(conn, piece.as_slice())
-}
-
-// Holds what was written to the connections that were given back against these texts.
-fn expect_closed(rt: &impl Abort, door: &MemDoor, texts: &[&str]) {
+// Whether these texts were written to the connections that were given back.
+fn were_closed(door: &MemDoor, texts: &[&str]) -> bool {
     let closed = door.closed();
-    assert!(rt; closed.len() == texts.len());
     for (conn, text) in closed.iter().zip(texts) {
-        assert!(rt; conn.written() == text.as_bytes());
+        if conn.written() != text.as_bytes() {
+            return false;
+        }
     }
+    closed.len() == texts.len()
 }
 
 // Whether each turn goes well where the calls 1, 3 and 6 fail: the first turn and the fourth don't listen, the second doesn't
@@ -210,19 +207,19 @@ const TURNS: [bool; 6] = [false, false, true, false, true, false];
 fn fails_at_the_door(rt: HostRuntime) -> Result<(), Fail> {
     let mut door = door_of_two(rt.alloc(), &[1, 3, 6])?;
     for well in &TURNS {
-        assert!(rt; echo_next(rt.alloc(), &mut door).is_ok() == *well);
+        assert!(rt; echo_next(&mut door).is_ok() == *well);
     }
-    expect_closed(&rt, &door, &["first", "second"]);
+    assert!(rt; were_closed(&door, &["first", "second"]));
     Ok(())
 }
 
 // Accepts two connections, and gives the second back before the first.
-fn close_crosswise(alloc: Global, door: &mut MemDoor) -> Result<(), Failed> {
+fn close_crosswise(door: &mut MemDoor) -> Result<(), Failed> {
     door.listen(ADDRESS)?;
     let mut first = door.accept()?;
     let mut second = door.accept()?;
-    echo(alloc, &mut first)?;
-    echo(alloc, &mut second)?;
+    echo(&mut first)?;
+    echo(&mut second)?;
     door.close(second);
     door.close(first);
     Ok(())
@@ -231,18 +228,19 @@ fn close_crosswise(alloc: Global, door: &mut MemDoor) -> Result<(), Failed> {
 #[test]
 fn lends_connections_as_they_were_closed(rt: HostRuntime) -> Result<(), Fail> {
     let mut door = door_of_two(rt.alloc(), &[])?;
-    expect_closed(&rt, &door, &[]);
-    close_crosswise(rt.alloc(), &mut door)?;
-    expect_closed(&rt, &door, &["second", "first"]);
+    assert!(rt; were_closed(&door, &[]));
+    close_crosswise(&mut door)?;
+    assert!(rt; were_closed(&door, &["second", "first"]));
     Ok(())
 }
 
-// Holds one read of a client against these bytes.
-fn expect_read<S: Read>(rt: &impl Abort, client: &mut S, bytes: &[u8]) -> Result<(), Fail> {
+// Whether one read of a client gives these bytes.
+fn comes<S: Read>(client: &mut S, bytes: &[u8]) -> bool {
     let mut buf = [0; 8];
-    let given = client.read(&mut buf)?;
-    assert!(rt; &buf[..given] == bytes);
-    Ok(())
+    match client.read(&mut buf) {
+        Ok(given) => &buf[..given] == bytes,
+        Err(_) => false,
+    }
 }
 
 // A stream that is joined to a connection by a socket of this machine.
@@ -252,9 +250,9 @@ fn reads_and_writes_a_socket(rt: HostRuntime) -> Result<(), Fail> {
     let mut client = TcpStream::connect(&rt, listener.local_addr()?)?;
     let (stream, _) = listener.accept()?;
     client.write_all(b"ask")?;
-    echo(rt.alloc(), &mut StreamDuplex::new(stream))?;
-    expect_read(&rt, &mut client, b"ask")?;
-    expect_read(&rt, &mut client, b"")
+    echo(&mut StreamDuplex::new(stream))?;
+    assert!(rt; comes(&mut client, b"ask") && comes(&mut client, b""));
+    Ok(())
 }
 
 // An address at which nothing listens: that of a listener that was let go.
@@ -265,9 +263,9 @@ fn free_address(rt: &HostRuntime) -> Result<String, Fail> {
 }
 
 // Accepts a connection, sends back what one read gave, and gives the connection back.
-fn echo_client<N: Net>(alloc: Global, door: &mut ListenerDoor<N>) -> Result<(), Failed> {
+fn echo_client<N: Net>(door: &mut ListenerDoor<N>) -> Result<(), Failed> {
     let mut conn = door.accept()?;
-    echo(alloc, &mut conn)?;
+    echo(&mut conn)?;
     door.close(conn);
     Ok(())
 }
@@ -280,7 +278,7 @@ fn accepts_from_a_socket(rt: HostRuntime) -> Result<(), Fail> {
     door.listen(address.as_str())?;
     let mut client = TcpStream::connect(&rt, address.as_str())?;
     client.write_all(b"ask")?;
-    echo_client(rt.alloc(), &mut door)?;
-    expect_read(&rt, &mut client, b"ask")?;
-    expect_read(&rt, &mut client, b"")
+    echo_client(&mut door)?;
+    assert!(rt; comes(&mut client, b"ask") && comes(&mut client, b""));
+    Ok(())
 }

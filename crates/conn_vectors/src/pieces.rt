@@ -5,11 +5,10 @@ use crate::requests::Told;
 use crate::texts::{after_word, append_often, joined};
 use http_conn::laws::known_stays;
 use http_conn::{Known, Next, next_request, next_request_from};
-use row_tables::{Row, rows};
+use row_tables::{Field, Row, rows};
 use span_io::{Blob, Form, Limits, OutOfMemory};
 use span_vectors::texts::POSTED;
 use std::alloc::Global;
-use std::process::Abort;
 use std::test::Fail;
 
 // Streams, and behind what is told how many of their bytes have come by an answer other than the want of more. Of a whole
@@ -90,14 +89,19 @@ fn in_pieces(alloc: Global, bytes: &[u8], size: usize) -> Result<(usize, Next), 
     Ok((came.len(), Next::Need))
 }
 
-// How many bytes have come, and the answer.
-fn told_of(row: &Row, streams: usize) -> Result<(usize, Next), Fail> {
-    if row.fields().len() != streams.saturating_add(1) {
-        return Err(row.fail("one line is told", "behind the streams"));
+// Whether what is told stands in one line behind the streams.
+fn ends_streams(row: &Row) -> bool {
+    let mut streams = 0_usize;
+    for field in row.fields() {
+        if field.key() == "stream" {
+            streams = streams.saturating_add(1);
+        }
     }
-    let Some(field) = row.fields().last() else {
-        return Err(row.fail("no line", "behind the name"));
-    };
+    row.fields().len() == streams.saturating_add(1)
+}
+
+// How many bytes have come, and the answer.
+fn told_of(row: &Row, field: &Field) -> Result<(usize, Next), Fail> {
     let (told, text) = Told::of(row, field.key(), field.text())?;
     let (came, rest) = after_word(text);
     let came = row.count_in(came)?;
@@ -113,31 +117,47 @@ fn told_of(row: &Row, streams: usize) -> Result<(usize, Next), Fail> {
     }
 }
 
-fn expect_stream(rt: &impl Abort, alloc: Global, row: &Row) -> Result<(), Fail> {
-    row.expect_keys(&["stream", "need", "refused", "verdict", "form"])?;
-    let name = row.name();
-    let streams = row.texts(alloc, "stream")?.len();
-    let (came, next) = told_of(row, streams)?;
+// Whether a stream is answered so, whole and byte by byte.
+fn is_answered(alloc: Global, stream: &[u8], came: usize, next: Next) -> Result<bool, OutOfMemory> {
+    Ok(
+        next_request(stream, &Limits::shipped()) == next
+            && in_pieces(alloc, stream, 1)? == (came, next),
+    )
+}
+
+fn expect_stream(alloc: Global, row: &Row) -> Result<(), Fail> {
+    let Some(field) = row.fields().last() else {
+        return Err(row.fail("no line", "behind the name"));
+    };
+    if !ends_streams(row) {
+        return Err(row.fail("one line is told", "behind the streams"));
+    }
+    let (came, next) = told_of(row, field)?;
     let stream = joined(alloc, row, "stream")?;
-    let bytes = stream.as_slice();
-    assert!(rt; next_request(bytes, &Limits::shipped()) == next, "{name}");
-    assert!(rt; in_pieces(alloc, bytes, 1)? == (came, next), "{name}");
-    Ok(())
+    if is_answered(alloc, stream.as_slice(), came, next)? {
+        return Ok(());
+    }
+    Err(row.fail("not so", field.text()))
 }
 
 #[test]
 fn reads_bytes_one_by_one(rt: HostRuntime) -> Result<(), Fail> {
     for row in &rows(rt.alloc(), STREAMS)? {
-        expect_stream(&rt, rt.alloc(), row)?;
+        expect_stream(rt.alloc(), row)?;
     }
     Ok(())
 }
 
-#[test]
-fn refuses_a_long_line_in_pieces(rt: HostRuntime) -> Result<(), Fail> {
-    let mut line = Blob::new(rt.alloc());
+fn long_line(alloc: Global) -> Result<Blob, OutOfMemory> {
+    let mut line = Blob::new(alloc);
     line.append(b"GET /")?;
     append_often(&mut line, b"a", 20_000)?;
+    Ok(line)
+}
+
+#[test]
+fn refuses_a_long_line_in_pieces(rt: HostRuntime) -> Result<(), Fail> {
+    let line = long_line(rt.alloc())?;
     let refused = (16_384, Next::Refuse(431));
     assert!(rt; in_pieces(rt.alloc(), line.as_slice(), 1)? == refused);
     Ok(())

@@ -1,11 +1,10 @@
 //! The first request of the bytes of a connection (RFC 9110 and RFC 9112): rows that a step refuses beside
 //! neighbours that it lets pass.
-use crate::texts::{after_word, append_often, form_of};
+use crate::texts::{after_word, append_often, append_unescaped, form_of};
 use http_conn::{Next, Request, Service, next_request};
 use row_tables::{Field, Row, rows, unescaped};
 use span_io::{Blob, Form, Limits};
 use std::alloc::Global;
-use std::process::Abort;
 use std::test::Fail;
 
 /// What is told of a head and of the body behind it.
@@ -265,62 +264,61 @@ impl<'a> Around<'a> {
         })
     }
 
-    // The head around some lines.
-    fn head(&self, alloc: Global, lines: &str) -> Result<Blob, Fail> {
+    // Appends the head around some lines.
+    fn append(&self, alloc: Global, head: &mut Blob, lines: &str) -> Result<(), Fail> {
+        append_unescaped(alloc, head, self.front)?;
+        append_unescaped(alloc, head, lines)?;
+        append_unescaped(alloc, head, self.back)
+    }
+
+    // Whether this is told of the head around some lines, and a body.
+    fn is_told(&self, alloc: Global, told: Told, lines: &str, body: &str) -> Result<bool, Fail> {
+        let mut bytes = Blob::new(alloc);
+        self.append(alloc, &mut bytes, lines)?;
+        let body_at = bytes.len();
+        bytes.append(body.as_bytes())?;
+        let next = next_request(bytes.as_slice(), &Limits::shipped());
+        Ok(next == told.next(body_at, bytes.len(), false))
+    }
+
+    // The same of a head that is a request whose method isn't taken.
+    fn is_closed(
+        &self,
+        alloc: Global,
+        lines: &str,
+        length: usize,
+        close: bool,
+    ) -> Result<bool, Fail> {
         let mut head = Blob::new(alloc);
-        head.append(unescaped(alloc, self.front)?.as_slice())?;
-        head.append(unescaped(alloc, lines)?.as_slice())?;
-        head.append(unescaped(alloc, self.back)?.as_slice())?;
-        Ok(head)
+        self.append(alloc, &mut head, lines)?;
+        let next = next_request(head.as_slice(), &Limits::shipped());
+        Ok(next == Told::Verdict(405).next(length, length, close))
     }
 }
 
-// Holds what is told against the head around some lines, and a body.
-fn expect_head(
-    rt: &impl Abort,
-    alloc: Global,
-    row: &Row,
-    around: &Around,
-    field: &Field,
-) -> Result<(), Fail> {
+fn is_head(alloc: Global, row: &Row, around: &Around, field: &Field) -> Result<bool, Fail> {
     let (told, text) = Told::of(row, field.key(), field.text())?;
     let (lines, body) = text.split_once(" | ").unwrap_or((text, around.body));
-    let mut bytes = around.head(alloc, lines)?;
-    let body_at = bytes.len();
-    bytes.append(body.as_bytes())?;
-    let next = next_request(bytes.as_slice(), &Limits::shipped());
-    let name = row.name();
-    assert!(rt;
-        next == told.next(body_at, bytes.len(), false),
-        "{name}: {text}"
-    );
-    Ok(())
+    around.is_told(alloc, told, lines, body)
 }
 
 // The same of a method that isn't taken, where the length of the head and whether the connection ends are told.
-fn expect_close(
-    rt: &impl Abort,
-    alloc: Global,
-    row: &Row,
-    around: &Around,
-    field: &Field,
-) -> Result<(), Fail> {
+fn is_end(alloc: Global, row: &Row, around: &Around, field: &Field) -> Result<bool, Fail> {
     let (length, lines) = after_word(field.text());
     let length = row.count_in(length)?;
-    let head = around.head(alloc, lines)?;
-    let next = next_request(head.as_slice(), &Limits::shipped());
-    let wanted = Told::Verdict(405).next(length, length, field.key() == "close");
-    assert!(rt; next == wanted, "{}: {lines}", row.name());
-    Ok(())
+    around.is_closed(alloc, lines, length, field.key() == "close")
 }
 
-fn expect_heads(rt: &impl Abort, alloc: Global, row: &Row) -> Result<(), Fail> {
+fn expect_heads(alloc: Global, row: &Row) -> Result<(), Fail> {
     let around = Around::of(row)?;
     for field in row.fields() {
-        match field.key() {
-            "front" | "back" | "body" => {}
-            "open" | "close" => expect_close(rt, alloc, row, &around, field)?,
-            _ => expect_head(rt, alloc, row, &around, field)?,
+        let same = match field.key() {
+            "front" | "back" | "body" => true,
+            "open" | "close" => is_end(alloc, row, &around, field)?,
+            _ => is_head(alloc, row, &around, field)?,
+        };
+        if !same {
+            return Err(row.fail(field.key(), field.text()));
         }
     }
     Ok(())
@@ -329,7 +327,7 @@ fn expect_heads(rt: &impl Abort, alloc: Global, row: &Row) -> Result<(), Fail> {
 #[test]
 fn reads_heads(rt: HostRuntime) -> Result<(), Fail> {
     for row in &rows(rt.alloc(), HEADS)? {
-        expect_heads(&rt, rt.alloc(), row)?;
+        expect_heads(rt.alloc(), row)?;
     }
     Ok(())
 }
@@ -390,38 +388,40 @@ piece a: b\r\n
 need 64 418
 ";
 
-fn expect_long(
-    rt: &impl Abort,
+fn append_long(
     alloc: Global,
-    row: &Row,
+    head: &mut Blob,
     around: &Around,
-    field: &Field,
+    piece: &str,
+    times: usize,
 ) -> Result<(), Fail> {
+    append_unescaped(alloc, head, around.front)?;
+    let piece = unescaped(alloc, piece)?;
+    append_often(head, piece.as_slice(), times)?;
+    append_unescaped(alloc, head, around.back)
+}
+
+fn is_long(alloc: Global, row: &Row, around: &Around, field: &Field) -> Result<bool, Fail> {
     let piece = row.text("piece")?;
     let (told, text) = Told::of(row, field.key(), field.text())?;
     let (times, count) = after_word(text);
     let times = row.count_in(times)?;
     let count = row.count_in(count)?;
     let mut head = Blob::new(alloc);
-    head.append(unescaped(alloc, around.front)?.as_slice())?;
-    append_often(&mut head, unescaped(alloc, piece)?.as_slice(), times)?;
-    head.append(unescaped(alloc, around.back)?.as_slice())?;
-    let name = row.name();
-    assert!(rt; head.len() == count, "{name} with {times}");
+    append_long(alloc, &mut head, around, piece, times)?;
     let next = next_request(head.as_slice(), &Limits::shipped());
-    assert!(rt;
-        next == told.next(count, count, false),
-        "{name} with {times}"
-    );
-    Ok(())
+    Ok(head.len() == count && next == told.next(count, count, false))
 }
 
-fn expect_each_long(rt: &impl Abort, alloc: Global, row: &Row) -> Result<(), Fail> {
+fn expect_each_long(alloc: Global, row: &Row) -> Result<(), Fail> {
     let around = Around::of(row)?;
     for field in row.fields() {
-        match field.key() {
-            "front" | "back" | "piece" => {}
-            _ => expect_long(rt, alloc, row, &around, field)?,
+        let same = match field.key() {
+            "front" | "back" | "piece" => true,
+            _ => is_long(alloc, row, &around, field)?,
+        };
+        if !same {
+            return Err(row.fail(field.key(), field.text()));
         }
     }
     Ok(())
@@ -430,7 +430,7 @@ fn expect_each_long(rt: &impl Abort, alloc: Global, row: &Row) -> Result<(), Fai
 #[test]
 fn ends_heads_within_their_limits(rt: HostRuntime) -> Result<(), Fail> {
     for row in &rows(rt.alloc(), LONG)? {
-        expect_each_long(&rt, rt.alloc(), row)?;
+        expect_each_long(rt.alloc(), row)?;
     }
     Ok(())
 }
@@ -448,41 +448,38 @@ none none /api/v1/spans application/json
 none none  application/json
 ";
 
-fn service_of(row: &Row, word: &str) -> Result<Option<Service>, Fail> {
-    match word {
-        "otlp" => Ok(Some(Service::Otlp)),
-        "jaeger" => Ok(Some(Service::Jaeger)),
-        "zipkin" => Ok(Some(Service::Zipkin)),
-        "none" => Ok(None),
-        _ => Err(row.fail("no service", word)),
+fn word_of_service(service: Option<Service>) -> &'static str {
+    match service {
+        Some(Service::Otlp) => "otlp",
+        Some(Service::Jaeger) => "jaeger",
+        Some(Service::Zipkin) => "zipkin",
+        None => "none",
     }
 }
 
-fn form_if_any(row: &Row, word: &str) -> Result<Option<Form>, Fail> {
-    match word {
-        "none" => Ok(None),
-        _ => Ok(Some(form_of(row, word)?)),
+fn is_form(word: &str, form: Option<Form>) -> bool {
+    match form {
+        Some(_) => Form::of_word(word.as_bytes()) == form,
+        None => word == "none",
     }
 }
 
-fn expect_service(rt: &impl Abort, row: &Row, field: &Field) -> Result<(), Fail> {
-    let wanted = service_of(row, field.key())?;
+fn is_service(field: &Field) -> bool {
     let (form, rest) = after_word(field.text());
-    let form = form_if_any(row, form)?;
     let (path, media) = after_word(rest);
     let service = Service::at(path.as_bytes());
-    assert!(rt; service == wanted, "{path}");
     let taken = match service {
         Some(service) => service.form_of(media.as_bytes()),
         None => None,
     };
-    assert!(rt; taken == form, "{path} and {media}");
-    Ok(())
+    field.key() == word_of_service(service) && is_form(form, taken)
 }
 
-fn expect_services(rt: &impl Abort, row: &Row) -> Result<(), Fail> {
+fn expect_services(row: &Row) -> Result<(), Fail> {
     for field in row.fields() {
-        expect_service(rt, row, field)?;
+        if !is_service(field) {
+            return Err(row.fail(field.key(), field.text()));
+        }
     }
     Ok(())
 }
@@ -490,7 +487,7 @@ fn expect_services(rt: &impl Abort, row: &Row) -> Result<(), Fail> {
 #[test]
 fn serves_paths(rt: HostRuntime) -> Result<(), Fail> {
     for row in &rows(rt.alloc(), SERVICES)? {
-        expect_services(&rt, row)?;
+        expect_services(row)?;
     }
     Ok(())
 }

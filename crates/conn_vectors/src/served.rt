@@ -1,14 +1,15 @@
 //! Connections that are served whole: their streams, the bytes that are written to them, and how each ends.
 ghost use Rattle.std.specs.Prelude.{◌≤◌};
 
+mod failing;
+
 use crate::doors::{Course, connection};
 use crate::texts::{append_often, form_of, joined};
 use row_tables::{Row, rows};
 use span_gateway::{Ended, ServeFault, serve_connection};
-use span_io::{Blob, Form, Limits};
+use span_io::{Blob, Form, Limits, OutOfMemory};
 use span_vectors::texts::{ANSWERED, POSTED};
 use std::alloc::Global;
-use std::process::Abort;
 use std::test::Fail;
 
 // Streams, the form that their bodies are converted to, what is written, and how the connection ends.
@@ -290,21 +291,25 @@ const CUTS: [usize; 3] = [1, 2, 4_096];
 // More bytes than are written to any of these connections.
 const ROOM: usize = 4_096;
 
-/// How serving a connection ended, and what was written to it.
-#[derive(Drop)]
-struct Answer {
-    ended: Result<Ended, ServeFault>,
-    written: Vec<u8>,
-}
+const WHOLE: Course = Course {
+    cut: 4_096,
+    room: ROOM,
+    reads: &[],
+    writes: &[],
+};
 
-// Serves a stream.
-fn serve(alloc: Global, to: Form, stream: &[u8], course: Course) -> Result<Answer, Fail> {
+// Whether serving a stream ends so, with these bytes written.
+fn is_served(
+    alloc: Global,
+    to: Form,
+    stream: &[u8],
+    course: Course,
+    ended: Result<Ended, ServeFault>,
+    written: &[u8],
+) -> Result<bool, OutOfMemory> {
     let mut conn = connection(alloc, stream, course)?;
-    let ended = serve_connection(alloc, &mut conn, to, &Limits::shipped());
-    Ok(Answer {
-        ended,
-        written: Vec::from_slice(alloc, conn.written())?,
-    })
+    let found = serve_connection(alloc, &mut conn, to, &Limits::shipped());
+    Ok(found == ended && conn.written() == written)
 }
 
 fn ended_of(row: &Row) -> Result<Ended, Fail> {
@@ -319,35 +324,39 @@ fn ended_of(row: &Row) -> Result<Ended, Fail> {
     }
 }
 
-// Serves a stream in pieces of each size, and looks at how each connection ends and at what is written to it.
-fn expect_row(rt: &impl Abort, alloc: Global, row: &Row) -> Result<(), Fail> {
+// The size of the pieces in which a stream isn't served so, if there is one.
+fn other_cut(
+    alloc: Global,
+    to: Form,
+    stream: &[u8],
+    ended: Ended,
+    written: &[u8],
+) -> Result<Option<usize>, OutOfMemory> {
+    for cut in &CUTS {
+        let course = Course { cut: *cut, ..WHOLE };
+        if !is_served(alloc, to, stream, course, Ok(ended), written)? {
+            return Ok(Some(*cut));
+        }
+    }
+    Ok(None)
+}
+
+fn expect_row(alloc: Global, row: &Row) -> Result<(), Fail> {
     row.expect_keys(&KEYS)?;
-    let name = row.name();
     let to = form_of(row, row.text("to")?)?;
     let ended = ended_of(row)?;
     let stream = joined(alloc, row, "stream")?;
     let written = joined(alloc, row, "written")?;
-    for cut in &CUTS {
-        let course = Course {
-            cut: *cut,
-            room: ROOM,
-            reads: &[],
-            writes: &[],
-        };
-        let answer = serve(alloc, to, stream.as_slice(), course)?;
-        assert!(rt; answer.ended == Ok(ended), "{name} in pieces of {cut}");
-        assert!(rt;
-            answer.written.as_slice() == written.as_slice(),
-            "{name} in pieces of {cut}"
-        );
+    match other_cut(alloc, to, stream.as_slice(), ended, written.as_slice())? {
+        None => Ok(()),
+        Some(cut) => Err(Fail::new(format_args!("{} in pieces of {cut}", row.name()))),
     }
-    Ok(())
 }
 
 #[test]
 fn serves_connections(rt: HostRuntime) -> Result<(), Fail> {
     for row in &rows(rt.alloc(), SERVED)? {
-        expect_row(&rt, rt.alloc(), row)?;
+        expect_row(rt.alloc(), row)?;
     }
     Ok(())
 }
@@ -366,21 +375,19 @@ const FAILING: [(usize, usize, &[u64], &[u64], ServeFault, usize); 9] = [
     (4_096, 100, &[], &[], ServeFault::Write, 1),
 ];
 
-fn expect_fault(
-    rt: &impl Abort,
+// Whether serving the stream ends by a fault, with so many answers.
+fn is_fault(
     alloc: Global,
     course: Course,
     fault: ServeFault,
     count: usize,
-) -> Result<(), Fail> {
+) -> Result<bool, OutOfMemory> {
     let mut stream = Blob::new(alloc);
     append_often(&mut stream, POSTED.as_bytes(), 2)?;
     let mut written = Blob::new(alloc);
     append_often(&mut written, ANSWERED.as_bytes(), count)?;
-    let answer = serve(alloc, Form::ZipkinJson, stream.as_slice(), course)?;
-    assert!(rt; answer.ended == Err(fault));
-    assert!(rt; answer.written.as_slice() == written.as_slice());
-    Ok(())
+    let (stream, written) = (stream.as_slice(), written.as_slice());
+    is_served(alloc, Form::ZipkinJson, stream, course, Err(fault), written)
 }
 
 #[test]
@@ -392,35 +399,30 @@ fn fails_with_its_connection(rt: HostRuntime) -> Result<(), Fail> {
             reads,
             writes,
         };
-        expect_fault(&rt, rt.alloc(), course, *fault, *count)?;
+        assert!(rt;
+            is_fault(rt.alloc(), course, *fault, *count)?,
+            "in pieces of {cut}, room for {room}, {count} answers"
+        );
     }
     Ok(())
 }
 
 const TOO_LARGE: &str = "HTTP/1.1 413 Content Too Large\r\nContent-Length: 0\r\n\r\n";
 
-const WHOLE: Course = Course {
-    cut: 4_096,
-    room: ROOM,
-    reads: &[],
-    writes: &[],
-};
-
-// Serves one post, whose text has two bytes, where an answer may have so many.
-fn expect_reply(rt: &impl Abort, alloc: Global, reply: usize, written: &str) -> Result<(), Fail>
+// Whether one post, whose text has two bytes, is served so where an answer may have so many.
+fn is_replied(alloc: Global, reply: usize, written: &str) -> Result<bool, OutOfMemory>
     requires { (1 ≤ reply) × (reply ≤ 2) }
 {
     let mut limits = Limits::shipped();
     limits.reply = reply;
     let mut conn = connection(alloc, POSTED.as_bytes(), WHOLE)?;
     let ended = serve_connection(alloc, &mut conn, Form::ZipkinJson, &limits);
-    assert!(rt; ended == Ok(Ended::Closed), "{reply}");
-    assert!(rt; conn.written() == written.as_bytes(), "{reply}");
-    Ok(())
+    Ok(ended == Ok(Ended::Closed) && conn.written() == written.as_bytes())
 }
 
 #[test]
 fn answers_within_their_limit(rt: HostRuntime) -> Result<(), Fail> {
-    expect_reply(&rt, rt.alloc(), 2, ANSWERED)?;
-    expect_reply(&rt, rt.alloc(), 1, TOO_LARGE)
+    assert!(rt; is_replied(rt.alloc(), 2, ANSWERED)?);
+    assert!(rt; is_replied(rt.alloc(), 1, TOO_LARGE)?);
+    Ok(())
 }

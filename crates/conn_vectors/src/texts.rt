@@ -1,6 +1,6 @@
 //! What the texts of a row say: worked texts by their names, words and forms.
 use row_tables::{Row, unescaped};
-use span_io::{Blob, Form};
+use span_io::{Blob, Form, OutOfMemory};
 use span_vectors::texts;
 use std::alloc::Global;
 use std::test::Fail;
@@ -76,15 +76,26 @@ fn worked(row: &Row, name: &str) -> Result<&'static str, Fail> {
     Err(row.fail("no worked text", name))
 }
 
+/// Appends the bytes that a text means.
+pub(crate) fn append_unescaped(alloc: Global, bytes: &mut Blob, text: &str) -> Result<(), Fail> {
+    let meant = unescaped(alloc, text)?;
+    Ok(bytes.append(meant.as_slice())?)
+}
+
+fn append_decoded(alloc: Global, bytes: &mut Blob, digits: &str) -> Result<(), Fail> {
+    let decoded = hex::decode(alloc, digits)?;
+    Ok(bytes.append(decoded.as_slice())?)
+}
+
 // Appends what a word tells: a worked text behind `@`, the bytes of one in hexadecimal behind `#`, or itself.
 fn append_word(alloc: Global, row: &Row, bytes: &mut Blob, word: &str) -> Result<(), Fail> {
     if let Some(name) = word.strip_prefix('@') {
         return Ok(bytes.append(worked(row, name)?.as_bytes())?);
     }
-    if let Some(name) = word.strip_prefix('#') {
-        return Ok(bytes.append(hex::decode(alloc, worked(row, name)?)?.as_slice())?);
+    match word.strip_prefix('#') {
+        Some(name) => append_decoded(alloc, bytes, worked(row, name)?),
+        None => append_unescaped(alloc, bytes, word),
     }
-    Ok(bytes.append(unescaped(alloc, word)?.as_slice())?)
 }
 
 // Appends what a text tells: words, of which the first names a worked text, or one text as it stands.
@@ -101,14 +112,20 @@ fn append_text(alloc: Global, row: &Row, bytes: &mut Blob, text: &str) -> Result
 /// The texts of a key, one behind the other.
 pub(crate) fn joined(alloc: Global, row: &Row, key: &str) -> Result<Blob, Fail> {
     let mut bytes = Blob::new(alloc);
-    for text in &row.texts(alloc, key)? {
-        append_text(alloc, row, &mut bytes, text)?;
+    for field in row.fields() {
+        if field.key() == key {
+            append_text(alloc, row, &mut bytes, field.text())?;
+        }
     }
     Ok(bytes)
 }
 
 /// Appends a piece so often.
-pub(crate) fn append_often(bytes: &mut Blob, piece: &[u8], times: usize) -> Result<(), Fail> {
+pub(crate) fn append_often(
+    bytes: &mut Blob,
+    piece: &[u8],
+    times: usize,
+) -> Result<(), OutOfMemory> {
     for _ in 0..times {
         bytes.append(piece)?;
     }

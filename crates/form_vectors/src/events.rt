@@ -1,40 +1,61 @@
 //! Events as texts: a name, and behind it its attributes as an object of JSON.
-use crate::traces::{bytes, numbers, one};
-use span_io::{Halt, Items, Text};
+use crate::requests::{group_in, unit_of};
+use span_io::{Halt, Text};
 use std::alloc::Global;
 use std::test::Fail;
 use trace_model::{Attrs, Value, event_text, read_event_text, value_text};
 
-fn is_written(alloc: Global, name: &str, attributes: &Attrs, wanted: Option<&str>) -> bool {
+// A name, the attributes as those of a resource in protobuf, and the text: none where there is a double.
+const EVENTS: [(&str, &str, Option<&str>); 4] = [
+    ("a\"", "resource", Some("a\"")),
+    (
+        "a",
+        "resource 0a10 0a01 'k' 120b 18ffffffffffffffffff01",
+        Some(r#""a":{"k":-1}"#),
+    ),
+    (
+        "a\"\n",
+        "resource 0a0c 120a 2a08 0a04 3a02 fbff 0a00",
+        Some(r#""a\"\n":{"":["+/8=",null]}"#),
+    ),
+    (
+        "a",
+        "resource 0a17 0a01 'k' 1212 3210 0a0e 0a01 'l' 1209 21 000000000000f03f",
+        None,
+    ),
+];
+
+fn is_event(alloc: Global, name: &str, attributes: &Attrs, wanted: Option<&str>) -> bool {
     let Ok(name) = Text::of(alloc, name) else {
         return false;
     };
     match event_text(alloc, &name, attributes) {
         Ok(text) => wanted == Some(text.as_str()),
-        Err(Halt::Why(())) => wanted.is_none(),
+        Err(Halt::Why(())) => wanted == None,
         Err(Halt::OutOfMemory) => false,
+    }
+}
+
+fn is_written(alloc: Global, name: &str, words: &str, wanted: Option<&str>) -> Result<bool, Fail> {
+    let unit = unit_of(alloc, words)?;
+    match group_in(alloc, unit.as_slice()) {
+        Ok((group, _)) => Ok(is_event(alloc, name, &group.resource, wanted)),
+        Err(_) => Ok(false),
     }
 }
 
 #[test]
 fn writes_events_as_texts(rt: HostRuntime) -> Result<(), Fail> {
-    let alloc = rt.alloc();
-    let mut members = one(alloc, bytes(alloc, &[251, 255])?)?;
-    members.push(Value::Nothing)?;
-    let members = one(alloc, (Text::new(alloc), Value::List(members)))?;
-    let double = Value::Eight([63, 240, 0, 0, 0, 0, 0, 0]);
-    let double = Value::Map(one(alloc, (Text::of(alloc, "l")?, double))?);
-    let double = one(alloc, (Text::of(alloc, "k")?, double))?;
-    let number = numbers(alloc, &[("k", -1)])?;
-    assert!(rt; is_written(alloc, "a\"", &Items::new(alloc), Some("a\"")));
-    assert!(rt; is_written(alloc, "a", &number, Some(r#""a":{"k":-1}"#)));
-    let wanted = r#""a\"\n":{"":["+/8=",null]}"#;
-    assert!(rt; is_written(alloc, "a\"\n", &members, Some(wanted)));
-    assert!(rt; is_written(alloc, "a", &double, None));
+    for (name, words, wanted) in &EVENTS {
+        assert!(rt;
+            is_written(rt.alloc(), name, words, *wanted)?,
+            "{name} and {words}"
+        );
+    }
     Ok(())
 }
 
-// Texts, and the name and the attributes that are read. Whole numbers have 64 bits, and values 16 levels.
+// Texts, and the name and the attributes that are read. Whole numbers have 64 bits, and values 24 levels.
 const TEXTS: &str = r#"
 "a":{"k":1} => 'a' {"k":1}
  "a" : { "k" : [ true , null ] }  => 'a' {"k":[true,null]}
@@ -59,27 +80,48 @@ a => none
 "a":{"k":[1e3]} => none
 "a":{"k":[[[[[[[[[[[[[[[[]]]]]]]]]]]]]]]]} => 'a' {"k":[[[[[[[[[[[[[[[[]]]]]]]]]]]]]]]]}
 "a":{"k":[[[[[[[[[[[[[[[0]]]]]]]]]]]]]]]} => 'a' {"k":[[[[[[[[[[[[[[[0]]]]]]]]]]]]]]]}
-"a":{"k":[[[[[[[[[[[[[[[[[]]]]]]]]]]]]]]]]]} => none
-"a":{"k":[[[[[[[[[[[[[[[[0]]]]]]]]]]]]]]]]} => none
-"a":{"k":{"l":[[[[[[[[[[[[[[[0]]]]]]]]]]]]]]]}} => none
+"a":{"k":[[[[[[[[[[[[[[[[[]]]]]]]]]]]]]]]]]} => 'a' {"k":[[[[[[[[[[[[[[[[[]]]]]]]]]]]]]]]]]}
+"a":{"k":[[[[[[[[[[[[[[[[0]]]]]]]]]]]]]]]]} => 'a' {"k":[[[[[[[[[[[[[[[[0]]]]]]]]]]]]]]]]}
+"a":{"k":{"l":[[[[[[[[[[[[[[[0]]]]]]]]]]]]]]]}} => 'a' {"k":{"l":[[[[[[[[[[[[[[[0]]]]]]]]]]]]]]]}}
+"a":{"k":[[[[[[[[[[[[[[[[[[[[[[[[]]]]]]]]]]]]]]]]]]]]]]]]} => 'a' {"k":[[[[[[[[[[[[[[[[[[[[[[[[]]]]]]]]]]]]]]]]]]]]]]]]}
+"a":{"k":[[[[[[[[[[[[[[[[[[[[[[[0]]]]]]]]]]]]]]]]]]]]]]]} => 'a' {"k":[[[[[[[[[[[[[[[[[[[[[[[0]]]]]]]]]]]]]]]]]]]]]]]}
+"a":{"k":{"l":[[[[[[[[[[[[[[[[[[[[[[0]]]]]]]]]]]]]]]]]]]]]]}} => 'a' {"k":{"l":[[[[[[[[[[[[[[[[[[[[[[0]]]]]]]]]]]]]]]]]]]]]]}}
+"a":{"k":[[[[[[[[[[[[[[[[[[[[[[[[[]]]]]]]]]]]]]]]]]]]]]]]]]} => none
+"a":{"k":[[[[[[[[[[[[[[[[[[[[[[[[0]]]]]]]]]]]]]]]]]]]]]]]]} => none
+"a":{"k":{"l":[[[[[[[[[[[[[[[[[[[[[[[0]]]]]]]]]]]]]]]]]]]]]]]}} => none
 "#;
 
-/// Whether the text is read as a name, here in quotes, with attributes that have this JSON, or is none of an event.
-fn is_read(alloc: Global, text: &str, wanted: &str) -> Result<bool, Fail> {
-    let text = Text::of(alloc, text)?;
-    let Some((name, attributes)) = read_event_text(alloc, &text)? else {
-        return Ok(wanted == "none");
+// What stands behind a name in quotes and a blank.
+fn behind<'a>(wanted: &'a str, name: &str) -> Option<&'a str> {
+    wanted
+        .strip_prefix('\'')?
+        .strip_prefix(name)?
+        .strip_prefix("' ")
+}
+
+fn are_parts(alloc: Global, name: &Text, attributes: Attrs, wanted: &str) -> bool {
+    match value_text(alloc, &Value::Map(attributes)) {
+        Ok(json) => behind(wanted, name.as_str()) == Some(json.as_str()),
+        Err(_) => false,
+    }
+}
+
+// Whether the text is read as a name, here in quotes, with attributes that have this JSON, or is none of an event.
+fn is_read(alloc: Global, text: &str, wanted: &str) -> bool {
+    let Ok(text) = Text::of(alloc, text) else {
+        return false;
     };
-    let json = value_text(alloc, &Value::Map(attributes))?;
-    let found = format!(in alloc; "'{}' {}", name.as_str(), json.as_str())?;
-    Ok(found.as_str() == wanted)
+    match read_event_text(alloc, &text) {
+        Ok(Some((name, attributes))) => are_parts(alloc, &name, attributes, wanted),
+        Ok(None) => wanted == "none",
+        Err(_) => false,
+    }
 }
 
 #[test]
-fn reads_events_from_texts(rt: HostRuntime) -> Result<(), Fail> {
+fn reads_events_from_texts(rt: HostRuntime) {
     for row in TEXTS.trim_matches('\n').lines() {
         let (text, wanted) = row.split_once(" => ").expect(&rt, row);
-        assert!(rt; is_read(rt.alloc(), text, wanted)?, "{row}");
+        assert!(rt; is_read(rt.alloc(), text, wanted), "{row}");
     }
-    Ok(())
 }

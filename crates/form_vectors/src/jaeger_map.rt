@@ -1,70 +1,61 @@
 //! What tags of a span of Jaeger say, and the remarks on them, by the OpenTelemetry exporter page for Jaeger.
-ghost use Rattle.std.specs.Prelude.{◌≡◌, [], ◌∷◌, IfOk};
-ghost use Rattle.jaeger_model.specs.Counted.{IsCountedBatch};
-
+use crate::batches::read_text;
 use crate::remarks::are_remarks;
-use jaeger_model::{Batch, JSpan, Tag, TagValue};
 use map_jaeger::group_of_batch;
 use row_tables::{Row, rows};
-use span_ids::{Nanos, SpanId, TraceId};
-use span_io::{Items, OutOfMemory, Text};
+use span_io::{Blob, OutOfMemory, Text};
 use std::alloc::Global;
 use std::test::Fail;
-use trace_model::{Attrs, Code, Group, Kind, Span, Value};
+use trace_model::{Code, Group, Kind, Span, Value};
 
-fn one<T: Drop>(alloc: Global, item: T) -> Result<Items<T>, OutOfMemory>
-    ensures { IfOk result (λ items. items ≡ item ∷ []) }
-{
-    let mut items = Items::new(alloc);
-    items.push(item)?;
-    Ok(items)
+// A batch of the process `shop` with one span, up to the number of its tags.
+const FRONT: &[u8] = b"\x0c\0\x01\x0b\0\x01\0\0\0\x04shop\0\x0f\0\x02\x0c\0\0\0\x01\
+\x0a\0\x01\0\0\0\0\0\0\0\x01\x0a\0\x02\0\0\0\0\0\0\0\0\x0a\0\x03\0\0\0\0\0\0\0\x02\x0a\0\x04\0\0\0\0\0\0\0\0\
+\x0b\0\x05\0\0\0\x03pay\x08\0\x07\0\0\0\x01\x0a\0\x08\0\0\0\0\0\0\0\x01\x0a\0\x09\0\0\0\0\0\0\0\x02\x0f\0\x0a\x0c";
+
+// Appends a text of fewer than 256 bytes behind its size.
+fn append_text(out: &mut Blob, text: &str) -> Result<(), OutOfMemory> {
+    out.append(&[0, 0, 0, (text.len() % 256) as u8])?;
+    out.append(text.as_bytes())
 }
 
-// Tags of a text each: a key and, behind a blank, a text.
-fn tags_of(alloc: Global, list: &[&str]) -> Result<Items<Tag>, OutOfMemory> {
-    let mut tags = Items::new(alloc);
-    for tag in list {
-        let (key, text) = tag.split_once(' ').unwrap_or((*tag, ""));
-        tags.push(Tag {
-            key: Text::of(alloc, key)?,
-            value: TagValue::Text(Text::of(alloc, text)?),
-        })?;
+// Appends a tag of a text: a key and, behind a blank, the text.
+fn append_tag(out: &mut Blob, tag: &str) -> Result<(), OutOfMemory> {
+    let (key, text) = tag.split_once(' ').unwrap_or((tag, ""));
+    out.append(b"\x0b\0\x01")?;
+    append_text(out, key)?;
+    out.append(b"\x08\0\x02\0\0\0\0\x0b\0\x03")?;
+    append_text(out, text)?;
+    out.append(b"\0")
+}
+
+fn tags_of(row: &Row) -> u8 {
+    let mut many = 0_u8;
+    for field in row.fields() {
+        if field.key() == "tag" {
+            many = many.saturating_add(1);
+        }
     }
-    Ok(tags)
+    many
 }
 
-// A batch of the process `shop` with one span, which has these tags.
-fn batch_of(alloc: Global, tags: &[&str]) -> Result<Batch, Fail>
-    ensures { IfOk result IsCountedBatch }
-{
-    let span = JSpan {
-        trace: TraceId::from_halves(0, 1)?,
-        id: SpanId::from_number(2)?,
-        parent: None,
-        name: Text::of(alloc, "pay")?,
-        references: Items::new(alloc),
-        invalid_refs: 0,
-        flags: 1,
-        start: Nanos(1_000),
-        end: Nanos(3_000),
-        tags: tags_of(alloc, tags)?,
-        logs: Items::new(alloc),
-    };
-    Ok(Batch {
-        service: Text::of(alloc, "shop")?,
-        tags: Items::new(alloc),
-        spans: one(alloc, span)?,
-    })
-}
-
-fn are_texts(attributes: &Attrs, list: &[&str]) -> bool {
-    let mut same = attributes.len() == list.len();
-    for ((key, value), wanted) in attributes.as_slice().iter().zip(list) {
-        let (name, text) = wanted.split_once(' ').unwrap_or((*wanted, ""));
-        same = same && key.as_str() == name;
-        same = same && matches!(value, Value::Text(held) if held.as_str() == text);
+fn append_tags(out: &mut Blob, row: &Row) -> Result<(), OutOfMemory> {
+    out.append(&[0, 0, 0, tags_of(row)])?;
+    for field in row.fields() {
+        if field.key() == "tag" {
+            append_tag(out, field.text())?;
+        }
     }
-    same
+    Ok(())
+}
+
+// The batch whose span has the tags of a row.
+fn batch_of(alloc: Global, row: &Row) -> Result<Blob, OutOfMemory> {
+    let mut out = Blob::new(alloc);
+    out.append(FRONT)?;
+    append_tags(&mut out, row)?;
+    out.append(b"\0\0")?;
+    Ok(out)
 }
 
 // The tags of a span, and the attributes, the kind, the code and the remarks that they make of it.
@@ -154,9 +145,28 @@ kind Consumer
 code Unset
 ";
 
-fn first_span(group: &Group) -> Option<&Span> {
-    let scope = group.scopes.as_slice().first()?;
-    scope.spans.as_slice().first()
+// Whether an attribute is a text: a key and, behind a blank, the text.
+fn is_pair(pair: &(Text, Value), wanted: &str) -> bool {
+    let (name, text) = wanted.split_once(' ').unwrap_or((wanted, ""));
+    let (key, value) = pair;
+    key.as_str() == name && matches!(value, Value::Text(held) if held.as_str() == text)
+}
+
+fn are_attributes(attributes: &[(Text, Value)], row: &Row) -> bool {
+    let mut left = attributes;
+    for field in row.fields() {
+        if field.key() != "attribute" {
+            continue;
+        }
+        let [pair, others @ ..] = left else {
+            return false;
+        };
+        if !is_pair(pair, field.text()) {
+            return false;
+        }
+        left = others;
+    }
+    left.is_empty()
 }
 
 fn word_of_kind(kind: Kind) -> &'static str {
@@ -178,32 +188,63 @@ fn word_of_code(code: Code) -> &'static str {
     }
 }
 
-fn is_span(alloc: Global, span: &Span, row: &Row) -> Result<bool, Fail> {
-    let attributes = row.texts(alloc, "attribute")?;
-    let same = word_of_kind(span.kind) == row.text("kind")?
-        && word_of_code(span.status.code) == row.text("code")?;
-    Ok(same && are_texts(&span.attributes, attributes.as_slice()))
+// What a row tells of a span.
+#[derive(Clone, Copy)]
+struct Told<'a> {
+    row: &'a Row,
+    kind: &'a str,
+    code: &'a str,
 }
 
-fn is_read(alloc: Global, row: &Row) -> Result<bool, Fail> {
+impl Told<'_> {
+    fn is_span(&self, span: &Span) -> bool {
+        word_of_kind(span.kind) == self.kind
+            && word_of_code(span.status.code) == self.code
+            && are_attributes(span.attributes.as_slice(), self.row)
+    }
+
+    fn is_group(&self, group: &Group) -> bool {
+        let ([shop], [scope]) = (group.resource.as_slice(), group.scopes.as_slice()) else {
+            return false;
+        };
+        match scope.spans.as_slice() {
+            [span] => is_pair(shop, "service.name shop") && self.is_span(span),
+            _ => false,
+        }
+    }
+
+    // Whether the batch of these bytes means this.
+    fn is_meant(&self, alloc: Global, text: &[u8]) -> bool {
+        let Ok(batch) = read_text(alloc, text) else {
+            return false;
+        };
+        match group_of_batch(alloc, batch) {
+            Ok((group, remarks)) => {
+                are_remarks(remarks.as_slice(), self.row) && self.is_group(&group)
+            }
+            Err(_) => false,
+        }
+    }
+}
+
+fn expect_row(alloc: Global, row: &Row) -> Result<(), Fail> {
     row.expect_keys(&["tag", "attribute", "kind", "code", "remark"])?;
-    let tags = row.texts(alloc, "tag")?;
-    let batch = batch_of(alloc, tags.as_slice())?;
-    let (group, remarks) = group_of_batch(alloc, batch)?;
-    let wanted = row.texts(alloc, "remark")?;
-    let span = first_span(&group).ok_or(OutOfMemory)?;
-    Ok(
-        are_texts(&group.resource, &["service.name shop"])
-            && are_remarks(&remarks, wanted.as_slice())?
-            && is_span(alloc, span, row)?,
-    )
+    let told = Told {
+        row,
+        kind: row.text("kind")?,
+        code: row.text("code")?,
+    };
+    let text = batch_of(alloc, row)?;
+    if told.is_meant(alloc, text.as_slice()) {
+        return Ok(());
+    }
+    Err(row.fail("another meaning", "of its tags"))
 }
 
 #[test]
 fn reads_tags(rt: HostRuntime) -> Result<(), Fail> {
-    let table = rows(rt.alloc(), ROWS)?;
-    for row in &table {
-        assert!(rt; is_read(rt.alloc(), row)?, "{}", row.name());
+    for row in &rows(rt.alloc(), ROWS)? {
+        expect_row(rt.alloc(), row)?;
     }
     Ok(())
 }

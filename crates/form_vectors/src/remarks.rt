@@ -1,17 +1,34 @@
 //! Remarks in rows: a place, a kind and, where there is one, a key.
-use row_tables::Words;
-use span_io::Items;
-use std::test::Fail;
+use row_tables::Row;
 use trace_model::{Place, Remark, RemarkKind};
 
-fn place_of(words: &mut Words<'_>) -> Result<Place, Fail> {
-    match words.word() {
-        "resource" => Ok(Place::Resource),
-        "scope" => Ok(Place::Scope(words.number()?)),
-        "span" => Ok(Place::Span(words.number()?)),
-        "event" => Ok(Place::Event(words.number()?, words.number()?)),
-        "link" => Ok(Place::Link(words.number()?, words.number()?)),
-        _ => Err(words.fail("no place")),
+// The word of a place, and the numbers behind it.
+fn parts_of(place: Place) -> (&'static str, Option<u32>, Option<u32>) {
+    match place {
+        Place::Whole => ("whole", None, None),
+        Place::Resource => ("resource", None, None),
+        Place::Scope(scope) => ("scope", Some(scope), None),
+        Place::Span(span) => ("span", Some(span), None),
+        Place::Event(span, event) => ("event", Some(span), Some(event)),
+        Place::Link(span, link) => ("link", Some(span), Some(link)),
+    }
+}
+
+// What stands behind a word in front of a text, and behind a number, if there is one.
+fn behind_word<'a>(text: &'a str, word: &str) -> Option<&'a str> {
+    let (found, rest) = text.split_once(' ').unwrap_or((text, ""));
+    if found == word { Some(rest) } else { None }
+}
+
+fn behind_number(text: &str, number: Option<u32>) -> Option<&str> {
+    let Some(number) = number else {
+        return Some(text);
+    };
+    let (found, rest) = text.split_once(' ').unwrap_or((text, ""));
+    if found.parse::<u32>().ok() == Some(number) {
+        Some(rest)
+    } else {
+        None
     }
 }
 
@@ -23,16 +40,29 @@ fn word_of(kind: RemarkKind) -> &'static str {
     }
 }
 
-/// Whether these are the remarks, in order.
-pub(crate) fn are_remarks(remarks: &Items<Remark>, texts: &[&str]) -> Result<bool, Fail> {
-    let mut same = remarks.len() == texts.len();
-    for (remark, text) in remarks.as_slice().iter().zip(texts) {
-        let mut words = Words::of(text);
-        let place = place_of(&mut words)?;
-        same = same
-            && remark.place == place
-            && word_of(remark.kind) == words.word()
-            && remark.key.as_str() == words.rest();
+// The key that a text tells of a remark with this place and kind.
+fn key_told<'a>(text: &'a str, place: Place, kind: RemarkKind) -> Option<&'a str> {
+    let (word, first, second) = parts_of(place);
+    let rest = behind_word(text, word)?;
+    let rest = behind_number(rest, first)?;
+    let rest = behind_number(rest, second)?;
+    behind_word(rest, word_of(kind))
+}
+
+/// Whether these are the remarks of a row, in order.
+pub(crate) fn are_remarks(remarks: &[Remark], row: &Row) -> bool {
+    let mut left = remarks;
+    for field in row.fields() {
+        if field.key() != "remark" {
+            continue;
+        }
+        let [remark, others @ ..] = left else {
+            return false;
+        };
+        if key_told(field.text(), remark.place, remark.kind) != Some(remark.key.as_str()) {
+            return false;
+        }
+        left = others;
     }
-    Ok(same)
+    left.is_empty()
 }

@@ -32,18 +32,28 @@ const LINK: Around = &[(b"", 0x6a), (IDS, 0x12), (b"", 0x12)];
 
 const STATUS: Around = &[(b"", 0x7a), (IDS, 0x12), (b"", 0x12)];
 
-fn around_of(words: &mut Words<'_>) -> Result<Around, Fail> {
-    match words.word() {
-        "group" => Ok(GROUP),
-        "resource" => Ok(RESOURCE),
-        "pair" => Ok(PAIR),
-        "span" => Ok(SPAN),
-        "bare-span" => Ok(BARE_SPAN),
-        "event" => Ok(EVENT),
-        "link" => Ok(LINK),
-        "status" => Ok(STATUS),
-        _ => Err(words.fail("no place in a group")),
+fn around_of(word: &str) -> Option<Around> {
+    match word {
+        "group" => Some(GROUP),
+        "resource" => Some(RESOURCE),
+        "pair" => Some(PAIR),
+        "span" => Some(SPAN),
+        "bare-span" => Some(BARE_SPAN),
+        "event" => Some(EVENT),
+        "link" => Some(LINK),
+        "status" => Some(STATUS),
+        _ => None,
     }
+}
+
+// A record of this key, in which bytes stand behind others.
+fn record_of(alloc: Global, key: u8, front: &[u8], held: &[u8]) -> Result<Blob, OutOfMemory> {
+    let size = (front.len() as u64).saturating_add(held.len() as u64);
+    let mut outer = Blob::new(alloc);
+    outer.append(&[key])?;
+    outer.append_varint(size)?;
+    outer.append_both(front, held)?;
+    Ok(outer)
 }
 
 // The bytes with these records around them.
@@ -51,12 +61,7 @@ fn enclosed(alloc: Global, around: &[(&[u8], u8)], held: &[u8]) -> Result<Blob, 
     let mut text = Blob::new(alloc);
     text.append(held)?;
     for (front, key) in around {
-        let size = (front.len() as u64).saturating_add(text.len() as u64);
-        let mut outer = Blob::new(alloc);
-        outer.append(&[*key])?;
-        outer.append_varint(size)?;
-        outer.append_both(front, text.as_slice())?;
-        text = outer;
+        text = record_of(alloc, *key, front, text.as_slice())?;
     }
     Ok(text)
 }
@@ -64,18 +69,31 @@ fn enclosed(alloc: Global, around: &[(&[u8], u8)], held: &[u8]) -> Result<Blob, 
 // The identifiers of a link that differ from those of its span.
 const LINK_IDS: &str = "0a10 04040404040404040404040404040405 1208 0505050505050506";
 
-// The group that a row tells by the place of a message in it and the message.
-fn unit_of(alloc: Global, text: &str) -> Result<Blob, Fail> {
-    let mut words = Words::of(text);
-    let around = around_of(&mut words)?;
-    let mut held = Vec::new(alloc);
-    for word in words.rest().split_ascii_whitespace() {
+// A value of each kind but a double.
+const NESTED: &str =
+    "123d 2a3b 0a0a 0a08 61225c2f0a01c3a9 0a0b 1880808080808080808001 0a00 0a06 3a04 00ff1020 \
+0a02 2a00 0a12 3210 0a04 1202 1001 0a08 0a02 'k\"' 1202 3200";
+
+fn append_message(alloc: Global, held: &mut Vec<u8>, text: &str) -> Result<(), Fail> {
+    for word in text.split_ascii_whitespace() {
         match word {
             "@IDS" => held.extend_from_slice(IDS)?,
-            "@LINK_IDS" => append_spelled(alloc, &mut held, LINK_IDS)?,
-            _ => append_spelled(alloc, &mut held, word)?,
+            "@LINK_IDS" => append_spelled(alloc, held, LINK_IDS)?,
+            "@NESTED" => append_spelled(alloc, held, NESTED)?,
+            _ => append_spelled(alloc, held, word)?,
         }
     }
+    Ok(())
+}
+
+/// The group that a row tells by the place of a message in it and the message.
+pub(crate) fn unit_of(alloc: Global, text: &str) -> Result<Blob, Fail> {
+    let (place, message) = text.split_once(' ').unwrap_or((text, ""));
+    let Some(around) = around_of(place) else {
+        return Err(Fail::new(format_args!("no place in a group: {text}")));
+    };
+    let mut held = Vec::new(alloc);
+    append_message(alloc, &mut held, message)?;
     Ok(enclosed(alloc, around, held.as_slice())?)
 }
 
@@ -201,38 +219,47 @@ remark scope 2 EqualKey k
 remark span 3 EqualKey k
 ";
 
-// Reads a unit of fewer bytes than 32 bits number.
-fn group_in(alloc: Global, unit: &[u8]) -> Result<(Group, Items<Remark>), Halt<Cause>> {
+/// Reads a unit of fewer bytes than 32 bits number.
+pub(crate) fn group_in(alloc: Global, unit: &[u8]) -> Result<(Group, Items<Remark>), Halt<Cause>> {
     if unit.len() > u32::MAX as usize {
         return Err(Halt::Why(Cause::UnitTooLong));
     }
     read_group(alloc, unit)
 }
 
-fn is_written(alloc: Global, group: &Group, text: &str) -> Result<bool, Fail> {
+// Whether a group is written as the one record with this unit in it.
+fn is_written(alloc: Global, group: &Group, unit: &[u8]) -> bool {
+    let Ok(wanted) = enclosed(alloc, WRITTEN, unit) else {
+        return false;
+    };
     let mut out = Blob::new(alloc);
-    write_group(&mut out, group)?;
-    let unit = unit_of(alloc, text)?;
-    let wanted = enclosed(alloc, WRITTEN, unit.as_slice())?;
-    Ok(out.as_slice() == wanted.as_slice())
+    write_group(&mut out, group).is_ok() && out.as_slice() == wanted.as_slice()
 }
 
-fn is_read(alloc: Global, row: &Row) -> Result<bool, Fail> {
+// Whether a unit is read with the remarks of the row, and written as another.
+fn is_read(alloc: Global, row: &Row, unit: &[u8], written: &[u8]) -> bool {
+    match group_in(alloc, unit) {
+        Ok((group, remarks)) => {
+            are_remarks(remarks.as_slice(), row) && is_written(alloc, &group, written)
+        }
+        Err(_) => false,
+    }
+}
+
+fn expect_row(alloc: Global, row: &Row) -> Result<(), Fail> {
     row.expect_keys(&["read", "written", "remark"])?;
     let unit = unit_of(alloc, row.text("read")?)?;
-    let (group, remarks) = group_in(alloc, unit.as_slice())?;
-    let wanted = row.texts(alloc, "remark")?;
-    Ok(
-        are_remarks(&remarks, wanted.as_slice())?
-            && is_written(alloc, &group, row.text("written")?)?,
-    )
+    let written = unit_of(alloc, row.text("written")?)?;
+    if is_read(alloc, row, unit.as_slice(), written.as_slice()) {
+        return Ok(());
+    }
+    Err(row.fail("not read so", row.text("read")?))
 }
 
 #[test]
 fn reads_groups(rt: HostRuntime) -> Result<(), Fail> {
-    let table = rows(rt.alloc(), READ)?;
-    for row in &table {
-        assert!(rt; is_read(rt.alloc(), row)?, "{}", row.name());
+    for row in &rows(rt.alloc(), READ)? {
+        expect_row(rt.alloc(), row)?;
     }
     Ok(())
 }
@@ -250,37 +277,52 @@ pair 1204 3a02 09ff => bytes Cf8=
 pair 1202 0801 => nothing
 "#;
 
-// A value by its kind, and as text or, if it is a double, its bytes.
-fn is_value(alloc: Global, value: &Value, words: &mut Words<'_>) -> Result<bool, Fail> {
-    let kind = match value {
+fn word_of(value: &Value) -> &'static str {
+    match value {
         Value::Text(_) => "text",
         Value::Truth(_) => "truth",
         Value::Number(_) => "number",
-        Value::Eight(bytes) => {
-            let mut wanted = Vec::new(alloc);
-            let same = words.word() == "double";
-            append_spelled(alloc, &mut wanted, words.rest())?;
-            return Ok(same && wanted.as_slice() == bytes.as_slice());
-        }
+        Value::Eight(_) => "double",
         Value::List(_) => "list",
         Value::Map(_) => "map",
         Value::Bytes(_) => "bytes",
         Value::Nothing => "nothing",
+    }
+}
+
+// Whether a text is that of a value, or the bytes of a double as a number.
+fn is_text(alloc: Global, value: &Value, wanted: &str) -> bool {
+    if let Value::Eight(bytes) = value {
+        let number = u64::from_str_radix(wanted, 16).ok();
+        return number == Some(u64::from_be_bytes(*bytes));
+    }
+    match value_text(alloc, value) {
+        Ok(text) => text.as_str() == wanted,
+        Err(_) => false,
+    }
+}
+
+// Whether the pair of a unit has the value that is told by its kind and its text.
+fn is_value(alloc: Global, unit: &[u8], wanted: &str) -> bool {
+    let (kind, text) = wanted.split_once(' ').unwrap_or((wanted, ""));
+    let Ok((group, _)) = group_in(alloc, unit) else {
+        return false;
     };
-    let text = value_text(alloc, value)?;
-    Ok(words.word() == kind && words.rest() == text.as_str())
+    match group.resource.as_slice() {
+        [(_, value)] => word_of(value) == kind && is_text(alloc, value, text),
+        _ => false,
+    }
 }
 
 #[test]
 fn reads_values(rt: HostRuntime) -> Result<(), Fail> {
     for row in VALUES.trim_matches('\n').lines() {
-        let (pair, mut wanted) = Words::sides(row)?;
+        let (pair, wanted) = Words::sides(row)?;
         let unit = unit_of(rt.alloc(), pair.rest())?;
-        let (group, _) = group_in(rt.alloc(), unit.as_slice())?;
-        assert!(rt; group.resource.len() == 1, "{row}");
-        for (_, found) in group.resource.as_slice() {
-            assert!(rt; is_value(rt.alloc(), found, &mut wanted)?, "{row}");
-        }
+        assert!(rt;
+            is_value(rt.alloc(), unit.as_slice(), wanted.rest()),
+            "{row}"
+        );
     }
     Ok(())
 }
@@ -336,16 +378,18 @@ fn is_refused(alloc: Global, unit: &[u8], name: &str) -> bool {
     }
 }
 
+// Whether a row is refused by its cause. Its name stands in front.
+fn is_refusal(alloc: Global, row: &str) -> Result<bool, Fail> {
+    let (_, told) = row.split_once(": ").unwrap_or((row, ""));
+    let (message, cause) = Words::sides(told)?;
+    let unit = unit_of(alloc, message.rest())?;
+    Ok(is_refused(alloc, unit.as_slice(), cause.rest()))
+}
+
 #[test]
 fn refuses_groups(rt: HostRuntime) -> Result<(), Fail> {
     for row in REFUSED.trim_matches('\n').lines() {
-        let (_, told) = row.split_once(": ").expect(&rt, row);
-        let (message, cause) = Words::sides(told)?;
-        let unit = unit_of(rt.alloc(), message.rest())?;
-        assert!(rt;
-            is_refused(rt.alloc(), unit.as_slice(), cause.rest()),
-            "{row}"
-        );
+        assert!(rt; is_refusal(rt.alloc(), row)?, "{row}");
     }
     Ok(())
 }
@@ -353,53 +397,77 @@ fn refuses_groups(rt: HostRuntime) -> Result<(), Fail> {
 // A list around a value.
 const LIST: Around = &[(b"", 0x0a), (b"", 0x2a)];
 
-#[test]
-fn lists_end_at_level_16(rt: HostRuntime) -> Result<(), Fail> {
-    let mut value = enclosed(rt.alloc(), &[], b"\x2a\0")?;
-    for _ in 1..16_u32 {
-        value = enclosed(rt.alloc(), LIST, value.as_slice())?;
+// A unit whose one attribute is so many lists in each other.
+fn lists(alloc: Global, levels: u32) -> Result<Blob, OutOfMemory> {
+    let mut value = Blob::new(alloc);
+    value.append(b"\x2a\0")?;
+    for _ in 1..levels {
+        value = enclosed(alloc, LIST, value.as_slice())?;
     }
-    let unit = enclosed(rt.alloc(), VALUE, value.as_slice())?;
+    enclosed(alloc, VALUE, value.as_slice())
+}
+
+#[test]
+fn lists_end_at_level_24(rt: HostRuntime) -> Result<(), Fail> {
+    let unit = lists(rt.alloc(), 24)?;
     assert!(rt; group_in(rt.alloc(), unit.as_slice()).is_ok());
-    value = enclosed(rt.alloc(), LIST, value.as_slice())?;
-    let unit = enclosed(rt.alloc(), VALUE, value.as_slice())?;
+    let unit = lists(rt.alloc(), 25)?;
     assert!(rt; is_refused(rt.alloc(), unit.as_slice(), "TooDeep"));
     Ok(())
 }
 
+// A unit whose one span has so many events and links.
+fn long_span(alloc: Global, many: u32) -> Result<Blob, OutOfMemory> {
+    let link = record_of(alloc, 0x6a, IDS, b"")?;
+    let mut held = Blob::new(alloc);
+    for _ in 0..many {
+        held.append_both(b"Z\0", link.as_slice())?;
+    }
+    enclosed(alloc, SPAN, held.as_slice())
+}
+
+fn has_many(alloc: Global, unit: &[u8], many: usize) -> bool {
+    let Ok((group, _)) = group_in(alloc, unit) else {
+        return false;
+    };
+    let [scope] = group.scopes.as_slice() else {
+        return false;
+    };
+    match scope.spans.as_slice() {
+        [span] => span.events.len() == many && span.links.len() == many,
+        _ => false,
+    }
+}
+
 #[test]
 fn spans_have_many_events_and_links(rt: HostRuntime) -> Result<(), Fail> {
-    let link = enclosed(rt.alloc(), &[(IDS, 0x6a)], b"")?;
-    let mut held = Blob::new(rt.alloc());
-    for _ in 0..130_u32 {
-        held.append(b"Z\0")?;
-        held.append(link.as_slice())?;
-    }
-    let unit = enclosed(rt.alloc(), SPAN, held.as_slice())?;
-    let (group, _) = group_in(rt.alloc(), unit.as_slice())?;
-    for scope in group.scopes.as_slice() {
-        for span in scope.spans.as_slice() {
-            assert!(rt; (span.events.len(), span.links.len()) == (130, 130));
-        }
-    }
+    let unit = long_span(rt.alloc(), 130)?;
+    assert!(rt; has_many(rt.alloc(), unit.as_slice(), 130));
     Ok(())
 }
 
-// A group whose one attribute has a long text comes back as it was.
+// A unit whose one attribute has a text of so many kibibytes.
+fn long_text(alloc: Global, size: u32) -> Result<Blob, OutOfMemory> {
+    let mut text = Blob::new(alloc);
+    for _ in 0..size {
+        text.append(&[b'x'; 1_024])?;
+    }
+    let value = record_of(alloc, 0x0a, b"", text.as_slice())?;
+    enclosed(alloc, VALUE, value.as_slice())
+}
+
+fn comes_back(alloc: Global, unit: &[u8]) -> bool {
+    match group_in(alloc, unit) {
+        Ok((group, _)) => is_written(alloc, &group, unit),
+        Err(_) => false,
+    }
+}
+
 #[test]
 fn long_texts_are_kept(rt: HostRuntime) -> Result<(), Fail> {
-    for size in [16_384, 2_097_152_u32] {
-        let mut text = Blob::new(rt.alloc());
-        for _ in 0..size / 1_024 {
-            text.append(&[b'x'; 1_024])?;
-        }
-        let value = enclosed(rt.alloc(), &[(b"", 0x0a)], text.as_slice())?;
-        let unit = enclosed(rt.alloc(), VALUE, value.as_slice())?;
-        let (group, _) = group_in(rt.alloc(), unit.as_slice())?;
-        let mut out = Blob::new(rt.alloc());
-        write_group(&mut out, &group)?;
-        let wanted = enclosed(rt.alloc(), WRITTEN, unit.as_slice())?;
-        assert!(rt; out.as_slice() == wanted.as_slice());
+    for size in [16, 2_048_u32] {
+        let unit = long_text(rt.alloc(), size)?;
+        assert!(rt; comes_back(rt.alloc(), unit.as_slice()), "{size}");
     }
     Ok(())
 }

@@ -1,10 +1,10 @@
 //! Spans of Zipkin: what is written of those that are read.
-use row_tables::rows;
-use span_io::Blob;
+use row_tables::{Row, rows};
+use span_io::{Blob, OutOfMemory};
 use span_vectors::texts::SHARED_SPANS;
 use std::alloc::Global;
 use std::test::Fail;
-use zipkin_json::{read_text, write_span};
+use zipkin_json::{ZSpan, read_text, write_span};
 
 // A text of spans, and the spans that are written of it, as one text.
 const ROWS: &str = r#"
@@ -89,30 +89,43 @@ fn named(text: &str) -> &str {
     }
 }
 
-// The canonical text of the spans that a text holds.
-fn written_again(alloc: Global, text: &[u8]) -> Result<Blob, Fail> {
-    let spans = read_text(alloc, text)?;
-    let mut out = Blob::new(alloc);
+// Appends the canonical text of spans.
+fn append_spans(out: &mut Blob, spans: &[ZSpan]) -> Result<(), OutOfMemory> {
     let mut between = b'[';
-    for span in spans.as_slice() {
+    for span in spans {
         out.append(&[between])?;
-        write_span(&mut out, span)?;
+        write_span(out, span)?;
         between = b',';
     }
-    out.append(b"]")?;
-    Ok(out)
+    out.append(b"]")
+}
+
+// Whether the spans that a text holds are written so.
+fn is_written(alloc: Global, text: &str, wanted: &str) -> bool {
+    let Ok(spans) = read_text(alloc, text.as_bytes()) else {
+        return false;
+    };
+    let mut out = Blob::new(alloc);
+    append_spans(&mut out, spans.as_slice()).is_ok() && out.as_slice() == wanted.as_bytes()
+}
+
+fn expect_row(alloc: Global, row: &Row) -> Result<(), Fail> {
+    row.expect_keys(&["text", "written"])?;
+    let text = named(row.text("text")?);
+    let wanted = named(row.text("written")?);
+    if !is_written(alloc, text, wanted) {
+        return Err(row.fail("not written", wanted));
+    }
+    if !is_written(alloc, wanted, wanted) {
+        return Err(row.fail("not written again", wanted));
+    }
+    Ok(())
 }
 
 #[test]
 fn writes_spans(rt: HostRuntime) -> Result<(), Fail> {
-    let table = rows(rt.alloc(), ROWS)?;
-    for row in &table {
-        row.expect_keys(&["text", "written"])?;
-        let wanted = named(row.text("written")?).as_bytes();
-        let written = written_again(rt.alloc(), named(row.text("text")?).as_bytes())?;
-        assert!(rt; written.as_slice() == wanted, "{}", row.name());
-        let again = written_again(rt.alloc(), wanted)?;
-        assert!(rt; again.as_slice() == wanted, "{}", row.name());
+    for row in &rows(rt.alloc(), ROWS)? {
+        expect_row(rt.alloc(), row)?;
     }
     Ok(())
 }

@@ -1,117 +1,91 @@
 //! Values of traces, and their texts.
-use span_io::{Bytes, Halt, Items, OutOfMemory, Text};
+use crate::requests::{group_in, unit_of};
+use row_tables::Words;
+use span_io::Halt;
 use std::alloc::Global;
 use std::test::Fail;
-use trace_model::{Attrs, Value, value_json, value_text};
+use trace_model::{Value, value_json, value_text};
 
-pub(crate) fn numbers(alloc: Global, list: &[(&str, i64)]) -> Result<Attrs, OutOfMemory> {
-    let mut pairs = Items::new(alloc);
-    for (key, number) in list {
-        pairs.push((Text::of(alloc, key)?, Value::Number(*number)))?;
-    }
-    Ok(pairs)
-}
+// Pairs without a key, each a value as protobuf has it, and the text of the value. A value with a double in it has none.
+const TEXTS: &str = r#"
+pair 1206 0a04 6122c3a9 => a"é
+pair 1202 1001 => true
+pair 1202 1000 => false
+pair 120b 18fbffffffffffffffff01 => -5
+pair 1204 3a02 fbff => +/8=
+pair 1200 =>
+pair 1209 21 000000000000f03f => none
+pair 1202 2a00 => []
+pair 121d 321b 0a07 0a01 'b' 1202 1802 0a10 0a01 'c' 120b 18ffffffffffffffffff01 => {"b":2,"c":-1}
+pair @NESTED => ["a\"\\/\n\u0001é",-9223372036854775808,null,"AP8QIA==",[],{"":true,"k\"":{}}]
+pair 1216 3214 0a12 0a01 'k' 120d 2a0b 0a09 21 000000000000f03f => none
+"#;
 
-pub(crate) fn one<T: Drop>(alloc: Global, item: T) -> Result<Items<T>, OutOfMemory> {
-    let mut items = Items::new(alloc);
-    items.push(item)?;
-    Ok(items)
-}
+// The same, and the value as JSON.
+const JSON: &str = r#"
+pair 121d 321b 0a19 0a01 'k' 1214 2a12 0a04 3a02 fbff 0a00 0a02 1001 0a04 0a02 'a"' => {"k":["+/8=",null,true,"a\""]}
+pair 120b 18fbffffffffffffffff01 => -5
+pair 1212 3210 0a0e 0a01 'k' 1209 21 000000000000f03f => none
+"#;
 
-pub(crate) fn bytes(alloc: Global, bytes: &[u8]) -> Result<Value, OutOfMemory> {
-    Ok(Value::Bytes(Bytes::of(alloc, bytes)?))
-}
-
-/// What [`nested`] is as a text.
-const NESTED: &str =
-    "[\"a\\\"\\\\/\\n\\u0001é\",-9223372036854775808,null,\"AP8QIA==\",[],{\"\":true,\"k\\\"\":{}}]";
-
-/// A list with a text to escape, a number, nothing, bytes, an empty list and a map of two keys.
-fn nested(alloc: Global) -> Result<Value, OutOfMemory> {
-    let mut pairs = one(alloc, (Text::of(alloc, "")?, Value::Truth(true)))?;
-    pairs.push((Text::of(alloc, "k\"")?, Value::Map(Items::new(alloc))))?;
-    let mut members = one(alloc, Value::Text(Text::of(alloc, "a\"\\/\n\u{1}é")?))?;
-    members.push(Value::Number(i64::MIN))?;
-    members.push(Value::Nothing)?;
-    members.push(bytes(alloc, &[0, 255, 16, 32])?)?;
-    members.push(Value::List(Items::new(alloc)))?;
-    members.push(Value::Map(pairs))?;
-    Ok(Value::List(members))
-}
-
-/// A map of the key `k`, whose value is this.
-fn under_k(alloc: Global, value: Value) -> Result<Value, OutOfMemory> {
-    Ok(Value::Map(one(alloc, (Text::of(alloc, "k")?, value))?))
-}
-
-fn has_text(alloc: Global, value: &Value, wanted: Option<&str>) -> bool {
+fn has_text(alloc: Global, value: &Value, wanted: &str) -> bool {
     match value_text(alloc, value) {
-        Ok(text) => wanted == Some(text.as_str()),
-        Err(Halt::Why(())) => wanted.is_none(),
+        Ok(text) => text.as_str() == wanted,
+        Err(Halt::Why(())) => wanted == "none",
         Err(Halt::OutOfMemory) => false,
     }
 }
 
-const ONE: Value = Value::Eight([63, 240, 0, 0, 0, 0, 0, 0]);
-
-/// Whether the value and a copy of it have this text. A value with a double in it has none.
-fn tells(alloc: Global, value: Value, wanted: Option<&str>) -> Result<bool, OutOfMemory> {
-    let copy = value.copy(alloc)?;
-    Ok(
-        has_text(alloc, &value, wanted)
-            && has_text(alloc, &copy, wanted)
-            && value.holds_double() == wanted.is_none(),
-    )
-}
-
-#[test]
-fn tells_values_as_texts(rt: HostRuntime) -> Result<(), Fail> {
-    let alloc = rt.alloc();
-    assert!(rt; tells(alloc, Value::Text(Text::of(alloc, "a\"é")?), Some("a\"é"))?);
-    assert!(rt; tells(alloc, Value::Truth(true), Some("true"))?);
-    assert!(rt; tells(alloc, Value::Truth(false), Some("false"))?);
-    assert!(rt; tells(alloc, Value::Number(-5), Some("-5"))?);
-    assert!(rt; tells(alloc, bytes(alloc, &[251, 255])?, Some("+/8="))?);
-    assert!(rt; tells(alloc, Value::Nothing, Some(""))?);
-    assert!(rt; tells(alloc, ONE, None)?);
-    Ok(())
-}
-
-#[test]
-fn tells_lists_and_maps_as_texts(rt: HostRuntime) -> Result<(), Fail> {
-    let alloc = rt.alloc();
-    assert!(rt; tells(alloc, Value::List(Items::new(alloc)), Some("[]"))?);
-    let pairs = numbers(alloc, &[("b", 2), ("c", -1)])?;
-    assert!(rt; tells(alloc, Value::Map(pairs), Some("{\"b\":2,\"c\":-1}"))?);
-    assert!(rt; tells(alloc, nested(alloc)?, Some(NESTED))?);
-    let several = Value::List(one(alloc, ONE)?);
-    assert!(rt; tells(alloc, under_k(alloc, several)?, None)?);
-    Ok(())
-}
-
-fn has_json(alloc: Global, value: &Value, wanted: Option<&str>) -> bool {
-    let json = match value_json(alloc, value) {
-        Ok(json) => json,
-        Err(Halt::Why(())) => return wanted.is_none(),
-        Err(Halt::OutOfMemory) => return false,
-    };
-    match json.to_string(alloc) {
-        Ok(text) => wanted == Some(text.as_str()),
+// Whether a value and a copy of it have this text.
+fn is_told(alloc: Global, value: &Value, wanted: &str) -> bool {
+    match value.copy(alloc) {
+        Ok(copy) => {
+            has_text(alloc, value, wanted)
+                && has_text(alloc, &copy, wanted)
+                && value.holds_double() == (wanted == "none")
+        }
         Err(_) => false,
     }
 }
 
+fn has_json(alloc: Global, value: &Value, wanted: &str) -> bool {
+    let json = match value_json(alloc, value) {
+        Ok(json) => json,
+        Err(Halt::Why(())) => return wanted == "none",
+        Err(Halt::OutOfMemory) => return false,
+    };
+    match json.to_string(alloc) {
+        Ok(text) => text.as_str() == wanted,
+        Err(_) => false,
+    }
+}
+
+// Whether the value of a pair is told so, as a text or as JSON.
+fn holds(alloc: Global, row: &str, json: bool) -> Result<bool, Fail> {
+    let (pair, wanted) = Words::sides(row)?;
+    let unit = unit_of(alloc, pair.rest())?;
+    let Ok((group, _)) = group_in(alloc, unit.as_slice()) else {
+        return Ok(false);
+    };
+    match group.resource.as_slice() {
+        [(_, value)] if json => Ok(has_json(alloc, value, wanted.rest())),
+        [(_, value)] => Ok(is_told(alloc, value, wanted.rest())),
+        _ => Ok(false),
+    }
+}
+
+#[test]
+fn tells_values_as_texts(rt: HostRuntime) -> Result<(), Fail> {
+    for row in TEXTS.trim_matches('\n').lines() {
+        assert!(rt; holds(rt.alloc(), row, false)?, "{row}");
+    }
+    Ok(())
+}
+
 #[test]
 fn makes_json_values(rt: HostRuntime) -> Result<(), Fail> {
-    let alloc = rt.alloc();
-    let mut members = one(alloc, bytes(alloc, &[251, 255])?)?;
-    members.push(Value::Nothing)?;
-    members.push(Value::Truth(true))?;
-    members.push(Value::Text(Text::of(alloc, "a\"")?))?;
-    let several = under_k(alloc, Value::List(members))?;
-    let wanted = r#"{"k":["+/8=",null,true,"a\""]}"#;
-    assert!(rt; has_json(alloc, &several, Some(wanted)));
-    assert!(rt; has_json(alloc, &Value::Number(-5), Some("-5")));
-    assert!(rt; has_json(alloc, &under_k(alloc, ONE)?, None));
+    for row in JSON.trim_matches('\n').lines() {
+        assert!(rt; holds(rt.alloc(), row, true)?, "{row}");
+    }
     Ok(())
 }

@@ -174,25 +174,41 @@ fn limits_of(row: &Row) -> Result<Limits, Fail>
     Ok(limits)
 }
 
+// The form of an input and that of its output.
+fn forms_of(row: &Row) -> Result<(Form, Form), Fail> {
+    let (from, to) = parted(row, row.text("forms")?)?;
+    Ok((form_of(row, from)?, form_of(row, to)?))
+}
+
 impl Worked {
     pub fn read(alloc: Global, row: &Row) -> Result<Worked, Fail> {
         row.expect_keys(&KEYS)?;
-        let (from, to) = parted(row, row.text("forms")?)?;
+        let (from, to) = forms_of(row)?;
+        let end = end_of(row)?;
+        let limits = limits_of(row)?;
         let mut worked = Worked {
             name: row.name(),
-            from: form_of(row, from)?,
-            to: form_of(row, to)?,
+            from,
+            to,
             input: Blob::new(alloc),
             frames: Items::new(alloc),
             output: Blob::new(alloc),
-            end: end_of(row)?,
-            limits: limits_of(row)?,
+            end,
+            limits,
         };
-        for text in &row.texts(alloc, "frame")? {
-            worked.take_frame(alloc, row, text)?;
-        }
-        worked.take_output(alloc, row)?;
+        worked.take_fields(alloc, row)?;
         Ok(worked)
+    }
+
+    fn take_fields(&mut self, alloc: Global, row: &Row) -> Result<(), Fail> {
+        for field in row.fields() {
+            match field.key() {
+                "frame" => self.take_frame(alloc, row, field.text())?,
+                "output" => append_told(alloc, row, &mut self.output, self.to, field.text())?,
+                _ => {}
+            }
+        }
+        Ok(())
     }
 
     // Takes a frame: how much is written behind it, and its bytes.
@@ -204,11 +220,20 @@ impl Worked {
         Ok(self.frames.push(Frame { end, written })?)
     }
 
-    fn take_output(&mut self, alloc: Global, row: &Row) -> Result<(), Fail> {
-        for text in &row.texts(alloc, "output")? {
-            append_told(alloc, row, &mut self.output, self.to, text)?;
+    /// How many units and spans `finish` tells, or none where the conversion stops.
+    pub fn tally(&self) -> (u64, u64) {
+        match self.end {
+            End::Whole(units, spans) => (units, spans),
+            End::AtByte(..) | End::AtEnd(_) => (0, 0),
         }
-        Ok(())
+    }
+
+    /// Why the conversion stops, if it does.
+    pub fn stop(&self) -> Option<Found> {
+        match self.end {
+            End::Whole(..) => None,
+            End::AtByte(_, found) | End::AtEnd(found) => Some(found),
+        }
     }
 
     /// How many bytes of the output stand behind so many bytes of the input.

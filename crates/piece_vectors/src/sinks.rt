@@ -1,4 +1,5 @@
 //! Sinks that fail while pieces come: what a converter answers, and what was written.
+use crate::check::{NO_MEMORY, check, fed, finished};
 use crate::texts::{append_told, form_of, parted};
 use row_tables::{Row, rows};
 use span_convert::{Converter, Stop, Tally, Why, Written};
@@ -115,15 +116,6 @@ const KEYS: [&str; 8] = [
     "to", "room", "fails", "feed", "whole", "end", "text", "written",
 ];
 
-// The calls that fail.
-fn calls(alloc: Global, row: &Row) -> Result<Items<u64>, Fail> {
-    let mut items = Items::new(alloc);
-    for call in &row.texts(alloc, "fails")? {
-        items.push(row.number_in(call)?)?;
-    }
-    Ok(items)
-}
-
 fn stop_of(row: &Row, word: &str) -> Result<Option<Stop>, Fail> {
     match word {
         "goes" => Ok(None),
@@ -133,92 +125,139 @@ fn stop_of(row: &Row, word: &str) -> Result<Option<Stop>, Fail> {
     }
 }
 
-// What `finish` answers.
-fn end_of(row: &Row) -> Result<Result<Tally, Stop>, Fail> {
-    if let Some(text) = row.text_if_any("whole")? {
-        let (units, spans) = parted(row, text)?;
-        let units = row.number_in(units)?;
-        let spans = row.number_in(spans)?;
-        return Ok(Ok(Tally { units, spans }));
-    }
-    let word = row.text("end")?;
-    match stop_of(row, word)? {
-        Some(stop) => Ok(Err(stop)),
-        None => Err(row.fail("no end", word)),
+// What `finish` tells where it ends the text.
+fn tally_of(row: &Row) -> Result<Option<(u64, u64)>, Fail> {
+    match row.text_if_any("whole")? {
+        None => Ok(None),
+        Some(text) => {
+            let (units, spans) = parted(row, text)?;
+            Ok(Some((row.number_in(units)?, row.number_in(spans)?)))
+        }
     }
 }
 
-/// A conversion into a sink that fails, and all that would be written.
+// The stop that `finish` answers, if it doesn't end the text.
+fn end_of(row: &Row, tally: Option<(u64, u64)>) -> Result<Option<Stop>, Fail> {
+    match (tally, row.text_if_any("end")?) {
+        (Some(_), None) => Ok(None),
+        (None, Some(word)) => match stop_of(row, word)? {
+            None => Err(row.fail("no end", word)),
+            stop => Ok(stop),
+        },
+        _ => Err(row.fail("no end, or two", "whole, end")),
+    }
+}
+
+fn tally_in(answer: Result<Tally, Stop>) -> Option<(u64, u64)> {
+    match answer {
+        Ok(tally) => Some((tally.units, tally.spans)),
+        Err(_) => None,
+    }
+}
+
+/// A conversion into a sink that fails, what is fed, and all that would be written.
 #[derive(Drop)]
 struct Trial {
     converter: Converter,
     out: MemSink,
+    piece: Blob,
     text: Blob,
 }
 
-impl Trial {
-    fn new(alloc: Global, row: &Row) -> Result<Trial, Fail> {
-        let to = form_of(row, row.text("to")?)?;
-        let room = row.count("room")?;
-        let mut text = Blob::new(alloc);
-        if let Some(told) = row.text_if_any("text")? {
-            append_told(alloc, row, &mut text, to, told)?;
+// The calls that fail.
+fn append_calls(row: &Row, calls: &mut Items<u64>) -> Result<(), Fail> {
+    for field in row.fields() {
+        if field.key() == "fails" {
+            calls.push(row.number_in(field.text())?)?;
         }
-        let what = Written::Form(to);
-        Ok(Trial {
-            converter: Converter::new(alloc, Form::OtlpProto, what, &Limits::shipped()),
-            out: MemSink::new(alloc, room, calls(alloc, row)?)?,
-            text,
-        })
+    }
+    Ok(())
+}
+
+fn sink_of(rt: &impl Abort, alloc: Global, row: &Row) -> Result<MemSink, Fail> {
+    let room = row.count("room")?;
+    let mut calls = Items::new(alloc);
+    append_calls(row, &mut calls)?;
+    Ok(MemSink::new(alloc, room, calls).expect(rt, NO_MEMORY))
+}
+
+impl Trial {
+    fn new(rt: &impl Abort, alloc: Global, row: &Row) -> Result<Trial, Fail> {
+        let to = form_of(row, row.text("to")?)?;
+        let told = row.text_if_any("text")?;
+        let mut trial = Trial {
+            out: sink_of(rt, alloc, row)?,
+            converter: Converter::new(
+                alloc,
+                Form::OtlpProto,
+                Written::Form(to),
+                &Limits::shipped(),
+            ),
+            piece: Blob::new(alloc),
+            text: Blob::new(alloc),
+        };
+        append_told(alloc, row, &mut trial.text, to, told.unwrap_or(""))?;
+        Ok(trial)
     }
 
     // Feeds a piece, and looks at the answer.
-    fn feed(&mut self, rt: &impl Abort, alloc: Global, row: &Row, fed: &str) -> Result<(), Fail> {
-        let (written, rest) = parted(row, fed)?;
-        let (word, told) = rest.split_once(' ').unwrap_or((rest, ""));
-        let mut piece = Blob::new(alloc);
-        append_told(alloc, row, &mut piece, Form::OtlpProto, told)?;
+    fn feed(&mut self, rt: &impl Abort, alloc: Global, row: &Row, told: &str) -> Result<(), Fail> {
+        let (written, rest) = parted(row, told)?;
+        let (word, bytes) = rest.split_once(' ').unwrap_or((rest, ""));
         let wanted = stop_of(row, word)?;
         let written = row.count_in(written)?;
+        self.piece.clear();
+        append_told(alloc, row, &mut self.piece, Form::OtlpProto, bytes)?;
         let name = row.name();
-        assert!(rt; !self.converter.ended(), "{name} ended");
-        let stop = self.converter.feed(piece.as_slice(), &mut self.out).err();
-        assert!(rt; stop == wanted, "answer to {name}");
-        self.expect(rt, name, stop, written);
+        let piece = self.piece.as_slice();
+        let stop = fed(rt, name, &mut self.converter, piece, &mut self.out);
+        self.expect(rt, name, (stop, wanted), written);
         Ok(())
     }
 
     fn finish(&mut self, rt: &impl Abort, row: &Row) -> Result<(), Fail> {
-        let wanted = end_of(row)?;
+        let tally = tally_of(row)?;
+        let wanted = end_of(row, tally)?;
         let written = row.count("written")?;
         let name = row.name();
-        assert!(rt; !self.converter.ended(), "{name} ended");
-        let answer = self.converter.finish(&mut self.out);
-        assert!(rt; answer == wanted, "end of {name}");
-        self.expect(rt, name, answer.err(), written);
+        let answer = finished(rt, name, &mut self.converter, &mut self.out);
+        check(rt, tally_in(answer) == tally, "tally", name, written);
+        self.expect(rt, name, (answer.err(), wanted), written);
         Ok(())
     }
 
-    // What was written, and what is told of a stop: a refusal has its reason, and a failed write none.
-    fn expect(&self, rt: &impl Abort, name: &str, stop: Option<Stop>, written: usize) {
+    // What was answered and written, and what is told of a stop: a refusal has its reason, and a failed write none.
+    fn expect(
+        &self,
+        rt: &impl Abort,
+        name: &str,
+        stops: (Option<Stop>, Option<Stop>),
+        written: usize,
+    ) {
+        let (stop, wanted) = stops;
+        check(rt, stop == wanted, "answer", name, written);
         let text = self.text.as_slice().get(..written);
-        assert!(rt; Some(self.out.bytes()) == text, "text of {name}");
+        check(rt, Some(self.out.bytes()) == text, "text", name, written);
         let refused = matches!(self.converter.why(), Why::Refusal(_));
-        assert!(rt;
-            refused == (stop == Some(Stop::Refused)),
-            "reason of {name}"
-        );
+        let told = stop == Some(Stop::Refused);
+        check(rt, refused == told, "reason", name, written);
     }
 }
 
 // Feeds the pieces of a row, and looks at each answer.
-fn expect_row(rt: &impl Abort, alloc: Global, row: &Row) -> Result<(), Fail> {
+fn feed_row(rt: &impl Abort, alloc: Global, row: &Row, trial: &mut Trial) -> Result<(), Fail> {
     row.expect_keys(&KEYS)?;
-    let mut trial = Trial::new(alloc, row)?;
-    for fed in &row.texts(alloc, "feed")? {
-        trial.feed(rt, alloc, row, fed)?;
+    for field in row.fields() {
+        if field.key() == "feed" {
+            trial.feed(rt, alloc, row, field.text())?;
+        }
     }
     trial.finish(rt, row)
+}
+
+fn expect_row(rt: &impl Abort, alloc: Global, row: &Row) -> Result<(), Fail> {
+    let mut trial = Trial::new(rt, alloc, row)?;
+    feed_row(rt, alloc, row, &mut trial)
 }
 
 #[test]

@@ -5,41 +5,50 @@ use span_vectors::texts;
 use std::alloc::Global;
 use std::test::Fail;
 
-// The worked texts, by their names.
-const WORKED: [(&str, &str); 27] = [
-    ("CLIENT_COMPACT", texts::CLIENT_COMPACT),
-    ("CLIENT_SPANS", texts::CLIENT_SPANS),
-    ("CLIENT_SPANS_WRITTEN", texts::CLIENT_SPANS_WRITTEN),
-    ("CUT_SPAN", texts::CUT_SPAN),
-    ("DOUBLE_BATCH", texts::DOUBLE_BATCH),
-    ("DOUBLE_COMPACT", texts::DOUBLE_COMPACT),
-    ("FULL_GROUP", texts::FULL_GROUP),
-    ("FULL_REQUEST", texts::FULL_REQUEST),
-    ("LONGER_NAME", texts::LONGER_NAME),
-    ("LONG_NAME", texts::LONG_NAME),
-    ("MICROS_REQUEST", texts::MICROS_REQUEST),
-    ("ONE_GROUP", texts::ONE_GROUP),
-    ("ONE_SPAN", texts::ONE_SPAN),
-    ("ONE_ZIPKIN_SPAN", texts::ONE_ZIPKIN_SPAN),
-    ("PARENT_COMPACT", texts::PARENT_COMPACT),
-    ("ROOT_COMPACT", texts::ROOT_COMPACT),
-    ("SDK_BATCH", texts::SDK_BATCH),
-    ("SDK_COMPACT", texts::SDK_COMPACT),
-    ("SDK_GROUPS", texts::SDK_GROUPS),
-    ("SDK_REQUEST", texts::SDK_REQUEST),
-    ("SDK_SPANS", texts::SDK_SPANS),
-    ("SERVICE_ZIPKIN_SPAN", texts::SERVICE_ZIPKIN_SPAN),
-    ("SHARED_SPANS", texts::SHARED_SPANS),
-    ("SPANS_OF_CLIENT", texts::SPANS_OF_CLIENT),
-    ("SPAN_BATCH", texts::SPAN_BATCH),
-    ("SPAN_COMPACT", texts::SPAN_COMPACT),
-    ("UNKNOWN_FIELDS", texts::UNKNOWN_FIELDS),
+// The names of the worked texts.
+const NAMES: &str = r"
+CLIENT_COMPACT CLIENT_SPANS CLIENT_SPANS_WRITTEN CUT_SPAN DOUBLE_BATCH DOUBLE_COMPACT FULL_GROUP FULL_REQUEST
+LONGER_NAME LONG_NAME MICROS_REQUEST ONE_GROUP ONE_SPAN ONE_ZIPKIN_SPAN PARENT_COMPACT ROOT_COMPACT SDK_BATCH
+SDK_COMPACT SDK_GROUPS SDK_REQUEST SDK_SPANS SERVICE_ZIPKIN_SPAN SHARED_SPANS SPANS_OF_CLIENT SPAN_BATCH
+SPAN_COMPACT UNKNOWN_FIELDS
+";
+
+// The texts of these names, in their order.
+const WORKED: [&str; 27] = [
+    texts::CLIENT_COMPACT,
+    texts::CLIENT_SPANS,
+    texts::CLIENT_SPANS_WRITTEN,
+    texts::CUT_SPAN,
+    texts::DOUBLE_BATCH,
+    texts::DOUBLE_COMPACT,
+    texts::FULL_GROUP,
+    texts::FULL_REQUEST,
+    texts::LONGER_NAME,
+    texts::LONG_NAME,
+    texts::MICROS_REQUEST,
+    texts::ONE_GROUP,
+    texts::ONE_SPAN,
+    texts::ONE_ZIPKIN_SPAN,
+    texts::PARENT_COMPACT,
+    texts::ROOT_COMPACT,
+    texts::SDK_BATCH,
+    texts::SDK_COMPACT,
+    texts::SDK_GROUPS,
+    texts::SDK_REQUEST,
+    texts::SDK_SPANS,
+    texts::SERVICE_ZIPKIN_SPAN,
+    texts::SHARED_SPANS,
+    texts::SPANS_OF_CLIENT,
+    texts::SPAN_BATCH,
+    texts::SPAN_COMPACT,
+    texts::UNKNOWN_FIELDS,
 ];
 
 fn worked(row: &Row, name: &str) -> Result<&'static str, Fail> {
-    for (known, text) in &WORKED {
-        if *known == name {
-            return Ok(text);
+    let mut names = NAMES.split_ascii_whitespace();
+    for text in &WORKED {
+        if names.next() == Some(name) {
+            return Ok(*text);
         }
     }
     Err(row.fail("no worked text", name))
@@ -50,7 +59,8 @@ fn append_in(alloc: Global, bytes: &mut Blob, form: Form, told: &[u8]) -> Result
     if matches!(form, Form::OtlpJson | Form::ZipkinJson) {
         return Ok(bytes.append(told)?);
     }
-    Ok(bytes.append(hex::decode(alloc, told)?.as_slice())?)
+    let read = hex::decode(alloc, told)?;
+    Ok(bytes.append(read.as_slice())?)
 }
 
 fn append_word(
@@ -63,7 +73,8 @@ fn append_word(
     if let Some(name) = word.strip_prefix('@') {
         return append_in(alloc, bytes, form, worked(row, name)?.as_bytes());
     }
-    append_in(alloc, bytes, form, unescaped(alloc, word)?.as_slice())
+    let told = unescaped(alloc, word)?;
+    append_in(alloc, bytes, form, told.as_slice())
 }
 
 /// Appends what a text tells in a form: words, of which the first is the name of a worked text, or one text as it stands.

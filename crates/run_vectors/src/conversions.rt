@@ -3,10 +3,11 @@ ghost use Rattle.std.specs.Prelude.{◌≢◌, true, IfOk, IfSome};
 ghost use Rattle.span_convert.specs.Converters.{has_ended};
 ghost use Rattle.span_io.specs.Limits.{AreLimits};
 
-use crate::told::bytes_told;
+use crate::bench::sink;
+use crate::told::append_bytes;
 use row_tables::{Row, rows};
 use span_convert::{Bad, Converter, Stop, Tally, Why, Written, convert_all};
-use span_io::{Blob, Cause, Form, Items, Limits, MemSink, Refusal};
+use span_io::{Blob, Cause, Form, Limits, MemSink, Refusal};
 use span_vectors::texts::ONE_SPAN;
 use std::alloc::Global;
 use std::process::Abort;
@@ -14,46 +15,77 @@ use std::test::Fail;
 
 const TO_REQUEST: Written = Written::Form(Form::OtlpProto);
 
-fn refusal_of(converter: &Converter) -> Option<Refusal> {
+// The unit and the number of the cause of a refusal, or zeros where there is none.
+type Place = (u64, u64);
+
+fn place_of(refusal: &Refusal) -> Place {
+    (refusal.unit, u64::from(refusal.cause.number()))
+}
+
+fn place_in(converter: &Converter) -> Place {
     match converter.why() {
-        Why::Refusal(refusal) => Some(*refusal),
-        Why::Fault(_) | Why::Nothing => None,
+        Why::Refusal(refusal) => place_of(refusal),
+        Why::Fault(_) | Why::Nothing => (0, 0),
     }
 }
 
-fn proto_converter(alloc: Global) -> Converter
-    ensures { has_ended result ≢ true }
-{
+fn proto_converter(alloc: Global) -> Converter {
     Converter::new(alloc, Form::OtlpProto, TO_REQUEST, &Limits::shipped())
 }
 
-// What is answered for an input that is fed as one piece. A refusal is told where there is one.
+fn check_going(rt: &impl Abort, converter: &Converter)
+    ensures { has_ended converter.now ≢ true }
+{
+    assert!(rt; !converter.ended(), "a converter ended");
+}
+
+// Feeds a piece to a converter that hasn't ended.
+fn fed(
+    rt: &impl Abort,
+    converter: &mut Converter,
+    piece: &[u8],
+    out: &mut MemSink,
+) -> Result<(), Stop> {
+    check_going(rt, converter);
+    converter.feed(piece, out)
+}
+
+// Ends the input of a converter that hasn't ended.
+fn finished(rt: &impl Abort, converter: &mut Converter, out: &mut MemSink) -> Result<Tally, Stop> {
+    check_going(rt, converter);
+    converter.finish(out)
+}
+
+// Feeds an input as one piece, and ends it. Where that stops, the answer is the place of its refusal.
 fn converted(
-    mut converter: Converter,
+    rt: &impl Abort,
+    converter: &mut Converter,
     input: &[u8],
     out: &mut MemSink,
-) -> Result<Tally, Option<Refusal>>
-    requires { has_ended converter ≢ true }
-{
-    if converter.feed(input, out).is_err() {
-        return Err(refusal_of(&converter));
+) -> Result<Tally, Place> {
+    if fed(rt, converter, input, out).is_err() {
+        return Err(place_in(converter));
     }
-    if converter.ended() {
-        return Err(None);
-    }
-    match converter.finish(out) {
+    match finished(rt, converter, out) {
         Ok(tally) => Ok(tally),
-        Err(_) => Err(refusal_of(&converter)),
+        Err(_) => Err(place_in(converter)),
     }
 }
 
-// The refusal of an input in one call, if it is refused.
-fn refused_at_once(alloc: Global, from: Form, input: &[u8], limits: &Limits) -> Option<Refusal>
+// Converts an input to a request in one call.
+fn at_once(alloc: Global, from: Form, input: &[u8], limits: &Limits) -> Result<Blob, Bad>
     requires { AreLimits limits.now }
 {
-    match convert_all(alloc, from, Form::OtlpProto, input, limits) {
-        Err(Bad::Refused(refusal)) => Some(refusal),
-        _ => None,
+    convert_all(alloc, from, Form::OtlpProto, input, limits)
+}
+
+// The place of the refusal of an input in one call, if it is refused.
+fn refused_at_once(alloc: Global, from: Form, input: &[u8], limits: &Limits) -> Place
+    requires { AreLimits limits.now }
+{
+    match at_once(alloc, from, input, limits) {
+        Err(Bad::Refused(refusal)) => place_of(&refusal),
+        _ => (0, 0),
     }
 }
 
@@ -153,48 +185,65 @@ fn limits_told(row: &Row) -> Result<Limits, Fail>
     }
 }
 
-// The unit and the number of the cause of a refusal.
-fn place_of(refusal: Refusal) -> (u64, u64) {
-    (refusal.unit, u64::from(refusal.cause.number()))
-}
-
-// The refusal of a row, or none where it tells none.
-fn refusal_told(row: &Row) -> Result<Option<(u64, u64)>, Fail> {
+// The place of the refusal that a row tells.
+fn place_told(row: &Row) -> Result<Place, Fail> {
     match row.number_if_any("cause")? {
-        Some(cause) => Ok(Some((row.number("unit")?, cause))),
-        None => Ok(None),
+        Some(cause) => Ok((row.number("unit")?, cause)),
+        None => Ok((0, 0)),
     }
 }
 
-fn expect_limited(rt: &impl Abort, alloc: Global, row: &Row) -> Result<(), Fail> {
+// Looks at whether bytes and places are those that are wanted.
+fn expect(rt: &impl Abort, name: &str, given: (Place, &[u8]), wanted: (Place, &[u8])) {
+    assert!(rt; given.0 == wanted.0, "refusal of {name}");
+    assert!(rt; given.1 == wanted.1, "text of {name}");
+}
+
+// What is read of the rows: an input, and what is written of it.
+#[derive(Drop)]
+struct Texts {
+    input: Blob,
+    output: Blob,
+}
+
+fn read_texts(alloc: Global, row: &Row, texts: &mut Texts) -> Result<(), Fail> {
     row.expect_keys(&KEYS)?;
-    let name = row.name();
+    texts.input.clear();
+    texts.output.clear();
+    append_bytes(alloc, row, "input", &mut texts.input)?;
+    append_bytes(alloc, row, "output", &mut texts.output)
+}
+
+fn expect_limited(
+    rt: &impl Abort,
+    alloc: Global,
+    row: &Row,
+    texts: &mut Texts,
+) -> Result<(), Fail> {
+    read_texts(alloc, row, texts)?;
     let form = form_told(row)?;
     let limits = limits_told(row)?;
-    let refusal = refusal_told(row)?;
-    let input = bytes_told(alloc, row, "input")?;
-    let written = bytes_told(alloc, row, "output")?;
-    let mut out = MemSink::new(alloc, 100, Items::new(alloc))?;
-    let converter = Converter::new(alloc, form, TO_REQUEST, &limits);
-    let answer = converted(converter, input.as_slice(), &mut out);
-    assert!(rt;
-        answer.err().flatten().map(place_of) == refusal,
-        "refusal of {name}"
-    );
-    assert!(rt; out.bytes() == written.as_slice(), "text of {name}");
-    let at_once = refused_at_once(alloc, form, input.as_slice(), &limits);
-    assert!(rt;
-        at_once.map(place_of) == refusal,
-        "refusal of {name} in one call"
-    );
+    let place = place_told(row)?;
+    let input = texts.input.as_slice();
+    let output = texts.output.as_slice();
+    let mut out = sink(rt, alloc, 100, None);
+    let mut converter = Converter::new(alloc, form, TO_REQUEST, &limits);
+    let answer = converted(rt, &mut converter, input, &mut out);
+    let given = (answer.err().unwrap_or((0, 0)), out.bytes());
+    expect(rt, row.name(), given, (place, output));
+    let at_once = refused_at_once(alloc, form, input, &limits);
+    expect(rt, row.name(), (at_once, output), (place, output));
     Ok(())
 }
 
 #[test]
 fn keeps_limits(rt: HostRuntime) -> Result<(), Fail> {
-    let rows = rows(rt.alloc(), LIMITED)?;
-    for row in &rows {
-        expect_limited(&rt, rt.alloc(), row)?;
+    let mut texts = Texts {
+        input: Blob::new(rt.alloc()),
+        output: Blob::new(rt.alloc()),
+    };
+    for row in &rows(rt.alloc(), LIMITED)? {
+        expect_limited(&rt, rt.alloc(), row, &mut texts)?;
     }
     Ok(())
 }
@@ -203,71 +252,77 @@ fn digit(n: u32) -> u8 {
     b'0' + (n % 10) as u8
 }
 
-// A group whose resource has 1,000 attributes without values, of keys k0000 to k0999, rising or
-// falling.
-fn thousand_keys(alloc: Global, falling: bool) -> Result<Blob, Fail> {
-    let mut group = Blob::new(alloc);
-    group.append(&[0x0a, 0xab, 0x46, 0x0a, 0xa8, 0x46])?;
+// Appends a group whose resource has 1,000 attributes without values, of keys k0000 to k0999, rising or falling.
+fn append_keys(rt: &impl Abort, group: &mut Blob, falling: bool) {
+    let front = [0x0a, 0xab, 0x46, 0x0a, 0xa8, 0x46].as_slice();
+    group.append(front).expect(rt, "front");
     for n in 0..1000_u32 {
         let number = if falling {
             999_u32.saturating_sub(n)
         } else {
             n
         };
-        group.append(&[0x0a, 7, 0x0a, 5, b'k', b'0'])?;
-        group.append(&[digit(number / 100), digit(number / 10), digit(number)])?;
+        let last = digit(number);
+        let key = [
+            0x0a,
+            7,
+            0x0a,
+            5,
+            b'k',
+            b'0',
+            digit(number / 100),
+            digit(number / 10),
+            last,
+        ];
+        group.append(key.as_slice()).expect(rt, "a key");
     }
-    Ok(group)
 }
 
 // The same of one key with 1,000 numbers, the last of which is 103.
-fn thousand_values(alloc: Global) -> Result<Blob, Fail> {
-    let mut group = Blob::new(alloc);
-    group.append(&[0x0a, 0xcb, 0x65, 0x0a, 0xc8, 0x65])?;
+fn append_values(rt: &impl Abort, group: &mut Blob) {
+    let front = [0x0a, 0xcb, 0x65, 0x0a, 0xc8, 0x65].as_slice();
+    group.append(front).expect(rt, "front");
     for n in 0..1000_u32 {
         let number = (n % 128) as u8;
-        group.append(&[
+        let pair = [
             0x0a, 11, 0x0a, 5, b'k', b'0', b'0', b'0', b'0', 0x12, 2, 0x18, number,
-        ])?;
+        ];
+        group.append(pair.as_slice()).expect(rt, "a pair");
     }
-    Ok(group)
+}
+
+const LAST_VALUE: [u8; 17] = [
+    0x0a, 15, 0x0a, 13, 0x0a, 11, 0x0a, 5, b'k', b'0', b'0', b'0', b'0', 0x12, 2, 0x18, 103,
+];
+
+// Converts a request to one in one call.
+fn expect_request(rt: &impl Abort, alloc: Global, name: &str, input: &[u8], output: &[u8]) {
+    let Ok(text) = at_once(alloc, Form::OtlpProto, input, &Limits::shipped()) else {
+        panic!(rt; "refused");
+    };
+    expect(rt, name, ((0, 0), text.as_slice()), ((0, 0), output));
 }
 
 #[test]
-fn keeps_the_last_of_equal_keys(rt: HostRuntime) -> Result<(), Fail> {
-    let form = Form::OtlpProto;
-    let limits = Limits::shipped();
-    let rising = thousand_keys(rt.alloc(), false)?;
-    let falling = thousand_keys(rt.alloc(), true)?;
-    for input in [rising.as_slice(), falling.as_slice()] {
-        let Ok(text) = convert_all(rt.alloc(), form, form, input, &limits) else {
-            panic!(rt; "refused");
-        };
-        assert!(rt; text.as_slice() == rising.as_slice());
-    }
-    let values = thousand_values(rt.alloc())?;
-    let Ok(text) = convert_all(rt.alloc(), form, form, values.as_slice(), &limits) else {
-        panic!(rt; "refused");
-    };
-    assert!(rt;
-        text.as_slice()
-            == [
-                0x0a, 15, 0x0a, 13, 0x0a, 11, 0x0a, 5, b'k', b'0', b'0', b'0', b'0', 0x12, 2, 0x18,
-                103
-            ]
-            .as_slice()
-    );
-    Ok(())
+fn keeps_the_last_of_equal_keys(rt: HostRuntime) {
+    let mut rising = Blob::new(rt.alloc());
+    let mut other = Blob::new(rt.alloc());
+    append_keys(&rt, &mut rising, false);
+    append_keys(&rt, &mut other, true);
+    let keys = rising.as_slice();
+    expect_request(&rt, rt.alloc(), "rising keys", keys, keys);
+    expect_request(&rt, rt.alloc(), "falling keys", other.as_slice(), keys);
+    other.clear();
+    append_values(&rt, &mut other);
+    let last = LAST_VALUE.as_slice();
+    expect_request(&rt, rt.alloc(), "one key", other.as_slice(), last);
 }
 
-// So many groups of 9,006 bytes each.
-fn many_keys(alloc: Global, groups: u32) -> Result<Blob, Fail> {
-    let group = thousand_keys(alloc, false)?;
-    let mut input = Blob::new(alloc);
+// Appends so many groups of 9,006 bytes each.
+fn append_groups(rt: &impl Abort, input: &mut Blob, groups: u32) {
     for _ in 0..groups {
-        input.append(group.as_slice())?;
+        append_keys(rt, input, false);
     }
-    Ok(input)
 }
 
 // Converts the input with an output that fails at a call, and looks at the answer and at how much was written.
@@ -275,63 +330,59 @@ fn expect_taken(
     rt: &impl Abort,
     alloc: Global,
     input: &[u8],
-    (call, answer, taken): (u64, Result<Tally, Option<Refusal>>, usize),
-) -> Result<(), Fail> {
-    let mut calls = Items::new(alloc);
-    calls.push(call)?;
-    let mut out = MemSink::new(alloc, 150_000, calls)?;
-    assert!(rt; converted(proto_converter(alloc), input, &mut out) == answer);
-    assert!(rt; Some(out.bytes()) == input.get(..taken));
-    Ok(())
+    call: u64,
+    (units, taken): (u64, usize),
+) {
+    let mut out = sink(rt, alloc, 150_000, Some(call));
+    let mut converter = proto_converter(alloc);
+    let answer = converted(rt, &mut converter, input, &mut out);
+    let wanted = if units > 0 {
+        Ok(Tally { units, spans: 0 })
+    } else {
+        Err((0, 0))
+    };
+    assert!(rt; answer == wanted, "call {call}");
+    assert!(rt; Some(out.bytes()) == input.get(..taken), "call {call}");
 }
 
 // Each eighth group fills the text that is written at once. The output fails at no call, the first or
 // the second; then it has what was written before.
 #[test]
-fn writes_long_texts(rt: HostRuntime) -> Result<(), Fail> {
-    let input = many_keys(rt.alloc(), 16)?;
-    let whole = Tally {
-        units: 16,
-        spans: 0,
-    };
-    expect_taken(&rt, rt.alloc(), input.as_slice(), (9, Ok(whole), 144_096))?;
-    expect_taken(&rt, rt.alloc(), input.as_slice(), (1, Err(None), 0))?;
-    expect_taken(&rt, rt.alloc(), input.as_slice(), (2, Err(None), 72_048))?;
-    Ok(())
+fn writes_long_texts(rt: HostRuntime) {
+    let mut input = Blob::new(rt.alloc());
+    append_groups(&rt, &mut input, 16);
+    expect_taken(&rt, rt.alloc(), input.as_slice(), 9, (16, 144_096));
+    expect_taken(&rt, rt.alloc(), input.as_slice(), 1, (0, 0));
+    expect_taken(&rt, rt.alloc(), input.as_slice(), 2, (0, 72_048));
 }
 
 // An output that grows to more than 2 ^ 20 bytes.
 #[test]
-fn grows_with_its_text(rt: HostRuntime) -> Result<(), Fail> {
-    let long = many_keys(rt.alloc(), 120)?;
-    let form = Form::OtlpProto;
-    let limits = Limits::shipped();
-    let Ok(text) = convert_all(rt.alloc(), form, form, long.as_slice(), &limits) else {
-        panic!(rt; "refused");
-    };
-    assert!(rt; text.as_slice() == long.as_slice());
-    Ok(())
+fn grows_with_its_text(rt: HostRuntime) {
+    let mut long = Blob::new(rt.alloc());
+    append_groups(&rt, &mut long, 120);
+    let text = long.as_slice();
+    expect_request(&rt, rt.alloc(), "many groups", text, text);
+}
+
+// Feeds a piece behind which the converter is stopped.
+fn expect_refused(rt: &impl Abort, converter: &mut Converter, piece: &[u8], out: &mut MemSink) {
+    let fed = fed(rt, converter, piece, out);
+    assert!(rt; fed == Err(Stop::Refused), "fed");
+    let place = (2, u64::from(Cause::BadWire.number()));
+    let given = (place_in(converter), out.bytes());
+    expect(rt, "a stop", given, (place, [0x0a, 0].as_slice()));
 }
 
 // Behind a refusal each call answers the same, and writes nothing.
 #[test]
-fn stays_stopped(rt: HostRuntime) -> Result<(), Fail> {
-    let mut out = MemSink::new(rt.alloc(), 40, Items::new(rt.alloc()))?;
+fn stays_stopped(rt: HostRuntime) {
+    let mut out = sink(&rt, rt.alloc(), 40, None);
     let mut converter = proto_converter(rt.alloc());
-    let fed = converter.feed(&[0x0a, 0, 0x0b], &mut out);
-    assert!(rt; fed == Err(Stop::Refused));
-    assert!(rt; converter.finish(&mut out) == Err(Stop::Refused));
-    let more = hex::decode(rt.alloc(), ONE_SPAN)?;
-    let fed = converter.feed(more.as_slice(), &mut out);
-    assert!(rt; fed == Err(Stop::Refused));
-    assert!(rt;
-        refusal_of(&converter)
-            == Some(Refusal {
-                unit: 2,
-                cause: Cause::BadWire,
-            })
-    );
-    assert!(rt; !converter.ended());
-    assert!(rt; out.bytes() == [0x0a, 0].as_slice());
-    Ok(())
+    let more = hex::decode(rt.alloc(), ONE_SPAN).expect(&rt, "a span");
+    expect_refused(&rt, &mut converter, &[0x0a, 0, 0x0b], &mut out);
+    let finished = finished(&rt, &mut converter, &mut out);
+    assert!(rt; finished == Err(Stop::Refused), "finished");
+    expect_refused(&rt, &mut converter, more.as_slice(), &mut out);
+    assert!(rt; !converter.ended(), "ended");
 }

@@ -240,4 +240,52 @@ VALUE
 what The front of a document of one span with one attribute, behind which its value stands.
 text {"resourceSpans":[{"scopeSpans":[{"spans":[{"traceId":"00000000000000000000000000000001","spanId":"0000000000000002",
  "name":"a","attributes":[{"key":"k","value":
+
+LISTS_24
+what A value of 24 lists, one in the other, in JSON.
+text {"arrayValue":{"values":[{"arrayValue":{"values":[{"arrayValue":{"values":[{"arrayValue":{"values":[{"arrayValue":{
+ "values":[{"arrayValue":{"values":[{"arrayValue":{"values":[{"arrayValue":{"values":[{"arrayValue":{"values":[{
+ "arrayValue":{"values":[{"arrayValue":{"values":[{"arrayValue":{"values":[{"arrayValue":{"values":[{"arrayValue":{"values":
+ [{"arrayValue":{"values":[{"arrayValue":{"values":[{"arrayValue":{"values":[{"arrayValue":{"values":[{"arrayValue":{
+ "values":[{"arrayValue":{"values":[{"arrayValue":{"values":[{"arrayValue":{"values":[{"arrayValue":{"values":[{
+ "arrayValue":{}}]}}]}}]}}]}}]}}]}}]}}]}}]}}]}}]}}]}}]}}]}}]}}]}}]}}]}}]}}]}}]}}]}}]}}
+
+LISTS_24_MESSAGE
+what The same in protobuf.
+text 2a5c0a5a2a580a562a540a522a500a4e2a4c0a4a2a480a462a440a422a400a3e2a3c0a3a2a380a362a340a322a300a2e2a2c0a2a2a280a262a
+ 240a222a200a1e2a1c0a1a2a180a162a140a122a100a0e2a0c0a0a2a080a062a040a022a00
+
+TURNS_23
+what A value of 23 lists and maps in turn, a list first, in JSON.
+text {"arrayValue":{"values":[{"kvlistValue":{"values":[{"key":"k","value":{"arrayValue":{"values":[{"kvlistValue":{
+ "values":[{"key":"k","value":{"arrayValue":{"values":[{"kvlistValue":{"values":[{"key":"k","value":{"arrayValue":{"values":
+ [{"kvlistValue":{"values":[{"key":"k","value":{"arrayValue":{"values":[{"kvlistValue":{"values":[{"key":"k","value":{
+ "arrayValue":{"values":[{"kvlistValue":{"values":[{"key":"k","value":{"arrayValue":{"values":[{"kvlistValue":{"values":[{
+ "key":"k","value":{"arrayValue":{"values":[{"kvlistValue":{"values":[{"key":"k","value":{"arrayValue":{"values":[{
+ "kvlistValue":{"values":[{"key":"k","value":{"arrayValue":{"values":[{"kvlistValue":{"values":[{"key":"k","value":{
+ "arrayValue":{"values":[{"kvlistValue":{"values":[{"key":"k","value":{"arrayValue":
+ {}}}]}}]}}}]}}]}}}]}}]}}}]}}]}}}]}}]}}}]}}]}}}]}}]}}}]}}]}}}]}}]}}}]}}]}}}]}}]}}
+
+TURNS_23_MESSAGE
+what The same in protobuf.
+text 2a95010a9201328f010a8c010a016b1286012a83010a8001327e0a7c0a016b12772a750a7332710a6f0a016b126a2a680a6632640a620a016b
+ 125d2a5b0a5932570a550a016b12502a4e0a4c324a0a480a016b12432a410a3f323d0a3b0a016b12362a340a3232300a2e0a016b12292a270a2532230a
+ 210a016b121c2a1a0a1832160a140a016b120f2a0d0a0b32090a070a016b12022a00
+
+TURNS_24
+what One of 24.
+text {"arrayValue":{"values":[{"kvlistValue":{"values":[{"key":"k","value":{"arrayValue":{"values":[{"kvlistValue":{
+ "values":[{"key":"k","value":{"arrayValue":{"values":[{"kvlistValue":{"values":[{"key":"k","value":{"arrayValue":{"values":
+ [{"kvlistValue":{"values":[{"key":"k","value":{"arrayValue":{"values":[{"kvlistValue":{"values":[{"key":"k","value":{
+ "arrayValue":{"values":[{"kvlistValue":{"values":[{"key":"k","value":{"arrayValue":{"values":[{"kvlistValue":{"values":[{
+ "key":"k","value":{"arrayValue":{"values":[{"kvlistValue":{"values":[{"key":"k","value":{"arrayValue":{"values":[{
+ "kvlistValue":{"values":[{"key":"k","value":{"arrayValue":{"values":[{"kvlistValue":{"values":[{"key":"k","value":{
+ "arrayValue":{"values":[{"kvlistValue":{"values":[{"key":"k","value":{"arrayValue":{"values":[{"kvlistValue":
+ {}}]}}}]}}]}}}]}}]}}}]}}]}}}]}}]}}}]}}]}}}]}}]}}}]}}]}}}]}}]}}}]}}]}}}]}}]}}}]}}]}}
+
+TURNS_24_MESSAGE
+what The same in protobuf.
+text 2a9b010a98013295010a92010a016b128c012a89010a86013283010a80010a016b127b2a790a7732750a730a016b126e2a6c0a6a32680a660a
+ 016b12612a5f0a5d325b0a590a016b12542a520a50324e0a4c0a016b12472a450a4332410a3f0a016b123a2a380a3632340a320a016b122d2a2b0a2932
+ 270a250a016b12202a1e0a1c321a0a180a016b12132a110a0f320d0a0b0a016b12062a040a023200
 "#;

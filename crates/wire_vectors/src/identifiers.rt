@@ -1,19 +1,18 @@
 //! Identifiers and times. The trace and the span are those of the `traceparent` that W3C Trace Context
 //! has as an example for a trace of several services.
-use crate::texts::{bytes_of, ends, lines};
-use row_tables::Words;
+use crate::texts::word_of;
 use span_ids::{BadId, IdRule, Nanos, SpanId, TraceId};
 use std::test::Fail;
 
 // Bytes, and the two halves of the trace identifier that they are, as jaeger.thrift has it.
-const TRACES: &str = "
+pub(crate) const TRACES: &str = "
 0af7651916cd43dd8448eb211c80319c => 0af7651916cd43dd 8448eb211c80319c
 00000000000000000000000000000001 => 0000000000000000 0000000000000001
 00000000000000010000000000000000 => 0000000000000001 0000000000000000
 ";
 
 // Bytes, and the number of the span identifier that they are.
-const SPANS: &str = "
+pub(crate) const SPANS: &str = "
 b7ad6b7169203331 => b7ad6b7169203331
 0000000000000001 => 0000000000000001
 ";
@@ -23,40 +22,40 @@ const NO_TRACES: [&[u8]; 3] = [&[0; 16], &[1; 15], &[1; 17]];
 
 const NO_SPANS: [&[u8]; 3] = [&[0; 8], &[1; 7], &[1; 9]];
 
-// The next word as a number in hexadecimal.
-fn hex_of(words: &mut Words<'_>) -> Result<u64, Fail> {
-    match u64::from_str_radix(words.word(), 16) {
-        Ok(number) => Ok(number),
-        Err(_) => Err(words.fail("no number")),
+// The number of a word in hexadecimal.
+fn hex_of(word: &str) -> Option<u64> {
+    u64::from_str_radix(word, 16).ok()
+}
+
+// The halves of a trace identifier, and what stands behind them.
+fn halves_of(text: &str) -> Option<(u64, u64, &str)> {
+    let (high, rest) = word_of(text);
+    let (low, rest) = word_of(rest);
+    Some((hex_of(high)?, hex_of(low)?, rest))
+}
+
+/// Whether these bytes are the trace identifier of which a row tells the halves.
+pub(crate) fn is_trace(bytes: &[u8], wanted: &str) -> bool {
+    let Some((high, low, "")) = halves_of(wanted) else {
+        return false;
+    };
+    match (TraceId::from_bytes(bytes), TraceId::from_halves(high, low)) {
+        (Ok(trace), Ok(back)) => {
+            trace.halves() == (high, low) && back.to_bytes().as_slice() == bytes
+        }
+        _ => false,
     }
 }
 
-#[test]
-fn reads_bytes_and_numbers(rt: HostRuntime) -> Result<(), Fail> {
-    for row in lines(TRACES) {
-        let (given, mut answer) = Words::sides(row)?;
-        let high = hex_of(&mut answer)?;
-        let low = hex_of(&mut answer)?;
-        let bytes = bytes_of(rt.alloc(), given.rest())?;
-        let trace = TraceId::from_bytes(bytes.as_slice())?;
-        let back = TraceId::from_halves(high, low)?.to_bytes();
-        assert!(rt;
-            trace.halves() == (high, low) && back.as_slice() == bytes.as_slice(),
-            "{row}"
-        );
+/// The same of a span identifier and its number.
+pub(crate) fn is_span(bytes: &[u8], wanted: &str) -> bool {
+    let Some(number) = hex_of(wanted) else {
+        return false;
+    };
+    match (SpanId::from_bytes(bytes), SpanId::from_number(number)) {
+        (Ok(span), Ok(back)) => span.number() == number && back.to_bytes().as_slice() == bytes,
+        _ => false,
     }
-    for row in lines(SPANS) {
-        let (given, mut answer) = Words::sides(row)?;
-        let number = hex_of(&mut answer)?;
-        let bytes = bytes_of(rt.alloc(), given.rest())?;
-        let span = SpanId::from_bytes(bytes.as_slice())?;
-        let back = SpanId::from_number(number)?.to_bytes();
-        assert!(rt;
-            span.number() == number && back.as_slice() == bytes.as_slice(),
-            "{row}"
-        );
-    }
-    Ok(())
 }
 
 #[test]
@@ -67,8 +66,8 @@ fn refuses_bytes_and_numbers(rt: HostRuntime) {
     for bytes in &NO_SPANS {
         assert!(rt; SpanId::from_bytes(bytes) == Err(BadId));
     }
-    assert!(rt; TraceId::from_halves(0, 0) == Err(BadId));
-    assert!(rt; SpanId::from_number(0) == Err(BadId));
+    let numbers = TraceId::from_halves(0, 0) == Err(BadId) && SpanId::from_number(0) == Err(BadId);
+    assert!(rt; numbers);
 }
 
 const RULES: [IdRule; 4] = [
@@ -79,7 +78,7 @@ const RULES: [IdRule; 4] = [
 ];
 
 // A text, the two halves of the trace identifier that it is, and for each rule whether it takes the text.
-const TRACE_TEXTS: &str = "
+pub(crate) const TRACE_TEXTS: &str = "
 0af7651916cd43dd8448eb211c80319c => 0af7651916cd43dd 8448eb211c80319c yes yes yes yes
 0AF7651916CD43DD8448EB211C80319C => 0af7651916cd43dd 8448eb211c80319c yes no yes yes
 0af7651916cd43dd8448eb211c80319C => 0af7651916cd43dd 8448eb211c80319c yes no yes yes
@@ -95,7 +94,7 @@ af7651916cd43dd8448eb211c80319c => 0af7651916cd43dd 8448eb211c80319c no no no ye
 ";
 
 // The same of a span identifier and its number.
-const SPAN_TEXTS: &str = "
+pub(crate) const SPAN_TEXTS: &str = "
 b7ad6b7169203331 => b7ad6b7169203331 yes yes yes yes
 B7AD6B7169203331 => b7ad6b7169203331 yes no yes yes
 1 => 0000000000000001 no no no yes
@@ -106,67 +105,55 @@ b7ad6b716920333g => 0000000000000001 no no no no
 -000000000000001 => 0000000000000001 no no no no
 ";
 
-fn is_taken(words: &mut Words<'_>) -> Result<bool, Fail> {
-    match words.word() {
-        "yes" => Ok(true),
-        "no" => Ok(false),
-        _ => Err(words.fail("neither yes nor no")),
-    }
-}
-
-#[test]
-fn reads_traces_in_hex(rt: HostRuntime) -> Result<(), Fail> {
-    for row in lines(TRACE_TEXTS) {
-        let (given, mut answer) = Words::sides(row)?;
-        let high = hex_of(&mut answer)?;
-        let low = hex_of(&mut answer)?;
-        let id = TraceId::from_halves(high, low);
-        for rule in &RULES {
-            let wanted = if is_taken(&mut answer)? {
-                id
-            } else {
-                Err(BadId)
-            };
-            assert!(rt;
-                TraceId::read_hex(given.rest().as_bytes(), *rule) == wanted,
-                "{row}"
-            );
+/// Whether a text is read as the identifier that a row tells, by the rules for which it says `yes`, and by no other.
+pub(crate) fn is_trace_text(text: &str, wanted: &str) -> bool {
+    let Some((high, low, mut rest)) = halves_of(wanted) else {
+        return false;
+    };
+    let id = TraceId::from_halves(high, low);
+    for rule in &RULES {
+        let (answer, others) = word_of(rest);
+        rest = others;
+        let same = match answer {
+            "yes" => TraceId::read_hex(text.as_bytes(), *rule) == id,
+            "no" => TraceId::read_hex(text.as_bytes(), *rule) == Err(BadId),
+            _ => false,
+        };
+        if !same {
+            return false;
         }
-        ends(&answer)?;
     }
-    Ok(())
+    rest.is_empty()
 }
 
-#[test]
-fn reads_spans_in_hex(rt: HostRuntime) -> Result<(), Fail> {
-    for row in lines(SPAN_TEXTS) {
-        let (given, mut answer) = Words::sides(row)?;
-        let id = SpanId::from_number(hex_of(&mut answer)?);
-        for rule in &RULES {
-            let wanted = if is_taken(&mut answer)? {
-                id
-            } else {
-                Err(BadId)
-            };
-            assert!(rt;
-                SpanId::read_hex(given.rest().as_bytes(), *rule) == wanted,
-                "{row}"
-            );
+/// The same of a span identifier.
+pub(crate) fn is_span_text(text: &str, wanted: &str) -> bool {
+    let (number, mut rest) = word_of(wanted);
+    let Some(number) = hex_of(number) else {
+        return false;
+    };
+    let id = SpanId::from_number(number);
+    for rule in &RULES {
+        let (answer, others) = word_of(rest);
+        rest = others;
+        let same = match answer {
+            "yes" => SpanId::read_hex(text.as_bytes(), *rule) == id,
+            "no" => SpanId::read_hex(text.as_bytes(), *rule) == Err(BadId),
+            _ => false,
+        };
+        if !same {
+            return false;
         }
-        ends(&answer)?;
     }
-    Ok(())
+    rest.is_empty()
 }
 
-#[test]
-fn writes_hex(rt: HostRuntime) -> Result<(), Fail> {
+fn are_in_hex(trace: TraceId, span: SpanId) -> bool {
     let mut text = [0; 32];
-    TraceId::from_halves(0x0af7_6519_16cd_43dd, 0x8448_eb21_1c80_319c)?.write_hex(&mut text);
-    assert!(rt; &text == b"0af7651916cd43dd8448eb211c80319c");
-    let mut text = [0; 16];
-    SpanId::from_number(0xb7ad_6b71_6920_3331)?.write_hex(&mut text);
-    assert!(rt; &text == b"b7ad6b7169203331");
-    Ok(())
+    trace.write_hex(&mut text);
+    let mut short = [0; 16];
+    span.write_hex(&mut short);
+    &text == b"0af7651916cd43dd8448eb211c80319c" && &short == b"b7ad6b7169203331"
 }
 
 // Nanoseconds, their microseconds, and the nanoseconds of these. The last time that fits is in the year 2554.
@@ -181,26 +168,40 @@ const TIMES: [(u64, u64, u64); 4] = [
     (u64::MAX, 18_446_744_073_709_551, 18_446_744_073_709_551_000),
 ];
 
+fn is_time(nanos: u64, micros: u64, floor: u64) -> bool {
+    let time = Nanos(nanos);
+    time.micros() == micros
+        && time.floor() == Nanos(floor)
+        && Nanos::of_micros(micros) == Some(Nanos(floor))
+}
+
 #[test]
 fn counts_microseconds(rt: HostRuntime) {
     for (nanos, micros, floor) in &TIMES {
-        let time = Nanos(*nanos);
-        let back = Nanos::of_micros(*micros);
-        let floored = time.floor() == Nanos(*floor) && back == Some(Nanos(*floor));
-        assert!(rt; time.micros() == *micros && floored, "{nanos}");
+        assert!(rt; is_time(*nanos, *micros, *floor), "{nanos}");
     }
-    for micros in [18_446_744_073_709_552, u64::MAX] {
-        assert!(rt; Nanos::of_micros(micros) == None, "{micros}");
-    }
+    let above = Nanos::of_micros(18_446_744_073_709_552);
+    assert!(rt; above == None && Nanos::of_micros(u64::MAX) == None);
 }
 
 // The first byte counts most.
+fn are_ordered(trace: TraceId, span: SpanId) -> bool {
+    let (Ok(above), Ok(later)) = (
+        TraceId::from_bytes(&[0x0b; 16]),
+        SpanId::from_bytes(&[0xb8, 0, 0, 0, 0, 0, 0, 0]),
+    ) else {
+        return false;
+    };
+    trace < above
+        && span < later
+        && Nanos(1_544_712_660_000_000_000) < Nanos(1_544_712_661_000_000_000)
+}
+
 #[test]
-fn orders(rt: HostRuntime) -> Result<(), Fail> {
+fn writes_hex_and_orders(rt: HostRuntime) -> Result<(), Fail> {
     let trace = TraceId::from_halves(0x0af7_6519_16cd_43dd, 0x8448_eb21_1c80_319c)?;
     let span = SpanId::from_number(0xb7ad_6b71_6920_3331)?;
-    assert!(rt; trace < TraceId::from_bytes(&[0x0b; 16])?);
-    assert!(rt; span < SpanId::from_bytes(&[0xb8, 0, 0, 0, 0, 0, 0, 0])?);
-    assert!(rt; Nanos(1_544_712_660_000_000_000) < Nanos(1_544_712_661_000_000_000));
+    assert!(rt; are_in_hex(trace, span));
+    assert!(rt; are_ordered(trace, span));
     Ok(())
 }

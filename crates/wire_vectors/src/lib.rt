@@ -11,6 +11,8 @@ mod outside;
 #[cfg(test)]
 mod pieces;
 #[cfg(test)]
+mod tables;
+#[cfg(test)]
 mod texts;
 #[cfg(test)]
 mod thrift;

@@ -8,6 +8,7 @@ use json_members::{
 use json_nodes::{Lent, bytes_nodes, text_nodes};
 use span_ids::{SpanId, TraceId};
 use span_io::{Cause, Halt, OutOfMemory, Refusal, Text};
+use std::alloc::Global;
 use std::test::Fail;
 
 // An object, and its member `a` as a number.
@@ -21,18 +22,22 @@ const MEMBERS: [(&str, Option<u64>); 7] = [
     ("7", None),
 ];
 
-#[test]
-fn finds_members(rt: HostRuntime) -> Result<(), Fail> {
-    for (given, number) in &MEMBERS {
-        let mut scratch = Scratch::new(rt.alloc());
-        let nodes = text_nodes(rt.alloc(), given, &mut scratch)?;
-        let found = match member_of(&Lent::of(nodes.as_slice()), "a") {
-            Some(member) => member.as_u64(),
-            None => None,
-        };
-        assert!(rt; found == *number, "{given}");
+fn has_number(alloc: Global, given: &str, number: Option<u64>) -> bool {
+    let mut scratch = Scratch::new(alloc);
+    let Ok(nodes) = text_nodes(alloc, given, &mut scratch) else {
+        return false;
+    };
+    match member_of(&Lent::of(nodes.as_slice()), "a") {
+        Some(member) => member.as_u64() == number,
+        None => number == None,
     }
-    Ok(())
+}
+
+#[test]
+fn finds_members(rt: HostRuntime) {
+    for (given, number) in &MEMBERS {
+        assert!(rt; has_number(rt.alloc(), given, *number), "{given}");
+    }
 }
 
 // A value, the text that it is, and the truth value.
@@ -47,38 +52,35 @@ const LEAVES: [(&str, Option<&str>, Option<bool>); 8] = [
     ("[]", None, None),
 ];
 
-// A value that is of another shape is none; every other halt is passed on.
-fn if_shaped<T: Drop>(read: Result<T, Halt<Cause>>) -> Result<Option<T>, Halt<Cause>> {
+// Whether a text is read, or else refused for its shape.
+fn is_text(read: Result<Text, Halt<Cause>>, wanted: Option<&str>) -> bool {
     match read {
-        Ok(leaf) => Ok(Some(leaf)),
-        Err(Halt::Why(Cause::BadShape)) => Ok(None),
-        Err(halt) => Err(halt),
+        Ok(text) => wanted == Some(text.as_str()),
+        Err(halt) => wanted == None && halt == Halt::Why(Cause::BadShape),
     }
 }
 
-fn str_of(read: &Option<Text>) -> Option<&str> {
+fn is_truth(read: Result<bool, Cause>, wanted: Option<bool>) -> bool {
     match read {
-        Some(text) => Some(text.as_str()),
-        None => None,
+        Ok(truth) => wanted == Some(truth),
+        Err(cause) => wanted == None && cause == Cause::BadShape,
     }
 }
 
-fn read_truth(v: &Lent<'_, '_>) -> Result<bool, Halt<Cause>> {
-    let truth = truth_of(v)?;
-    Ok(truth)
+fn is_leaf(alloc: Global, given: &str, wanted: Option<&str>, truth: Option<bool>) -> bool {
+    let mut scratch = Scratch::new(alloc);
+    let Ok(nodes) = text_nodes(alloc, given, &mut scratch) else {
+        return false;
+    };
+    let v = Lent::of(nodes.as_slice());
+    is_truth(truth_of(&v), truth) && is_text(text_of(alloc, &v), wanted)
 }
 
 #[test]
-fn reads_texts_and_truth_values(rt: HostRuntime) -> Result<(), Fail> {
+fn reads_texts_and_truth_values(rt: HostRuntime) {
     for (given, wanted, truth) in &LEAVES {
-        let mut scratch = Scratch::new(rt.alloc());
-        let nodes = text_nodes(rt.alloc(), given, &mut scratch)?;
-        let v = Lent::of(nodes.as_slice());
-        let read = if_shaped(text_of(rt.alloc(), &v))?;
-        let read_truth = if_shaped(read_truth(&v))?;
-        assert!(rt; str_of(&read) == *wanted && read_truth == *truth, "{given}");
+        assert!(rt; is_leaf(rt.alloc(), given, *wanted, *truth), "{given}");
     }
-    Ok(())
 }
 
 // An object, and the text of its member `a`, which may be absent.
@@ -89,33 +91,40 @@ const TEXTS: [(&str, Option<&str>); 4] = [
     (r#"{"a":1}"#, None),
 ];
 
-#[test]
-fn reads_texts_that_may_be_absent(rt: HostRuntime) -> Result<(), Fail> {
-    for (given, wanted) in &TEXTS {
-        let mut scratch = Scratch::new(rt.alloc());
-        let nodes = text_nodes(rt.alloc(), given, &mut scratch)?;
-        let v = Lent::of(nodes.as_slice());
-        let read = if_shaped(text(rt.alloc(), &v, "a"))?;
-        assert!(rt; str_of(&read) == *wanted, "{given}");
+fn has_text(alloc: Global, given: &str, wanted: Option<&str>) -> bool {
+    let mut scratch = Scratch::new(alloc);
+    match text_nodes(alloc, given, &mut scratch) {
+        Ok(nodes) => is_text(text(alloc, &Lent::of(nodes.as_slice()), "a"), wanted),
+        Err(_) => false,
     }
-    Ok(())
+}
+
+#[test]
+fn reads_texts_that_may_be_absent(rt: HostRuntime) {
+    for (given, wanted) in &TEXTS {
+        assert!(rt; has_text(rt.alloc(), given, *wanted), "{given}");
+    }
 }
 
 // What is no value of JSON.
 const NO_VALUES: [&[u8]; 4] = [b"", b"[1,]", b"\"\xff\"", b"{} {}"];
 
-#[test]
-fn refuses_what_is_no_value(rt: HostRuntime) {
+fn is_no_value(alloc: Global, bytes: &[u8]) -> bool {
+    let mut scratch = Scratch::new(alloc);
     let refusal = Refusal {
         unit: 0,
         cause: Cause::BadJson,
     };
+    match bytes_nodes(alloc, bytes, &mut scratch) {
+        Ok(_) => false,
+        Err(why) => unread(why) == Halt::Why(refusal),
+    }
+}
+
+#[test]
+fn refuses_what_is_no_value(rt: HostRuntime) {
     for bytes in &NO_VALUES {
-        let mut scratch = Scratch::new(rt.alloc());
-        match bytes_nodes(rt.alloc(), bytes, &mut scratch) {
-            Ok(_) => panic!(rt; "a value: {bytes:?}"),
-            Err(why) => assert!(rt; unread(why) == Halt::Why(refusal), "{bytes:?}"),
-        }
+        assert!(rt; is_no_value(rt.alloc(), bytes), "{bytes:?}");
     }
 }
 
@@ -151,13 +160,24 @@ const VALUES: [(&str, u64, bool, &str); 2] = [
     ),
 ];
 
+fn are_written(
+    alloc: Global,
+    text: &str,
+    number: u64,
+    truth: bool,
+    written: &str,
+) -> Result<bool, OutOfMemory> {
+    let text = Text::of(alloc, text)?;
+    let mut out = Writer::new(Vec::new(alloc));
+    write_values(&mut out, &text, number, truth)?;
+    Ok(out.into_inner().as_slice() == written.as_bytes())
+}
+
 #[test]
 fn writes_values(rt: HostRuntime) -> Result<(), Fail> {
     for (text, number, truth, written) in &VALUES {
-        let text = Text::of(rt.alloc(), text)?;
-        let mut out = Writer::new(Vec::new(rt.alloc()));
-        write_values(&mut out, &text, *number, *truth)?;
-        assert!(rt; out.into_inner().as_slice() == written.as_bytes());
+        let same = are_written(rt.alloc(), text, *number, *truth, written)?;
+        assert!(rt; same, "{written}");
     }
     Ok(())
 }
@@ -182,14 +202,25 @@ const WITHOUT_PARENT: &str =
 const WITH_PARENT: &str =
     r#"{"id":"00000000000000ef","parent":"00000000000000ef","trace":"00000000000000ab00000000000000cd"}"#;
 
+fn are_identifiers(
+    alloc: Global,
+    id: SpanId,
+    parent: Option<SpanId>,
+    written: &str,
+) -> Result<bool, OutOfMemory> {
+    let Ok(trace) = TraceId::from_halves(0xab, 0xcd) else {
+        return Ok(false);
+    };
+    let mut out = Writer::new(Vec::new(alloc));
+    write_identifiers(&mut out, trace, id, parent)?;
+    Ok(out.into_inner().as_slice() == written.as_bytes())
+}
+
 #[test]
 fn writes_identifiers(rt: HostRuntime) -> Result<(), Fail> {
-    let trace = TraceId::from_halves(0xab, 0xcd)?;
     let id = SpanId::from_number(0xef)?;
-    for (parent, written) in [(None, WITHOUT_PARENT), (Some(id), WITH_PARENT)] {
-        let mut out = Writer::new(Vec::new(rt.alloc()));
-        write_identifiers(&mut out, trace, id, parent)?;
-        assert!(rt; out.into_inner().as_slice() == written.as_bytes());
-    }
+    let alone = are_identifiers(rt.alloc(), id, None, WITHOUT_PARENT)?;
+    let below = are_identifiers(rt.alloc(), id, Some(id), WITH_PARENT)?;
+    assert!(rt; alone && below);
     Ok(())
 }

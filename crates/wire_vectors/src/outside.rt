@@ -1,16 +1,16 @@
 //! The outside: bytes of the proto3 documentation ("Base 128 Varints") and around its limits, sources and sinks that
 //! fail, and the names of forms and causes.
-use crate::texts::{CAUSES, bytes_of, last_number, lines};
-use row_tables::Words;
+use crate::texts::{CAUSES, is_count, is_signed, word_of};
 use span_io::{
-    Blob, Cursor, Failed, Form, Lack, Limits, ReaderSource, Source, Varint, WriterSink, write_all,
-    zigzag,
+    Blob, Cause, Cursor, Failed, Form, Lack, Limits, OutOfMemory, ReaderSource, Source, Varint,
+    WriterSink, write_all, zigzag,
 };
+use std::alloc::Global;
 use std::io::{self, Read, Write};
 use std::test::Fail;
 
 // Bytes; where the cursor stands then, and what is read of them.
-const VARINTS: &str = "
+pub(crate) const VARINTS: &str = "
 01 => 1 1
 00ff => 1 0
 7f01 => 1 127
@@ -30,7 +30,7 @@ ffffffffffffffffff02 => 0 BadVarint
 ";
 
 // The same of signed numbers ("Signed Integers"), and the limits.
-const SIGNED: &str = "
+pub(crate) const SIGNED: &str = "
 00ff => 1 0
 01 => 1 -1
 02 => 1 1
@@ -42,50 +42,37 @@ ffffffffffffffffff01 => 10 -9223372036854775808
 96 => 0 Short
 ";
 
-fn lack_of(name: &str) -> Option<Lack> {
-    match name {
-        "Short" => Some(Lack::Short),
-        "BadVarint" => Some(Lack::BadVarint),
-        _ => None,
+fn name_of(lack: Lack) -> &'static str {
+    match lack {
+        Lack::Short => "Short",
+        Lack::BadVarint => "BadVarint",
     }
 }
 
-#[test]
-fn reads_varints(rt: HostRuntime) -> Result<(), Fail> {
-    for row in lines(VARINTS) {
-        let (given, mut answer) = Words::sides(row)?;
-        let place: usize = answer.number()?;
-        let wanted = match lack_of(answer.rest()) {
-            Some(lack) => Err(lack),
-            None => Ok(last_number(&mut answer)?),
-        };
-        let bytes = bytes_of(rt.alloc(), given.rest())?;
-        let mut cursor = Cursor::new(bytes.as_slice());
-        let read = cursor.varint();
-        assert!(rt; read == wanted && cursor.place() == place, "{row}");
-    }
-    Ok(())
+/// Whether a row tells the varint in front of these bytes, and its end.
+pub(crate) fn is_varint(bytes: &[u8], wanted: &str) -> bool {
+    let mut cursor = Cursor::new(bytes);
+    let (place, told) = word_of(wanted);
+    let same = match cursor.varint() {
+        Ok(number) => is_count(told, number),
+        Err(lack) => told == name_of(lack),
+    };
+    same && is_count(place, cursor.place() as u64)
 }
 
-#[test]
-fn reads_signed_varints(rt: HostRuntime) -> Result<(), Fail> {
-    for row in lines(SIGNED) {
-        let (given, mut answer) = Words::sides(row)?;
-        let place: usize = answer.number()?;
-        let wanted = match lack_of(answer.rest()) {
-            Some(lack) => Err(lack),
-            None => Ok(last_number(&mut answer)?),
-        };
-        let bytes = bytes_of(rt.alloc(), given.rest())?;
-        let mut cursor = Cursor::new(bytes.as_slice());
-        let read = cursor.zigzag();
-        assert!(rt; read == wanted && cursor.place() == place, "{row}");
-    }
-    Ok(())
+/// The same of a number with a sign.
+pub(crate) fn is_signed_varint(bytes: &[u8], wanted: &str) -> bool {
+    let mut cursor = Cursor::new(bytes);
+    let (place, told) = word_of(wanted);
+    let same = match cursor.zigzag() {
+        Ok(number) => is_signed(told, number),
+        Err(lack) => told == name_of(lack),
+    };
+    same && is_count(place, cursor.place() as u64)
 }
 
 // Numbers, and their shortest spelling.
-const SHORTEST: &str = "
+pub(crate) const SHORTEST: &str = "
 0 => 00
 127 => 7f
 128 => 8001
@@ -93,38 +80,27 @@ const SHORTEST: &str = "
 16384 => 808001
 ";
 
-const SHORTEST_SIGNED: &str = "
+pub(crate) const SHORTEST_SIGNED: &str = "
 1 => 02
 -2147483648 => ffffffff0f
 -9223372036854775808 => ffffffffffffffffff01
 ";
 
-#[test]
-fn writes_varints(rt: HostRuntime) -> Result<(), Fail> {
-    let mut blob = Blob::new(rt.alloc());
-    for row in lines(SHORTEST) {
-        let (mut given, answer) = Words::sides(row)?;
-        let number: u64 = last_number(&mut given)?;
-        let bytes = bytes_of(rt.alloc(), answer.rest())?;
-        blob.clear();
-        blob.append_varint(number)?;
-        assert!(rt; blob.as_slice() == bytes.as_slice(), "{row}");
-    }
-    Ok(())
+/// Whether these bytes are the shortest spelling of a number in words.
+pub(crate) fn is_shortest(alloc: Global, number: &str, bytes: &[u8]) -> bool {
+    let Ok(number) = number.parse::<u64>() else {
+        return false;
+    };
+    let mut blob = Blob::new(alloc);
+    blob.append_varint(number).is_ok() && blob.as_slice() == bytes
 }
 
-#[test]
-fn writes_signed_varints(rt: HostRuntime) -> Result<(), Fail> {
-    for row in lines(SHORTEST_SIGNED) {
-        let (mut given, answer) = Words::sides(row)?;
-        let number: i64 = last_number(&mut given)?;
-        let bytes = bytes_of(rt.alloc(), answer.rest())?;
-        assert!(rt;
-            Varint::new(zigzag(number)).as_slice() == bytes.as_slice(),
-            "{row}"
-        );
+/// The same of a number with a sign.
+pub(crate) fn is_shortest_signed(number: &str, bytes: &[u8]) -> bool {
+    match number.parse::<i64>() {
+        Ok(number) => Varint::new(zigzag(number)).as_slice() == bytes,
+        Err(_) => false,
     }
-    Ok(())
 }
 
 const FORMS: [(&[u8], Option<Form>); 10] = [
@@ -140,13 +116,14 @@ const FORMS: [(&[u8], Option<Form>); 10] = [
     (b"OTLP-PROTO", None),
 ];
 
+fn is_named(cause: Cause, number: u8, name: &str) -> bool {
+    cause.number() == number && cause.name() == name
+}
+
 #[test]
 fn names_causes_and_forms(rt: HostRuntime) {
     for (cause, number, name) in &CAUSES {
-        assert!(rt;
-            cause.number() == *number && cause.name() == *name,
-            "{name}"
-        );
+        assert!(rt; is_named(*cause, *number, name), "{name}");
     }
     for (word, form) in &FORMS {
         assert!(rt; Form::of_word(word) == *form, "{word:?}");
@@ -212,20 +189,32 @@ impl Write for Narrow {
     }
 }
 
-#[test]
-fn reads_readers(rt: HostRuntime) {
+fn is_read() -> bool {
     let mut buf = [0; 4];
     let mut source = ReaderSource::new(io::Cursor::new("abcdef"));
-    for answer in [4, 2, 0] {
-        assert!(rt; source.read(&mut buf) == Ok(answer));
-    }
-    assert!(rt; &buf == b"efcd");
-    assert!(rt; source.faults() == 0);
+    source.read(&mut buf) == Ok(4)
+        && source.read(&mut buf) == Ok(2)
+        && source.read(&mut buf) == Ok(0)
+        && &buf == b"efcd"
+        && source.faults() == 0
+}
+
+// Whether the answers of a reader that fails once, and how many calls failed by then, are these.
+fn is_read_on(answers: &[(Result<usize, Failed>, u64)]) -> bool {
+    let mut buf = [0; 4];
     let mut source = ReaderSource::new(Broken { calls: 0 });
-    for (answer, faults) in [(Ok(1), 0), (Err(Failed), 1), (Ok(1), 1), (Ok(0), 1)] {
-        assert!(rt; source.read(&mut buf) == answer);
-        assert!(rt; source.faults() == faults);
+    for (answer, faults) in answers {
+        if source.read(&mut buf) != *answer || source.faults() != *faults {
+            return false;
+        }
     }
+    true
+}
+
+#[test]
+fn reads_readers(rt: HostRuntime) {
+    let answers = [(Ok(1), 0), (Err(Failed), 1), (Ok(1), 1), (Ok(0), 1)];
+    assert!(rt; is_read() && is_read_on(&answers));
 }
 
 // Pieces, whether each is written whole, and how many calls failed by then.
@@ -236,37 +225,51 @@ const NARROWED: [(&[u8], Result<(), Failed>, u64); 4] = [
     (b"defgh", Ok(()), 2),
 ];
 
-#[test]
-fn writes_writers(rt: HostRuntime) -> Result<(), Fail> {
-    let mut held: Vec<u8> = Vec::new(rt.alloc());
+// Whether a piece is written whole.
+fn is_held(alloc: Global, piece: &[u8]) -> bool {
+    let mut held: Vec<u8> = Vec::new(alloc);
     let mut sink = WriterSink::new(&mut held);
-    assert!(rt; write_all(&mut sink, b"abc") == Ok(()));
-    assert!(rt; held.as_slice() == b"abc".as_slice());
+    write_all(&mut sink, piece) == Ok(()) && held.as_slice() == piece
+}
+
+fn is_narrowed() -> bool {
     let mut narrow = Narrow { calls: 0, taken: 0 };
     let mut sink = WriterSink::new(&mut narrow);
     for (piece, answer, faults) in &NARROWED {
-        assert!(rt; write_all(&mut sink, piece) == *answer && sink.faults() == *faults);
+        if write_all(&mut sink, piece) != *answer || sink.faults() != *faults {
+            return false;
+        }
     }
-    assert!(rt; narrow.taken == 8);
-    Ok(())
+    narrow.taken == 8
+}
+
+#[test]
+fn writes_writers(rt: HostRuntime) {
+    assert!(rt; is_held(rt.alloc(), b"abc") && is_narrowed());
 }
 
 // A piece above the 65,536 bytes that one read asks for.
-#[test]
-fn moves_large_pieces(rt: HostRuntime) -> Result<(), Fail> {
-    let mut bytes = Blob::new(rt.alloc());
+fn large_piece(alloc: Global) -> Result<Blob, OutOfMemory> {
+    let mut bytes = Blob::new(alloc);
     for _ in 0..7_000 {
         bytes.append(b"0123456789")?;
     }
+    Ok(bytes)
+}
+
+fn is_large(bytes: &[u8], buf: &mut [u8]) -> bool {
+    let mut source = ReaderSource::new(io::Cursor::new(bytes));
+    source.read(buf) == Ok(65_536)
+        && bytes.starts_with(buf)
+        && source.read(buf) == Ok(4_464)
+        && source.read(buf) == Ok(0)
+}
+
+#[test]
+fn moves_large_pieces(rt: HostRuntime) -> Result<(), Fail> {
+    let bytes = large_piece(rt.alloc())?;
     let mut buf = Vec::from_elem(rt.alloc(), 0u8, 65_536)?;
-    let mut source = ReaderSource::new(io::Cursor::new(bytes.as_slice()));
-    assert!(rt; source.read(buf.as_mut_slice()) == Ok(65_536));
-    assert!(rt; bytes.as_slice().starts_with(buf.as_slice()));
-    assert!(rt; source.read(buf.as_mut_slice()) == Ok(4_464));
-    assert!(rt; source.read(buf.as_mut_slice()) == Ok(0));
-    let mut held: Vec<u8> = Vec::new(rt.alloc());
-    let mut sink = WriterSink::new(&mut held);
-    assert!(rt; write_all(&mut sink, bytes.as_slice()) == Ok(()));
-    assert!(rt; held.as_slice() == bytes.as_slice());
+    assert!(rt; is_large(bytes.as_slice(), buf.as_mut_slice()));
+    assert!(rt; is_held(rt.alloc(), bytes.as_slice()));
     Ok(())
 }

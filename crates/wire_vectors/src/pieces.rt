@@ -1,111 +1,75 @@
 //! Frames whose bytes come in pieces, cut at every byte.
-use crate::texts::{bytes_of, cause_of, ends, lines, step_of};
+use crate::texts::{bytes_of, is_count, is_step, lines, sides, word_of};
 use crate::wire;
 use proto_wire::UnitScanner;
-use row_tables::Words;
 use span_io::{Blob, Cause, OutOfMemory, Scan, Step};
 use std::alloc::Global;
-use std::process::Abort;
 use std::test::Fail;
 use thrift_binary::Binary;
 use thrift_compact::Compact;
 use thrift_core::StructScanner;
 
-fn refuses<S: Scan>(rt: &impl Abort, scanner: &mut S, piece: &[u8], cause: Cause) {
-    assert!(rt; scanner.push(piece) == Step::Refused(cause));
+// Whether a refusal stays, whatever comes.
+fn stays<S: Scan>(scanner: &mut S, piece: &[u8], step: Step) -> bool {
+    scanner.push(piece) == step && scanner.push(b"") == step && scanner.push(piece) == step
 }
 
-// A refusal stays, whatever comes.
-fn stays_refused<S: Scan>(rt: &impl Abort, scanner: &mut S, piece: &[u8], cause: Cause) {
-    refuses(rt, scanner, piece, cause);
-    refuses(rt, scanner, b"", cause);
-    refuses(rt, scanner, piece, cause);
-}
-
-// The step of two pieces, counted from where the first begins.
-fn step_in_two<S: Scan + Drop>(rt: &impl Abort, limit: usize, first: &[u8], second: &[u8]) -> Step {
+// Whether two pieces give this step, which is counted from where the first begins.
+fn gives<S: Scan + Drop>(limit: usize, first: &[u8], second: &[u8], wanted: Step) -> bool {
     let mut scanner = S::new(limit);
-    match scanner.push(first) {
-        Step::Need => match scanner.push(second) {
-            Step::Unit(n) => Step::Unit(first.len() + n),
-            other => other,
-        },
-        Step::Unit(n) => Step::Unit(n),
-        Step::Refused(cause) => {
-            stays_refused(rt, &mut scanner, second, cause);
-            Step::Refused(cause)
-        }
+    let (step, size) = match scanner.push(first) {
+        Step::Need => (scanner.push(second), first.len()),
+        step => (step, 0),
+    };
+    match step {
+        Step::Need => wanted == step,
+        Step::Unit(n) => wanted == Step::Unit(size.saturating_add(n)),
+        Step::Refused(_) => wanted == step && stays(&mut scanner, second, step),
     }
 }
 
-fn cuts_a_frame<S: Scan + Drop>(rt: &impl Abort, row: &str, text: &[u8], limit: usize, step: Step) {
+// Where a text is cut so that its two pieces give another step than this.
+fn other_cut<S: Scan + Drop>(limit: usize, text: &[u8], step: Step) -> Option<usize> {
     for cut in 0..text.len() + 1 {
         let (first, second) = text.split_at(cut);
-        assert!(rt;
-            step_in_two::<S>(rt, limit, first, second) == step,
-            "{row} cut at {cut}"
-        );
+        if !gives::<S>(limit, first, second, step) {
+            return Some(cut);
+        }
     }
+    None
 }
 
-// Rows of the limit of a unit and a text, and the first step over the text.
-fn cuts_frames<S: Scan + Drop>(
-    rt: &impl Abort,
-    alloc: Global,
-    table: &'static str,
-) -> Result<(), Fail> {
-    for row in lines(table) {
-        let (mut given, mut answer) = Words::sides(row)?;
-        let limit: usize = given.number()?;
-        let step = step_of(&mut answer)?;
-        ends(&answer)?;
-        let text = bytes_of(alloc, given.rest())?;
-        cuts_a_frame::<S>(rt, row, text.as_slice(), limit, step);
-    }
-    Ok(())
-}
-
-// A text that is refused for its last byte: all before it needs more, wherever it is cut.
-fn refuses_the_last_byte<S: Scan + Drop>(rt: &impl Abort, text: &[u8], limit: usize, cause: Cause) {
+// Where a text is cut so that more isn't needed behind the first piece, though the last byte hasn't come.
+fn early_cut<S: Scan + Drop>(limit: usize, text: &[u8]) -> Option<usize> {
     for cut in 0..text.len() {
-        let (first, second) = text.split_at(cut);
-        let mut scanner = S::new(limit);
-        assert!(rt;
-            scanner.push(first) == Step::Need,
-            "{} cut at {cut}",
-            cause.name()
-        );
-        stays_refused(rt, &mut scanner, second, cause);
+        let (first, _) = text.split_at(cut);
+        if S::new(limit).push(first) != Step::Need {
+            return Some(cut);
+        }
     }
+    None
 }
 
-// Rows of the limit of a unit and a text that is refused for its last byte, and the cause.
-fn refuses_last_bytes<S: Scan + Drop>(
-    rt: &impl Abort,
-    alloc: Global,
-    table: &'static str,
-) -> Result<(), Fail> {
-    for row in lines(table) {
-        let (mut given, answer) = Words::sides(row)?;
-        let limit: usize = given.number()?;
-        let cause = cause_of(answer.rest())?;
-        let text = bytes_of(alloc, given.rest())?;
-        refuses_the_last_byte::<S>(rt, text.as_slice(), limit, cause);
-    }
-    Ok(())
+fn whole_step<S: Scan + Drop>(limit: usize, text: &[u8]) -> Step {
+    S::new(limit).push(text)
 }
 
-// A frame of exactly the limit is found, and the next one behind it; empty pieces change nothing.
-fn finds_the_next<S: Scan + Drop>(rt: &impl Abort, text: &[u8]) {
-    assert!(rt; !text.is_empty());
+// Whether a frame of exactly the limit is found, and the next one behind it; empty pieces change nothing.
+fn finds_the_next<S: Scan + Drop>(text: &[u8]) -> bool {
+    if text.is_empty() {
+        return false;
+    }
     let (first, rest) = text.split_at(1);
     let mut scanner = S::new(text.len());
     for _ in 0..3_u32 {
-        assert!(rt; scanner.push(b"") == Step::Need);
-        assert!(rt; scanner.push(first) == Step::Need);
-        assert!(rt; scanner.push(b"") == Step::Need);
-        assert!(rt; scanner.push(rest) == Step::Unit(rest.len()));
+        let needed = scanner.push(b"") == Step::Need
+            && scanner.push(first) == Step::Need
+            && scanner.push(b"") == Step::Need;
+        if !needed || scanner.push(rest) != Step::Unit(rest.len()) {
+            return false;
+        }
     }
+    true
 }
 
 // So many heads of a field that holds a struct, each in the one before, and what stands in the last. Structs nest to level 32.
@@ -116,18 +80,6 @@ fn nested(alloc: Global, head: &[u8], many: u32, inner: &[u8]) -> Result<Blob, O
     }
     text.append(inner)?;
     Ok(text)
-}
-
-fn refuses_deep<S: Scan + Drop>(
-    rt: &impl Abort,
-    alloc: Global,
-    head: &[u8],
-    many: u32,
-    inner: &[u8],
-) -> Result<(), Fail> {
-    let deep = nested(alloc, head, many, inner)?;
-    refuses_the_last_byte::<S>(rt, deep.as_slice(), 999, Cause::TooDeep);
-    Ok(())
 }
 
 const BINARY_FRAMES: &str = "
@@ -192,33 +144,6 @@ const COMPACT_REFUSED: &str = "
 5 1804 => UnitTooLong
 ";
 
-#[test]
-fn cuts_texts_of_the_binary_protocol(rt: HostRuntime) -> Result<(), Fail> {
-    cuts_frames::<StructScanner<Binary>>(&rt, rt.alloc(), BINARY_FRAMES)?;
-    refuses_last_bytes::<StructScanner<Binary>>(&rt, rt.alloc(), BINARY_REFUSED)?;
-    refuses_deep::<StructScanner<Binary>>(&rt, rt.alloc(), b"\x0c\0\x01", 31, b"\x0c")?;
-    refuses_deep::<StructScanner<Binary>>(
-        &rt,
-        rt.alloc(),
-        b"\x0c\0\x01",
-        30,
-        b"\x0f\0\x01\x0c\0\0\0\x01",
-    )?;
-    let batch = bytes_of(rt.alloc(), "@BATCH")?;
-    finds_the_next::<StructScanner<Binary>>(&rt, batch.as_slice());
-    Ok(())
-}
-
-#[test]
-fn cuts_texts_of_the_compact_protocol(rt: HostRuntime) -> Result<(), Fail> {
-    cuts_frames::<StructScanner<Compact>>(&rt, rt.alloc(), COMPACT_FRAMES)?;
-    refuses_last_bytes::<StructScanner<Compact>>(&rt, rt.alloc(), COMPACT_REFUSED)?;
-    refuses_deep::<StructScanner<Compact>>(&rt, rt.alloc(), b"\x1c", 31, b"\x1c")?;
-    refuses_deep::<StructScanner<Compact>>(&rt, rt.alloc(), b"\x1c", 30, b"\x19\x1c")?;
-    finds_the_next::<StructScanner<Compact>>(&rt, b"\x18\x03abc\0");
-    Ok(())
-}
-
 // The last four claim lengths that end at the limit, in their shortest spelling and in one of a byte more, and then the same a
 // byte beyond it.
 const RECORDS: &str = "
@@ -263,37 +188,175 @@ const RECORDS_REFUSED: &str = "
 5 0a8300 => UnitTooLong
 ";
 
-fn cuts_shortest_records(rt: &impl Abort, alloc: Global) -> Result<(), Fail> {
-    for row in lines(wire::SHORTEST) {
-        let (given, _) = Words::sides(row)?;
-        let text = bytes_of(alloc, given.rest())?;
-        let size = text.len();
-        cuts_a_frame::<UnitScanner>(rt, row, text.as_slice(), size, Step::Unit(size));
+/// What finds frames.
+#[derive(Clone, Copy)]
+enum Frames {
+    Binary,
+    Compact,
+    Records,
+}
+
+impl Frames {
+    fn whole_step(self, limit: usize, text: &[u8]) -> Step {
+        match self {
+            Frames::Binary => whole_step::<StructScanner<Binary>>(limit, text),
+            Frames::Compact => whole_step::<StructScanner<Compact>>(limit, text),
+            Frames::Records => whole_step::<UnitScanner>(limit, text),
+        }
+    }
+
+    fn other_cut(self, limit: usize, text: &[u8], step: Step) -> Option<usize> {
+        match self {
+            Frames::Binary => other_cut::<StructScanner<Binary>>(limit, text, step),
+            Frames::Compact => other_cut::<StructScanner<Compact>>(limit, text, step),
+            Frames::Records => other_cut::<UnitScanner>(limit, text, step),
+        }
+    }
+
+    fn early_cut(self, limit: usize, text: &[u8]) -> Option<usize> {
+        match self {
+            Frames::Binary => early_cut::<StructScanner<Binary>>(limit, text),
+            Frames::Compact => early_cut::<StructScanner<Compact>>(limit, text),
+            Frames::Records => early_cut::<UnitScanner>(limit, text),
+        }
+    }
+
+    fn finds_the_next(self, text: &[u8]) -> bool {
+        match self {
+            Frames::Binary => finds_the_next::<StructScanner<Binary>>(text),
+            Frames::Compact => finds_the_next::<StructScanner<Compact>>(text),
+            Frames::Records => finds_the_next::<UnitScanner>(text),
+        }
+    }
+}
+
+// What a row tells of the first step over its text.
+#[derive(Clone, Copy)]
+enum Told {
+    // The step, with the limit in front of the text.
+    Step,
+    // A step that the last byte brings, wherever the text is cut before.
+    LastByte,
+    // A record in its shortest spelling.
+    Shortest,
+    // What a text begins with that is a record, or why it isn't.
+    Read,
+}
+
+impl Told {
+    // The limit and the bytes in words.
+    fn given(self, text: &str) -> Option<(usize, &str)> {
+        match self {
+            Told::Step | Told::LastByte => {
+                let (limit, rest) = word_of(text);
+                Some((limit.parse::<usize>().ok()?, rest))
+            }
+            Told::Shortest | Told::Read => Some((99, text)),
+        }
+    }
+
+    fn is_step(self, told: &str, step: Step, size: usize) -> bool {
+        match self {
+            Told::Step | Told::LastByte => is_step(told, step),
+            Told::Shortest => step == Step::Unit(size),
+            Told::Read => begins_so(told, step),
+        }
+    }
+}
+
+fn begins_so(told: &str, step: Step) -> bool {
+    let (place, what) = word_of(told);
+    match step {
+        Step::Need => what == "Truncated",
+        Step::Unit(size) => size != 0 && is_count(place, size as u64),
+        Step::Refused(cause) => cause != Cause::Truncated && what == cause.name(),
+    }
+}
+
+// Where the text of a row is cut so that not the step that the row tells comes.
+fn wrong_cut(frames: Frames, told: Told, limit: usize, text: &[u8], wanted: &str) -> Option<usize> {
+    let size = text.len();
+    let limit = match told {
+        Told::Shortest => size,
+        _ => limit,
+    };
+    let step = frames.whole_step(limit, text);
+    if !told.is_step(wanted, step, size) {
+        return Some(size);
+    }
+    match (told, frames.early_cut(limit, text)) {
+        (Told::LastByte, Some(cut)) => Some(cut),
+        _ => frames.other_cut(limit, text, step),
+    }
+}
+
+fn cuts_row(alloc: Global, frames: Frames, told: Told, row: &str) -> Result<Option<usize>, Fail> {
+    let Some((given, wanted)) = sides(row) else {
+        return Ok(Some(0));
+    };
+    let Some((limit, spelled)) = told.given(given) else {
+        return Ok(Some(0));
+    };
+    let text = bytes_of(alloc, spelled)?;
+    Ok(wrong_cut(frames, told, limit, text.as_slice(), wanted))
+}
+
+fn cuts_rows(alloc: Global, frames: Frames, told: Told, table: &'static str) -> Result<(), Fail> {
+    for row in lines(table) {
+        if let Some(cut) = cuts_row(alloc, frames, told, row)? {
+            return Err(Fail::new(format_args!("{row} cut at {cut}")));
+        }
     }
     Ok(())
 }
 
-fn cuts_read_records(rt: &impl Abort, alloc: Global) -> Result<(), Fail> {
-    for row in lines(wire::READ) {
-        let (given, mut answer) = Words::sides(row)?;
-        let place: usize = answer.number()?;
-        let step = match wire::payload_of(&mut answer)? {
-            Ok(_) => Step::Unit(place),
-            Err(Cause::Truncated) => Step::Need,
-            Err(cause) => Step::Refused(cause),
-        };
-        let text = bytes_of(alloc, given.rest())?;
-        cuts_a_frame::<UnitScanner>(rt, row, text.as_slice(), 99, step);
+const TABLES: [(Frames, Told, &str); 8] = [
+    (Frames::Binary, Told::Step, BINARY_FRAMES),
+    (Frames::Binary, Told::LastByte, BINARY_REFUSED),
+    (Frames::Compact, Told::Step, COMPACT_FRAMES),
+    (Frames::Compact, Told::LastByte, COMPACT_REFUSED),
+    (Frames::Records, Told::Step, RECORDS),
+    (Frames::Records, Told::LastByte, RECORDS_REFUSED),
+    (Frames::Records, Told::Shortest, wire::SHORTEST),
+    (Frames::Records, Told::Read, wire::READ),
+];
+
+#[test]
+fn cuts_texts(rt: HostRuntime) -> Result<(), Fail> {
+    for (frames, told, table) in &TABLES {
+        cuts_rows(rt.alloc(), *frames, *told, table)?;
+    }
+    Ok(())
+}
+
+// The head of a field that holds a struct, how many stand in each other, and what is too deep in the last.
+const DEEP: [(Frames, &[u8], u32, &[u8]); 4] = [
+    (Frames::Binary, b"\x0c\0\x01", 31, b"\x0c"),
+    (
+        Frames::Binary,
+        b"\x0c\0\x01",
+        30,
+        b"\x0f\0\x01\x0c\0\0\0\x01",
+    ),
+    (Frames::Compact, b"\x1c", 31, b"\x1c"),
+    (Frames::Compact, b"\x1c", 30, b"\x19\x1c"),
+];
+
+#[test]
+fn refuses_what_is_too_deep(rt: HostRuntime) -> Result<(), Fail> {
+    for (frames, head, many, inner) in &DEEP {
+        let text = nested(rt.alloc(), head, *many, inner)?;
+        let cut = wrong_cut(*frames, Told::LastByte, 999, text.as_slice(), "TooDeep");
+        assert!(rt; cut == None, "{many} around {inner:?}");
     }
     Ok(())
 }
 
 #[test]
-fn cuts_records(rt: HostRuntime) -> Result<(), Fail> {
-    cuts_frames::<UnitScanner>(&rt, rt.alloc(), RECORDS)?;
-    refuses_last_bytes::<UnitScanner>(&rt, rt.alloc(), RECORDS_REFUSED)?;
-    cuts_shortest_records(&rt, rt.alloc())?;
-    cuts_read_records(&rt, rt.alloc())?;
-    finds_the_next::<UnitScanner>(&rt, b"\x12\x07testing");
+fn finds_frames_behind_frames(rt: HostRuntime) -> Result<(), Fail> {
+    let batch = bytes_of(rt.alloc(), "@BATCH")?;
+    assert!(rt; Frames::Binary.finds_the_next(batch.as_slice()));
+    assert!(rt; Frames::Compact.finds_the_next(b"\x18\x03abc\0"));
+    assert!(rt; Frames::Records.finds_the_next(b"\x12\x07testing"));
     Ok(())
 }

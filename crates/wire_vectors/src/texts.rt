@@ -1,8 +1,8 @@
 //! What rows of one line are read by: words in front of `=>` and behind.
-use row_tables::{Words, append_spelled};
+use row_tables::append_spelled;
 use span_io::{Cause, Step};
 use std::alloc::Global;
-use std::str::{FromStr, Lines};
+use std::str::Lines;
 use std::test::Fail;
 
 /// A Batch of jaeger.thrift with one span and no tags.
@@ -63,40 +63,35 @@ pub(crate) const CAUSES: [(Cause, u8, &str); 17] = [
     (Cause::InputTooLong, 17, "InputTooLong"),
 ];
 
-/// The cause of this name.
-pub(crate) fn cause_of(name: &str) -> Result<Cause, Fail> {
-    for (cause, _, known) in &CAUSES {
-        if *known == name {
-            return Ok(*cause);
+/// The two sides of a row, between which `=>` stands.
+pub(crate) fn sides(row: &str) -> Option<(&str, &str)> {
+    let (given, wanted) = row.split_once("=>")?;
+    Some((given.trim_matches(' '), wanted.trim_matches(' ')))
+}
+
+/// The first word of a text, and what stands behind it.
+pub(crate) fn word_of(text: &str) -> (&str, &str) {
+    text.split_once(' ').unwrap_or((text, ""))
+}
+
+/// Whether a text is this number alone.
+pub(crate) fn is_count(text: &str, count: u64) -> bool {
+    text.parse::<u64>().ok() == Some(count)
+}
+
+/// The same of a number with a sign.
+pub(crate) fn is_signed(text: &str, number: i64) -> bool {
+    text.parse::<i64>().ok() == Some(number)
+}
+
+/// Whether a text tells this step: `need`, `unit` with its size, or the cause of a refusal.
+pub(crate) fn is_step(text: &str, step: Step) -> bool {
+    match step {
+        Step::Need => text == "need",
+        Step::Unit(size) => {
+            let (word, rest) = word_of(text);
+            word == "unit" && is_count(rest, size as u64)
         }
+        Step::Refused(cause) => text == cause.name(),
     }
-    Err(Fail::new(format_args!("no cause: {name}")))
-}
-
-/// A step: `need`, `unit` with its size, or the cause of a refusal.
-pub(crate) fn step_of(words: &mut Words<'_>) -> Result<Step, Fail> {
-    match words.word() {
-        "need" => Ok(Step::Need),
-        "unit" => Ok(Step::Unit(words.number()?)),
-        name => Ok(Step::Refused(cause_of(name)?)),
-    }
-}
-
-/// Fails where a word is left, so that a mistyped row never passes.
-pub(crate) fn ends(words: &Words<'_>) -> Result<(), Fail> {
-    if words.rest().is_empty() {
-        Ok(())
-    } else {
-        Err(words.fail("more words than are known"))
-    }
-}
-
-/// The last word, which is a number.
-pub(crate) fn last_number<N: FromStr + Drop>(words: &mut Words<'_>) -> Result<N, Fail>
-where
-    N::Err: Drop,
-{
-    let number = words.number()?;
-    ends(words)?;
-    Ok(number)
 }

@@ -1,32 +1,39 @@
 //! Thrift in both protocols.
-use crate::texts::{BINARY_TAGS, COMPACT_TAGS, bytes_of, cause_of, ends, lines};
-use row_tables::Words;
+use crate::texts::{BINARY_TAGS, COMPACT_TAGS, bytes_of, is_count, is_signed, word_of};
 use span_io::{Blob, Cause, Cursor, OutOfMemory};
 use std::alloc::Global;
-use std::process::Abort;
 use std::test::Fail;
 use thrift_binary::Binary;
 use thrift_compact::Compact;
 use thrift_core::{Field, ListHead, MapHead, OUTER_LEVELS, Parts, TypeCode, bytes, skip};
 
-// A type, or `none`. `true` and `false` are truth values that the head of a field holds.
-fn type_of(words: &mut Words<'_>) -> Result<Option<TypeCode>, Fail> {
-    let kind = match words.word() {
-        "none" => return Ok(None),
-        "bool" | "true" | "false" => TypeCode::Truth,
-        "i32" => TypeCode::I32,
-        "i64" => TypeCode::I64,
-        "binary" => TypeCode::Binary,
-        "struct" => TypeCode::Struct,
-        "map" => TypeCode::Map,
-        "list" => TypeCode::List,
-        _ => return Err(words.fail("no type")),
-    };
-    Ok(Some(kind))
+// The word of a type; of a truth value that the head of a field holds it is that value.
+fn word_of_type(kind: TypeCode, held: Option<bool>) -> &'static str {
+    match kind {
+        TypeCode::Truth => match held {
+            Some(true) => "true",
+            Some(false) => "false",
+            None => "bool",
+        },
+        TypeCode::I32 => "i32",
+        TypeCode::I64 => "i64",
+        TypeCode::Binary => "binary",
+        TypeCode::Struct => "struct",
+        TypeCode::Map => "map",
+        TypeCode::List => "list",
+        _ => "other",
+    }
+}
+
+fn word_of_element(kind: Option<TypeCode>) -> &'static str {
+    match kind {
+        Some(kind) => word_of_type(kind, None),
+        None => "none",
+    }
 }
 
 // The field before, the levels left and a text; the place behind the head, and the field's id and type, the stop or a cause.
-const BINARY_FIELDS: &str = "
+pub(crate) const BINARY_FIELDS: &str = "
 0 31 0007 => 1 stop
 0 0 020005 => 3 field 5 bool
 0 0 08010207 => 3 field 258 i32
@@ -40,7 +47,7 @@ const BINARY_FIELDS: &str = "
 0 31 0a00 => 0 Truncated
 ";
 
-const COMPACT_FIELDS: &str = "
+pub(crate) const COMPACT_FIELDS: &str = "
 5 31 0007 => 1 stop
 0 31 1507 => 1 field 1 i32
 1 0 f8 => 1 field 16 binary
@@ -61,42 +68,32 @@ const COMPACT_FIELDS: &str = "
 0 31 @OVERLONG => 0 BadVarint
 ";
 
-fn field_of(words: &mut Words<'_>) -> Result<Result<Option<Field>, Cause>, Fail> {
-    match words.word() {
-        "field" => {}
-        "stop" => return Ok(Ok(None)),
-        name => return Ok(Err(cause_of(name)?)),
-    }
-    let id = words.number()?;
-    let held = match words.rest() {
-        "true" => Some(true),
-        "false" => Some(false),
-        _ => None,
-    };
-    match type_of(words)? {
-        Some(kind) => Ok(Ok(Some(Field { id, kind, held }))),
-        None => Err(words.fail("a field without a type")),
-    }
+fn is_field(text: &str, field: Field) -> bool {
+    let (word, rest) = word_of(text);
+    let (id, kind) = word_of(rest);
+    word == "field"
+        && is_signed(id, i64::from(field.id))
+        && kind == word_of_type(field.kind, field.held)
 }
 
-fn reads_fields<P: Parts>(rt: &impl Abort, alloc: Global, table: &'static str) -> Result<(), Fail> {
-    for row in lines(table) {
-        let (mut given, mut answer) = Words::sides(row)?;
-        let last: i16 = given.number()?;
-        let left: u8 = given.number()?;
-        let place: usize = answer.number()?;
-        let wanted = field_of(&mut answer)?;
-        ends(&answer)?;
-        let text = bytes_of(alloc, given.rest())?;
-        let mut c = Cursor::new(text.as_slice());
-        let found = P::field(&mut c, last, left);
-        assert!(rt; found == wanted && c.place() == place, "{row}");
-    }
-    Ok(())
+fn reads_field<P: Parts>(given: &str, bytes: &[u8], wanted: &str) -> bool {
+    let (last, rest) = word_of(given);
+    let (left, _) = word_of(rest);
+    let (Ok(last), Ok(left)) = (last.parse::<i16>(), left.parse::<u8>()) else {
+        return false;
+    };
+    let mut c = Cursor::new(bytes);
+    let (place, told) = word_of(wanted);
+    let same = match P::field(&mut c, last, left) {
+        Ok(Some(field)) => is_field(told, field),
+        Ok(None) => told == "stop",
+        Err(cause) => told == cause.name(),
+    };
+    same && is_count(place, c.place() as u64)
 }
 
 // The levels left and a text, and the type of the elements and the number of the list that is read, or a cause.
-const BINARY_LISTS: &str = "
+pub(crate) const BINARY_LISTS: &str = "
 1 0c00000002 => list struct 2
 0 ff00000000 => list none 0
 31 ff000001 => BadWire
@@ -107,7 +104,7 @@ const BINARY_LISTS: &str = "
 0 0c00000001 => TooDeep
 ";
 
-const COMPACT_LISTS: &str = "
+pub(crate) const COMPACT_LISTS: &str = "
 1 2c => list struct 2
 0 e2 => list bool 14
 1 fc01 => list struct 1
@@ -124,31 +121,27 @@ const COMPACT_LISTS: &str = "
 31 f8 => Truncated
 ";
 
-fn list_of(words: &mut Words<'_>) -> Result<Result<ListHead, Cause>, Fail> {
-    match words.word() {
-        "list" => {}
-        name => return Ok(Err(cause_of(name)?)),
-    }
-    let element = type_of(words)?;
-    let size = words.number()?;
-    Ok(Ok(ListHead { element, size }))
+fn is_list(text: &str, head: ListHead) -> bool {
+    let (word, rest) = word_of(text);
+    let (element, size) = word_of(rest);
+    word == "list"
+        && element == word_of_element(head.element)
+        && is_count(size, u64::from(head.size))
 }
 
-fn reads_lists<P: Parts>(rt: &impl Abort, alloc: Global, table: &'static str) -> Result<(), Fail> {
-    for row in lines(table) {
-        let (mut given, mut answer) = Words::sides(row)?;
-        let left: u8 = given.number()?;
-        let wanted = list_of(&mut answer)?;
-        ends(&answer)?;
-        let text = bytes_of(alloc, given.rest())?;
-        let found = P::list(&mut Cursor::new(text.as_slice()), left);
-        assert!(rt; found == wanted, "{row}");
+fn reads_list<P: Parts>(given: &str, bytes: &[u8], wanted: &str) -> bool {
+    let (left, _) = word_of(given);
+    let Ok(left) = left.parse::<u8>() else {
+        return false;
+    };
+    match P::list(&mut Cursor::new(bytes), left) {
+        Ok(head) => is_list(wanted, head),
+        Err(cause) => wanted == cause.name(),
     }
-    Ok(())
 }
 
 // The levels left and a text; the place behind the head, and the types and the number of the map, or a cause.
-const BINARY_MAPS: &str = "
+pub(crate) const BINARY_MAPS: &str = "
 1 0b0c00000003 => 6 map binary struct 3
 0 000c00000000 => 6 map none struct 0
 0 ff0c80 => 0 TooDeep
@@ -156,7 +149,7 @@ const BINARY_MAPS: &str = "
 1 0b => 0 Truncated
 ";
 
-const COMPACT_MAPS: &str = "
+pub(crate) const COMPACT_MAPS: &str = "
 0 008c => 1 map none none 0
 0 80008c => 2 map none none 0
 1 038c => 2 map binary struct 3
@@ -167,49 +160,33 @@ const COMPACT_MAPS: &str = "
 1 ff => 0 Truncated
 ";
 
-fn map_of(words: &mut Words<'_>) -> Result<Result<MapHead, Cause>, Fail> {
-    match words.word() {
-        "map" => {}
-        name => return Ok(Err(cause_of(name)?)),
-    }
-    let key = type_of(words)?;
-    let value = type_of(words)?;
-    let size = words.number()?;
-    Ok(Ok(MapHead { key, value, size }))
+fn is_map(text: &str, head: MapHead) -> bool {
+    let (word, rest) = word_of(text);
+    let (key, rest) = word_of(rest);
+    let (value, size) = word_of(rest);
+    word == "map"
+        && key == word_of_element(head.key)
+        && value == word_of_element(head.value)
+        && is_count(size, u64::from(head.size))
 }
 
-fn reads_maps<P: Parts>(rt: &impl Abort, alloc: Global, table: &'static str) -> Result<(), Fail> {
-    for row in lines(table) {
-        let (mut given, mut answer) = Words::sides(row)?;
-        let left: u8 = given.number()?;
-        let place: usize = answer.number()?;
-        let wanted = map_of(&mut answer)?;
-        ends(&answer)?;
-        let text = bytes_of(alloc, given.rest())?;
-        let mut c = Cursor::new(text.as_slice());
-        let found = P::map(&mut c, left);
-        assert!(rt; found == wanted && c.place() == place, "{row}");
-    }
-    Ok(())
-}
-
-#[test]
-fn reads_heads_of_the_binary_protocol(rt: HostRuntime) -> Result<(), Fail> {
-    reads_fields::<Binary>(&rt, rt.alloc(), BINARY_FIELDS)?;
-    reads_lists::<Binary>(&rt, rt.alloc(), BINARY_LISTS)?;
-    reads_maps::<Binary>(&rt, rt.alloc(), BINARY_MAPS)
-}
-
-#[test]
-fn reads_heads_of_the_compact_protocol(rt: HostRuntime) -> Result<(), Fail> {
-    reads_fields::<Compact>(&rt, rt.alloc(), COMPACT_FIELDS)?;
-    reads_lists::<Compact>(&rt, rt.alloc(), COMPACT_LISTS)?;
-    reads_maps::<Compact>(&rt, rt.alloc(), COMPACT_MAPS)
+fn reads_map<P: Parts>(given: &str, bytes: &[u8], wanted: &str) -> bool {
+    let (left, _) = word_of(given);
+    let Ok(left) = left.parse::<u8>() else {
+        return false;
+    };
+    let mut c = Cursor::new(bytes);
+    let (place, told) = word_of(wanted);
+    let same = match P::map(&mut c, left) {
+        Ok(head) => is_map(told, head),
+        Err(cause) => told == cause.name(),
+    };
+    same && is_count(place, c.place() as u64)
 }
 
 // What is read and a text; the place behind, and what it is: a truth value is 1 or 0, and the eight bytes of a double are
 // a number.
-const BINARY_WORDS: &str = "
+pub(crate) const BINARY_WORDS: &str = "
 bool 02ff => 1 1
 false 02 => 0 0
 i8 ffff => 1 -1
@@ -223,7 +200,7 @@ length 7fffff => 0 Truncated
 length 80 => 0 BadSize
 ";
 
-const COMPACT_WORDS: &str = "
+pub(crate) const COMPACT_WORDS: &str = "
 bool 0102 => 1 1
 bool 02ff => 1 0
 false ff => 0 0
@@ -244,98 +221,105 @@ double 000000000000f0 => 0 Truncated
 ";
 
 // A truth value that a head holds is read of no text. None where the word isn't known.
-fn read_word<P: Parts>(c: &mut Cursor<'_>, kind: &str) -> Option<Result<i64, Cause>> {
-    let word = match kind {
-        "bool" => P::truth(c, None).map(i64::from),
-        "false" => P::truth(c, Some(false)).map(i64::from),
-        "i8" => P::byte(c).map(i64::from),
-        "i16" => P::short(c).map(i64::from),
-        "i32" => P::int(c).map(i64::from),
-        "i64" => P::long(c),
-        "double" => P::eight(c).map(i64::from_be_bytes),
-        "length" => P::length(c).map(i64::from),
-        _ => return None,
+fn read_word<P: Parts>(c: &mut Cursor<'_>, kind: &str) -> Result<Option<i64>, Cause> {
+    let number = match kind {
+        "bool" => i64::from(P::truth(c, None)?),
+        "false" => i64::from(P::truth(c, Some(false))?),
+        "i8" => i64::from(P::byte(c)?),
+        "i16" => i64::from(P::short(c)?),
+        "i32" => i64::from(P::int(c)?),
+        "i64" => P::long(c)?,
+        "double" => i64::from_be_bytes(P::eight(c)?),
+        "length" => i64::from(P::length(c)?),
+        _ => return Ok(None),
     };
-    Some(word)
+    Ok(Some(number))
 }
 
-fn number_of(words: &mut Words<'_>) -> Result<Result<i64, Cause>, Fail> {
-    let word = words.word();
-    match word.parse::<i64>() {
-        Ok(number) => Ok(Ok(number)),
-        Err(_) => Ok(Err(cause_of(word)?)),
-    }
-}
-
-fn reads_words<P: Parts>(rt: &impl Abort, alloc: Global, table: &'static str) -> Result<(), Fail> {
-    for row in lines(table) {
-        let (mut given, mut answer) = Words::sides(row)?;
-        let kind = given.word();
-        let place: usize = answer.number()?;
-        let wanted = number_of(&mut answer)?;
-        ends(&answer)?;
-        let text = bytes_of(alloc, given.rest())?;
-        let mut c = Cursor::new(text.as_slice());
-        let found = read_word::<P>(&mut c, kind);
-        assert!(rt; found == Some(wanted) && c.place() == place, "{row}");
-    }
-    Ok(())
+fn reads_word<P: Parts>(given: &str, bytes: &[u8], wanted: &str) -> bool {
+    let (kind, _) = word_of(given);
+    let mut c = Cursor::new(bytes);
+    let (place, told) = word_of(wanted);
+    let same = match read_word::<P>(&mut c, kind) {
+        Ok(Some(number)) => is_signed(told, number),
+        Ok(None) => false,
+        Err(cause) => told == cause.name(),
+    };
+    same && is_count(place, c.place() as u64)
 }
 
 // A type, the levels left, where the value begins and a text; the place then, and whether the value is passed.
-const BINARY_VALUES: &str = "
+pub(crate) const BINARY_VALUES: &str = "
 struct 32 0 @BATCH => 103 ok
 list 30 3 @BINARY_TAGS => 35 ok
 ";
 
-const COMPACT_VALUES: &str = "
+pub(crate) const COMPACT_VALUES: &str = "
 list 30 1 @COMPACT_TAGS => 17 ok
 struct 32 0 1922 01 02 1b 01 81 'k' 01 00 => 0 Truncated
 ";
 
-fn passed_of(words: &mut Words<'_>) -> Result<Result<(), Cause>, Fail> {
-    match words.word() {
-        "ok" => Ok(Ok(())),
-        name => Ok(Err(cause_of(name)?)),
+fn kind_of(word: &str) -> Option<TypeCode> {
+    match word {
+        "struct" => Some(TypeCode::Struct),
+        "list" => Some(TypeCode::List),
+        _ => None,
     }
 }
 
-fn skips<P: Parts>(rt: &impl Abort, alloc: Global, table: &'static str) -> Result<(), Fail> {
-    for row in lines(table) {
-        let (mut given, mut answer) = Words::sides(row)?;
-        let kind = type_of(&mut given)?.expect(rt, row);
-        let left: u8 = given.number()?;
-        let begins: usize = given.number()?;
-        let place: usize = answer.number()?;
-        let wanted = passed_of(&mut answer)?;
-        ends(&answer)?;
-        let text = bytes_of(alloc, given.rest())?;
-        let mut c = Cursor::new(text.as_slice());
-        assert!(rt; c.take(begins).is_ok() && left <= OUTER_LEVELS + 1, "{row}");
-        assert!(rt;
-            skip::<P>(&mut c, kind, None, left) == wanted && c.place() == place,
-            "{row}"
-        );
+fn skips<P: Parts>(given: &str, bytes: &[u8], wanted: &str) -> bool {
+    let (kind, rest) = word_of(given);
+    let (left, rest) = word_of(rest);
+    let (begins, _) = word_of(rest);
+    let (Some(kind), Ok(left), Ok(begins)) = (
+        kind_of(kind),
+        left.parse::<u8>(),
+        begins.parse::<usize>(),
+    ) else {
+        return false;
+    };
+    let mut c = Cursor::new(bytes);
+    if c.take(begins).is_err() || left > OUTER_LEVELS + 1 {
+        return false;
     }
-    Ok(())
+    let (place, told) = word_of(wanted);
+    let same = match skip::<P>(&mut c, kind, None, left) {
+        Ok(()) => told == "ok",
+        Err(cause) => told == cause.name(),
+    };
+    same && is_count(place, c.place() as u64)
 }
 
-#[test]
-fn reads_values_of_the_binary_protocol(rt: HostRuntime) -> Result<(), Fail> {
-    reads_words::<Binary>(&rt, rt.alloc(), BINARY_WORDS)?;
-    skips::<Binary>(&rt, rt.alloc(), BINARY_VALUES)?;
-    let read = bytes::<Binary>(&mut Cursor::new(b"\0\0\0\x02abc"));
-    assert!(rt; read == Ok(b"ab".as_slice()));
-    Ok(())
+/// What a table of Thrift is of.
+#[derive(Clone, Copy)]
+pub(crate) enum Part {
+    Field,
+    List,
+    Map,
+    Word,
+    Value,
 }
 
-#[test]
-fn reads_values_of_the_compact_protocol(rt: HostRuntime) -> Result<(), Fail> {
-    reads_words::<Compact>(&rt, rt.alloc(), COMPACT_WORDS)?;
-    skips::<Compact>(&rt, rt.alloc(), COMPACT_VALUES)?;
-    let read = bytes::<Compact>(&mut Cursor::new(b"\x02abc"));
-    assert!(rt; read == Ok(b"ab".as_slice()));
-    Ok(())
+impl Part {
+    /// How many words stand in front of the bytes.
+    pub(crate) fn words(self) -> u32 {
+        match self {
+            Part::Field => 2,
+            Part::List | Part::Map | Part::Word => 1,
+            Part::Value => 3,
+        }
+    }
+
+    /// Whether a row tells what is read of its bytes.
+    pub(crate) fn is_read<P: Parts>(self, given: &str, bytes: &[u8], wanted: &str) -> bool {
+        match self {
+            Part::Field => reads_field::<P>(given, bytes, wanted),
+            Part::List => reads_list::<P>(given, bytes, wanted),
+            Part::Map => reads_map::<P>(given, bytes, wanted),
+            Part::Word => reads_word::<P>(given, bytes, wanted),
+            Part::Value => skips::<P>(given, bytes, wanted),
+        }
+    }
 }
 
 fn write_tags<P: Parts>(out: &mut Blob) -> Result<(), OutOfMemory> {
@@ -376,36 +360,62 @@ fn write_truth(out: &mut Blob) -> Result<(), OutOfMemory> {
     Binary::put_long(out, -2)
 }
 
-// Whether what was written are these bytes. Then there is nothing.
-fn wrote(alloc: Global, out: &mut Blob, text: &str) -> Result<bool, Fail> {
-    let wanted = bytes_of(alloc, text)?;
-    let same = out.as_slice() == wanted.as_slice();
-    out.clear();
-    Ok(same)
+/// What is written.
+#[derive(Clone, Copy)]
+enum Written {
+    BinaryTags,
+    BinaryTruth,
+    CompactTags,
+    CompactFields,
+    CompactLists,
 }
 
+fn write(part: Written, out: &mut Blob) -> Result<(), OutOfMemory> {
+    match part {
+        Written::BinaryTags => write_tags::<Binary>(out),
+        Written::BinaryTruth => write_truth(out),
+        Written::CompactTags => write_tags::<Compact>(out),
+        Written::CompactFields => write_fields::<Compact>(out),
+        Written::CompactLists => write_lists(out),
+    }
+}
+
+fn is_written(alloc: Global, part: Written, wanted: &[u8]) -> bool {
+    let mut out = Blob::new(alloc);
+    write(part, &mut out).is_ok() && out.as_slice() == wanted
+}
+
+const WRITTEN: [(Written, &str); 5] = [
+    (Written::BinaryTags, BINARY_TAGS),
+    (Written::BinaryTruth, "020005 01 fffffffffffffffe"),
+    (Written::CompactTags, COMPACT_TAGS),
+    (Written::CompactFields, "11 f2 0648 03 05d804 ffffffff0f"),
+    (Written::CompactLists, "ffffffffffffffffff01 e6 f60f f8ac02"),
+];
+
 #[test]
-fn writes_the_binary_protocol(rt: HostRuntime) -> Result<(), Fail> {
-    let mut out = Blob::new(rt.alloc());
-    write_tags::<Binary>(&mut out)?;
-    assert!(rt; wrote(rt.alloc(), &mut out, BINARY_TAGS)?);
-    write_truth(&mut out)?;
-    assert!(rt; wrote(rt.alloc(), &mut out, "020005 01 fffffffffffffffe")?);
+fn writes_both_protocols(rt: HostRuntime) -> Result<(), Fail> {
+    for (part, text) in &WRITTEN {
+        let wanted = bytes_of(rt.alloc(), text)?;
+        assert!(rt; is_written(rt.alloc(), *part, wanted.as_slice()), "{text}");
+    }
     Ok(())
 }
 
+fn is_bytes<P: Parts>(text: &[u8], wanted: &[u8]) -> bool {
+    bytes::<P>(&mut Cursor::new(text)) == Ok(wanted)
+}
+
+fn are_long_bytes(alloc: Global) -> bool {
+    let mut out = Blob::new(alloc);
+    Compact::put_bytes(&mut out, &[7; 130]).is_ok()
+        && out.len() == 132
+        && is_bytes::<Compact>(out.as_slice(), &[7; 130])
+}
+
 #[test]
-fn writes_the_compact_protocol(rt: HostRuntime) -> Result<(), Fail> {
-    let mut out = Blob::new(rt.alloc());
-    write_tags::<Compact>(&mut out)?;
-    assert!(rt; wrote(rt.alloc(), &mut out, COMPACT_TAGS)?);
-    write_fields::<Compact>(&mut out)?;
-    assert!(rt; wrote(rt.alloc(), &mut out, "11 f2 0648 03 05d804 ffffffff0f")?);
-    write_lists(&mut out)?;
-    assert!(rt; wrote(rt.alloc(), &mut out, "ffffffffffffffffff01 e6 f60f f8ac02")?);
-    Compact::put_bytes(&mut out, &[7; 130])?;
-    assert!(rt; out.len() == 132);
-    let read = bytes::<Compact>(&mut Cursor::new(out.as_slice()));
-    assert!(rt; read == Ok([7; 130].as_slice()));
-    Ok(())
+fn reads_bytes(rt: HostRuntime) {
+    let binary = is_bytes::<Binary>(b"\0\0\0\x02abc", b"ab");
+    let compact = is_bytes::<Compact>(b"\x02abc", b"ab");
+    assert!(rt; binary && compact && are_long_bytes(rt.alloc()));
 }

@@ -1,11 +1,11 @@
 //! Records of protobuf. Those of the bytes 150 and "testing" are the examples of the proto3 encoding guide.
-use crate::texts::{bytes_of, cause_of, ends, lines};
+use crate::texts::{is_count, word_of};
 use proto_wire::{
     Payload, WireRecord, close_record, next_record, open_record, opening_size, record_size,
     write_record,
 };
-use row_tables::Words;
-use span_io::{Blob, Cause, Cursor};
+use span_io::{Blob, Cursor, OutOfMemory};
+use std::alloc::Global;
 use std::test::Fail;
 
 // Records in their shortest spelling, the number of each and what it holds.
@@ -21,43 +21,42 @@ f8ffffff0f808001 => 536870911 varint 16384
 08ffffffffffffffffff01 => 1 varint 18446744073709551615
 ";
 
-// What a record holds, or a cause.
-pub(crate) fn payload_of<'a>(words: &mut Words<'a>) -> Result<Result<Payload<'a>, Cause>, Fail> {
-    match words.word() {
-        "varint" => Ok(Ok(Payload::Varint(words.number()?))),
-        "fixed64" => Ok(Ok(Payload::Fixed64(words.number()?))),
-        "fixed32" => Ok(Ok(Payload::Fixed32(words.number()?))),
-        "bytes" => Ok(Ok(Payload::Bytes(words.word().as_bytes()))),
-        name => Ok(Err(cause_of(name)?)),
-    }
+// Whether a text tells what a record holds.
+fn is_payload(text: &str, payload: Payload<'_>) -> bool {
+    let (word, rest) = word_of(text);
+    let (name, number) = match payload {
+        Payload::Varint(number) => ("varint", number),
+        Payload::Fixed64(number) => ("fixed64", number),
+        Payload::Fixed32(number) => ("fixed32", u64::from(number)),
+        Payload::Bytes(bytes) => return word == "bytes" && rest.as_bytes() == bytes,
+    };
+    word == name && is_count(rest, number)
 }
 
-// Whether the one record is read, and then the end.
-fn is_record(bytes: &[u8], record: WireRecord<'_>) -> bool {
+// Whether a record is written so, and its size is known before.
+fn is_written(alloc: Global, record: WireRecord<'_>, bytes: &[u8]) -> bool {
+    let WireRecord { number, payload } = record;
+    if !(1 <= number && number <= 536_870_911) {
+        return false;
+    }
+    let size = record_size(number, &payload);
+    let mut out = Blob::new(alloc);
+    write_record(&mut out, number, payload).is_ok()
+        && out.as_slice() == bytes
+        && size == bytes.len() as u64
+}
+
+/// Whether these bytes are the one record that a row tells, and its shortest spelling.
+pub(crate) fn is_record(alloc: Global, bytes: &[u8], wanted: &str) -> bool {
     let mut c = Cursor::new(bytes);
-    next_record(&mut c) == Ok(Some(record)) && next_record(&mut c) == Ok(None)
-}
-
-#[test]
-fn reads_and_writes_records(rt: HostRuntime) -> Result<(), Fail> {
-    for row in lines(SHORTEST) {
-        let (given, mut answer) = Words::sides(row)?;
-        let number: u32 = answer.number()?;
-        let payload = payload_of(&mut answer)??;
-        ends(&answer)?;
-        let bytes = bytes_of(rt.alloc(), given.rest())?;
-        let bytes = bytes.as_slice();
-        assert!(rt; is_record(bytes, WireRecord { number, payload }), "{row}");
-        assert!(rt; 1 <= number && number <= 536_870_911);
-        let size = record_size(number, &payload);
-        let mut out = Blob::new(rt.alloc());
-        write_record(&mut out, number, payload)?;
-        assert!(rt;
-            out.as_slice() == bytes && size == bytes.len() as u64,
-            "{row}"
-        );
-    }
-    Ok(())
+    let Ok(Some(record)) = next_record(&mut c) else {
+        return false;
+    };
+    let (number, told) = word_of(wanted);
+    is_count(number, u64::from(record.number))
+        && is_payload(told, record.payload)
+        && next_record(&mut c) == Ok(None)
+        && is_written(alloc, record, bytes)
 }
 
 // A varint may be longer than it need be, and what follows a record is left. What is refused is not passed. Behind each text
@@ -86,33 +85,33 @@ ffffffffffffffffff02 => 0 BadVarint
 0a818080808080808080800061 => 0 BadVarint
 ";
 
-#[test]
-fn reads_other_spellings(rt: HostRuntime) -> Result<(), Fail> {
-    for row in lines(READ) {
-        let (given, mut answer) = Words::sides(row)?;
-        let place: usize = answer.number()?;
-        let wanted = match payload_of(&mut answer)? {
-            Ok(payload) => Ok(Some(WireRecord { number: 1, payload })),
-            Err(cause) => Err(cause),
-        };
-        ends(&answer)?;
-        let bytes = bytes_of(rt.alloc(), given.rest())?;
-        let mut c = Cursor::new(bytes.as_slice());
-        let found = next_record(&mut c);
-        assert!(rt; found == wanted && c.place() == place, "{row}");
-    }
-    Ok(())
+/// Whether a row tells what the record of number 1 holds with which these bytes begin, or why there is none, and the place
+/// then.
+pub(crate) fn is_front(bytes: &[u8], wanted: &str) -> bool {
+    let mut c = Cursor::new(bytes);
+    let (place, told) = word_of(wanted);
+    let same = match next_record(&mut c) {
+        Ok(Some(record)) => record.number == 1 && is_payload(told, record.payload),
+        Ok(None) => false,
+        Err(cause) => told == cause.name(),
+    };
+    same && is_count(place, c.place() as u64)
+}
+
+// Whether a record is opened and closed around bytes.
+fn is_closed(alloc: Global) -> Result<bool, OutOfMemory> {
+    let mut out = Blob::new(alloc);
+    open_record(&mut out, 2)?;
+    let opened = out.as_slice() == b"\x12\0".as_slice();
+    out.append(b"testing")?;
+    close_record(&mut out, 2, 0)?;
+    Ok(opened && out.as_slice() == b"\x12\x07testing".as_slice())
 }
 
 #[test]
 fn opens_records(rt: HostRuntime) -> Result<(), Fail> {
-    let mut out = Blob::new(rt.alloc());
-    open_record(&mut out, 2)?;
-    assert!(rt; out.as_slice() == b"\x12\0".as_slice());
-    out.append(b"testing")?;
-    close_record(&mut out, 2, 0)?;
-    assert!(rt; out.as_slice() == b"\x12\x07testing".as_slice());
-    assert!(rt; opening_size(1, 300) == 3);
-    assert!(rt; opening_size(536_870_911, u64::MAX) == 15);
+    assert!(rt; is_closed(rt.alloc())?);
+    let sizes = opening_size(1, 300) == 3 && opening_size(536_870_911, u64::MAX) == 15;
+    assert!(rt; sizes);
     Ok(())
 }

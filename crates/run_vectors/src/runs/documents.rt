@@ -1,8 +1,7 @@
 //! Documents in JSON that differ in one place, and the line that is noted of each.
-use super::{NO_FAILS, WHOLE, conversion, run_cut, status_told};
-use crate::told::bytes_told;
+use crate::bench::{Bench, NO_FAILS, WHOLE};
+use crate::told::append_bytes;
 use row_tables::{Row, rows};
-use span_io::Blob;
 use std::alloc::Global;
 use std::process::Abort;
 use std::test::Fail;
@@ -85,6 +84,11 @@ text {"resourceSpans":[{"resource":{"attributes":[{"value":{"arrayValue":{"value
  "arrayValue":{"values":[{"arrayValue":{"values":[{"arrayValue":{"values":[{"arrayValue":{"values":[{"arrayValue":{"values":
  [{"arrayValue":{"values":[{"arrayValue":{"values":[{"arrayValue":{"values":[
  {}]}}]}}]}}]}}]}}]}}]}}]}}]}}]}}]}}]}}]}}]}}]}}}]}}]}
+text {"resourceSpans":[{"resource":{"attributes":[{"value":{"arrayValue":{"values":[{"arrayValue":{"values":[{"arrayValue":{
+ "values":[{"arrayValue":{"values":[{"arrayValue":{"values":[{"arrayValue":{"values":[{"arrayValue":{"values":[{
+ "arrayValue":{"values":[{"arrayValue":{"values":[{"arrayValue":{"values":[{"arrayValue":{"values":[{"arrayValue":{"values":
+ [{"arrayValue":{"values":[{"arrayValue":{"values":[{"arrayValue":{"values":[{"arrayValue":{"values":[
+ {}]}}]}}]}}]}}]}}]}}]}}]}}]}}]}}]}}]}}]}}]}}]}}]}}}]}}]}
 
 documents of groups, BadShape of unit 2
 form otlp-json
@@ -115,8 +119,10 @@ stops 3 unit 1: cause 5 TooDeep
 text {"resourceSpans":[{"resource":{"attributes":[{"value":{"arrayValue":{"values":[{"arrayValue":{"values":[{"arrayValue":{
  "values":[{"arrayValue":{"values":[{"arrayValue":{"values":[{"arrayValue":{"values":[{"arrayValue":{"values":[{
  "arrayValue":{"values":[{"arrayValue":{"values":[{"arrayValue":{"values":[{"arrayValue":{"values":[{"arrayValue":{"values":
- [{"arrayValue":{"values":[{"arrayValue":{"values":[{"arrayValue":{"values":[{"arrayValue":{"values":[
- {}]}}]}}]}}]}}]}}]}}]}}]}}]}}]}}]}}]}}]}}]}}]}}]}}}]}}]}
+ [{"arrayValue":{"values":[{"arrayValue":{"values":[{"arrayValue":{"values":[{"arrayValue":{"values":[{"arrayValue":{
+ "values":[{"arrayValue":{"values":[{"arrayValue":{"values":[{"arrayValue":{"values":[{"arrayValue":{"values":[{
+ "arrayValue":{"values":[{"arrayValue":{"values":[{"arrayValue":{"values":[
+ {}]}}]}}]}}]}}]}}]}}]}}]}}]}}]}}]}}]}}]}}]}}]}}]}}]}}]}}]}}]}}]}}]}}]}}]}}}]}}]}
 
 members of a span that are read
 form otlp-json
@@ -282,12 +288,81 @@ text {"intValue":"+1"}
 text {"intValue":" 1"}
 text {"intValue":"-"}
 text {"intValue":""}
+text {"arrayValue":{"values":[{"arrayValue":{"values":[{"arrayValue":{"values":[{"arrayValue":{"values":[{"arrayValue":{
+ "values":[{"arrayValue":{"values":[{"arrayValue":{"values":[{"arrayValue":{"values":[{"arrayValue":{"values":[{
+ "arrayValue":{"values":[{"arrayValue":{"values":[{"arrayValue":{"values":[{"arrayValue":{"values":[{"arrayValue":{"values":
+ [{"arrayValue":{"values":[{"arrayValue":{"values":[{"arrayValue":{"values":[{"arrayValue":{"values":[{"arrayValue":{
+ "values":[{"arrayValue":{"values":[{"arrayValue":{"values":[{"arrayValue":{"values":[{"arrayValue":{"values":[{
+ "arrayValue":{"values":7}}]}}]}}]}}]}}]}}]}}]}}]}}]}}]}}]}}]}}]}}]}}]}}]}}]}}]}}]}}]}}]}}]}}]}}
+text {"arrayValue":{"values":[{"boolValue":1},{"arrayValue":{"values":[{"arrayValue":{"values":[{"arrayValue":{"values":[{
+ "arrayValue":{"values":[{"arrayValue":{"values":[{"arrayValue":{"values":[{"arrayValue":{"values":[{"arrayValue":{"values":
+ [{"arrayValue":{"values":[{"arrayValue":{"values":[{"arrayValue":{"values":[{"arrayValue":{"values":[{"arrayValue":{
+ "values":[{"arrayValue":{"values":[{"arrayValue":{"values":[{"arrayValue":{"values":[{"arrayValue":{"values":[{
+ "arrayValue":{"values":[{"arrayValue":{"values":[{"arrayValue":{"values":[{"arrayValue":{"values":[{"arrayValue":{"values":
+ [{"arrayValue":{"values":[{"arrayValue":{"values":[{"arrayValue":
+ {}}]}}]}}]}}]}}]}}]}}]}}]}}]}}]}}]}}]}}]}}]}}]}}]}}]}}]}}]}}]}}]}}]}}]}}]}}]}}
+text {"arrayValue":{"values":[{"arrayValue":{"values":[{"arrayValue":{"values":[{"arrayValue":{"values":[{"arrayValue":{
+ "values":[{"arrayValue":{"values":[{"arrayValue":{"values":[{"arrayValue":{"values":[{"arrayValue":{"values":[{
+ "arrayValue":{"values":[{"arrayValue":{"values":[{"arrayValue":{"values":[{"arrayValue":{"values":[{"arrayValue":{"values":
+ [{"arrayValue":{"values":[{"arrayValue":{"values":[7]}}]}}]}}]}}]}}]}}]}}]}}]}}]}}]}}]}}]}}]}}]}}]}}
+text {"arrayValue":{"values":[{"arrayValue":{"values":[{"arrayValue":{"values":[{"arrayValue":{"values":[{"arrayValue":{
+ "values":[{"arrayValue":{"values":[{"arrayValue":{"values":[{"arrayValue":{"values":[{"arrayValue":{"values":[{
+ "arrayValue":{"values":[{"arrayValue":{"values":[{"arrayValue":{"values":[{"arrayValue":{"values":[{"arrayValue":{"values":
+ [{"arrayValue":{"values":[{"arrayValue":{"values":[{"arrayValue":{}}]}}]}}]}}]}}]}}]}}]}}]}}]}}]}}]}}]}}]}}]}}]}},{
+ "boolValue":1}]}}
 
 values of an attribute, TooDeep of unit 1
 form otlp-json
 front @VALUE
 back }]}]}]}]}
 stops 3 unit 1: cause 5 TooDeep
+text {"arrayValue":{"values":[{"arrayValue":{"values":[{"arrayValue":{"values":[{"arrayValue":{"values":[{"arrayValue":{
+ "values":[{"arrayValue":{"values":[{"arrayValue":{"values":[{"arrayValue":{"values":[{"arrayValue":{"values":[{
+ "arrayValue":{"values":[{"arrayValue":{"values":[{"arrayValue":{"values":[{"arrayValue":{"values":[{"arrayValue":{"values":
+ [{"arrayValue":{"values":[{"arrayValue":{"values":[{"arrayValue":{"values":[{"arrayValue":{"values":[{"arrayValue":{
+ "values":[{"arrayValue":{"values":[{"arrayValue":{"values":[{"arrayValue":{"values":[{"arrayValue":{"values":[{
+ "arrayValue":{"values":[{"arrayValue":{}}]}}]}}]}}]}}]}}]}}]}}]}}]}}]}}]}}]}}]}}]}}]}}]}}]}}]}}]}}]}}]}}]}}]}}]}}
+text {"kvlistValue":{"values":[{"value":{"kvlistValue":{"values":[{"value":{"kvlistValue":{"values":[{"value":{
+ "kvlistValue":{"values":[{"value":{"kvlistValue":{"values":[{"value":{"kvlistValue":{"values":[{"value":{"kvlistValue":{
+ "values":[{"value":{"kvlistValue":{"values":[{"value":{"kvlistValue":{"values":[{"value":{"kvlistValue":{"values":[{
+ "value":{"kvlistValue":{"values":[{"value":{"kvlistValue":{"values":[{"value":{"kvlistValue":{"values":[{"value":{
+ "kvlistValue":{"values":[{"value":{"kvlistValue":{"values":[{"value":{"kvlistValue":{"values":[{"value":{"kvlistValue":{
+ "values":[{"value":{"kvlistValue":{"values":[{"value":{"kvlistValue":{"values":[{"value":{"kvlistValue":{"values":[{
+ "value":{"kvlistValue":{"values":[{"value":{"kvlistValue":{"values":[{"value":{"kvlistValue":{"values":[{"value":{
+ "kvlistValue":{"values":[{"value":{"kvlistValue":
+ {}}}]}}}]}}}]}}}]}}}]}}}]}}}]}}}]}}}]}}}]}}}]}}}]}}}]}}}]}}}]}}}]}}}]}}}]}}}]}}}]}}}]}}}]}}}]}}}]}}
+text {"arrayValue":{"values":[{"arrayValue":{"values":[{"arrayValue":{"values":[{"arrayValue":{"values":[{"arrayValue":{
+ "values":[{"arrayValue":{"values":[{"arrayValue":{"values":[{"arrayValue":{"values":[{"arrayValue":{"values":[{
+ "arrayValue":{"values":[{"arrayValue":{"values":[{"arrayValue":{"values":[{"arrayValue":{"values":[{"arrayValue":{"values":
+ [{"arrayValue":{"values":[{"arrayValue":{"values":[{"arrayValue":{"values":[{"arrayValue":{"values":[{"arrayValue":{
+ "values":[{"arrayValue":{"values":[{"arrayValue":{"values":[{"arrayValue":{"values":[{"arrayValue":{"values":[{
+ "arrayValue":{"values":[{}]}}]}}]}}]}}]}}]}}]}}]}}]}}]}}]}}]}}]}}]}}]}}]}}]}}]}}]}}]}}]}}]}}]}}]}}
+text {"arrayValue":{"values":[{"arrayValue":{"values":[{"arrayValue":{"values":[{"arrayValue":{"values":[{"arrayValue":{
+ "values":[{"arrayValue":{"values":[{"arrayValue":{"values":[{"arrayValue":{"values":[{"arrayValue":{"values":[{
+ "arrayValue":{"values":[{"arrayValue":{"values":[{"arrayValue":{"values":[{"arrayValue":{"values":[{"arrayValue":{"values":
+ [{"arrayValue":{"values":[{"arrayValue":{"values":[{"arrayValue":{"values":[{"arrayValue":{"values":[{"arrayValue":{
+ "values":[{"arrayValue":{"values":[{"arrayValue":{"values":[{"arrayValue":{"values":[{"arrayValue":{"values":[{
+ "arrayValue":{"values":[7]}}]}}]}}]}}]}}]}}]}}]}}]}}]}}]}}]}}]}}]}}]}}]}}]}}]}}]}}]}}]}}]}}]}}]}}
+text {"kvlistValue":{"values":[{"value":{"kvlistValue":{"values":[{"value":{"kvlistValue":{"values":[{"value":{
+ "kvlistValue":{"values":[{"value":{"kvlistValue":{"values":[{"value":{"kvlistValue":{"values":[{"value":{"kvlistValue":{
+ "values":[{"value":{"kvlistValue":{"values":[{"value":{"kvlistValue":{"values":[{"value":{"kvlistValue":{"values":[{
+ "value":{"kvlistValue":{"values":[{"value":{"kvlistValue":{"values":[{"value":{"kvlistValue":{"values":[{"value":{
+ "kvlistValue":{"values":[{"value":{"kvlistValue":{"values":[{"value":{"kvlistValue":{"values":[{"value":{"kvlistValue":{
+ "values":[{"value":{"kvlistValue":{"values":[{"value":{"kvlistValue":{"values":[{"value":{"kvlistValue":{"values":[{
+ "value":{"kvlistValue":{"values":[{"value":{"kvlistValue":{"values":[{"value":{"kvlistValue":{"values":[{"value":{
+ "kvlistValue":{"values":[{}]}}}]}}}]}}}]}}}]}}}]}}}]}}}]}}}]}}}]}}}]}}}]}}}]}}}]}}}]}}}]}}}]}}}]}}}]}}}]}}}]}}}]}}}]}}}]}}
+text {"arrayValue":{"values":[{"arrayValue":{"values":[{"arrayValue":{"values":[{"arrayValue":{"values":[{"arrayValue":{
+ "values":[{"arrayValue":{"values":[{"arrayValue":{"values":[{"arrayValue":{"values":[{"arrayValue":{"values":[{
+ "arrayValue":{"values":[{"arrayValue":{"values":[{"arrayValue":{"values":[{"arrayValue":{"values":[{"arrayValue":{"values":
+ [{"arrayValue":{"values":[{"arrayValue":{"values":[{"arrayValue":{"values":[{"arrayValue":{"values":[{"arrayValue":{
+ "values":[{"arrayValue":{"values":[{"arrayValue":{"values":[{"arrayValue":{"values":[{"arrayValue":{"values":[{
+ "arrayValue":{"values":[{"arrayValue":{}}]}}]}}]}}]}}]}}]}}]}}]}}]}}]}}]}}]}}]}}]}}]}}]}}]}}]}}]}}]}}]}}]}}]}},{
+ "boolValue":1}]}}
+
+values of an attribute that are read
+form otlp-json
+front @VALUE
+back }]}]}]}]}
 text {"arrayValue":{"values":[{"arrayValue":{"values":[{"arrayValue":{"values":[{"arrayValue":{"values":[{"arrayValue":{
  "values":[{"arrayValue":{"values":[{"arrayValue":{"values":[{"arrayValue":{"values":[{"arrayValue":{"values":[{
  "arrayValue":{"values":[{"arrayValue":{"values":[{"arrayValue":{"values":[{"arrayValue":{"values":[{"arrayValue":{"values":
@@ -302,57 +377,54 @@ text {"arrayValue":{"values":[{"arrayValue":{"values":[{"arrayValue":{"values":[
  "values":[{"arrayValue":{"values":[{"arrayValue":{"values":[{"arrayValue":{"values":[{"arrayValue":{"values":[{
  "arrayValue":{"values":[{"arrayValue":{"values":[{"arrayValue":{"values":[{"arrayValue":{"values":[{"arrayValue":{"values":
  [{"arrayValue":{"values":[{"arrayValue":{"values":[{}]}}]}}]}}]}}]}}]}}]}}]}}]}}]}}]}}]}}]}}]}}]}}]}}
-text {"arrayValue":{"values":[{"arrayValue":{"values":[{"arrayValue":{"values":[{"arrayValue":{"values":[{"arrayValue":{
- "values":[{"arrayValue":{"values":[{"arrayValue":{"values":[{"arrayValue":{"values":[{"arrayValue":{"values":[{
- "arrayValue":{"values":[{"arrayValue":{"values":[{"arrayValue":{"values":[{"arrayValue":{"values":[{"arrayValue":{"values":
- [{"arrayValue":{"values":[{"arrayValue":{"values":[7]}}]}}]}}]}}]}}]}}]}}]}}]}}]}}]}}]}}]}}]}}]}}]}}
 text {"kvlistValue":{"values":[{"value":{"kvlistValue":{"values":[{"value":{"kvlistValue":{"values":[{"value":{
  "kvlistValue":{"values":[{"value":{"kvlistValue":{"values":[{"value":{"kvlistValue":{"values":[{"value":{"kvlistValue":{
  "values":[{"value":{"kvlistValue":{"values":[{"value":{"kvlistValue":{"values":[{"value":{"kvlistValue":{"values":[{
  "value":{"kvlistValue":{"values":[{"value":{"kvlistValue":{"values":[{"value":{"kvlistValue":{"values":[{"value":{
  "kvlistValue":{"values":[{"value":{"kvlistValue":{"values":[{"value":{"kvlistValue":{"values":[
  {}]}}}]}}}]}}}]}}}]}}}]}}}]}}}]}}}]}}}]}}}]}}}]}}}]}}}]}}}]}}}]}}
-text {"arrayValue":{"values":[{"arrayValue":{"values":[{"arrayValue":{"values":[{"arrayValue":{"values":[{"arrayValue":{
- "values":[{"arrayValue":{"values":[{"arrayValue":{"values":[{"arrayValue":{"values":[{"arrayValue":{"values":[{
- "arrayValue":{"values":[{"arrayValue":{"values":[{"arrayValue":{"values":[{"arrayValue":{"values":[{"arrayValue":{"values":
- [{"arrayValue":{"values":[{"arrayValue":{"values":[{"arrayValue":{}}]}}]}}]}}]}}]}}]}}]}}]}}]}}]}}]}}]}}]}}]}}]}},
- {"boolValue":1}]}}
 "#;
 
 const KEYS: [&str; 5] = ["form", "front", "back", "stops", "text"];
 
-// The document with this text where documents differ.
-fn document_of(alloc: Global, row: &Row, text: &str) -> Result<Blob, Fail> {
-    let mut document = bytes_told(alloc, row, "front")?;
-    document.append(text.as_bytes())?;
-    document.append(bytes_told(alloc, row, "back")?.as_slice())?;
-    Ok(document)
-}
-
-fn expect_document(rt: &impl Abort, alloc: Global, row: &Row, text: &str) -> Result<(), Fail> {
-    let words = conversion(alloc, row.text("form")?, "otlp-proto")?;
-    let input = document_of(alloc, row, text)?;
-    let answer = run_cut(alloc, words.as_slice(), input, WHOLE, NO_FAILS)?;
-    let mut note = Blob::new(alloc);
-    let status = status_told(row, &mut note)?;
-    assert_eq!(rt; answer.status, status, "status of {text}");
-    assert_eq!(rt; answer.note.as_slice(), note.as_slice(), "note of {text}");
+// Converts the document with this text where documents differ.
+fn expect_document(
+    rt: &impl Abort,
+    alloc: Global,
+    bench: &mut Bench,
+    row: &Row,
+    text: &str,
+) -> Result<(), Fail> {
+    bench.read_input(alloc, row, "front")?;
+    bench.input.append(text.as_bytes())?;
+    append_bytes(alloc, row, "back", &mut bench.input)?;
+    bench.run(rt, alloc, WHOLE, NO_FAILS);
+    bench.expect_ending(rt, text);
     Ok(())
 }
 
-fn expect_documents(rt: &impl Abort, alloc: Global, row: &Row) -> Result<(), Fail> {
+fn expect_documents(
+    rt: &impl Abort,
+    alloc: Global,
+    bench: &mut Bench,
+    row: &Row,
+) -> Result<(), Fail> {
     row.expect_keys(&KEYS)?;
-    for text in &row.texts(alloc, "text")? {
-        expect_document(rt, alloc, row, text)?;
+    bench.convert(rt, alloc, row.text("form")?, "otlp-proto");
+    bench.read_ending(alloc, row)?;
+    for field in row.fields() {
+        if field.key() == "text" {
+            expect_document(rt, alloc, bench, row, field.text())?;
+        }
     }
     Ok(())
 }
 
 #[test]
 fn reads_documents(rt: HostRuntime) -> Result<(), Fail> {
-    let rows = rows(rt.alloc(), DOCUMENTS)?;
-    for row in &rows {
-        expect_documents(&rt, rt.alloc(), row)?;
+    let mut bench = Bench::new(&rt, rt.alloc());
+    for row in &rows(rt.alloc(), DOCUMENTS)? {
+        expect_documents(&rt, rt.alloc(), &mut bench, row)?;
     }
     Ok(())
 }

@@ -199,4 +199,37 @@ output {"resourceSpans":[{"scopeSpans":[{"spans":[{"attributes":[{"key":"k",
  "kvlistValue":{"values":[{"value":{"kvlistValue":{"values":[{"value":{"kvlistValue":
  {}}}]}}}]}}}]}}}]}}}]}}}]}}}]}}}]}}}]}}}]}}}]}}}]}}}]}}}]}}}]}}}],"name":"a","spanId":"0000000000000002",
  "traceId":"00000000000000000000000000000001"}]}]}]}
+
+a list 24 deep
+run convert --from otlp-json --to otlp-json
+input {"resourceSpans":[{"scopeSpans":[{"spans":[{"traceId":"00000000000000000000000000000001","spanId":"0000000000000002",
+ "name":"a","attributes":[{"key":"k","value":
+input @LISTS_24
+input }]}]}]}]}
+output {"resourceSpans":[{"scopeSpans":[{"spans":[{"attributes":[{"key":"k","value":
+output @LISTS_24
+output }],"name":"a","spanId":"0000000000000002","traceId":"00000000000000000000000000000001"}]}]}]}
+
+a map 24 deep, without values
+run convert --from otlp-json --to otlp-json
+input {"resourceSpans":[{"scopeSpans":[{"spans":[{"traceId":"00000000000000000000000000000001","spanId":"0000000000000002",
+ "name":"a","attributes":[{"key":"k","value":{"kvlistValue":{"values":[{"value":{"kvlistValue":{"values":[{"value":{
+ "kvlistValue":{"values":[{"value":{"kvlistValue":{"values":[{"value":{"kvlistValue":{"values":[{"value":{"kvlistValue":{
+ "values":[{"value":{"kvlistValue":{"values":[{"value":{"kvlistValue":{"values":[{"value":{"kvlistValue":{"values":[{
+ "value":{"kvlistValue":{"values":[{"value":{"kvlistValue":{"values":[{"value":{"kvlistValue":{"values":[{"value":{
+ "kvlistValue":{"values":[{"value":{"kvlistValue":{"values":[{"value":{"kvlistValue":{"values":[{"value":{"kvlistValue":{
+ "values":[{"value":{"kvlistValue":{"values":[{"value":{"kvlistValue":{"values":[{"value":{"kvlistValue":{"values":[{
+ "value":{"kvlistValue":{"values":[{"value":{"kvlistValue":{"values":[{"value":{"kvlistValue":{"values":[{"value":{
+ "kvlistValue":{"values":[{"value":{"kvlistValue":{"values":
+ []}}}]}}}]}}}]}}}]}}}]}}}]}}}]}}}]}}}]}}}]}}}]}}}]}}}]}}}]}}}]}}}]}}}]}}}]}}}]}}}]}}}]}}}]}}}]}}}]}]}]}]}
+output {"resourceSpans":[{"scopeSpans":[{"spans":[{"attributes":[{"key":"k","value":{"kvlistValue":{"values":[{"value":{
+ "kvlistValue":{"values":[{"value":{"kvlistValue":{"values":[{"value":{"kvlistValue":{"values":[{"value":{"kvlistValue":{
+ "values":[{"value":{"kvlistValue":{"values":[{"value":{"kvlistValue":{"values":[{"value":{"kvlistValue":{"values":[{
+ "value":{"kvlistValue":{"values":[{"value":{"kvlistValue":{"values":[{"value":{"kvlistValue":{"values":[{"value":{
+ "kvlistValue":{"values":[{"value":{"kvlistValue":{"values":[{"value":{"kvlistValue":{"values":[{"value":{"kvlistValue":{
+ "values":[{"value":{"kvlistValue":{"values":[{"value":{"kvlistValue":{"values":[{"value":{"kvlistValue":{"values":[{
+ "value":{"kvlistValue":{"values":[{"value":{"kvlistValue":{"values":[{"value":{"kvlistValue":{"values":[{"value":{
+ "kvlistValue":{"values":[{"value":{"kvlistValue":{"values":[{"value":{"kvlistValue":
+ {}}}]}}}]}}}]}}}]}}}]}}}]}}}]}}}]}}}]}}}]}}}]}}}]}}}]}}}]}}}]}}}]}}}]}}}]}}}]}}}]}}}]}}}]}}}]}}}],"name":"a",
+ "spanId":"0000000000000002","traceId":"00000000000000000000000000000001"}]}]}]}
 "#;

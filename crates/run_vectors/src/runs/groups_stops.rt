@@ -29,6 +29,19 @@ input {"resourceSpans":[{"scopeSpans":[{"spans":[{"traceId":"0000000000000000000
  "name":"a","events":[{"timeUnixNano":"1000","name":"\"a\":{\"b\":\"c\"}"}]}]}]}]}
 stops 4 unit 1: fault 23 EventText
 
+a name that reads as event text with a value 17 deep
+run convert --from otlp-json --to zipkin-json
+input {"resourceSpans":[{"scopeSpans":[{"spans":[{"events":[{"name":"\"e\":{\"k\":[[[[[[[[[[[[[[[[[]]]]]]]]]]]]]]]]]}",
+ "timeUnixNano":"1000"}],"name":"a","spanId":"0000000000000002","traceId":"00000000000000000000000000000001"}]}]}]}
+stops 4 unit 1: fault 23 EventText
+
+a name that reads as event text with a value 24 deep
+run convert --from otlp-json --to zipkin-json
+input {"resourceSpans":[{"scopeSpans":[{"spans":[{"events":[{
+ "name":"\"e\":{\"k\":[[[[[[[[[[[[[[[[[[[[[[[[]]]]]]]]]]]]]]]]]]]]]]]]}","timeUnixNano":"1000"}],"name":"a",
+ "spanId":"0000000000000002","traceId":"00000000000000000000000000000001"}]}]}]}
+stops 4 unit 1: fault 23 EventText
+
 own key
 run convert --from otlp-json --to zipkin-json
 input {"resourceSpans":[{"scopeSpans":[{"spans":[{"traceId":"00000000000000000000000000000001","spanId":"0000000000000002",
@@ -178,4 +191,56 @@ input {"resourceSpans":[{"scopeSpans":[{"spans":[{"traceId":"0000000000000000000
  "name":"a"}]}]},{"scopeSpans":[{"spans":[{"traceId":"00000000000000000000000000000001","spanId":"0000000000000002",
  "name":"a","kind":6}]}]}]}
 stops 3 unit 2: cause 13 BadEnum
+
+25 lists, one in the other, in a resource
+run convert --from otlp-json --to otlp-json
+input {"resourceSpans":[{"resource":{"attributes":[{"key":"k","value":{"arrayValue":{"values":[
+input @LISTS_24
+input ]}}}]}}]}
+stops 3 unit 1: cause 5 TooDeep
+
+25 lists, one in the other, in a scope
+run convert --from otlp-json --to otlp-json
+input {"resourceSpans":[{"scopeSpans":[{"scope":{"attributes":[{"key":"k","value":{"arrayValue":{"values":[
+input @LISTS_24
+input ]}}}]}}]}]}
+stops 3 unit 1: cause 5 TooDeep
+
+25 lists, one in the other, in a span
+run convert --from otlp-json --to otlp-json
+input {"resourceSpans":[{"scopeSpans":[{"spans":[{"attributes":[{"key":"k","value":{"arrayValue":{"values":[
+input @LISTS_24
+input ]}}}],"name":"a","spanId":"0000000000000002","traceId":"00000000000000000000000000000001"}]}]}]}
+stops 3 unit 1: cause 5 TooDeep
+
+25 lists, one in the other, in an event
+run convert --from otlp-json --to otlp-json
+input {"resourceSpans":[{"scopeSpans":[{"spans":[{"events":[{"attributes":[{"key":"k","value":{"arrayValue":{"values":[
+input @LISTS_24
+input ]}}}]}],"name":"a","spanId":"0000000000000002","traceId":"00000000000000000000000000000001"}]}]}]}
+stops 3 unit 1: cause 5 TooDeep
+
+25 lists, one in the other, in a link
+run convert --from otlp-json --to otlp-json
+input {"resourceSpans":[{"scopeSpans":[{"spans":[{"links":[{"attributes":[{"key":"k","value":{"arrayValue":{"values":[
+input @LISTS_24
+input ]}}}],"spanId":"0000000000000001","traceId":"00000000000000000000000000000001"}],"name":"a",
+ "spanId":"0000000000000002","traceId":"00000000000000000000000000000001"}]}]}]}
+stops 3 unit 1: cause 5 TooDeep
+
+lists and maps in turn, 25 deep
+run convert --from otlp-json --to otlp-json
+input {"resourceSpans":[{"scopeSpans":[{"spans":[{"attributes":[{"key":"k","value":{"arrayValue":{"values":[{"kvlistValue":{
+ "values":[{"key":"k","value":
+input @TURNS_23
+input }]}}]}}}],"name":"a","spanId":"0000000000000002","traceId":"00000000000000000000000000000001"}]}]}]}
+stops 3 unit 1: cause 5 TooDeep
+
+maps and lists in turn, 25 deep
+run convert --from otlp-json --to otlp-json
+input {"resourceSpans":[{"scopeSpans":[{"spans":[{"attributes":[{"key":"k","value":{"kvlistValue":{"values":[{"key":"k",
+ "value":
+input @TURNS_24
+input }]}}}],"name":"a","spanId":"0000000000000002","traceId":"00000000000000000000000000000001"}]}]}]}
+stops 3 unit 1: cause 5 TooDeep
 "#;

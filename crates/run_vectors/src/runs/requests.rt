@@ -138,4 +138,49 @@ run convert --from otlp-proto --to otlp-proto
 input-hex 0a000a0212
 output-hex 0a00
 stops 3 unit 2: cause 1 Truncated
+
+25 lists, one in the other, in a resource
+run convert --from otlp-proto --to otlp-proto
+input-hex 0a6b0a690a670a016b12622a600a5e
+input-hex @LISTS_24_MESSAGE
+stops 3 unit 1: cause 5 TooDeep
+
+25 lists, one in the other, in a scope
+run convert --from otlp-proto --to otlp-proto
+input-hex 0a6d126b0a691a670a016b12622a600a5e
+input-hex @LISTS_24_MESSAGE
+stops 3 unit 1: cause 5 TooDeep
+
+25 lists, one in the other, in a span
+run convert --from otlp-proto --to otlp-proto
+input-hex 0a8e01128b011288010a1000000000000000000000000000000001120800000000000000022a01614a670a016b12622a600a5e
+input-hex @LISTS_24_MESSAGE
+stops 3 unit 1: cause 5 TooDeep
+
+25 lists, one in the other, in an event
+run convert --from otlp-proto --to otlp-proto
+input-hex 0a9001128d01128a010a1000000000000000000000000000000001120800000000000000022a01615a691a670a016b12622a600a5e
+input-hex @LISTS_24_MESSAGE
+stops 3 unit 1: cause 5 TooDeep
+
+25 lists, one in the other, in a link
+run convert --from otlp-proto --to otlp-proto
+input-hex 0aad0112aa0112a7010a1000000000000000000000000000000001120800000000000000022a01616a85010a10000000000000000000000000
+ 000000011208000000000000000122670a016b12622a600a5e
+input-hex @LISTS_24_MESSAGE
+stops 3 unit 1: cause 5 TooDeep
+
+lists and maps in turn, 25 deep
+run convert --from otlp-proto --to otlp-proto
+input-hex 0ad80112d50112d2010a1000000000000000000000000000000001120800000000000000022a01614ab0010a016b12aa012aa7010aa40132a1
+ 010a9e010a016b129801
+input-hex @TURNS_23_MESSAGE
+stops 3 unit 1: cause 5 TooDeep
+
+maps and lists in turn, 25 deep
+run convert --from otlp-proto --to otlp-proto
+input-hex 0ad80112d50112d2010a1000000000000000000000000000000001120800000000000000022a01614ab0010a016b12aa0132a7010aa4010a01
+ 6b129e01
+input-hex @TURNS_24_MESSAGE
+stops 3 unit 1: cause 5 TooDeep
 "#;

@@ -1,11 +1,10 @@
 //! Runs of `serve` at a door in memory, at which two equal connections wait.
-ghost use Rattle.std.specs.Prelude.{IfOk};
-ghost use Rattle.span_io.specs.Connections.{HasNoFault};
+ghost use Rattle.span_io.specs.Connections.{HasNoFault, HaveNoFault};
 
-use super::{UNREADABLE, WHOLE, calls, expect_answer, run_at, status_told, words_told};
-use crate::told::{bytes_told, line_told};
+use crate::bench::{Bench, Fails, WHOLE, sink, source};
+use crate::told::append_line;
 use row_tables::{Row, rows};
-use span_io::{Blob, DoorCourse, Items, MemDoor, MemDuplex, MemSink, MemSource, Text};
+use span_io::{DoorCourse, Items, MemDoor, MemDuplex, Text};
 use std::alloc::Global;
 use std::process::Abort;
 use std::test::Fail;
@@ -173,6 +172,13 @@ stream @POSTED
 stops 2 usage: spanx convert|losses|show|check|headers|gauge|serve OPTIONS
 "#;
 
+// The first read fails, so that an answer shows that nothing was read.
+pub(super) const UNREADABLE: Fails = Fails {
+    input: Some(1),
+    output: None,
+    notes: None,
+};
+
 const KEYS: [&str; 11] = [
     "run",
     "last-word",
@@ -187,27 +193,73 @@ const KEYS: [&str; 11] = [
     "note-lines",
 ];
 
-// A connection of a row.
-fn connection(alloc: Global, row: &Row) -> Result<MemDuplex, Fail>
-    ensures { IfOk result (λ conn. HasNoFault conn) }
+// A connection that gives these bytes, of which a read and a write fail.
+fn connection(
+    rt: &impl Abort,
+    alloc: Global,
+    bytes: &[u8],
+    read: Option<u64>,
+    write: Option<u64>,
+) -> MemDuplex
+    ensures { HasNoFault result }
 {
-    let left = line_told(alloc, row.text("stream")?)?;
-    let source = MemSource::new(left, WHOLE, calls(alloc, row.number_if_any("reads-fail")?)?);
-    let fail = calls(alloc, row.number_if_any("writes-fail")?)?;
-    let sink = MemSink::new(alloc, 4096, fail)?;
-    Ok(MemDuplex::new(source, sink))
+    let source = source(rt, alloc, bytes, WHOLE, read);
+    MemDuplex::new(source, sink(rt, alloc, 4096, write))
 }
 
-fn door_of(alloc: Global, row: &Row) -> Result<MemDoor, Fail> {
+// Two equal connections.
+fn connections(
+    rt: &impl Abort,
+    alloc: Global,
+    bytes: &[u8],
+    read: Option<u64>,
+    write: Option<u64>,
+) -> Items<MemDuplex>
+    ensures { HaveNoFault result }
+{
     let mut conns = Items::new(alloc);
-    conns.push(connection(alloc, row)?)?;
-    conns.push(connection(alloc, row)?)?;
-    let address = Text::of(alloc, "m")?;
-    let mut fail = Items::new(alloc);
-    for call in &row.texts(alloc, "door-fails")? {
-        fail.push(row.number_in(call)?)?;
+    let Ok(()) = conns.push(connection(rt, alloc, bytes, read, write)) else {
+        panic!(rt; "no memory");
+    };
+    let Ok(()) = conns.push(connection(rt, alloc, bytes, read, write)) else {
+        panic!(rt; "no memory");
+    };
+    conns
+}
+
+// The calls of a door that fail.
+fn door_fails(alloc: Global, row: &Row) -> Result<Items<u64>, Fail> {
+    let mut calls = Items::new(alloc);
+    for field in row.fields() {
+        if field.key() == "door-fails" {
+            calls.push(row.number_in(field.text())?)?;
+        }
     }
-    Ok(MemDoor::new(alloc, address, conns, fail)?)
+    Ok(calls)
+}
+
+pub(super) fn door_at(
+    rt: &impl Abort,
+    alloc: Global,
+    conns: Items<MemDuplex>,
+    calls: Items<u64>,
+) -> MemDoor
+    requires { HaveNoFault conns }
+{
+    let address = Text::of(alloc, "m").expect(rt, "address");
+    MemDoor::new(alloc, address, conns, calls).expect(rt, "door")
+}
+
+// Puts the door of a row into the bench, whose input is what each of its connections gives.
+fn read_door(rt: &impl Abort, alloc: Global, bench: &mut Bench, row: &Row) -> Result<(), Fail> {
+    bench.input.clear();
+    append_line(alloc, row.text("stream")?, &mut bench.input)?;
+    let read = row.number_if_any("reads-fail")?;
+    let write = row.number_if_any("writes-fail")?;
+    let calls = door_fails(alloc, row)?;
+    let conns = connections(rt, alloc, bench.input.as_slice(), read, write);
+    bench.door = door_at(rt, alloc, conns, calls);
+    Ok(())
 }
 
 // How the calls of a door went that a run of this status left: none came behind a failed one.
@@ -219,52 +271,71 @@ fn course_behind(status: u64) -> DoorCourse {
     }
 }
 
-// Looks at what the connections took that were given back.
-fn expect_taken(rt: &impl Abort, alloc: Global, row: &Row, door: &MemDoor) -> Result<(), Fail> {
-    let texts = row.texts(alloc, "answer")?;
-    let name = row.name();
-    assert_eq!(rt; door.closed().len(), texts.len(), "connections of {name}");
-    for (conn, text) in door.closed().iter().zip(&texts) {
-        let taken = line_told(alloc, text)?;
-        assert!(rt; conn.written() == taken.as_slice(), "answers of {name}");
+// Looks at how the calls of the door went, and at where its two connections are. As many were given back as are told.
+fn expect_door(rt: &impl Abort, name: &str, door: &MemDoor, status: u64, told: usize) {
+    let closed = door.closed().len();
+    let left = door.waiting();
+    assert!(rt; door.course() == course_behind(status), "course of {name}");
+    assert!(rt; left.saturating_add(closed) == 2, "left at {name}");
+    assert!(rt; closed == told, "connections of {name}");
+}
+
+// What a connection took that was given back, or nothing where no more were.
+pub(super) fn taken_by(door: &MemDoor, place: usize) -> &[u8] {
+    match door.closed().get(place) {
+        Some(conn) => conn.written(),
+        None => &[],
     }
-    Ok(())
+}
+
+// Looks at what the connections took that were given back, and answers how many are told.
+fn expect_taken(
+    rt: &impl Abort,
+    alloc: Global,
+    bench: &mut Bench,
+    row: &Row,
+) -> Result<usize, Fail> {
+    let mut count = 0_usize;
+    for field in row.fields() {
+        if field.key() != "answer" {
+            continue;
+        }
+        bench.input.clear();
+        append_line(alloc, field.text(), &mut bench.input)?;
+        let taken = taken_by(&bench.door, count);
+        assert!(rt;
+            taken == bench.input.as_slice(),
+            "answers of {}",
+            row.name()
+        );
+        count = count.saturating_add(1);
+    }
+    Ok(count)
 }
 
 // Serves at the door of a row, and looks at the answer and at the connections.
-fn expect_serving(rt: &impl Abort, alloc: Global, row: &Row) -> Result<(), Fail> {
+fn expect_serving(
+    rt: &impl Abort,
+    alloc: Global,
+    bench: &mut Bench,
+    row: &Row,
+) -> Result<(), Fail> {
     row.expect_keys(&KEYS)?;
-    let words = words_told(alloc, row)?;
-    let mut door = door_of(alloc, row)?;
-    let answer = run_at(
-        alloc,
-        words.as_slice(),
-        Blob::new(alloc),
-        1,
-        UNREADABLE,
-        &mut door,
-    )?;
-    let mut note = bytes_told(alloc, row, "note")?;
-    let status = status_told(row, &mut note)?;
-    expect_answer(rt, row.name(), &answer, (status, b"", note.as_slice()));
-    assert!(rt;
-        door.course() == course_behind(status),
-        "course of {}",
-        row.name()
-    );
-    assert!(rt;
-        door.waiting().saturating_add(door.closed().len()) == 2,
-        "left at {}",
-        row.name()
-    );
-    expect_taken(rt, alloc, row, &door)
+    bench.read_words(rt, alloc, row)?;
+    bench.read_ending(alloc, row)?;
+    read_door(rt, alloc, bench, row)?;
+    bench.run(rt, alloc, 1, UNREADABLE);
+    bench.expect_answer(rt, row.name());
+    let told = expect_taken(rt, alloc, bench, row)?;
+    expect_door(rt, row.name(), &bench.door, bench.wanted.status, told);
+    Ok(())
 }
 
 #[test]
 fn serves(rt: HostRuntime) -> Result<(), Fail> {
-    let rows = rows(rt.alloc(), SERVINGS)?;
-    for row in &rows {
-        expect_serving(&rt, rt.alloc(), row)?;
+    let mut bench = Bench::new(&rt, rt.alloc());
+    for row in &rows(rt.alloc(), SERVINGS)? {
+        expect_serving(&rt, rt.alloc(), &mut bench, row)?;
     }
     Ok(())
 }

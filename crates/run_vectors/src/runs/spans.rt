@@ -135,6 +135,48 @@ output {"resourceSpans":[{"resource":{"attributes":[{"key":"host","value":{"stri
  "events":[{"attributes":[{"key":"n","value":{"intValue":"1"}}],"name":"retry","timeUnixNano":"2000"}],"kind":3,
  "spanId":"0000000000000002","startTimeUnixNano":"1000","status":{"code":2,"message":"late"},
  "traceId":"00000000000000000000000000000001","traceState":"k=v"}]}]}]}
+
+an event text with a value 17 deep, to a group
+run convert --from zipkin-json --to otlp-json
+input [{"annotations":[{"timestamp":1,"value":"\"e\":{\"k\":[[[[[[[[[[[[[[[[[]]]]]]]]]]]]]]]]]}"}],"id":"0000000000000002",
+ "name":"a","traceId":"00000000000000000000000000000001"}]
+output {"resourceSpans":[{"scopeSpans":[{"spans":[{"events":[{"attributes":[{"key":"k","value":{"arrayValue":{"values":[{
+ "arrayValue":{"values":[{"arrayValue":{"values":[{"arrayValue":{"values":[{"arrayValue":{"values":[{"arrayValue":{"values":
+ [{"arrayValue":{"values":[{"arrayValue":{"values":[{"arrayValue":{"values":[{"arrayValue":{"values":[{"arrayValue":{
+ "values":[{"arrayValue":{"values":[{"arrayValue":{"values":[{"arrayValue":{"values":[{"arrayValue":{"values":[{
+ "arrayValue":{"values":[{"arrayValue":{}}]}}]}}]}}]}}]}}]}}]}}]}}]}}]}}]}}]}}]}}]}}]}}]}}}],"name":"e",
+ "timeUnixNano":"1000"}],"kind":1,"name":"a","spanId":"0000000000000002","traceId":"00000000000000000000000000000001"}]}]}]}
+
+an event text with a value 24 deep, to a group
+run convert --from zipkin-json --to otlp-json
+input [{"annotations":[{"timestamp":1,"value":"\"e\":{\"k\":[[[[[[[[[[[[[[[[[[[[[[[[]]]]]]]]]]]]]]]]]]]]]]]]}"}],
+ "id":"0000000000000002","name":"a","traceId":"00000000000000000000000000000001"}]
+output {"resourceSpans":[{"scopeSpans":[{"spans":[{"events":[{"attributes":[{"key":"k","value":
+output @LISTS_24
+output }],"name":"e","timeUnixNano":"1000"}],"kind":1,"name":"a","spanId":"0000000000000002",
+ "traceId":"00000000000000000000000000000001"}]}]}]}
+
+an event text with a value 24 deep, written again
+run convert --from zipkin-json --to zipkin-json
+input [{"annotations":[{"timestamp":1,"value":"\"e\":{\"k\":[[[[[[[[[[[[[[[[[[[[[[[[]]]]]]]]]]]]]]]]]]]]]]]]}"}],
+ "id":"0000000000000002","name":"a","traceId":"00000000000000000000000000000001"}]
+output [{"annotations":[{"timestamp":1,"value":"\"e\":{\"k\":[[[[[[[[[[[[[[[[[[[[[[[[]]]]]]]]]]]]]]]]]]]]]]]]}"}],
+ "id":"0000000000000002","name":"a","traceId":"00000000000000000000000000000001"}]
+
+a text with a value 25 deep, which is a name, to a group
+run convert --from zipkin-json --to otlp-json
+input [{"annotations":[{"timestamp":1,"value":"\"e\":{\"k\":[[[[[[[[[[[[[[[[[[[[[[[[[]]]]]]]]]]]]]]]]]]]]]]]]]}"}],
+ "id":"0000000000000002","name":"a","traceId":"00000000000000000000000000000001"}]
+output {"resourceSpans":[{"scopeSpans":[{"spans":[{"events":[{
+ "name":"\"e\":{\"k\":[[[[[[[[[[[[[[[[[[[[[[[[[]]]]]]]]]]]]]]]]]]]]]]]]]}","timeUnixNano":"1000"}],"kind":1,"name":"a",
+ "spanId":"0000000000000002","traceId":"00000000000000000000000000000001"}]}]}]}
+
+a text with a value 25 deep, written again
+run convert --from zipkin-json --to zipkin-json
+input [{"annotations":[{"timestamp":1,"value":"\"e\":{\"k\":[[[[[[[[[[[[[[[[[[[[[[[[[]]]]]]]]]]]]]]]]]]]]]]]]]}"}],
+ "id":"0000000000000002","name":"a","traceId":"00000000000000000000000000000001"}]
+output [{"annotations":[{"timestamp":1,"value":"\"e\":{\"k\":[[[[[[[[[[[[[[[[[[[[[[[[[]]]]]]]]]]]]]]]]]]]]]]]]]}"}],
+ "id":"0000000000000002","name":"a","traceId":"00000000000000000000000000000001"}]
 "#;
 
 /// What tags of Zipkin say.

@@ -1,8 +1,6 @@
 //! A move to a form and back: what was written is what the form of the input holds as well, so that it is written again.
-use super::{Answer, NO_FAILS, WHOLE, conversion, run_cut};
-use crate::told::bytes_told;
+use crate::bench::{Bench, NO_FAILS, WHOLE};
 use row_tables::{Row, rows};
-use span_io::Blob;
 use std::alloc::Global;
 use std::process::Abort;
 use std::test::Fail;
@@ -46,42 +44,55 @@ form zipkin-json
 text @CLIENT_SPANS
 "#;
 
-// What is answered to an input that goes from form to form.
-fn converted(alloc: Global, from: &str, to: &str, input: &Blob) -> Result<Answer, Fail> {
-    let words = conversion(alloc, from, to)?;
-    run_cut(alloc, words.as_slice(), input.copy()?, WHOLE, NO_FAILS)
+// Converts the input of the bench to a form. What is written of it is the next input.
+fn go(rt: &impl Abort, alloc: Global, bench: &mut Bench, name: &str, from: &str, to: &str) {
+    bench.convert(rt, alloc, from, to);
+    bench.run(rt, alloc, WHOLE, NO_FAILS);
+    bench.expect_status(rt, name, 0);
+    bench.input.clear();
+    bench
+        .input
+        .append(bench.given.output.as_slice())
+        .expect(rt, name);
 }
 
 // Converts a text to a form, back, and there again: the last output is the first one.
-fn expect_again(rt: &impl Abort, alloc: Global, start: &Row, target: &str) -> Result<(), Fail> {
+fn expect_again(
+    rt: &impl Abort,
+    alloc: Global,
+    bench: &mut Bench,
+    start: &Row,
+    target: &str,
+) -> Result<(), Fail> {
     let name = start.name();
     let form = start.text("form")?;
-    let there = converted(alloc, form, target, &bytes_told(alloc, start, "text")?)?;
-    assert_eq!(rt; there.status, 0, "status of {name}, to {target}");
-    let back = converted(alloc, target, form, &there.output)?;
-    assert_eq!(rt; back.status, 0, "status of {name}, back from {target}");
-    let again = converted(alloc, form, target, &back.output)?;
-    assert_eq!(rt; again.status, 0, "status of {name}, to {target} again");
-    assert!(rt;
-        again.output.as_slice() == there.output.as_slice(),
-        "output of {name}, to {target} again"
-    );
+    bench.read_input(alloc, start, "text")?;
+    go(rt, alloc, bench, name, form, target);
+    bench.wanted.hold(rt, 0, bench.given.output.as_slice(), b"");
+    go(rt, alloc, bench, name, target, form);
+    go(rt, alloc, bench, name, form, target);
+    bench.expect_answer(rt, name);
     Ok(())
 }
 
-fn expect_each_way(rt: &impl Abort, alloc: Global, start: &Row) -> Result<(), Fail> {
+fn expect_each_way(
+    rt: &impl Abort,
+    alloc: Global,
+    bench: &mut Bench,
+    start: &Row,
+) -> Result<(), Fail> {
     start.expect_keys(&["form", "text", "text-hex"])?;
     for target in &TARGETS {
-        expect_again(rt, alloc, start, target)?;
+        expect_again(rt, alloc, bench, start, target)?;
     }
     Ok(())
 }
 
 #[test]
 fn comes_there_again(rt: HostRuntime) -> Result<(), Fail> {
-    let starts = rows(rt.alloc(), STARTS)?;
-    for start in &starts {
-        expect_each_way(&rt, rt.alloc(), start)?;
+    let mut bench = Bench::new(&rt, rt.alloc());
+    for start in &rows(rt.alloc(), STARTS)? {
+        expect_each_way(&rt, rt.alloc(), &mut bench, start)?;
     }
     Ok(())
 }

@@ -95,4 +95,64 @@ input-hex 0a8a010a87010a000a0a0a047465787412020a000a0b0a0566616c7365120210000a0a
  80808080808080010a0b0a05627974657312023a000a0a0a046c69737412022a000a090a036d6170120232000a260a066e6573746564121c2a1a0a000a
  062a040a0210010a0e320c0a030a016b0a05120318ac02
 output @VALUES_GROUP
+
+24 lists, one in the other, in a resource
+run convert --from otlp-proto --to otlp-json
+input-hex 0a670a650a630a016b125e
+input-hex @LISTS_24_MESSAGE
+output {"resourceSpans":[{"resource":{"attributes":[{"key":"k","value":
+output @LISTS_24
+output }]}}]}
+
+24 lists, one in the other, in a scope
+run convert --from otlp-proto --to otlp-json
+input-hex 0a6912670a651a630a016b125e
+input-hex @LISTS_24_MESSAGE
+output {"resourceSpans":[{"scopeSpans":[{"scope":{"attributes":[{"key":"k","value":
+output @LISTS_24
+output }]}}]}]}
+
+24 lists, one in the other, in a span
+run convert --from otlp-proto --to otlp-json
+input-hex 0a8a011287011284010a1000000000000000000000000000000001120800000000000000022a01614a630a016b125e
+input-hex @LISTS_24_MESSAGE
+output {"resourceSpans":[{"scopeSpans":[{"spans":[{"attributes":[{"key":"k","value":
+output @LISTS_24
+output }],"name":"a","spanId":"0000000000000002","traceId":"00000000000000000000000000000001"}]}]}]}
+
+24 lists, one in the other, in an event
+run convert --from otlp-proto --to otlp-json
+input-hex 0a8c011289011286010a1000000000000000000000000000000001120800000000000000022a01615a651a630a016b125e
+input-hex @LISTS_24_MESSAGE
+output {"resourceSpans":[{"scopeSpans":[{"spans":[{"events":[{"attributes":[{"key":"k","value":
+output @LISTS_24
+output }]}],"name":"a","spanId":"0000000000000002","traceId":"00000000000000000000000000000001"}]}]}]}
+
+24 lists, one in the other, in a link
+run convert --from otlp-proto --to otlp-json
+input-hex 0aa90112a60112a3010a1000000000000000000000000000000001120800000000000000022a01616a81010a10000000000000000000000000
+ 000000011208000000000000000122630a016b125e
+input-hex @LISTS_24_MESSAGE
+output {"resourceSpans":[{"scopeSpans":[{"spans":[{"links":[{"attributes":[{"key":"k","value":
+output @LISTS_24
+output }],"spanId":"0000000000000001","traceId":"00000000000000000000000000000001"}],"name":"a","spanId":"0000000000000002",
+ "traceId":"00000000000000000000000000000001"}]}]}]}
+
+lists and maps in turn, 24 deep
+run convert --from otlp-proto --to otlp-json
+input-hex 0acc0112c90112c6010a1000000000000000000000000000000001120800000000000000022a01614aa4010a016b129e01
+input-hex @TURNS_24_MESSAGE
+output {"resourceSpans":[{"scopeSpans":[{"spans":[{"attributes":[{"key":"k","value":
+output @TURNS_24
+output }],"name":"a","spanId":"0000000000000002","traceId":"00000000000000000000000000000001"}]}]}]}
+
+maps and lists in turn, 24 deep
+run convert --from otlp-proto --to otlp-json
+input-hex 0ad20112cf0112cc010a1000000000000000000000000000000001120800000000000000022a01614aaa010a016b12a40132a1010a9e010a01
+ 6b129801
+input-hex @TURNS_23_MESSAGE
+output {"resourceSpans":[{"scopeSpans":[{"spans":[{"attributes":[{"key":"k","value":{"kvlistValue":{"values":[{"key":"k",
+ "value":
+output @TURNS_23
+output }]}}}],"name":"a","spanId":"0000000000000002","traceId":"00000000000000000000000000000001"}]}]}]}
 "#;

@@ -1,8 +1,7 @@
 //! One trace in each form.
-use super::{Answer, CUTS, Case, NO_FAILS, conversion, expect_case, words_of};
-use crate::told::bytes_told;
+use super::CUTS;
+use crate::bench::{Bench, NO_FAILS};
 use row_tables::{Row, rows};
-use span_io::Blob;
 use std::alloc::Global;
 use std::process::Abort;
 use std::test::Fail;
@@ -65,43 +64,35 @@ const SHOWN: &str = "0af7651916cd43dd8448eb211c80319c b7ad6b7169203331 00f067aa0
 
 const CHECKED: &str = "units 1, spans 1, remarks 0\n";
 
-// Runs words on the trace in a form.
-fn expect_run(
-    rt: &impl Abort,
-    alloc: Global,
-    words: Vec<String>,
-    from: &Row,
-    output: Blob,
-) -> Result<(), Fail> {
+// Runs the words of the bench on the trace in a form.
+fn expect_run(rt: &impl Abort, alloc: Global, bench: &mut Bench, from: &Row) -> Result<(), Fail> {
     from.expect_keys(&["text", "text-hex"])?;
-    let wanted = Answer {
-        status: 0,
-        output,
-        note: Blob::new(alloc),
-    };
-    let case = Case {
-        name: from.name(),
-        words,
-        input: bytes_told(alloc, from, "text")?,
-        fails: NO_FAILS,
-        wanted,
-    };
-    expect_case(rt, alloc, &case, &CUTS)
+    bench.read_input(alloc, from, "text")?;
+    bench.expect_cuts(rt, alloc, from.name(), &CUTS, NO_FAILS);
+    Ok(())
 }
 
-fn expect_each(rt: &impl Abort, alloc: Global, from: &Row, forms: &[Row]) -> Result<(), Fail> {
+fn expect_each(
+    rt: &impl Abort,
+    alloc: Global,
+    bench: &mut Bench,
+    from: &Row,
+    forms: &[Row],
+) -> Result<(), Fail> {
     for to in forms {
-        let words = conversion(alloc, from.name(), to.name())?;
-        expect_run(rt, alloc, words, from, bytes_told(alloc, to, "text")?)?;
+        bench.convert(rt, alloc, from.name(), to.name());
+        bench.read_output(alloc, to, "text")?;
+        expect_run(rt, alloc, bench, from)?;
     }
     Ok(())
 }
 
 #[test]
 fn converts_each_form_to_each(rt: HostRuntime) -> Result<(), Fail> {
+    let mut bench = Bench::new(&rt, rt.alloc());
     let forms = rows(rt.alloc(), TRACE)?;
     for from in &forms {
-        expect_each(&rt, rt.alloc(), from, forms.as_slice())?;
+        expect_each(&rt, rt.alloc(), &mut bench, from, forms.as_slice())?;
     }
     Ok(())
 }
@@ -109,23 +100,21 @@ fn converts_each_form_to_each(rt: HostRuntime) -> Result<(), Fail> {
 fn expect_report(
     rt: &impl Abort,
     alloc: Global,
+    bench: &mut Bench,
     from: &Row,
     (mode, told): (&str, &str),
 ) -> Result<(), Fail> {
-    let form = from.name();
-    let text = format!(in alloc; "{mode} --from {form}")?;
-    let words = words_of(alloc, text.as_str())?;
-    let mut output = Blob::new(alloc);
-    output.append(told.as_bytes())?;
-    expect_run(rt, alloc, words, from, output)
+    bench.report(rt, alloc, mode, from.name());
+    bench.wanted.hold(rt, 0, told.as_bytes(), b"");
+    expect_run(rt, alloc, bench, from)
 }
 
 #[test]
 fn reports_each_form(rt: HostRuntime) -> Result<(), Fail> {
-    let forms = rows(rt.alloc(), TRACE)?;
-    for from in &forms {
-        expect_report(&rt, rt.alloc(), from, ("show", SHOWN))?;
-        expect_report(&rt, rt.alloc(), from, ("check", CHECKED))?;
+    let mut bench = Bench::new(&rt, rt.alloc());
+    for from in &rows(rt.alloc(), TRACE)? {
+        expect_report(&rt, rt.alloc(), &mut bench, from, ("show", SHOWN))?;
+        expect_report(&rt, rt.alloc(), &mut bench, from, ("check", CHECKED))?;
     }
     Ok(())
 }
