@@ -302,7 +302,7 @@ def worked_groups():
     twice = ',"attributes":[{"key":"k","value":{"intValue":"1"}},{"key":"k","value":{"intValue":2}}],"links":[{"traceId":"","spanId":""}]'
     to_zipkin = lambda more, *parts: (small_json(more), JSON, ZIPKIN, written(small_zipkin(*parts) + b"]"))
     stopped = lambda more, target, fault: (small_json(more), JSON, target, faulted(fault))
-    sixteen = nested_value(16, "{}")
+    deepest = nested_value(otlp.DEEPEST, "{}")
     return [
         (b"", OTLP, JSON, written(NO_GROUPS)), (b"", JAEGER, JSON, written(NO_GROUPS)), (b"[]", ZIPKIN, JSON, written(NO_GROUPS)),
         (NO_GROUPS, JSON, OTLP, written(b"")), (b"{}", JSON, ZIPKIN, written(b"[]")), (b'{"resourceSpans":null,"x":1}', JSON, JSON, written(NO_GROUPS)),
@@ -328,7 +328,7 @@ def worked_groups():
         of_value('{"arrayValue":{"values":[{},{"stringValue":""}]}}', '{"arrayValue":{"values":[{},{"stringValue":""}]}}'),
         of_value('{"intValue":-9223372036854775808,"stringValue":null}', '{"intValue":"-9223372036854775808"}'),
         of_value('{"bytesValue":"/+8="}', '{"bytesValue":"/+8="}'), of_value('{"boolValue":false}', '{"boolValue":false}'),
-        of_value('{"intValue":"-0"}', '{"intValue":"0"}'), of_value(sixteen, sixteen), of_value(nested_value(16, '{"values":[]}'), sixteen),
+        of_value('{"intValue":"-0"}', '{"intValue":"0"}'), of_value(deepest, deepest), of_value(nested_value(otlp.DEEPEST, '{"values":[]}'), deepest),
         *((valued(held), JSON, JSON, written(written_json('"attributes":[{"key":"k"}],'))) for held in ["{}", "null", '{"x":1}']),
         (REQUEST_JSON.replace(b"0af7651916cd43dd8448eb211c80319c", b"0AF7651916cd43DD8448EB211C80319C"), JSON, JSON, written(REQUEST_JSON)),
     ]
@@ -364,7 +364,8 @@ def worked_refusals():
         value('{"intValue":9223372036854775808}', "11 BadShape"), value('{"intValue":"-9223372036854775809"}', "11 BadShape"), value('"x"', "11 BadShape"),
         value('{"bytesValue":"/+9="}', "11 BadShape"), value('{"bytesValue":"_-8="}', "11 BadShape"), value('{"bytesValue":"/+8"}', "11 BadShape"),
         value('{"boolValue":"true"}', "11 BadShape"), value('{"arrayValue":[]}', "11 BadShape"), value('{"arrayValue":{"values":{}}}', "11 BadShape"),
-        value(nested_value(17, "{}"), "5 TooDeep"), value(nested_value(16, '{"values":[7]}'), "5 TooDeep"), value(nested_value(16, '{"values":7}'), "11 BadShape"),
+        value(nested_value(otlp.DEEPEST + 1, "{}"), "5 TooDeep"), value(nested_value(otlp.DEEPEST, '{"values":[7]}'), "5 TooDeep"),
+        value(nested_value(otlp.DEEPEST, '{"values":7}'), "11 BadShape"),
         value(nested_value(34, "{}"), "5 TooDeep"), refused(valued(nested_value(35, "{}")), "10 BadJson", 0),
     ]
 

@@ -4,6 +4,7 @@ import base64
 
 import otlp_json
 from drawn import Traces
+from otlp import DEEPEST
 from spelled_json import Members, Raw, Speller, TreeSpoiler
 
 VALUES = [name for name, _ in otlp_json.TABLE["AnyValue"]]
@@ -170,4 +171,4 @@ class GroupSpoiler(TreeSpoiler, GroupDocuments):
         if names.keys() & set(VALUES) and self.is_wrong():
             yield from self.choice([("doubleValue", 1)], [("intValue", "x")], [("stringValue", "x"), ("boolValue", 1)], [("bytesValue", "AA==")])
         if "key" in names and self.is_wrong("value"):
-            yield "value", self.deep_value(self.choice(14, 15, 16, 17, 18, 40))
+            yield "value", self.deep_value(self.choice(DEEPEST - 2, DEEPEST - 1, DEEPEST, DEEPEST + 1, DEEPEST + 2, 40))

@@ -5,6 +5,7 @@ import json
 import jaeger
 import zipkin
 from drawn import KEYS, Drawn, Traces
+from otlp import DEEPEST
 from spelled_json import Members, Raw, Speller, TreeSpoiler
 from zipkin import FLAGS, LAST_MICROS, MEMBERS, RESERVED, RESOURCE
 
@@ -42,7 +43,7 @@ class Spans(Drawn):
         name = json.dumps(self.choice("a", "", self.text()), ensure_ascii=self.chance(0.3))
         end, no_end = self.choice(*EVENT_ENDS), self.choice(*NO_EVENT_ENDS)
         read = zipkin.event_text(self.text(), self.attributes())
-        spelled = [read, f"{name}:{end}", f"{name}:{no_end}", f" \t{name} \r\n: {end}", deep_event(self.choice(15, 16, 17))]
+        spelled = [read, f"{name}:{end}", f"{name}:{no_end}", f" \t{name} \r\n: {end}", deep_event(self.choice(DEEPEST - 1, DEEPEST, DEEPEST + 1))]
         return self.time(), self.choice(self.text(), "", name, *spelled)
 
     def time(self):

@@ -112,18 +112,23 @@ def sources(folder):
     return found
 
 
+def stands_alone(turned):
+    """Whether an item outside functions is turned, of which any function that names it may tell."""
+    return any(name.startswith("-") for _, _, name in turned)
+
+
 def rounds(texts, given):
     """The wrong bodies in lists of which none turns a place twice: each a list of bodies with their places, and the texts."""
     made = []
     for body in given:
-        body.put_into(dict(texts))
+        alone = stands_alone(body.put_into(dict(texts)))
         for those, changed in made:
             tried = dict(changed)
             try:
                 turned = body.put_into(tried)
             except Unfit:
                 continue
-            if not any(turned & other for _, other in those):
+            if not alone and not any(turned & other or stands_alone(other) for _, other in those):
                 those.append((body, turned))
                 changed.update(tried)
                 break
@@ -242,9 +247,10 @@ def verdict(turned, told, others):
     found = sorted(at_goals(turned, told, others), key=lambda it: (["false", "open", "gone"].index(it[3]), "clause" not in it[1]))
     own = [it for it in found if it[3] != "gone"]
     if not own:
+        if found:
+            return False, f"only for a name that is gone, at {found[0][1]} ({found[0][2]})"
         lost = any(same(function, spot) for function in told.untold for spot in turned)
-        gone = f"only for a name that is gone, at {found[0][1]} ({found[0][2]})"
-        return False, gone if found else "the prover met a limit of its own" if lost else "NOT REFUSED"
+        return False, "the prover met a limit of its own" if lost else "NOT REFUSED"
     function, goal, at, how = own[0]
     clause = re.search(r"clause-(\w+)", goal)
     more = f", and {len(own) - 1} more" if own[1:] else ""

@@ -1,11 +1,12 @@
 #!/usr/bin/env python3
 """Drives `serve` with real clients and with hostile ones, and compares each answer with what `convert` makes of the same body.
 
-Run it at the top as bench/gateway.py, after ./spanx has built the program. It needs `curl`, and takes a minute. What exporters post
+Run it at the top as bench/gateway.py, after ./spanx has built the program. It needs `curl`, and takes two minutes. What exporters post
 is taken where they are there: Debian's python3-py-zipkin, ruby-jaeger-client, and golang-go with golang-github-openzipkin-zipkin-go-dev
 and golang-opentelemetry-otel-dev; so is nginx-light, as the page sets it up. It ends with 0 where all agree; its times and memory are no test. Words that are given choose the
 parts whose names hold one of them.
 """
+import concurrent.futures
 import http.client
 import os
 import re
@@ -73,10 +74,10 @@ def listens(port):
 class Gateway:
     """The program, serving so many connections on a port of its own."""
 
-    def __init__(self, target, count):
+    def __init__(self, target, count, **more):
         self.port = free_port()
         words = [PROGRAM, "serve", "--listen", f"127.0.0.1:{self.port}", "--to", target, "--count", str(count)]
-        self.process = subprocess.Popen(words, stdin=subprocess.DEVNULL, stdout=subprocess.PIPE, stderr=subprocess.PIPE)
+        self.process = subprocess.Popen(words, stdin=subprocess.DEVNULL, stdout=subprocess.PIPE, stderr=subprocess.PIPE, **more)
         while not listens(self.port) and self.process.poll() is None:
             time.sleep(0.01)
 
@@ -241,6 +242,56 @@ def hostile():
             yield "didn't end with 0"
 
 
+def says_nothing(client):
+    """Sends nothing."""
+
+
+def stops_in_a_body(client):
+    client.sendall(post()[:-1])
+
+
+def sends_one_byte_more(client):
+    """Is silent for 20 seconds, sends a byte, and is silent again."""
+    threading.Timer(20, client.sendall, [b"P"]).start()
+
+
+def does_not_read(client):
+    """Posts a span whose answer no buffer on the way holds."""
+    client.sendall(post(b'[{"traceId":"1","id":"1","name":"%s"}]' % (b"a" * 2**23)))
+
+
+# What a client does, how it is noted, and the least and the most seconds that another waits: a write that takes a part of the answer
+# has waited as well.
+SILENT = [(says_nothing, "read", 29, 45), (stops_in_a_body, "read", 29, 45), (sends_one_byte_more, "read", 49, 65), (does_not_read, "write", 29, 120)]
+
+
+def late(does, noted, least, most):
+    """What differs where a client does so, and another posts beside it."""
+    name, wanted = does.__name__.replace("_", " "), converted(forms.OTLP)
+    with Gateway(forms.OTLP, 2) as gateway, socket.socket() as client:
+        client.setsockopt(socket.SOL_SOCKET, socket.SO_RCVBUF, 4096)
+        client.connect(("127.0.0.1", gateway.port))
+        does(client)
+        start = time.monotonic()
+        with gateway.connect() as other:
+            other.sendall(post())
+            other.shutdown(socket.SHUT_WR)
+            came, seconds = answers(other), time.monotonic() - start
+        print(f"a client that {name}: another is answered after {seconds:.1f} s")
+        if came != wanted or not least < seconds < most:
+            yield f"beside a client that {name} another has {came[:200]} after {seconds:.1f} s"
+        done = gateway.end()
+        if done != (0, b"", f"connection 1: {noted} failed\n"):
+            yield f"a client that {name}: ended with {done}"
+
+
+def silent():
+    """Clients that are silent for longer than 30 seconds, each before a program of its own."""
+    with concurrent.futures.ThreadPoolExecutor() as pool:
+        for found in pool.map(lambda row: list(late(*row)), SILENT):
+            yield from found
+
+
 class Relay:
     """Passes one connection on to a port, and keeps what went both ways."""
 
@@ -358,7 +409,7 @@ def proxied():
             yield "by nginx: the two requests weren't two connections"
 
 
-PARTS = {"exporters": exporters, "clients": clients, "edges": edges, "addresses": addresses, "proxied": proxied, "hostile": hostile}
+PARTS = {"exporters": exporters, "clients": clients, "edges": edges, "addresses": addresses, "proxied": proxied, "hostile": hostile, "silent": silent}
 
 if __name__ == "__main__":
     if not os.path.exists(PROGRAM):

@@ -4,11 +4,11 @@ import itertools
 
 import otlp
 from hostile_units import (
-    LEVELS, filled, group, GROUP_ROOM, SCOPE_ROOM, REST_ROOM, one_scope, one_span, one_value, LIST_ROOM, list_value, shuffled, writes, same,
+    filled, group, GROUP_ROOM, SCOPE_ROOM, REST_ROOM, one_scope, one_span, one_value, LIST_ROOM, list_value, shuffled, writes, same,
     refused, GOOD_SPAN, DEEP_LIST, spans_list, REQUEST_SPAN, SPAN, faulted, LAST_DOUBLE,
 )
 from json_text import LIMIT
-from otlp import UNIT
+from otlp import DEEPEST, UNIT
 from wire import bytes_field
 
 # ---- Zipkin documents
@@ -283,8 +283,8 @@ def arrays(levels):
 
 
 def chains(last=None):
-    """A list of lists that are 16 deep with it, in 16 MiB, and perhaps a last one."""
-    return json_value(json_list(listed_parts(chain(LEVELS - 1), UNIT, last)))
+    """A list of lists that are as deep as they may be with it, in 16 MiB, and perhaps a last one."""
+    return json_value(json_list(listed_parts(chain(DEEPEST - 1), UNIT, last)))
 
 
 def groups_causes():
@@ -301,7 +301,7 @@ def groups_causes():
         ("arrays without an end", lambda: b"[" * (LIMIT * 10 // 67), 0, "10 BadJson"),
         ("a text without an end", lambda: b'{"' + b"x" * (LIMIT - 2), 0, "10 BadJson"),
         ("a value 39 lists deep", lambda: json_value(chain(39)), 1, "5 TooDeep"), ("a value 40 lists deep", lambda: json_value(chain(40)), 0, "10 BadJson"),
-        ("lists 16 deep, the last 17", lambda: chains(json_list(chain(LEVELS - 1))), 1, "5 TooDeep"),
+        (f"lists {DEEPEST} deep, the last {DEEPEST + 1}", lambda: chains(json_list(chain(DEEPEST - 1))), 1, "5 TooDeep"),
         ("numbers, the last a double", lambda: json_value(json_list(values(MANY) + b'{"doubleValue":1}')), 1, "15 DoubleInJson"),
         ("numbers, the last with two members", lambda: json_value(json_list(values(MANY) + b'{"doubleValue":1,"intValue":1}')), 1, "11 BadShape"),
         ("a time of a million digits", lambda: member(b'"startTimeUnixNano":' + b"9" * DIGITS), 0, "10 BadJson"),
@@ -329,7 +329,7 @@ def groups_cases():
         ("empty objects in an unknown member", lambda: unknown_member(b'"x":[%b]' % b",".join([b"{}"] * MANY))),
         ("one unknown member again and again", lambda: unknown_member(b",".join([b'"x":[]'] * MANY))),
         ("127 deep", lambda: unknown_member(b'"x":' + arrays(120))), ("127 deep, again and again", lambda: unknown_member(b'"x":[%b]' % listed_parts(arrays(119), UNIT))),
-        ("lists 16 deep, again and again", lambda: same(chains())), ("a text of escapes", lambda: spelled_name(b"\\u0041", b"A")),
+        (f"lists {DEEPEST} deep, again and again", lambda: same(chains())), ("a text of escapes", lambda: spelled_name(b"\\u0041", b"A")),
         ("a text of control characters", lambda: spelled_name(b"\\u0001", b"\\u0001")), ("64 MiB", lambda: same(filled_groups(0))),
         ("a number with a million zeros in front", zeros), ("a member of a million digits", lambda: unknown_member(b'"x":0.' + b"9" * DIGITS)),
         ("a byte value", lambda: same(json_value(b'{"bytesValue":"%b"}' % (b"/" * ((LIMIT - len(json_value(b'{"bytesValue":""}'))) // 4 * 4))))),
@@ -348,7 +348,7 @@ def to_groups_cases():
     controls = lambda: (bytes_field(1, b"\1" * LIST_ROOM), b'{"stringValue":"%b"}' % (b"\\u0001" * LIST_ROOM))
     held_bytes = lambda: (bytes_field(7, bytes(LIST_ROOM)), b'{"bytesValue":"%b"}' % base64.b64encode(bytes(LIST_ROOM)))
     empty_values = lambda: (list_value(b"\x0a\0" * (LIST_ROOM // 2)), json_list(*[b"{}"] * (LIST_ROOM // 2)))
-    deep_values = lambda: (list_value(filled(DEEP_LIST, LIST_ROOM)), json_list(*[chain(LEVELS - 1)] * (LIST_ROOM // len(DEEP_LIST))))
+    deep_values = lambda: (list_value(filled(DEEP_LIST, LIST_ROOM)), json_list(*[chain(DEEPEST - 1)] * (LIST_ROOM // len(DEEP_LIST))))
     value = lambda make: writes(one_value(make()[0]), json_value(make()[1]))
     last_double = lambda: one_value(list_value(filled(DEEP_LIST, LIST_ROOM - 11) + LAST_DOUBLE))
     return [(name, TO_GROUPS, make) for name, make in [
@@ -356,6 +356,6 @@ def to_groups_cases():
         ("empty groups", lambda: writes(b"\x0a\0" * UNIT, of_groups(*[b"{}"] * UNIT))),
         ("empty events", lambda: writes(one_span(b"\x5a\0" * empties), of_spans(group_span(b'"events":[%b],' % b",".join([b"{}"] * empties))))),
         ("a text of control characters", lambda: value(controls)), ("a byte value", lambda: value(held_bytes)),
-        ("a list of empty values", lambda: value(empty_values)), ("lists 16 deep", lambda: value(deep_values)),
+        ("a list of empty values", lambda: value(empty_values)), (f"lists {DEEPEST} deep", lambda: value(deep_values)),
         ("a double in the last of many lists", lambda: faulted(last_double(), 1, "25 DoubleInText")),
     ]]

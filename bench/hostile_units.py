@@ -5,14 +5,13 @@ import struct
 
 import otlp
 from jaeger import LAST_MICROS
-from otlp import UNIT
+from otlp import DEEPEST, UNIT
 from protocols import BINARY, DOUBLE, I8, I32, I64, LIST, MAP, SET, STRUCT
 from wire import bytes_field, varint
 
 SAME_FORM = "otlp-proto", "otlp-proto"
 TO_BATCHES, TO_REQUEST, BATCHES = ("otlp-proto", "jaeger-binary"), ("jaeger-binary", "otlp-proto"), ("jaeger-binary", "jaeger-binary")
 IDS = bytes_field(1, bytes(15) + b"\1") + bytes_field(2, bytes(7) + b"\2")
-LEVELS = 16
 
 
 def filled(piece, size):
@@ -143,10 +142,10 @@ BARE_ATTRIBUTE = bytes_field(9, BARE_PAIR)
 FULL_ATTRIBUTE = bytes_field(9, BARE_PAIR + bytes_field(2, bytes_field(1, b"x")))
 ONE_MAP = listed(map_value(bytes_field(1, BARE_PAIR)))
 TWO_MAP = listed(map_value(bytes_field(1, BARE_PAIR) * 2))
-DEEP_LIST = listed(nested(list_value(b""), list_value, listed, LEVELS - 2))
-DEEP_MAP = listed(nested(map_value(b""), map_value, mapped, LEVELS - 2))
-DEEP_ATTRIBUTE = bytes_field(9, bytes_field(2, nested(list_value(b""), list_value, listed, LEVELS - 1)))
-TOO_DEEP = listed(nested(b"", list_value, listed, LEVELS - 1))
+DEEP_LIST = listed(nested(list_value(b""), list_value, listed, DEEPEST - 2))
+DEEP_MAP = listed(nested(map_value(b""), map_value, mapped, DEEPEST - 2))
+DEEP_ATTRIBUTE = bytes_field(9, bytes_field(2, nested(list_value(b""), list_value, listed, DEEPEST - 1)))
+TOO_DEEP = listed(nested(b"", list_value, listed, DEEPEST - 1))
 
 
 def repeated(piece):
@@ -185,7 +184,7 @@ def cases():
         ("one key again and again", lambda: repeated(BARE_ATTRIBUTE)),
         ("one key again and again, with values", lambda: repeated(FULL_ATTRIBUTE)),
         ("a list of maps with a key twice", lambda: keys_twice(0)),
-        ("the same, 14 lists deep", lambda: keys_twice(LEVELS - 3)),
+        (f"the same, {DEEPEST - 2} lists deep", lambda: keys_twice(DEEPEST - 3)),
         ("events with a key twice", lambda: fields_twice(REST_ROOM, one_span, lambda pairs: bytes_field(11, pairs), 3)),
         ("spans with a key twice", lambda: fields_twice(SCOPE_ROOM, one_scope, lambda pairs: bytes_field(2, IDS + pairs), 9)),
         ("empty spans", lambda: refused(one_scope(filled(b"\x12\0", SCOPE_ROOM)), 1, "12 BadId")),
@@ -196,13 +195,13 @@ def cases():
         ("empty links", lambda: without(filled(b"\x6a\0", REST_ROOM))),
         ("a list of empty values", lambda: same(one_value(list_value(filled(b"\x0a\0", LIST_ROOM))))),
         ("a map of empty pairs", lambda: writes(one_value(map_value(filled(b"\x0a\0", LIST_ROOM))), one_value(map_value(b"\x0a\0")))),
-        ("empty values 15 lists deep", lambda: same(one_value(wide(LEVELS - 2, b"")))),
-        ("empty lists 15 lists deep", lambda: same(one_value(wide(LEVELS - 2, list_value(b""))))),
-        ("chains of lists 16 deep", lambda: same(one_value(list_value(filled(DEEP_LIST, LIST_ROOM))))),
-        ("chains of maps 16 deep", lambda: same(one_value(list_value(filled(DEEP_MAP, LIST_ROOM))))),
-        ("attributes of one key with lists 16 deep", lambda: repeated(DEEP_ATTRIBUTE)),
-        ("a list 17 deep", lambda: refused(one_value(list_value(TOO_DEEP)), 1, "5 TooDeep")),
-        ("chains of lists 16 deep, the last 17", lambda: refused(one_value(list_value(filled(DEEP_LIST, LIST_ROOM - len(TOO_DEEP)) + TOO_DEEP)), 1, "5 TooDeep")),
+        (f"empty values {DEEPEST - 1} lists deep", lambda: same(one_value(wide(DEEPEST - 2, b"")))),
+        (f"empty lists {DEEPEST - 1} lists deep", lambda: same(one_value(wide(DEEPEST - 2, list_value(b""))))),
+        (f"chains of lists {DEEPEST} deep", lambda: same(one_value(list_value(filled(DEEP_LIST, LIST_ROOM))))),
+        (f"chains of maps {DEEPEST} deep", lambda: same(one_value(list_value(filled(DEEP_MAP, LIST_ROOM))))),
+        (f"attributes of one key with lists {DEEPEST} deep", lambda: repeated(DEEP_ATTRIBUTE)),
+        (f"a list {DEEPEST + 1} deep", lambda: refused(one_value(list_value(TOO_DEEP)), 1, "5 TooDeep")),
+        (f"chains of lists {DEEPEST} deep, the last {DEEPEST + 1}", lambda: refused(one_value(list_value(filled(DEEP_LIST, LIST_ROOM - len(TOO_DEEP)) + TOO_DEEP)), 1, "5 TooDeep")),
         ("a list a million deep", lambda: refused(one_value(deep(1_000_000)), 1, "5 TooDeep")),
         ("unknown fields in a group", lambda: writes(group(filled(b"\x20\0", GROUP_ROOM)), b"\x0a\0")),
         ("unknown fields in a span", lambda: without(filled(b"\x88\1\0", REST_ROOM))),
@@ -403,9 +402,9 @@ def listed_controls():
 
 
 def many_chains():
-    """A list of lists 16 deep."""
+    """A list of lists that are as deep as they may be with it."""
     count = LIST_ROOM // len(DEEP_LIST)
-    chain = b"[" * (LEVELS - 1) + b"]" * (LEVELS - 1)
+    chain = b"[" * (DEEPEST - 1) + b"]" * (DEEPEST - 1)
     return text_of_value(list_value(DEEP_LIST * count), b"[" + b",".join([chain] * count) + b"]")
 
 
@@ -504,7 +503,7 @@ def batch_cases():
         ("batches without spans", TO_REQUEST, lambda: writes(EMPTY_BATCH * (UNIT // len(EMPTY_BATCH)), b"\x0a\0" * (UNIT // len(EMPTY_BATCH)))),
         ("batches of one span, the last cut", BATCHES, cut_batches),
         ("a list of empty values, as a tag's text", TO_BATCHES, many_nothings),
-        ("chains of lists 16 deep, as a tag's text", TO_BATCHES, many_chains),
+        (f"chains of lists {DEEPEST} deep, as a tag's text", TO_BATCHES, many_chains),
         ("a list of a text of control characters", TO_BATCHES, listed_controls),
         ("a double in the last of many lists", TO_BATCHES, lambda: faulted(one_value(list_value(filled(DEEP_LIST, LIST_ROOM - 11) + LAST_DOUBLE)), 1, "25 DoubleInText")),
         ("a reserved key behind many others", TO_BATCHES, lambda: faulted(reserved_last(), 1, '21 Reserved "error"')),

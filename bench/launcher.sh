@@ -71,7 +71,9 @@ holds() {
     if "$@"; then echo "ok: $name"; else echo "WRONG: $name"; wrong=1; fi
 }
 
-building="spanx: proving and building the program, which takes an hour or two the first time"
+# The first run takes as long as README says.
+minutes=$(sed -n 's/.*, in \(some [0-9]* minutes on four cores\);.*/\1/p' "$top/README.md")
+building="spanx: proving and building the program, in $minutes the first time"
 failed="spanx: the program could not be built"
 
 run without "$copy/spanx" convert

@@ -95,7 +95,7 @@ HEX_IDS = field(1, field(2, field(2, field(1, b"5b8efff798038103d269b633813fc60c
 DATAGRAM = example("checkout_datagram.bin")
 BINARY_DATAGRAM = b"\x80\1\0\4\0\0\0\x09emitBatch\0\0\0\0\x0c\0\1" + BATCH + b"\0"
 DEEP = {"intValue": "1"}
-for _ in range(16):
+for _ in range(otlp.DEEPEST):
     DEEP = {"arrayValue": {"values": [DEEP]}}
 
 
@@ -116,6 +116,9 @@ CAUSES = "## Status 3: causes"
 FAULTS = "## Status 4: faults"
 NAMES = "examples/todays_names.py json"
 HEX = "examples/hex_identifiers.py"
+# FORM is the target of the row.
+MEND = "./spanx convert --from otlp-proto --to otlp-json | examples/mend_faults.py FORM app. | ./spanx convert --from otlp-json --to FORM"
+TEXTS = "examples/doubles_to_texts.py | ./spanx convert --from otlp-proto --to FORM"
 CASES = [
     (EMPTY, "JSON of Jaeger's user interface", [API], "examples/batches_of_jaeger_json.py", BINARY, 2),
     (EMPTY, "an answer of Grafana Tempo", [dumped({"batches": PRINTED["resourceSpans"]}), dumped({"trace": PRINTED})], f"{NAMES} | {HEX}", JSON, 10),
@@ -152,7 +155,7 @@ CASES = [
     (CAUSES, "a datagram in the binary protocol", [BINARY_DATAGRAM], "examples/batch_of_datagram.py", BINARY, 4),
     (CAUSES, "a request in protobuf, JSON or gzip", [REQUEST, DOCUMENT, gzip.compress(BATCH, mtime=0)]),
     (CAUSES, "a batch that was spoilt", [BATCH[:6] + b"\xff" + BATCH[7:]]),
-    (CAUSES, "one with an attribute of more than 16 levels", [{PROTO: group(NESTED), JSON: document(attributes=[{"key": "k", "value": DEEP}])}]),
+    (CAUSES, f"one with an attribute of more than {otlp.DEEPEST} levels", [{PROTO: group(NESTED), JSON: document(attributes=[{"key": "k", "value": DEEP}])}]),
     (CAUSES, "a request with more than 16 MiB of one resource", [field(1, field(2, field(2, bytes(16 * MEBI))))]),
     (CAUSES, "what was joined inside", [group((5, b"a"), (5, b"a"))]),
     (CAUSES, "a batch in the binary protocol", [BATCH]),
@@ -175,7 +178,10 @@ CASES = [
     (CAUSES, "JSON of Jaeger's user interface", [API], "examples/batches_of_jaeger_json.py", BINARY, 2),
     (CAUSES, "one span, without an array", [ONE_SPAN], "examples/join_requests.py zipkin", ZIPKIN, 1),
     (CAUSES, "an array of traces", [b"[" + ZSPANS + b"," + ZSPANS + b"]"], "examples/join_requests.py zipkin", ZIPKIN, 12),
-    (CAUSES, "spans with a tag that is a number", [zipkin(tags={"http.status_code": 402}), zipkin(tags={"retried": True})]),
+    (
+        CAUSES, "spans with a tag that is a number", [zipkin(tags={"http.status_code": 402}), zipkin(tags={"retried": True})],
+        "examples/texts_of_tags.py", ZIPKIN, 6,
+    ),
     (CAUSES, "kinds or codes by their names", [KINDS], HEX, JSON, 10),
     (CAUSES, "identifiers in base64", [dumped(PRINTED)], HEX, JSON, 10),
     (CAUSES, "metrics or logs", [field(1, field(2, field(2, field(1, b"m")))), field(1, field(2, field(2, b"\x09" + bytes(8) + field(3, b""))))]),
@@ -185,7 +191,10 @@ CASES = [
     (CAUSES, "a kind in small letters", [zipkin(kind="server")]),
     (CAUSES, "a kind or a code outside", [{PROTO: group((6, 6)), JSON: document(kind=6)}, {PROTO: group((15, field(3, 3))), JSON: document(status={"code": 3})}]),
     (CAUSES, "a batch of a writer of its own", [with_list(b"\x08\0\0\0\1\0\0\0\1")]),
-    (CAUSES, "a request with a number that has a fraction", [document(attributes=[{"key": "k", "value": {"doubleValue": 0.5}}])]),
+    (
+        CAUSES, "a request with a number that has a fraction", [document(attributes=[{"key": "k", "value": {"doubleValue": 0.5}}])],
+        "examples/mend_faults.py otlp-json app.", JSON, 1,
+    ),
     (CAUSES, "times in nanoseconds", [{ZIPKIN: zipkin(timestamp=1_700_000_000_000_000_000), BINARY: BATCH.replace((1_700_000_000_000_000).to_bytes(8, "big"), (1_700_000_000_000_000_000).to_bytes(8, "big"))}]),
     (CAUSES, "a document of more than 64 MiB", ["lines"], "examples/join_requests.py otlp", None, None),
     (CAUSES, "a request with its body", [b"b3: 0\n" + b"x" * 16_384]),
@@ -194,14 +203,14 @@ CASES = [
     (CAUSES, "digits in capitals", [b"traceparent: 00-" + held for held in [b"A" * 32 + b"-" + b"1" * 16 + b"-01\n"]] + [b'traceparent: "00-' + b"a" * 32 + b"-" + b"1" * 16 + b'-01"\n']),
     (CAUSES, "identifiers of another length", [b"b3: 0af7-b7ad-1\n", b"X-B3-TraceId: 0af7651916cd43dd\n"]),
     (CAUSES, "one with other signs than colons", [b"uber-trace-id: 1;2;0;1\n", b"uber-trace-id: 1:2\n"]),
-    (FAULTS, "a span whose end was never set", ["no end"]),
-    (FAULTS, "an attribute `error`", [request(attributes=[("error", ("truth", True))])]),
-    (FAULTS, "the number of the flags", [request(attributes=[("jaeger.flags", ("number", 2))])]),
-    (FAULTS, "a truth value in place", [request(attributes=[("zipkin.debug", ("truth", True))])]),
-    (FAULTS, "an event whose name is itself", [group((11, field(2, b'"retry":{"attempt":1}')))]),
-    (FAULTS, "a link marked as a child's", ["link"]),
-    (FAULTS, "a double: a ratio", [request(attributes=[("ratio", HALF)])]),
-    (FAULTS, "a double in a list or map", [request(attributes=[("ratio", ("list", [HALF]))])]),
+    (FAULTS, "a span whose end was never set", ["no end"], MEND, None, 1),
+    (FAULTS, "an attribute `error`", [request(attributes=[("error", ("truth", True))])], MEND, None, 1),
+    (FAULTS, "the number of the flags", [request(attributes=[("jaeger.flags", ("number", 2))])], MEND, None, 1),
+    (FAULTS, "a truth value in place", [request(attributes=[("zipkin.debug", ("truth", True))])], MEND, None, 1),
+    (FAULTS, "an event whose name is itself", [group((11, field(2, b'"retry":{"attempt":1}')))], MEND, None, 1),
+    (FAULTS, "a link marked as a child's", ["link"], MEND, None, 1),
+    (FAULTS, "a double: a ratio", [request(attributes=[("ratio", HALF)])], TEXTS, None, 1),
+    (FAULTS, "a double in a list or map", [request(attributes=[("ratio", ("list", [HALF]))])], TEXTS, None, 1),
     (FAULTS, "of `headers`: `b3: 0`", [b"b3: 0\n"]),
 ]
 
@@ -276,9 +285,9 @@ def try_row(heading, row, case):
             if said not in (found := told(heading, now, form)):
                 yield f"as {form}: {found}, for {now[:40]}"
             if remedy and remedy[0] and held != "lines":
-                target = remedy[1] or form
-                if (number := mended(now, remedy[0], target)) != (remedy[2] or spans_in(form)):
-                    yield f"{remedy[0]}: {number}"
+                work = remedy[0].replace("FORM", form)
+                if (number := mended(now, work, remedy[1] or form)) != (remedy[2] or spans_in(form)):
+                    yield f"{work}: {number}"
     for words in re.findall(r"`((?:examples/|gzip |head |tail |zstd |base64 |xxd |iconv )[^`]*)`", row[3]):
         if not (remedy and words in (remedy[0] or "")) and words != "examples/request_of_frames.py":
             yield f"`{words}` isn't run"

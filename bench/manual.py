@@ -11,6 +11,8 @@ import re
 import subprocess
 import sys
 
+import json_text
+
 TOP = os.path.dirname(os.path.dirname(os.path.abspath(__file__)))
 MANUAL = os.path.join(TOP, "docs", "spanx.1")
 PAGES = [os.path.join(TOP, "README.md"), *sorted(glob.glob(os.path.join(TOP, "docs", "*.md")))]
@@ -110,6 +112,8 @@ def checks(lines, manual):
     wanted = {number_of(re.search(rf"\b{word} = ([\d ^]+\d)", limits)[1]) for word in ["unit", "json", "binary"]}
     wanted |= {int(line.split()[-1]) for line in lines if re.fullmatch(r"header_limit = \d+", line)}
     yield "limits", wanted, {int(item.split(" ")[0].replace(",", "")) for item in manual.items["LIMITS"] if item.endswith("bytes")}
+    wanted = {int(line.split()[-1]) for line in lines if re.fullmatch(r"(most|all)_levels = \d+", line)} | {json_text.DEEPEST}
+    yield "levels", wanted, {int(item.split(" ")[0]) for item in manual.items["LIMITS"] if item.endswith("levels")}
 
     known = causes | header_causes | faults
     for path in PAGES:

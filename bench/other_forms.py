@@ -1,10 +1,10 @@
 #!/usr/bin/python3
 """Runs the scripts of examples/ that make what is read of forms that aren't, over what stock libraries write in these forms.
 
-It needs Debian's python3-protobuf, protobuf-compiler, python3-py-zipkin, golang-go and golang-github-openzipkin-zipkin-go-dev, and is
-run at the top as bench/other_forms.py, after ./spanx has built the program. What a script makes must be read, and mean what the
-library itself tells of the same spans in a form that is read: py_zipkin in v2 beside v1, zipkin-go in JSON beside protobuf. Jaeger
-has no library in Debian that writes its model: its messages are made by the stock protobuf library over the fields of
+It needs Debian's golang-go and golang-github-openzipkin-zipkin-go-dev, and what real_spans.py needs, and is run at the top as
+bench/other_forms.py, after ./spanx has built the program. What a script makes must be read, and mean what the library itself
+tells of the same spans in a form that is read: py_zipkin in v2 beside v1, zipkin-go in JSON beside protobuf. Jaeger has no
+library in Debian that writes its model: its messages are made by the stock protobuf library over the fields of
 jaeger_model.proto, and must give the batches that the JSON of its API gives. It ends with 1 on a difference.
 """
 import base64

@@ -8,6 +8,8 @@ import dataclasses
 from wire import bytes_field, fixed32_field, fixed64_field, number_field, records, varint
 
 UNIT = 16_777_216
+# How deep a value is at most: that of an attribute stands at level 1, and a list or map at the last level is empty.
+DEEPEST = 24
 NAMES = {
     1: "Truncated", 2: "BadVarint", 3: "BadWire", 4: "BadSize", 5: "TooDeep", 6: "UnitTooLong", 7: "FieldTwice", 8: "Missing",
     9: "NotText", 10: "BadJson", 11: "BadShape", 12: "BadId", 13: "BadEnum", 14: "BadElement", 15: "DoubleInJson", 16: "BadTime",
@@ -114,7 +116,7 @@ def offences(text, begin, end, name, level):
                 found.append((place, 12))
         if kind[0] == "enum" and n > kind[1]:
             found.append((place, 13))
-        if name in ["ArrayValue", "KeyValueList"] and level == 16:
+        if name in ["ArrayValue", "KeyValueList"] and level == DEEPEST:
             found.append((place, 5))
             continue
         if kind[0] in ["list", "one"]:

@@ -11,9 +11,7 @@ import json_text
 import otlp
 from jaeger import has_double
 from json_text import LIMIT, given, is_whole
-from otlp import by_key
-
-DEEPEST = 16
+from otlp import DEEPEST, by_key
 
 # Of each message its members in the order in which offences are looked for: the name, and what it is.
 ATTRIBUTES = ("attributes", ("list", "KeyValue"))

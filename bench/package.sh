@@ -56,6 +56,7 @@ holds "its man page is that of the checkout" cmp -s docs/spanx.1 "$unpacked/shar
 root=$room/root
 if [ "$1" = --debian ]; then
     debootstrap --variant=minbase stable "$root" "$2" >"$room/log" || { cat "$room/log"; exit 2; }
+    echo "the root is Debian $(cat "$root/etc/debian_version")"
 else
     mkdir -p "$root/lib64" "$root/lib/x86_64-linux-gnu"
     for name in /lib64/ld-linux-x86-64.so.2 /lib/x86_64-linux-gnu/libc.so.6; do
@@ -97,9 +98,10 @@ holds "no words: $told" [ "$told" = "status 2, usage:" ]
 
 # Debian's package.
 if command -v lintian >/dev/null; then
-    lintian "$deb" >"$room/said" 2>/dev/null
+    lintian --fail-on error "$deb" >"$room/said" 2>/dev/null
+    found=$?
     sed 's/^/    /' "$room/said"
-    holds "lintian finds no error" [ "$(grep -c '^E:' "$room/said")" = 0 ]
+    holds "lintian finds no error" [ $found = 0 ]
 else
     echo "left out: lintian isn't there"
 fi

@@ -14,6 +14,7 @@ import tempfile
 
 from google.protobuf import descriptor_pb2, descriptor_pool, message_factory
 
+from otlp import DEEPEST
 from program import BUILD, PROGRAM, TOP, convert
 from wire import bytes_field, fixed32_field, fixed64_field, number_field, padded_varint, records
 
@@ -23,7 +24,6 @@ import write_checkout
 
 PACKAGE = "opentelemetry.proto.collector.trace.v1."
 SEEDS = 200
-DEEPEST = 16
 
 
 # ---- schemas
@@ -413,7 +413,7 @@ def cases(request, later, folder):
     yield "checkout, made anew", made
     yield "set but empty", all_set_but_empty(request)
     yield "repeated keys", repeated_keys(request)
-    yield "values 16 deep", deepest_values(request)
+    yield f"values {DEEPEST} deep", deepest_values(request)
     yield "counts above 32 bits and odd truth values", odd_numbers(request)
     yield "two requests, one after the other", made + repeated_keys(request)
     spellings = {

@@ -13,7 +13,7 @@ import sys
 
 from google.protobuf.message import DecodeError
 
-from otlp import NAMES, TABLE, Refused, next_unit, unit_offences
+from otlp import DEEPEST, NAMES, TABLE, Refused, next_unit, unit_offences
 from program import BUILD, PROGRAM, convert
 from real_input import Maker, checkout, newer, normal, report, request_class, schema
 from wire import bytes_field, fixed64_field, number_field, padded_varint, records, varint
@@ -82,7 +82,7 @@ class Spoiler:
         if kind[0] == "enum":
             return number_field(number, self.random.choice([kind[1], kind[1] + 1, 2**32, 2**64 - 1]))
         if kind == ("one", "AnyValue"):
-            return bytes_field(number, self.deep(self.random.choice([15, 16, 16, 17, 40])))
+            return bytes_field(number, self.deep(self.random.choice([DEEPEST - 1, DEEPEST, DEEPEST, DEEPEST + 1, 40])))
         if wire == 2:
             return bytes_field(number, self.bytes(held))
         return self.random.choice([number_field(number, 3), fixed64_field(number, 3), varint(number * 8 + 3), varint(7), padded_varint(number * 8, 10) + b"\0"])

@@ -1,6 +1,6 @@
 #!/usr/bin/python3
 """Tries what docs/SERVICE.md says: the unit by `systemd-analyze verify`, how `serve` ends by a signal and is started again, what a
-silent client does to it alone and behind nginx as the page sets it up, four `serve` behind nginx, and examples/forward.py between
+silent client does to it that goes, that stays and behind nginx as the page sets it up, four `serve` behind nginx, and examples/forward.py between
 a client, `serve` and the servers of stand_ins.py.
 
 It needs Debian's systemd, nginx-light and curl, and is run at the top as bench/service.py, after ./spanx has built the program.
@@ -21,7 +21,7 @@ import tempfile
 import time
 
 import stand_ins
-from gateway import Gateway, example, expected, free_port, listens
+from gateway import Gateway, example, expected, free_port, late, listens
 from program import BUILD, PROGRAM, TOP
 
 PAGE = os.path.join(TOP, "docs", "SERVICE.md")
@@ -85,8 +85,12 @@ def stopped():
                     yield f"behind {number} it doesn't start again"
 
 
+def stops_in_a_head(client):
+    client.sendall(HEAD[:20])
+
+
 def silent():
-    """A client that says nothing, or stops in a body, keeps the others waiting until it goes."""
+    """A client that says nothing, or stops in a body, keeps the others waiting until it goes, and one that stays for 30 seconds."""
     wanted = expected(example("checkout.bin"), OTLP, ZIPKIN)
     for name, sent in [("says nothing", b""), ("stops in a head", HEAD[:20]), ("stops in a body", HEAD + b"abc")]:
         with Gateway(ZIPKIN, 2) as gateway:
@@ -102,10 +106,11 @@ def silent():
                     yield f"behind a client that {name}, another had {other.result()}"
             if gateway.end() != (0, b"", ""):
                 yield f"a client that {name} left a note"
+    yield from late(stops_in_a_head, "read", 29, 45)
 
 
 @contextlib.contextmanager
-def nginx(gateways, seconds):
+def nginx(gateways, seconds, workers=1):
     """nginx as the page sets it up, in front of these, with other times; its port, and where it notes which of them it asked."""
     with open(PAGE, encoding="utf-8") as page:
         block = re.search(r"(?m)^    upstream spanx \{\n(?:    .*\n)+", page.read())[0]
@@ -120,7 +125,8 @@ def nginx(gateways, seconds):
         os.chmod(folder, 0o755)
         config = os.path.join(folder, "nginx.conf")
         with open(config, "w") as out:
-            out.write(f"worker_processes 1; pid {folder}/pid; error_log {folder}/error; events {{}} http {{ log_format asked $upstream_addr; access_log {folder}/asked asked; {block} }}")
+            out.write(f"worker_processes {workers}; pid {folder}/pid; error_log {folder}/error; events {{}} ")
+            out.write(f"http {{ log_format asked $upstream_addr; access_log {folder}/asked asked; {block} }}")
         subprocess.run(["nginx", "-c", config], check=True, capture_output=True)
         try:
             yield port, os.path.join(folder, "asked")
@@ -252,6 +258,8 @@ if __name__ == "__main__":
     for needed in ["systemd-analyze", "nginx"]:
         if not shutil.which(needed):
             sys.exit(f"there is no {needed}")
+    # What a shell runs in the background ignores SIGINT, and so does what that runs.
+    signal.signal(signal.SIGINT, signal.default_int_handler)
     bad = 0
     for name, part in PARTS.items():
         if sys.argv[1:] and not any(word in name for word in sys.argv[1:]):

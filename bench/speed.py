@@ -3,7 +3,7 @@
 Zipkin document, beside `cat`, and beside `jq` where it counts the spans of a document.
 
 Run it at the top as bench/speed.py, after ./spanx has built the program. It makes requests of about 1 MB and 25 MB and the
-batches and documents of the same spans, which takes a minute, runs each pair of forms, the losses of each beside it, and `show` and
+batches and documents of the same spans, runs each pair of forms, the losses of each beside it, and `show` and
 `check` of each form five times over them, and prints the best time of each with its user time, and the peak of memory. Words that are
 given choose the pairs and reports whose names, as in `otlp-proto to zipkin-json`, `otlp-proto to zipkin-json, losses` and
 `otlp-proto to show`, hold one of them. These figures are no test: they hang on the machine and its load. With

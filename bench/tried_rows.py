@@ -289,7 +289,7 @@ def nested(levels):
     return 9, field(1, b"k") + field(2, held)
 
 
-NESTED = nested(16)
+NESTED = nested(otlp.DEEPEST)
 CAUSES = {
     "| 1 | Truncated |": [b"\x0a", group()[:-1], group() + b"\n"],
     "| 2 | BadVarint |": [b"\xff" * 10, b"\xff" * 9 + b"\2"],
@@ -305,7 +305,7 @@ GOOD = {
     "- A `parent_span_id` that is empty or zero": [(group((4, b"")), group()), (group((4, bytes(8))), group()), (group((13, field(1, b""))), group())],
     "- Counts and `flags` take the low 32 bits": [(group((10, 2**32 + 3)), group((10, 3)))],
     "- A value without a member": [
-        (group((9, field(1, b"k") + field(2, b""))), group((9, field(1, b"k")))), (group(nested(15)), group(nested(15))),
+        (group((9, field(1, b"k") + field(2, b""))), group((9, field(1, b"k")))), (group(nested(otlp.DEEPEST - 1)), group(nested(otlp.DEEPEST - 1))),
     ],
     "The form is one request": [(group() + field(2, b"x") + group(), group() + group())],
 }

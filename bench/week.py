@@ -7,6 +7,7 @@
   doubles    examples/doubles_to_texts.py over drawn requests, beside the same whose doubles are texts
   moves      examples/move.sh over a good, an empty, a refused, a faulted and an absent input, and outputs that fail
   pictures   examples/waterfall.py and examples/losses_by_key.py over 100,000 spans, spans that go round, and a deep trace
+  bar        the line of docs/LOOK.md with `pv`, where that is installed
   wrong      wrong input of each script: one line, status 1
   many       the lines of docs/MANY.md for `xargs` and GNU parallel, where that is installed, over some hundreds of files
 
@@ -15,6 +16,8 @@ target and 300 files, or so many. It ends with 1 on a difference.
 """
 import json
 import os
+import re
+import shlex
 import shutil
 import subprocess
 import sys
@@ -234,6 +237,23 @@ def try_pictures():
     print("ok: pictures and tables of 100,000 spans", flush=True)
 
 
+def try_bar(room):
+    """The line of docs/LOOK.md with `pv`, where that is installed, which must leave the bytes as they are."""
+    if not shutil.which("pv"):
+        print("left out: pv isn't there")
+        return
+    with open(os.path.join(TOP, "docs", "LOOK.md"), encoding="utf-8") as page:
+        line = re.search(r"(?m)^    (pv .*)$", page.read())[1]
+    shutil.copyfile(os.path.join(EXAMPLES, "checkout_batch.bin"), os.path.join(room, "batches.bin"))
+    os.symlink(os.path.join(TOP, "spanx"), os.path.join(room, "spanx"))
+    # -f draws the bar where there is no terminal, too.
+    done = subprocess.run(["bash", "-c", line.replace("pv ", "pv -f ", 1)], cwd=room, capture_output=True)
+    with open(os.path.join(room, "batches.bin"), "rb") as batches, open(os.path.join(room, "requests.bin"), "rb") as made:
+        is_same = made.read() == convert(batches.read(), "jaeger-binary", "otlp-proto")[1]
+    must(is_same and done.returncode == 0 and b"100%" in done.stderr, f"pv: {done}")
+    print("ok: a bar", flush=True)
+
+
 # ---- wrong inputs
 
 NO_REQUESTS = [b'{"data":null,"errors":[{"code":404}]}', b"[]", b"", b"\xff\xfe", b"{}\n{}\n", b"1", b"[" * 100_000, b'{"resourceSpans":7}', b'{"resourceSpans":[7]}']
@@ -271,6 +291,20 @@ def try_wrong():
 ALONE = 'out=out/$(basename "$1" .bin).json; [ -e "$out" ] || examples/move.sh otlp-proto zipkin-json "$1" "$out"'
 
 
+def try_elsewhere(room, line, count):
+    """The line for several machines, of which GNU parallel says only what it would run."""
+    if not shutil.which("rsync"):
+        print("left out: rsync isn't there")
+        return
+    words = ["sh", "-c", line.replace("parallel ", "parallel --dry-run ", 1)]
+    files = "".join(f"in/a file {n}.bin\n" for n in range(count)).encode()
+    done = subprocess.run(words, cwd=room, input=files, capture_output=True, env=os.environ | {"SPANX": PROGRAM})
+    said = sorted(map(shlex.split, done.stdout.decode().splitlines()))
+    move = ["examples/move.sh", "otlp-proto", "zipkin-json"]
+    right = sorted([*move, f"in/a file {n}.bin", f"out/a file {n}.json"] for n in range(count))
+    must(done.returncode == 0 and said == right, f"parallel elsewhere: {done.returncode} {done.stderr.decode()} {said[:2]}")
+
+
 def try_many(room, count):
     """The lines of docs/MANY.md over so many files, of which two can't be read."""
     with open(os.path.join(EXAMPLES, "checkout.bin"), "rb") as file:
@@ -284,8 +318,9 @@ def try_many(room, count):
     runs = {"xargs": ["xargs", "-0", "-n", "1", "-P", "2", "sh", "-c", ALONE, "move"]}
     if shutil.which("parallel"):
         with open(os.path.join(TOP, "docs", "MANY.md"), encoding="utf-8") as page:
-            lines = [line.strip().partition(" | ")[2] for line in page if "| parallel --" in line]
+            lines = [line.partition(" | ")[2] for line in page.read().replace("\\\n", "").splitlines() if "| parallel --" in line]
         runs |= {"parallel": ["sh", "-c", lines[0]], "parallel again": ["sh", "-c", lines[1]]}
+        try_elsewhere(room, lines[2], count)
     for name, words in runs.items():
         out = os.path.join(room, "out")
         if name != "parallel again":
@@ -312,7 +347,7 @@ def main(count, chosen):
         sys.exit(BUILD)
     parts = {
         "wrong": try_wrong, "moves": lambda: in_room(try_moves), "many": lambda: in_room(try_many, count),
-        "doubles": lambda: try_doubles(count), "faults": lambda: try_faults(count), "pictures": try_pictures,
+        "doubles": lambda: try_doubles(count), "faults": lambda: try_faults(count), "pictures": try_pictures, "bar": lambda: in_room(try_bar),
     }
     for name in chosen or parts:
         parts[name]()

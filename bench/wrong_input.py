@@ -1,10 +1,11 @@
 #!/usr/bin/python3
-"""Gives each script of examples/ inputs that it isn't for, and tries that each is answered in one line on standard error with status 1,
-and never by a traceback.
+"""Gives each script of examples/ inputs that it isn't for, and tries that each is answered in one line on standard error with
+status 1, and never by a traceback; and that no line of these scripts is longer than 130 characters.
 
 It needs nothing but Python, and is run at the top as bench/wrong_input.py; words that are given choose the scripts whose names
-hold one of them. A script that reads other things than a file is named in NONE; one that is in no table here is a difference. What
-is no wrong input for a script, as an empty file for one that reads lines, must end with 0. It ends with 1 on a difference.
+hold one of them. A script that reads other things than a file, or that week.py tries, is named in NONE; one that is in no table
+here is a difference. What is no wrong input for a script, as an empty file for one that reads lines, must end with 0. It ends
+with 1 on a difference.
 """
 import json
 import os
@@ -119,6 +120,11 @@ def main():
         if name.endswith((".py", ".sh")) and not name.startswith("write_") and name not in tried | NONE:
             print(f"WRONG: {name} is in no table of this script")
             wrong += 1
+        if name.endswith((".py", ".sh", ".service")):
+            lines = example(name).decode().split("\n")
+            long = [number for number, line in enumerate(lines, 1) if len(line) > 130]
+            print(*[f"WRONG: {name}, line {number} is longer than 130 characters\n" for number in long], sep="", end="")
+            wrong += len(long)
     for words in SCRIPTS:
         if sys.argv[1:] and not any(word in " ".join(words) for word in sys.argv[1:]):
             continue

@@ -13,9 +13,8 @@ import json_text
 import otlp
 from jaeger import CODES_BY_TEXT, DROPPED_KEYS, LAST_MICROS, has_double, take_count, take_scope, value_json, value_text
 from json_text import LIMIT, given, is_whole
-from otlp import by_key
+from otlp import DEEPEST, by_key
 
-DEEPEST = 16
 FAULTS = [20, 21, 22, 23, 25]
 KINDS = {"SERVER": 2, "CLIENT": 3, "PRODUCER": 4, "CONSUMER": 5}
 KINDS_BY_NUMBER = {number: text for text, number in KINDS.items()}

@@ -1,10 +1,10 @@
 #!/usr/bin/env python3
 """Takes the head of the message off a datagram of a Jaeger client, and the stop byte at its end, so that its batch stays.
 
-It is run as examples/batch_of_datagram.py < datagram.bin > batch.bin, or with the names of files, one datagram each, whose batches
-it writes one after the other. The batch is in the protocol of the datagram: jaeger-compact (port 6831 of an agent) or
-jaeger-binary (port 6832). What is no such message, or no file, is told in one line on standard error, and the status is 1; the batches
-of the files before it were written. It needs nothing but Python.
+It is run as examples/batch_of_datagram.py < datagram.bin > batch.bin, or with the names of files, one datagram each, whose
+batches it writes one after the other. The batch is in the protocol of the datagram: jaeger-compact (port 6831 of an agent) or
+jaeger-binary (port 6832). What is no such message, or no file, is told in one line on standard error, and the status is 1; the
+batches of the files before it were written. It needs nothing but Python.
 """
 import struct
 import sys

@@ -1,10 +1,10 @@
 #!/usr/bin/env python3
-"""Turns the JSON of Jaeger's query API, which its user interface downloads, into batches of jaeger.thrift, one for each process of
-each trace, in the binary protocol.
+"""Turns the JSON of Jaeger's query API, which its user interface downloads, into batches of jaeger.thrift, one for each process
+of each trace, in the binary protocol.
 
-It is run as examples/batches_of_jaeger_json.py < trace.json > batches.bin, and needs nothing but Python. Spans keep their order.
-What the tables of spanx say of batches then holds. Warnings of the query service are left out. What isn't such JSON is told in one
-line on standard error, nothing is written, and the status is 1.
+It is run as examples/batches_of_jaeger_json.py < trace.json > batches.bin, and needs nothing but Python. Spans keep their
+order. What the tables of spanx say of batches then holds. Warnings of the query service are left out. What isn't such JSON is
+told in one line on standard error, nothing is written, and the status is 1.
 """
 import base64
 import json

@@ -1,10 +1,10 @@
 #!/usr/bin/env python3
 """Turns a batch of Jaeger's protobuf model (model.proto) into batches of jaeger.thrift, in the binary protocol.
 
-It is run as examples/batches_of_jaeger_protobuf.py Batch < batch.bin > batches.bin; the word is the message that the file holds: Batch,
-PostSpansRequest or Trace. It needs nothing but Python. Spans of one process become a batch. Times are cut to microseconds, and
-warnings and the identifiers of processes are left out. What isn't such a message is told in one line on standard error, nothing is
-written, and the status is 1; so is an empty file.
+It is run as examples/batches_of_jaeger_protobuf.py Batch < batch.bin > batches.bin; the word is the message that the file
+holds: Batch, PostSpansRequest or Trace. It needs nothing but Python. Spans of one process become a batch. Times are cut to
+microseconds, and warnings and the identifiers of processes are left out. What isn't such a message is told in one line on
+standard error, nothing is written, and the status is 1; so is an empty file.
 """
 import base64
 import struct
@@ -36,7 +36,8 @@ def tag(held):
     kind = ["string", "bool", "int64", "float64", "binary"][last(held, 2, 0)]
     values = {
         "string": text(held, 3), "bool": bool(last(held, 4, 0)), "int64": signed(last(held, 5, 0)),
-        "float64": struct.unpack("<d", struct.pack("<Q", last(held, 6, 0)))[0], "binary": base64.b64encode(last(held, 7, b"")).decode(),
+        "float64": struct.unpack("<d", struct.pack("<Q", last(held, 6, 0)))[0],
+        "binary": base64.b64encode(last(held, 7, b"")).decode(),
     }
     return {"key": text(held, 1), "type": kind, "value": values[kind]}
 
@@ -57,7 +58,8 @@ def span(held):
     return {
         "traceID": bytes_of(held, 1, 16).hex(), "spanID": bytes_of(held, 2, 8).hex(), "operationName": text(held, 3),
         "references": each(held, 4, reference),
-        "flags": last(held, 5, 0), "startTime": micros(message(last(held, 6, b""))), "duration": micros(message(last(held, 7, b""))),
+        "flags": last(held, 5, 0), "startTime": micros(message(last(held, 6, b""))),
+        "duration": micros(message(last(held, 7, b""))),
         "tags": each(held, 8, tag), "logs": each(held, 9, log), "process": held.get(10, [b""])[-1], "processID": text(held, 11),
     }
 

@@ -148,7 +148,7 @@ def depth(held):
 
 def is_event_text(name):
     """Whether the name of an event is JSON's text of a single member, once braces stand round it, with an object that isn't
-    empty, whole numbers of 64 bits, and nothing deeper than 16."""
+    empty, whole numbers of 64 bits, and nothing deeper than 24."""
     if not name.rstrip(" \t\r\n").endswith("}"):
         return False
     try:
@@ -157,7 +157,7 @@ def is_event_text(name):
     except (NoEventText, ValueError, RecursionError):
         return False
     inner = list(held.values())
-    return len(inner) == 1 and isinstance(inner[0], dict) and inner[0] != {} and depth(inner[0]) <= 17
+    return len(inner) == 1 and isinstance(inner[0], dict) and inner[0] != {} and depth(inner[0]) <= 25
 
 
 def faults_of_double(key, value, form, place):

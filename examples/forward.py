@@ -1,16 +1,18 @@
 #!/usr/bin/env python3
-"""Passes posts of spans on to a backend in another form: a client posts to it, `spanx serve` converts, the backend takes, and its
-status goes back to the client. It stands in for a forwarder: it is one process with a thread for each client, and nothing is proved of it.
+"""Passes posts of spans on to a backend in another form: a client posts to it, `spanx serve` converts, the backend takes, and
+its status goes back to the client. It stands in for a forwarder: it is one process with a thread for each client, and nothing
+is proved of it.
 
 It is run beside a running `spanx serve` as
   examples/forward.py 127.0.0.1:4330 http://127.0.0.1:4320 http://127.0.0.1:9411/api/v2/spans
-with the address where it listens, that of `spanx serve`, and where the backend takes the form that `--to` of `spanx serve` says. It
-takes what `spanx serve` takes. What `spanx serve` refuses is answered as it answers it, and the backend sees nothing of it. A
-converter or backend that can't be reached is answered 502, one that is silent for 30 seconds 504, each with a line.
+with the address where it listens, that of `spanx serve`, and where the backend takes the form that `--to` of `spanx serve`
+says. It takes what `spanx serve` takes. What `spanx serve` refuses is answered as it answers it, and the backend sees nothing
+of it. A converter or backend that can't be reached is answered 502, one that is silent for 30 seconds 504, each with a line.
 
-**Nothing is kept**: a post that isn't answered by a status of success is lost unless the client sends it again, and one whose answer
-is lost may be there twice. There is no queue, no second try, no TLS for clients. Each post that wasn't passed on has a line on standard
-error. It goes on until it is stopped; words that are no addresses, and an address where it can't listen, end it with status 1 and a line.
+**Nothing is kept**: a post that isn't answered by a status of success is lost unless the client sends it again, and one whose
+answer is lost may be there twice. There is no queue, no second try, no TLS for clients. Each post that wasn't passed on has a
+line on standard error. It goes on until it is stopped; words that are no addresses, and an address where it can't listen, end
+it with status 1 and a line.
 """
 import http.client
 import http.server
@@ -109,7 +111,7 @@ class Server(http.server.ThreadingHTTPServer):
 
 def main(words):
     try:
-        listen, converter, backend = urllib.parse.urlsplit(f"//{words[0]}"), urllib.parse.urlsplit(words[1]), urllib.parse.urlsplit(words[2])
+        listen, converter, backend = map(urllib.parse.urlsplit, [f"//{words[0]}", *words[1:]])
         for url in [converter, backend]:
             if url.scheme not in ["http", "https"] or not url.hostname:
                 raise ValueError(f"{url.geturl()!a} is no address of http")

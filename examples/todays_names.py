@@ -125,7 +125,9 @@ def request_in(text):
     parts = list(records(text))
     if not parts or any(number == 1 and held is None for number, _, _, held in parts):
         raise IndexError
-    return b"".join(record(key, todays(held)) if number == 1 and held is not None else whole for number, key, whole, held in parts)
+    return b"".join(
+        record(key, todays(held)) if number == 1 and held is not None else whole for number, key, whole, held in parts
+    )
 
 
 def main(kind):

@@ -210,7 +210,8 @@ def add_risk(pb, scope):
     add_event(score, 629_480, "exception", {
         "exception.type": "com.shop.payments.LimitExceeded",
         "exception.message": "limit exceeded",
-        "exception.stacktrace": "com.shop.payments.LimitExceeded: limit exceeded\n\tat com.shop.payments.Risk.score(Risk.java:88)\n",
+        "exception.stacktrace":
+            "com.shop.payments.LimitExceeded: limit exceeded\n\tat com.shop.payments.Risk.score(Risk.java:88)\n",
         "exception.escaped": True,
     }, dropped=1)
     consume = add_span(scope, 9, "orders process", pb.Span.SPAN_KIND_CONSUMER, 890_000, 911_000, {
@@ -220,7 +221,8 @@ def add_risk(pb, scope):
     }, parent=1, flags=REMOTE)
     link = consume.links.add(trace_id=TRACE, span_id=span_id(5), trace_state=STATE, flags=SAMPLED)
     add_attributes(link.attributes, {"messaging.batch.position": 0, "messaging.redelivered": False})
-    batch = consume.links.add(trace_id=bytes.fromhex("0af7651916cd43dd8448eb211c80319c"), span_id=bytes.fromhex("d1b54a32d192ed03"))
+    other = bytes.fromhex("0af7651916cd43dd8448eb211c80319c")
+    batch = consume.links.add(trace_id=other, span_id=bytes.fromhex("d1b54a32d192ed03"))
     batch.dropped_attributes_count = 3
     add_span(scope, 10, "", pb.Span.SPAN_KIND_UNSPECIFIED, 640_000, 640_000, {}, parent=8, flags=0)
 

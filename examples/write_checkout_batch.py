@@ -36,7 +36,9 @@ def classes():
 def tag(types, key, value):
     """A tag whose type is that of a value of Python."""
     kinds = types.TagType
-    for python, number, field in [(bool, kinds.BOOL, "vBool"), (int, kinds.LONG, "vLong"), (str, kinds.STRING, "vStr"), (bytes, kinds.BINARY, "vBinary")]:
+    for python, number, field in [
+        (bool, kinds.BOOL, "vBool"), (int, kinds.LONG, "vLong"), (str, kinds.STRING, "vStr"), (bytes, kinds.BINARY, "vBinary"),
+    ]:
         if isinstance(value, python):
             return types.Tag(key, number, **{field: value})
     raise TypeError(f"no type of tag: {value!r}")
@@ -57,22 +59,29 @@ def span(types, id, parent, name, start, duration, values, logs=(), follows=None
     if follows is not None:
         kind, other = types.SpanRefType.FOLLOWS_FROM, follows
     references = [types.SpanRef(kind, TRACE_LOW, TRACE_HIGH, other)] if other else []
-    return types.Span(TRACE_LOW, TRACE_HIGH, id, parent, name, references, flags, BEGIN + start, duration, tags(types, values), list(logs))
+    return types.Span(
+        TRACE_LOW, TRACE_HIGH, id, parent, name, references, flags, BEGIN + start, duration, tags(types, values), list(logs)
+    )
 
 
 def batch(types):
-    process = types.Process("storefront", tags(types, {"jaeger.version": "Python-4.8.0", "hostname": "web-7", "ip": "10.0.0.7", "replicas": 3}))
+    process = types.Process("storefront", tags(types, {
+        "jaeger.version": "Python-4.8.0", "hostname": "web-7", "ip": "10.0.0.7", "replicas": 3,
+    }))
     root, pay, stock, mail = 0x1E0F, 0x1E10, 0x1E11, -0x0FF00FF00FF00FF0
     spans = [
         span(types, pay, root, "POST", 201_050, 679_260, {
             "span.kind": "client", "http.method": "POST", "peer.service": "payments", "http.status_code": 402, "error": True,
         }, [log(types, 880_000, {"event": "error", "error.kind": "PaymentDeclined", "message": "limit exceeded: 129,99 €"})]),
-        span(types, stock, root, "reserve stock", 41_000, 157_777, {"rpc.system": "grpc", "span.kind": "client", "digest": bytes.fromhex("00ff10ab7f80")}, [
-            log(types, 90_000, {"event": "retry", "attempt": 1}), log(types, 140_500, {"event": "retry", "attempt": 2}),
-        ]),
-        span(types, mail, 0, "orders publish", 881_000, 3_020, {"span.kind": "producer", "messaging.system": "kafka", "tombstone": False}, follows=pay),
+        span(types, stock, root, "reserve stock", 41_000, 157_777, {
+            "rpc.system": "grpc", "span.kind": "client", "digest": bytes.fromhex("00ff10ab7f80"),
+        }, [log(types, 90_000, {"event": "retry", "attempt": 1}), log(types, 140_500, {"event": "retry", "attempt": 2})]),
+        span(types, mail, 0, "orders publish", 881_000, 3_020, {
+            "span.kind": "producer", "messaging.system": "kafka", "tombstone": False,
+        }, follows=pay),
         span(types, root, 0, "POST /checkout", 0, 912_400, {
-            "sampler.type": "const", "sampler.param": True, "span.kind": "server", "http.url": "/checkout?lang=de", "http.status_code": 402,
+            "sampler.type": "const", "sampler.param": True, "span.kind": "server", "http.url": "/checkout?lang=de",
+            "http.status_code": 402,
         }, flags=SAMPLED | DEBUG),
     ]
     return types.Batch(process, spans, seqNo=1, stats=types.ClientStats(0, 0, 0))
@@ -95,7 +104,8 @@ def datagram(batch, factory, kind=TMessageType.ONEWAY):
 
 def main():
     made = batch(classes())
-    for name, text in [("checkout_batch.bin", serialize(made)), ("checkout_datagram.bin", datagram(made, TCompactProtocolFactory()))]:
+    sent = datagram(made, TCompactProtocolFactory())
+    for name, text in [("checkout_batch.bin", serialize(made)), ("checkout_datagram.bin", sent)]:
         with open(os.path.join(HERE, name), "wb") as out:
             out.write(text)
 

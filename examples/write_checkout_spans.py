@@ -16,7 +16,8 @@ STOREFRONT = Endpoint("storefront", "10.0.0.7", None, 8080)
 PAYMENTS = Endpoint("payments", "10.0.0.21", None, 8443)
 STOCK = Endpoint("stock", None, "2001:db8::c001", 50051)
 CARDS = Endpoint("cards", "10.0.3.4", None, 5432)
-ROOT, PAY, RESERVE, SELECT, SCORE = "00000000000a1e0f", "b7ad6b7169203331", "93564f51e1abe1c2", "1a2b3c4d5e6f7081", "f00dfeed00c0ffee"
+ROOT, PAY, RESERVE = "00000000000a1e0f", "b7ad6b7169203331", "93564f51e1abe1c2"
+SELECT, SCORE = "1a2b3c4d5e6f7081", "f00dfeed00c0ffee"
 
 
 def span(id, parent, name, kind, start, duration, here, tags=None, there=None, notes=None, shared=False):
@@ -36,7 +37,9 @@ def storefront():
         span(RESERVE, ROOT, "reserve stock", Kind.CLIENT, 41_000, 157_777, STOREFRONT, {"grpc.status_code": "0"}, STOCK, {
             '"retry":{"attempt":1,"delay_ms":50}': 90_000, '"retry":{"attempt":2,"delay_ms":100}': 140_500,
         }),
-        span(PAY, ROOT, "POST", Kind.CLIENT, 201_050, 679_260, STOREFRONT, {"http.method": "POST", "http.status_code": "402"}, PAYMENTS),
+        span(PAY, ROOT, "POST", Kind.CLIENT, 201_050, 679_260, STOREFRONT, {
+            "http.method": "POST", "http.status_code": "402",
+        }, PAYMENTS),
     ]
 
 

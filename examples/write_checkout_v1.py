@@ -1,8 +1,8 @@
 #!/usr/bin/python3
 """Writes examples/checkout_v1.json with Yelp's py_zipkin: spans of a checkout in Zipkin's v1 JSON.
 
-It needs Debian's python3-py-zipkin, and is run as examples/write_checkout_v1.py at the top. By `... v2` it prints the same spans as
-py_zipkin writes them in v2.
+It needs Debian's python3-py-zipkin, and is run as examples/write_checkout_v1.py at the top. By `... v2` it prints the same
+spans as py_zipkin writes them in v2.
 """
 import os
 import random

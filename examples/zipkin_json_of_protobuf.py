@@ -2,8 +2,8 @@
 """Turns spans of Zipkin's protobuf (ListOfSpans of zipkin.proto) into its v2 JSON.
 
 It is run as examples/zipkin_json_of_protobuf.py < spans.bin > spans.json, and needs nothing but Python. Nothing is left out but
-fields that zipkin.proto doesn't have. What isn't such a message is told in one line on standard error, nothing is written, and the
-status is 1; so is an empty file.
+fields that zipkin.proto doesn't have. What isn't such a message is told in one line on standard error, nothing is written, and
+the status is 1; so is an empty file.
 """
 import ipaddress
 import json
@@ -40,7 +40,8 @@ def span(held):
         "traceId": bytes_of(held, 1, 16).hex(), "parentId": bytes_of(held, 2, 8).hex(), "id": bytes_of(held, 3, 8).hex(),
         "kind": KINDS[last(held, 4, 0)], "name": text(held, 5), "timestamp": last(held, 6, 0), "duration": last(held, 7, 0),
         "localEndpoint": endpoint(message(last(held, 8, b""))), "remoteEndpoint": endpoint(message(last(held, 9, b""))),
-        "annotations": [annotation(message(one)) for one in held.get(10, [])], "tags": dict(tag(message(one)) for one in held.get(11, [])),
+        "annotations": [annotation(message(one)) for one in held.get(10, [])],
+        "tags": dict(tag(message(one)) for one in held.get(11, [])),
         "debug": bool(last(held, 12, 0)), "shared": bool(last(held, 13, 0)),
     })
 

@@ -2,16 +2,19 @@
 """Turns spans of Zipkin's v1 JSON, one array of them, into an array of v2.
 
 It is run as examples/zipkin_v2_of_v1.py < v1.json > spans.json, and needs nothing but Python. A span of both sides becomes two,
-that of the server marked as shared. The core annotations (cs, cr, sr, ss, ms, mr) say the kind, and where they are absent the times;
-sa, ca and ma the other side. What has no place in v2 is left out: the endpoints of further annotations, the types of binary
-annotations, whose values become texts, and parts of a message on its wire (ws, wr). What isn't such an array is told in one line on standard error,
-nothing is written, and the status is 1; so is a span of v2, since what v1 doesn't have would be left out of it.
+that of the server marked as shared. The core annotations (cs, cr, sr, ss, ms, mr) say the kind, and where they are absent the
+times; sa, ca and ma the other side. What has no place in v2 is left out: the endpoints of further annotations, the types of
+binary annotations, whose values become texts, and parts of a message on its wire (ws, wr). What isn't such an array is told in
+one line on standard error, nothing is written, and the status is 1; so is a span of v2, since what v1 doesn't have would be
+left out of it.
 """
 import json
 import sys
 
 # Of each side the annotations at which it begins and ends, its kind, and the address of the other.
-SIDES = [("cs", "cr", "CLIENT", "sa"), ("sr", "ss", "SERVER", "ca"), ("ms", None, "PRODUCER", "ma"), ("mr", None, "CONSUMER", "ma")]
+SIDES = [
+    ("cs", "cr", "CLIENT", "sa"), ("sr", "ss", "SERVER", "ca"), ("ms", None, "PRODUCER", "ma"), ("mr", None, "CONSUMER", "ma"),
+]
 CORE = {"cs", "cr", "sr", "ss", "ms", "mr", "ws", "wr"}
 ADDRESSES = {"sa", "ca", "ma"}
 OF_V2 = {"kind", "localEndpoint", "remoteEndpoint", "tags", "shared"}

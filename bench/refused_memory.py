@@ -1,0 +1,74 @@
+#!/usr/bin/env python3
+"""Runs the built program with each of its requests for memory refused in turn, and compares what comes with the undisturbed run.
+
+bench/shims/refuse.c stands in front of the C library's allocator, and refuses the first request, the second one, and so on up to the
+first run that asks no more often; then, for each of these, it and all behind it; then it and every second one behind it. Run are the
+worked texts and the samples, each to each form by `convert` and `losses` and by `show` and `check`, `headers`, `gauge`, and a
+connection of `serve` with each sample posted to each form. A run must end with status 7, with `out of memory` on the notes or
+nothing, and what was written or answered must be what the undisturbed run begins with; or all must be as in that run, where the
+program goes on without what was refused. The next run with no request refused must be that run again. It ends with 0 where all is so,
+and prints how often each came.
+
+Run it at the top as bench/refused_memory.py FOLDER.., after ./spanx has built the program. A folder of samples is laid out as for
+bench/there_and_back.py; where none is given the samples are those of examples/. --jobs=N runs so many at once, or else two,
+and --only=WORD what has the word in its name. It needs a C compiler as `cc`.
+"""
+import collections
+import os
+import sys
+
+import disturbed
+from program import BUILD, PROGRAM
+
+HOW = {"one": 0, "all from one on": 1, "every second from one on": 2}
+
+
+def wrong(whole, came):
+    """What a run of which a request was refused does wrong; nothing else."""
+    if came[:3] == whole[:3]:
+        return ""
+    if came.status != 7:
+        return "another status than 7"
+    if came.notes not in ["out of memory\n", ""]:
+        return "another note than `out of memory`"
+    return "" if whole.output.startswith(came.output) else "what was written isn't what the undisturbed run begins with"
+
+
+def outcome(whole, came):
+    if came[:3] == whole[:3]:
+        return "the same answer"
+    return "status 7 with its note" if came.notes else "status 7 without a note"
+
+
+def tried(case):
+    """What a case does wrong, and how its runs ended."""
+    whole = SHIM.run(case)
+    differences, counts = [], collections.Counter()
+    if case.wanted is not None and whole[:3] != (0, case.wanted, ""):
+        differences.append(f"undisturbed: {disturbed.described(case, {}, whole)}")
+    for every in HOW.values():
+        first = 1
+        while True:
+            settings = {"REFUSE_FIRST": first, "REFUSE_EVERY": every}
+            came = SHIM.run(case, **settings)
+            if "x" not in came.marks:
+                break
+            counts["runs"] += 1
+            if why := wrong(whole, came):
+                differences.append(f"{why}: {disturbed.described(case, settings, came)}")
+            counts[outcome(whole, came)] += 1
+            first += 1
+        counts["requests"] = first - 1
+    counts["cases"] = 1
+    for name, again in [("the last run, of which nothing was refused", came), ("the next run", SHIM.run(case))]:
+        if again[:3] != whole[:3]:
+            differences.append(f"{name}: {disturbed.described(case, {}, again)}")
+    return differences, {case.kind: counts}
+
+
+if not os.path.exists(PROGRAM):
+    sys.exit(BUILD)
+SHIM = disturbed.Shim("refuse")
+
+if __name__ == "__main__":
+    disturbed.told(sys.argv[1:], tried, disturbed.chosen(sys.argv[1:]))
