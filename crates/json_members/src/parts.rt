@@ -1,8 +1,9 @@
 //! The members of an object, read one behind the other.
-ghost use Rattle.std.specs.Prelude.{◌≡◌, suc, List, Ok, IfOk, IfErr};
+ghost use Rattle.std.specs.Prelude.{◌≡◌, ◌≢◌, suc, List, Ok, Err, IfOk, IfErr};
 ghost use Rattle.serde_json.specs.Data.{Data};
 ghost use Rattle.json_nodes.specs.Lents.{lent_view as view};
 ghost use Rattle.span_io.specs.Causes.{cause_number};
+ghost use Rattle.span_io.specs.declared.halt.Halt.TheVariants as halts;
 ghost use Rattle.span_io.specs.Paths.{Offences, Counts, Halts, JudgesValue, JudgesByCause};
 ghost use Rattle.json_members.specs.Parts.{part, object_offends, IsReading};
 
@@ -43,6 +44,8 @@ pub fn member<T: Table, X>(
     ensures same { IfOk result (λ x. read ≡ Ok x) }
     ensures goes_on { IfOk result (λ x. IsReading T.parts (view v.now) (suc number)) }
     ensures stops { IfErr result (λ halt. Halts halt (object_offends T.parts (view v.now))) }
+    // Memory is wanted only where it was.
+    ensures wants { result ≡ Err halts.OutOfMemory → read ≡ Err halts.OutOfMemory }
 {
     read
 }
@@ -60,6 +63,7 @@ pub fn bare_member<T: Table, X>(
     ensures same { IfOk result (λ x. read ≡ Ok x) }
     ensures goes_on { IfOk result (λ x. IsReading T.parts (view v.now) (suc number)) }
     ensures stops { IfErr result (λ halt. Halts halt (object_offends T.parts (view v.now))) }
+    ensures wants { result ≢ Err halts.OutOfMemory }
 {
     match read {
         Ok(x) => Ok(x),

@@ -1,7 +1,8 @@
 //! Calls of std, each made again where a signal interrupted it.
-ghost use Rattle.std.specs.Prelude.{length, take, IfOk, OnErr};
+ghost use Rattle.std.specs.Prelude.{◌≢◌, length, take, IfErr, IfOk, OnErr};
 ghost use Rattle.std.specs.Io.{ReadsAtMost, WritesAtMost};
 ghost use Rattle.std.specs.Io.KnownBytes.{Keeps, ReadConsumes, WriteAppends};
+ghost use Rattle.std.specs.IoError.{error_kind};
 
 use std::io::{Error, ErrorKind, Read, Result, Write};
 
@@ -9,6 +10,7 @@ use std::io::{Error, ErrorKind, Read, Result, Write};
 pub fn read_again<R: Read>(reader: &mut R, buf: &mut [u8]) -> Result<usize>
     ensures bound { ReadsAtMost result buf.new }
     ensures bytes { ReadConsumes (R.remaining reader.old) (R.remaining reader.new) result buf.new }
+    ensures again { IfErr result (λ error. error_kind error ≢ ErrorKind.Interrupted) }
 {
     'tries: for _ in 0..u64::MAX {
         match reader.read(buf) {
@@ -16,13 +18,14 @@ pub fn read_again<R: Read>(reader: &mut R, buf: &mut [u8]) -> Result<usize>
             result => return result,
         }
     }
-    Err(Error::from(ErrorKind::Interrupted))
+    Err(Error::from(ErrorKind::Other))
 }
 
 /// One write.
 pub fn write_again<W: Write>(writer: &mut W, piece: &[u8]) -> Result<usize>
     ensures bound { WritesAtMost result piece.now }
     ensures bytes { WriteAppends (W.contents writer.old) (W.contents writer.new) result piece.now }
+    ensures again { IfErr result (λ error. error_kind error ≢ ErrorKind.Interrupted) }
 {
     'tries: for _ in 0..u64::MAX {
         match writer.write(piece) {
@@ -30,5 +33,5 @@ pub fn write_again<W: Write>(writer: &mut W, piece: &[u8]) -> Result<usize>
             result => return result,
         }
     }
-    Err(Error::from(ErrorKind::Interrupted))
+    Err(Error::from(ErrorKind::Other))
 }

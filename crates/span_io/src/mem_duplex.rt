@@ -109,7 +109,8 @@ impl Duplex for MemDuplex {
         ensures takes { IfOk result (λ n. n ≡ min self.old.sink.cut (length piece.now)) }
         ensures calls { self.new.sink.calls ≡ counted self.old.sink.calls }
         ensures faults { CountsFault result self.old.sink.faults self.new.sink.faults }
-        ensures stays { (self.new.sink.fail ≡ self.old.sink.fail) × (self.new.sink.room ≡ self.old.sink.room) × (self.new.sink.cut ≡ self.old.sink.cut) }
+        ensures stays { (self.new.sink.fail ≡ self.old.sink.fail) × (self.new.sink.room ≡ self.old.sink.room)
+            × (self.new.sink.cut ≡ self.old.sink.cut) }
         ensures source { self.new.source ≡ self.old.source }
     {
         self.sink.write(piece)
