@@ -8,6 +8,7 @@ pub mod TextsFrom
 pub mod WalkSteps
 pub mod OpenStructs
 pub mod Answering
+pub mod Refusing
 pub mod FirstStruct
 pub mod Stacks
 pub mod Places
