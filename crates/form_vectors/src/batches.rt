@@ -6,7 +6,7 @@ ghost use Rattle.thrift_binary.specs.Spelling.{binary_spells};
 
 use jaeger_model::laws::reads_times;
 use jaeger_model::{Batch, JSpan, Log, SpanRef, TagValue, proper_sizes, read_batch, write_batch};
-use row_tables::{Row, Words, append_spelled, rows};
+use row_tables::{Row, append_spelled, rows, sides};
 use span_io::{Blob, Cause, Halt, Scan, Step};
 use std::alloc::Global;
 use std::test::Fail;
@@ -147,9 +147,9 @@ fn is_refused(alloc: Global, bytes: &[u8], name: &str) -> bool {
 // Whether a row is refused by its cause. Its name stands in front.
 fn is_refusal(alloc: Global, row: &str) -> Result<bool, Fail> {
     let (_, told) = row.split_once(": ").unwrap_or((row, ""));
-    let (batch, cause) = Words::sides(told)?;
-    let bytes = bytes_of(alloc, batch.rest())?;
-    Ok(is_refused(alloc, bytes.as_slice(), cause.rest()))
+    let (batch, cause) = sides(told)?;
+    let bytes = bytes_of(alloc, batch)?;
+    Ok(is_refused(alloc, bytes.as_slice(), cause))
 }
 
 #[test]

@@ -1,7 +1,7 @@
 //! Groups of spans of OTLP as protobuf: what is read of them, and the cause of the first offence.
 use crate::remarks::are_remarks;
 use otlp_proto::{read_group, write_group};
-use row_tables::{Row, Words, append_spelled, rows};
+use row_tables::{Row, append_spelled, rows, sides};
 use span_io::{Blob, Cause, Halt, Items, OutOfMemory};
 use std::alloc::Global;
 use std::test::Fail;
@@ -317,12 +317,9 @@ fn is_value(alloc: Global, unit: &[u8], wanted: &str) -> bool {
 #[test]
 fn reads_values(rt: HostRuntime) -> Result<(), Fail> {
     for row in VALUES.trim_matches('\n').lines() {
-        let (pair, wanted) = Words::sides(row)?;
-        let unit = unit_of(rt.alloc(), pair.rest())?;
-        assert!(rt;
-            is_value(rt.alloc(), unit.as_slice(), wanted.rest()),
-            "{row}"
-        );
+        let (pair, wanted) = sides(row)?;
+        let unit = unit_of(rt.alloc(), pair)?;
+        assert!(rt; is_value(rt.alloc(), unit.as_slice(), wanted), "{row}");
     }
     Ok(())
 }
@@ -381,9 +378,9 @@ fn is_refused(alloc: Global, unit: &[u8], name: &str) -> bool {
 // Whether a row is refused by its cause. Its name stands in front.
 fn is_refusal(alloc: Global, row: &str) -> Result<bool, Fail> {
     let (_, told) = row.split_once(": ").unwrap_or((row, ""));
-    let (message, cause) = Words::sides(told)?;
-    let unit = unit_of(alloc, message.rest())?;
-    Ok(is_refused(alloc, unit.as_slice(), cause.rest()))
+    let (message, cause) = sides(told)?;
+    let unit = unit_of(alloc, message)?;
+    Ok(is_refused(alloc, unit.as_slice(), cause))
 }
 
 #[test]

@@ -1,6 +1,6 @@
 //! Values of traces, and their texts.
 use crate::requests::{group_in, unit_of};
-use row_tables::Words;
+use row_tables::sides;
 use span_io::Halt;
 use std::alloc::Global;
 use std::test::Fail;
@@ -62,14 +62,14 @@ fn has_json(alloc: Global, value: &Value, wanted: &str) -> bool {
 
 // Whether the value of a pair is told so, as a text or as JSON.
 fn holds(alloc: Global, row: &str, json: bool) -> Result<bool, Fail> {
-    let (pair, wanted) = Words::sides(row)?;
-    let unit = unit_of(alloc, pair.rest())?;
+    let (pair, wanted) = sides(row)?;
+    let unit = unit_of(alloc, pair)?;
     let Ok((group, _)) = group_in(alloc, unit.as_slice()) else {
         return Ok(false);
     };
     match group.resource.as_slice() {
-        [(_, value)] if json => Ok(has_json(alloc, value, wanted.rest())),
-        [(_, value)] => Ok(is_told(alloc, value, wanted.rest())),
+        [(_, value)] if json => Ok(has_json(alloc, value, wanted)),
+        [(_, value)] => Ok(is_told(alloc, value, wanted)),
         _ => Ok(false),
     }
 }

@@ -1,24 +1,13 @@
+ghost use Rattle.std.specs.Prelude.{◌≡◌, ◌<◌, IfOk, IfSome, Some};
+ghost use Rattle.row_tables.specs.Escapes.{digit_of, digits_meant, escape_meant, first_meant, letter_of, meant};
+
 use std::alloc::Global;
 use std::test::Fail;
 
-/// What the next byte of a text is.
-#[derive(Clone, Copy)]
-enum Place {
-    Plain,
-    Escape,
-    FirstDigit,
-    /// The digit behind this one.
-    LastDigit(u8),
-}
-
-/// A byte that a text means, or where the byte behind stands.
-#[derive(Clone, Copy)]
-enum Meaning {
-    Byte(u8),
-    Next(Place),
-}
-
-fn digit(byte: u8) -> Option<u8> {
+fn digit(byte: u8) -> Option<u8>
+    ensures value { result ≡ digit_of byte }
+    ensures small { IfSome result (λ number. number < 16) }
+{
     match byte {
         b'0'..=b'9' => Some(byte - b'0'),
         b'a'..=b'f' => Some(byte - b'a' + 10),
@@ -26,50 +15,62 @@ fn digit(byte: u8) -> Option<u8> {
     }
 }
 
-fn read_escape(byte: u8) -> Option<Meaning> {
+// The byte that a letter behind a backslash stands for.
+fn letter(byte: u8) -> Option<u8>
+    ensures { result ≡ letter_of byte }
+{
     match byte {
-        b'n' => Some(Meaning::Byte(b'\n')),
-        b'r' => Some(Meaning::Byte(b'\r')),
-        b't' => Some(Meaning::Byte(b'\t')),
-        b'0' => Some(Meaning::Byte(0)),
-        b'\\' => Some(Meaning::Byte(b'\\')),
-        b'x' => Some(Meaning::Next(Place::FirstDigit)),
+        b'n' => Some(b'\n'),
+        b'r' => Some(b'\r'),
+        b't' => Some(b'\t'),
+        b'0' => Some(0),
+        b'\\' => Some(b'\\'),
         _ => None,
     }
 }
 
-fn read_byte(place: Place, byte: u8) -> Option<Meaning> {
-    match place {
-        Place::Plain => match byte {
-            b'\\' => Some(Meaning::Next(Place::Escape)),
-            _ => Some(Meaning::Byte(byte)),
-        },
-        Place::Escape => read_escape(byte),
-        Place::FirstDigit => Some(Meaning::Next(Place::LastDigit(digit(byte)?))),
-        Place::LastDigit(first) => {
-            let last = digit(byte)?;
-            Some(Meaning::Byte(first.wrapping_mul(16).wrapping_add(last)))
-        }
+// The byte at the front of a text, and how many bytes tell it.
+fn first_byte(text: &[u8]) -> Option<(u8, usize)>
+    ensures { result ≡ first_meant text.now }
+{
+    let (byte, behind) = text.split_first()?;
+    match *byte {
+        b'\\' => escape(behind),
+        byte => Some((byte, 1)),
     }
+}
+
+fn escape(text: &[u8]) -> Option<(u8, usize)>
+    ensures { result ≡ escape_meant text.now }
+{
+    let (byte, behind) = text.split_first()?;
+    match *byte {
+        b'x' => digits(behind),
+        byte => Some((letter(byte)?, 2)),
+    }
+}
+
+fn digits(text: &[u8]) -> Option<(u8, usize)>
+    ensures { result ≡ digits_meant text.now }
+{
+    let (high, behind) = text.split_first()?;
+    let (low, _) = behind.split_first()?;
+    Some((digit(*high)? * 16 + digit(*low)?, 4))
 }
 
 /// The bytes of a text in which `\n`, `\r`, `\t`, `\0` and `\\` stand for one byte each, and `\x` with two digits in
 /// lower case for the byte that they tell.
-pub fn unescaped(alloc: Global, text: &str) -> Result<Vec<u8>, Fail> {
+pub fn unescaped(alloc: Global, text: &str) -> Result<Vec<u8>, Fail>
+    ensures { IfOk result (λ bytes. meant text.now ≡ Some bytes.items) }
+{
     let mut bytes = Vec::new(alloc);
-    let mut place = Place::Plain;
-    for byte in text.as_bytes() {
-        place = match read_byte(place, *byte) {
-            Some(Meaning::Byte(byte)) => {
-                bytes.push(byte)?;
-                Place::Plain
-            }
-            Some(Meaning::Next(next)) => next,
-            None => return Err(Fail::new(format_args!("no escape: {text}"))),
+    let mut rest = text.as_bytes();
+    'bytes: while !rest.is_empty() {
+        let Some((byte, size)) = first_byte(rest) else {
+            return Err(Fail::new(format_args!("no escape: {text}")));
         };
+        bytes.push(byte)?;
+        rest = &rest[size..];
     }
-    match place {
-        Place::Plain => Ok(bytes),
-        _ => Err(Fail::new(format_args!("an escape without an end: {text}"))),
-    }
+    Ok(bytes)
 }

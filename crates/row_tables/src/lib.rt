@@ -5,6 +5,7 @@
 #![tactic(auto)]
 
 mod escapes;
+mod parts;
 mod row;
 mod spelled;
 mod words;
@@ -12,4 +13,4 @@ mod words;
 pub use escapes::unescaped;
 pub use row::{Field, Row, row_named, rows};
 pub use spelled::append_spelled;
-pub use words::Words;
+pub use words::{Words, sides};

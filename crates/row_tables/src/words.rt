@@ -1,67 +1,59 @@
-use std::str::FromStr;
+ghost use Rattle.std.specs.Prelude.{◌≡◌, IfOk};
+ghost use Rattle.std.specs.List.{before_first, after_first};
+ghost use Rattle.row_tables.specs.Parts.{is_blank};
+ghost use Rattle.row_tables.specs.Words.{StandsRound, arrow, without_blank, words_left};
+
+use crate::parts::parted;
 use std::test::Fail;
 
 /// Words of a text, parted by one blank each.
 #[derive(Drop)]
 pub struct Words<'a> {
-    text: &'a str,
     rest: &'a str,
 }
 
 impl<'a> Words<'a> {
-    pub fn of(text: &'a str) -> Words<'a> {
-        Words { text, rest: text }
-    }
-
-    /// Of a row that is one line the words in front of `=>` and those behind.
-    pub fn sides(row: &'a str) -> Result<(Words<'a>, Words<'a>), Fail> {
-        let Some((front, behind)) = row.split_once("=>") else {
-            return Err(Fail::new(format_args!("{row}: one side alone")));
-        };
-        let given = Words {
-            text: row,
-            rest: front.trim_matches(' '),
-        };
-        let wanted = Words {
-            text: row,
-            rest: behind.trim_matches(' '),
-        };
-        Ok((given, wanted))
+    pub fn of(text: &'a str) -> Words<'a>
+        ensures { words_left result ≡ text.now }
+    {
+        Words { rest: text }
     }
 
     /// The next word, which is empty behind the last.
-    pub fn word(&mut self) -> &'a str {
-        let (word, rest) = self.rest.split_once(' ').unwrap_or((self.rest, ""));
+    pub fn word(&mut self) -> &'a str
+        ensures word { result.now ≡ before_first is_blank (words_left self.old) }
+        ensures rest { words_left self.new ≡ after_first is_blank (words_left self.old) }
+    {
+        let (word, rest) = parted(self.rest, ' ');
         self.rest = rest;
         word
     }
 
     /// What stands behind the words so far, as one text.
-    pub fn rest(&self) -> &'a str {
+    pub fn rest(&self) -> &'a str
+        ensures { result.now ≡ words_left self.now }
+    {
         self.rest
     }
+}
 
-    /// Fails where a word is left.
-    pub fn end(&self) -> Result<(), Fail> {
-        if self.rest.is_empty() {
-            return Ok(());
-        }
-        Err(self.fail("more words than are known"))
-    }
+/// Of a row that is one line what stands in front of ` =>` and what stands behind, without a blank between.
+pub fn sides(row: &str) -> Result<(&str, &str), Fail>
+    ensures { IfOk result (λ sides. StandsRound arrow sides.0.now sides.1.now row.now) }
+{
+    let Some((given, behind)) = row.split_once(" =>") else {
+        return Err(Fail::new(format_args!("{row}: one side alone")));
+    };
+    Ok((given, without_blank(behind)))
+}
 
-    /// What a test fails with that finds this wrong in the text.
-    pub fn fail(&self, what: &str) -> Fail {
-        Fail::new(format_args!("{}: {what}", self.text))
+// A text without the blank at its front, if it has one.
+fn without_blank(text: &str) -> &str
+    ensures { result.now ≡ without_blank text.now }
+{
+    let (front, behind) = parted(text, ' ');
+    if front.is_empty() {
+        return behind;
     }
-
-    /// The next word as a number.
-    pub fn number<N: FromStr>(&mut self) -> Result<N, Fail>
-    where
-        N::Err: Drop,
-    {
-        match self.word().parse::<N>() {
-            Ok(number) => Ok(number),
-            Err(_) => Err(self.fail("no number")),
-        }
-    }
+    text
 }

@@ -15,17 +15,27 @@ use std::test::Fail;
 
 const TO_REQUEST: Written = Written::Form(Form::OtlpProto);
 
-// The unit and the number of the cause of a refusal, or zeros where there is none.
-type Place = (u64, u64);
-
-fn place_of(refusal: &Refusal) -> Place {
-    (refusal.unit, u64::from(refusal.cause.number()))
+// A refusal that is told: its unit, and the number of its cause.
+#[derive(Clone, Copy, PartialEq)]
+struct Refused {
+    unit: u64,
+    cause: u64,
 }
 
-fn place_in(converter: &Converter) -> Place {
-    match converter.why() {
-        Why::Refusal(refusal) => place_of(refusal),
-        Why::Fault(_) | Why::Nothing => (0, 0),
+impl Refused {
+    fn of(refusal: &Refusal) -> Refused {
+        Refused {
+            unit: refusal.unit,
+            cause: u64::from(refusal.cause.number()),
+        }
+    }
+
+    // What a converter tells of the refusal behind which it stopped, if it was one.
+    fn by(converter: &Converter) -> Option<Refused> {
+        match converter.why() {
+            Why::Refusal(refusal) => Some(Refused::of(refusal)),
+            Why::Fault(_) | Why::Nothing => None,
+        }
     }
 }
 
@@ -56,19 +66,19 @@ fn finished(rt: &impl Abort, converter: &mut Converter, out: &mut MemSink) -> Re
     converter.finish(out)
 }
 
-// Feeds an input as one piece, and ends it. Where that stops, the answer is the place of its refusal.
+// Feeds an input as one piece, and ends it. Where that stops, the answer is its refusal, if it was one.
 fn converted(
     rt: &impl Abort,
     converter: &mut Converter,
     input: &[u8],
     out: &mut MemSink,
-) -> Result<Tally, Place> {
+) -> Result<Tally, Option<Refused>> {
     if fed(rt, converter, input, out).is_err() {
-        return Err(place_in(converter));
+        return Err(Refused::by(converter));
     }
     match finished(rt, converter, out) {
         Ok(tally) => Ok(tally),
-        Err(_) => Err(place_in(converter)),
+        Err(_) => Err(Refused::by(converter)),
     }
 }
 
@@ -79,13 +89,13 @@ fn at_once(alloc: Global, from: Form, input: &[u8], limits: &Limits) -> Result<B
     convert_all(alloc, from, Form::OtlpProto, input, limits)
 }
 
-// The place of the refusal of an input in one call, if it is refused.
-fn refused_at_once(alloc: Global, from: Form, input: &[u8], limits: &Limits) -> Place
+// The refusal of an input in one call, if it is refused.
+fn refused_at_once(alloc: Global, from: Form, input: &[u8], limits: &Limits) -> Option<Refused>
     requires { AreLimits limits.now }
 {
     match at_once(alloc, from, input, limits) {
-        Err(Bad::Refused(refusal)) => place_of(&refusal),
-        _ => (0, 0),
+        Err(Bad::Refused(refusal)) => Some(Refused::of(&refusal)),
+        _ => None,
     }
 }
 
@@ -185,16 +195,24 @@ fn limits_told(row: &Row) -> Result<Limits, Fail>
     }
 }
 
-// The place of the refusal that a row tells.
-fn place_told(row: &Row) -> Result<Place, Fail> {
+// The refusal that a row tells, if it tells one.
+fn refusal_told(row: &Row) -> Result<Option<Refused>, Fail> {
     match row.number_if_any("cause")? {
-        Some(cause) => Ok((row.number("unit")?, cause)),
-        None => Ok((0, 0)),
+        Some(cause) => Ok(Some(Refused {
+            unit: row.number("unit")?,
+            cause,
+        })),
+        None => Ok(None),
     }
 }
 
-// Looks at whether bytes and places are those that are wanted.
-fn expect(rt: &impl Abort, name: &str, given: (Place, &[u8]), wanted: (Place, &[u8])) {
+// Looks at whether refusals and bytes are those that are wanted.
+fn expect(
+    rt: &impl Abort,
+    name: &str,
+    given: (Option<Refused>, &[u8]),
+    wanted: (Option<Refused>, &[u8]),
+) {
     assert!(rt; given.0 == wanted.0, "refusal of {name}");
     assert!(rt; given.1 == wanted.1, "text of {name}");
 }
@@ -223,16 +241,16 @@ fn expect_limited(
     read_texts(alloc, row, texts)?;
     let form = form_told(row)?;
     let limits = limits_told(row)?;
-    let place = place_told(row)?;
+    let refusal = refusal_told(row)?;
     let input = texts.input.as_slice();
     let output = texts.output.as_slice();
     let mut out = sink(rt, alloc, 100, None);
     let mut converter = Converter::new(alloc, form, TO_REQUEST, &limits);
     let answer = converted(rt, &mut converter, input, &mut out);
-    let given = (answer.err().unwrap_or((0, 0)), out.bytes());
-    expect(rt, row.name(), given, (place, output));
+    let given = (answer.err().unwrap_or(None), out.bytes());
+    expect(rt, row.name(), given, (refusal, output));
     let at_once = refused_at_once(alloc, form, input, &limits);
-    expect(rt, row.name(), (at_once, output), (place, output));
+    expect(rt, row.name(), (at_once, output), (refusal, output));
     Ok(())
 }
 
@@ -300,7 +318,7 @@ fn expect_request(rt: &impl Abort, alloc: Global, name: &str, input: &[u8], outp
     let Ok(text) = at_once(alloc, Form::OtlpProto, input, &Limits::shipped()) else {
         panic!(rt; "refused");
     };
-    expect(rt, name, ((0, 0), text.as_slice()), ((0, 0), output));
+    expect(rt, name, (None, text.as_slice()), (None, output));
 }
 
 #[test]
@@ -339,7 +357,7 @@ fn expect_taken(
     let wanted = if units > 0 {
         Ok(Tally { units, spans: 0 })
     } else {
-        Err((0, 0))
+        Err(None)
     };
     assert!(rt; answer == wanted, "call {call}");
     assert!(rt; Some(out.bytes()) == input.get(..taken), "call {call}");
@@ -369,9 +387,12 @@ fn grows_with_its_text(rt: HostRuntime) {
 fn expect_refused(rt: &impl Abort, converter: &mut Converter, piece: &[u8], out: &mut MemSink) {
     let fed = fed(rt, converter, piece, out);
     assert!(rt; fed == Err(Stop::Refused), "fed");
-    let place = (2, u64::from(Cause::BadWire.number()));
-    let given = (place_in(converter), out.bytes());
-    expect(rt, "a stop", given, (place, [0x0a, 0].as_slice()));
+    let refusal = Refused {
+        unit: 2,
+        cause: u64::from(Cause::BadWire.number()),
+    };
+    let given = (Refused::by(converter), out.bytes());
+    expect(rt, "a stop", given, (Some(refusal), [0x0a, 0].as_slice()));
 }
 
 // Behind a refusal each call answers the same, and writes nothing.

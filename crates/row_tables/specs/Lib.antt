@@ -1,0 +1,5 @@
+pub mod Escapes
+pub mod Parts
+pub mod Rows
+pub mod Words
+pub mod private
