@@ -12,7 +12,7 @@ use std::alloc::Global;
 use std::marker::Model;
 
 /// A keeper whose rows stand in a table of a database in memory, which the first `keep` opens. It doesn't tell its
-/// rows: no clause says what the table holds. A refused statement, a row that isn't there and a row that no `keep`
+/// rows: what the table holds is shown by tests. A refused statement, a row that isn't there and a row that no `keep`
 /// wrote are failures of it; its count of them stays at the end of 64 bits.
 #[derive(Drop)]
 pub struct SqlKeeper {

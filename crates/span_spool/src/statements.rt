@@ -1,5 +1,5 @@
-//! The statements by which a table keeps bodies. Each stands in a function by itself and promises nothing: no
-//! clause says what a database in memory holds.
+//! The statements by which a table keeps bodies. Each stands in a function by itself and promises nothing: what a
+//! database in memory holds is tested.
 use span_io::Blob;
 use sqlite::{Connection, Error, ErrorCode, MemStore, params};
 use std::alloc::{AllocError, Global};
@@ -12,6 +12,15 @@ pub(crate) enum Refusal {
 }
 
 impl From<Error> for Refusal {
+    ghost use Rattle.sqlite.specs.declared.error.Error.TheVariants.{SqliteFailure};
+    ghost use Rattle.sqlite.specs.declared.error.ErrorCode.TheVariants as failures;
+    ghost use Rattle.span_spool.specs.declared.statements.Refusal.TheVariants as refusals;
+    ghost use Rattle.std.specs.Prelude.{◌≡◌, ◌↔◌};
+
+    // Memory is wanted where the library wanted it, and only there.
+    ghost from_gives = { λ error refusal.
+        (refusal ≡ refusals.OutOfMemory) ↔ (error ≡ SqliteFailure failures.OutOfMemory) };
+
     fn from(error: Error) -> Refusal {
         match error {
             Error::SqliteFailure(ErrorCode::OutOfMemory) => Refusal::OutOfMemory,
@@ -21,6 +30,11 @@ impl From<Error> for Refusal {
 }
 
 impl From<AllocError> for Refusal {
+    ghost use Rattle.span_spool.specs.declared.statements.Refusal.TheVariants as refusals;
+    ghost use Rattle.std.specs.Prelude.{◌≡◌};
+
+    ghost from_gives = { λ _ refusal. refusal ≡ refusals.OutOfMemory };
+
     fn from(_error: AllocError) -> Refusal {
         Refusal::OutOfMemory
     }
