@@ -1,15 +1,13 @@
 -- Jaeger finds the faults of a span and of a resource, row by row.
-use Rattle.std.proofs.Common.{◌≡◌, ℕ, true, List, Option, Some, None, is_some, refl, sym, ap, subst, ⊎_elim, inl, inr, true≢false}
-use Rattle.std.specs.Prelude.{◌⊎◌, ◌&&◌, ◌==◌, Any, Contains, is_none}
+use Rattle.std.proofs.Common.{◌≡◌, ℕ, List, Option, Some, None, is_some, refl, sym, ap, ⊎_elim, inl, inr, true≢false}
+use Rattle.std.specs.Prelude.{◌⊎◌, ◌&&◌, ◌==◌, Contains, is_none}
 use Rattle.std.specs.Bool.{Decides}
-use Rattle.std.specs.List.{list_any}
 use Rattle.std.proofs.lemmas.Bool.Decides.{Decides-and, Decides-or, Decides-like, Decides-eqb, Decides-ltb}
 use Rattle.trace_model.specs.Attributes.{keys, at}
 use Rattle.trace_model.specs.Soundness.{IsSoundSpan}
 use Rattle.trace_model.specs.ValueTexts.{has_double}
 use Rattle.trace_model.specs.declared.fault.Fault.{Fault}
 use Rattle.trace_model.specs.declared.fault.Fault.TheVariants.{DoubleInText}
-use Rattle.trace_model.specs.declared.span.Event.{Event}
 use Rattle.trace_model.specs.declared.span.Link.{Link}
 use Rattle.trace_model.specs.declared.span.Span.{Span}
 use Rattle.trace_model.specs.declared.value.Value.{Value, List', Map'}
@@ -19,11 +17,10 @@ use Rattle.span_tags.specs.TagKeys.{service_key}
 use Rattle.span_tags.specs.TagWords.{Pairs}
 use Rattle.span_tags.specs.laws.AttributeLaws.{key_of_some, some_of_key}
 use Rattle.span_tags.specs.laws.FaultLaws.{FindsRows, FindsFaults, doubles_decide, span_doubles}
-use Rattle.span_tags.specs.laws.LeastRows.{least_same, least_if, not_above_itself, least_of_keys, any_decides, itself, never, least_found}
+use Rattle.span_tags.specs.laws.LeastRows.{least_same, least_if, not_above_itself, any_decides, itself, never}
 use Rattle.map_jaeger.specs.ColumnWords.{flags_in}
-use Rattle.map_jaeger.specs.Columns.{is_reserved}
-use Rattle.map_jaeger.specs.Faults.{HasReserved, in_span, in_event, HasOwn, IsOwnParent, HasDoubleInside, HasDoubleAt, IsSpanFault, IsResourceFault}
-use Rattle.map_jaeger.specs.Keys.{flags_key, event_key, reference_key}
+use Rattle.map_jaeger.specs.Faults.{HasOwn, IsOwnParent, HasDoubleInside, HasDoubleAt, IsSpanFault, IsResourceFault}
+use Rattle.map_jaeger.specs.Keys.{flags_key, reference_key}
 use Rattle.map_jaeger.specs.LeastFault.{names_parent, is_own_link, double_inside, doubles_inside, jaeger_faults}
 use Rattle.map_jaeger.specs.Writing.{is_child_of}
 
@@ -31,27 +28,6 @@ use Rattle.map_jaeger.specs.Writing.{is_child_of}
 
 there_decides : (key : List ℕ) (attributes : Pairs) → Decides (is_some (at key attributes)) (Contains (keys attributes) key)
 there_decides key attributes = (key_of_some key attributes, some_of_key key attributes)
-
-abbrev InSpan : Span → List ℕ → Type 0
-InSpan span key = (is_reserved key ≡ true) × Contains (keys span.attributes) key
-
-abbrev InEvents : Span → List ℕ → Type 0
-InEvents span key = Any (λ event. Contains (keys event.attributes) key) span.events
-
-events_decide : (span : Span) → Decides (list_any (λ event. is_some (at event_key event.attributes)) span.events) (InEvents span event_key)
-events_decide span = any_decides (λ (event : Event). is_some (at event_key event.attributes)) (λ event. Contains (keys event.attributes) event_key)
-    (λ event. there_decides event_key event.attributes) span.events
-
-abbrev IsReserved : Span → List ℕ → Type 0
-IsReserved span key = ((key ≡ event_key) × InEvents span event_key) ⊎ InSpan span key
-
-to_reserved : (span : Span) (key : List ℕ) → IsReserved span key → HasReserved span key
-to_reserved span key (inl h) = in_event h.0 (subst (InEvents span) (sym h.0) h.1)
-to_reserved span key (inr h) = in_span h.0 h.1
-
-from_reserved : (span : Span) (key : List ℕ) → HasReserved span key → IsReserved span key
-from_reserved span key (in_event is there) = inl (is, subst (InEvents span) is there)
-from_reserved span key (in_span is there) = inr (is, there)
 
 none_decides : {A : Type 0} → (o : Option A) → Decides (is_none o) (o ≡ None)
 none_decides None = (λ e. refl, λ e. refl)
@@ -101,10 +77,6 @@ only_doubles resource other h = absurd h
 rows : (span : Span) → IsSoundSpan span → FindsRows jaeger_faults span (IsSpanFault span)
 rows span sound = record {
   end = Decides-ltb span.end span.start;
-  reserved = least_same KeyAtMost (IsReserved span) (HasReserved span) (to_reserved span) (from_reserved span) _
-      (least_of_keys (λ key. (key ≡ event_key) × InEvents span event_key) (InSpan span) _ _
-      (least_if KeyAtMost not_above_itself event_key (InEvents span event_key) _ (events_decide span))
-      (least_found (λ key. key) is_reserved (keys span.attributes) sound.attributes.rising));
   own = least_same KeyAtMost (λ key. (key ≡ flags_key) × IsOut span.attributes) (HasOwn span)
       (λ key h. (h.0, h.1.0, h.1.1)) (λ key h. (h.0, (h.1, h.2))) _
       (least_if KeyAtMost not_above_itself flags_key (IsOut span.attributes) _ (out_decides span.attributes));
@@ -119,7 +91,6 @@ finds_faults = record {
       (at_decides (at service_key resource)) (doubles_decide jaeger_faults HasDoubleInside inside_decides resource);
   only_doubles = only_doubles;
   span = rows;
-  no_reserved = refl;
   no_own = refl;
   no_event = refl;
   no_link = refl;

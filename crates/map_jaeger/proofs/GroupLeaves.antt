@@ -1,6 +1,7 @@
 -- Leaves: the values that a tag has. What is read is of leaves, and so is every normal form.
-use Rattle.std.proofs.Common.{◌≡◌, ℕ, List, [], ◌∷◌, map, get_or, All, refl, ap, ◌∙◌, arith}
+use Rattle.std.proofs.Common.{◌≡◌, ℕ, Bool, true, false, cond, not, List, [], ◌∷◌, map, get_or, All, refl, ap, ◌∙◌, arith}
 use Rattle.std.specs.Prelude.{⊤}
+use Rattle.std.specs.Str.{bytes_eq}
 use Rattle.std.proofs.lemmas.List.Elements.{All-head, All-tail, All-map, All-contains}
 use Rattle.jaeger_model.specs.declared.tag.Tag.{Tag}
 use Rattle.jaeger_model.specs.declared.tag.TagValue.{TagValue}
@@ -8,6 +9,7 @@ use Rattle.jaeger_model.specs.declared.tag.TagValue.TheVariants as tags
 use Rattle.trace_model.specs.Attributes.{Rise, keys, attrs}
 use Rattle.trace_model.specs.Values.{IsSound}
 use Rattle.trace_model.specs.declared.value.Value.{Value, Text, List', Map', Nothing}
+use Rattle.span_tags.specs.TagWords.{without}
 use Rattle.span_tags.specs.laws.AttributeLaws.{attrs_itself, map_rise}
 use Rattle.map_jaeger.specs.Faults.{HasDoubleInside, HasDouble}
 use Rattle.map_jaeger.specs.Normal.{normal_attributes}
@@ -97,3 +99,13 @@ tags_same (pair ∷ more) =
     let here : tag_value (normal_value pair.1) ≡ tag_value pair.1 = value_same pair.1 in
     let rest : map tag_of (normal_attributes more) ≡ map tag_of more = tags_same more in
     λ i. record { key = pair.0; value = here i } ∷ rest i
+
+-- a key is left out before values change, or behind
+pub without_normal_values : (key : List ℕ) (l : List (List ℕ × Value)) → without key (normal_attributes l) ≡ normal_attributes (without key l)
+without_normal_values key [] = refl
+without_normal_values key (pair ∷ more) = by (not (bytes_eq key pair.0)) (without_normal_values key more)
+  where
+    by : (b : Bool) → without key (normal_attributes more) ≡ normal_attributes (without key more)
+        → cond b ((pair.0, normal_value pair.1) ∷ without key (normal_attributes more)) (without key (normal_attributes more)) ≡ normal_attributes (cond b (pair ∷ without key more) (without key more))
+    by true rest = ap (λ l. (pair.0, normal_value pair.1) ∷ l) rest
+    by false rest = rest

@@ -1,4 +1,5 @@
 pub mod ColumnLemmas
+pub mod EscapedKeys
 pub mod FaultRows
 pub mod FlagLemmas
 pub mod GroupLaws

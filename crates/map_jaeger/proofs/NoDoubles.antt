@@ -1,5 +1,5 @@
 -- No double stands inside what is written where nothing is a fault.
-use Rattle.std.proofs.Common.{◌≡◌, ℕ, Bool, true, false, cond, ◌||◌, List, [], ◌∷◌, ◌++◌, filter, not, get_or, Option, Some, None, refl, ◌∙◌}
+use Rattle.std.proofs.Common.{◌≡◌, ℕ, Bool, true, false, cond, ◌||◌, List, [], ◌∷◌, ◌++◌, filter, not, get_or, Option, Some, None, refl, ap, ◌∙◌}
 use Rattle.std.specs.List.{list_any}
 use Rattle.std.specs.Ordering.{nat_cmp}
 use Rattle.std.specs.declared.cmp.Ordering.{Ordering}
@@ -15,12 +15,13 @@ use Rattle.trace_model.specs.declared.span.Span.{Span}
 use Rattle.trace_model.specs.declared.trace.Group.{Group}
 use Rattle.trace_model.specs.declared.value.Value.{Value, List', Map'}
 use Rattle.span_tags.specs.Columns.{rows_by}
+use Rattle.span_tags.specs.Escapes.{rekeyed, esc, escaped}
 use Rattle.span_tags.specs.laws.FaultLaws.{span_doubles, plain_resource, plain_spans, none_scoped}
 use Rattle.span_tags.specs.Runs.{Scoped, scoped}
 use Rattle.span_tags.specs.TagWords.{Pairs, row, text_given, without}
-use Rattle.map_jaeger.specs.Columns.{all_columns, row_of, columns_of, rows}
+use Rattle.map_jaeger.specs.Columns.{all_columns, row_of, columns_of, rows, is_reserved}
 use Rattle.map_jaeger.specs.private.Doubles.{scope_has_double, group_has_double}
-use Rattle.map_jaeger.specs.Keys.{event_key, flags_key}
+use Rattle.map_jaeger.specs.Keys.{event_key, is_event_reserved, flags_key}
 use Rattle.map_jaeger.specs.Faults.{HasDoubleInside, IsResourceFault, IsSpanFault, HasNoFault}
 use Rattle.map_jaeger.specs.LeastFault.{span_has_double, resource_has_double, has_double_inside, doubles_inside, jaeger_faults}
 use Rattle.map_jaeger.specs.declared.columns.Column.{Column}
@@ -73,6 +74,14 @@ attrs_plain [] none = refl
 attrs_plain (pair ∷ pairs) none = in_place pair (attrs pairs) (left_false (has_double_inside pair) (doubles_inside pairs) none)
     (attrs_plain pairs (right_false (has_double_inside pair) (doubles_inside pairs) none))
 
+-- other keys change nothing of it
+rekeyed_plain : (f : List ℕ → List ℕ) (pairs : Pairs) → doubles_inside (rekeyed f pairs) ≡ doubles_inside pairs
+rekeyed_plain f [] = refl
+rekeyed_plain f (pair ∷ pairs) = ap (λ b. has_double_inside pair || b) (rekeyed_plain f pairs)
+
+escaped_plain : (is_reserved : List ℕ → Bool) (pairs : Pairs) → doubles_inside pairs ≡ false → doubles_inside (escaped is_reserved pairs) ≡ false
+escaped_plain is_reserved pairs none = attrs_plain (rekeyed (esc is_reserved) pairs) (rekeyed_plain (esc is_reserved) pairs ∙ none)
+
 pub without_plain : (key : List ℕ) (pairs : Pairs) → doubles_inside pairs ≡ false → doubles_inside (without key pairs) ≡ false
 without_plain key pairs = kept has_double_inside (λ attribute. not (bytes_eq key attribute.0)) pairs
 
@@ -91,12 +100,14 @@ columns_plain (column ∷ more) one = joined has_double_inside (row (row_of colu
     (leaf_plain (row_of column).key (columns_of one column) (leaf_in one column)) (columns_plain more one)
 
 pub span_pairs_plain : (one : Scoped Span) (attributes : Pairs) → doubles_inside attributes ≡ false
-    → doubles_inside (rows (columns_of one) ++ without flags_key attributes) ≡ false
-span_pairs_plain one attributes none = joined has_double_inside (rows (columns_of one)) (without flags_key attributes)
-    (columns_plain all_columns one) (without_plain flags_key attributes none)
+    → doubles_inside (rows (columns_of one) ++ escaped is_reserved (without flags_key attributes)) ≡ false
+span_pairs_plain one attributes none = joined has_double_inside (rows (columns_of one)) (escaped is_reserved (without flags_key attributes))
+    (columns_plain all_columns one) (escaped_plain is_reserved (without flags_key attributes) (without_plain flags_key attributes none))
 
-pub event_pairs_plain : (name : List ℕ) (attributes : Pairs) → doubles_inside attributes ≡ false → doubles_inside (row event_key (text_given name) ++ attributes) ≡ false
-event_pairs_plain name attributes none = joined has_double_inside (row event_key (text_given name)) attributes (leaf_plain event_key (text_given name) (text_leaf name)) none
+pub event_pairs_plain : (name : List ℕ) (attributes : Pairs) → doubles_inside attributes ≡ false
+    → doubles_inside (row event_key (text_given name) ++ escaped is_event_reserved attributes) ≡ false
+event_pairs_plain name attributes none = joined has_double_inside (row event_key (text_given name)) (escaped is_event_reserved attributes)
+    (leaf_plain event_key (text_given name) (text_leaf name)) (escaped_plain is_event_reserved attributes none)
 
 -- ---- what has no fault
 

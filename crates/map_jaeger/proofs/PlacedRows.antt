@@ -1,12 +1,11 @@
 -- Rows are put in their places among attributes, one before the other.
-use Rattle.std.proofs.Common.{◌≡◌, ℕ, List, ◌++◌, sym, ◌∙◌}
+use Rattle.std.proofs.Common.{◌≡◌, List, ◌++◌, sym, ◌∙◌}
 use Rattle.trace_model.specs.Attributes.{Rise, keys, attrs}
 use Rattle.span_tags.specs.laws.AttributeLaws.{attrs_itself}
-use Rattle.span_tags.specs.TagWords.{Pairs, without}
+use Rattle.span_tags.specs.TagWords.{Pairs}
 use Rattle.span_tags.specs.Columns.{rows_by}
 use Rattle.map_jaeger.specs.Columns.{Columns, row_of}
 use Rattle.map_jaeger.specs.declared.columns.Column.{Column}
-use Rattle.map_jaeger.proofs.GroupResource.{without_rise}
 
 -- of these columns the tags of those behind stand in their places
 pub record SoFar (columns left : List Column) (held : Columns) (before pairs : Pairs) : Type 0 where
@@ -18,7 +17,3 @@ pub record SoFar (columns left : List Column) (held : Columns) (before pairs : P
 
 pub starts : (attributes before : Pairs) → Rise (keys attributes) → before ≡ attributes → before ≡ attrs attributes
 starts attributes before up same = same ∙ sym (attrs_itself attributes up)
-
-pub starts_but : (key : List ℕ) (attributes others before : Pairs) → Rise (keys attributes) → others ≡ without key attributes → before ≡ others
-    → before ≡ attrs (without key attributes)
-starts_but key attributes others before up but same = same ∙ (but ∙ sym (attrs_itself (without key attributes) (without_rise key attributes up)))

@@ -25,6 +25,7 @@ use Rattle.trace_model.specs.declared.trace.Group.{Group}
 use Rattle.trace_model.specs.declared.trace.Scope.{Scope}
 use Rattle.trace_model.specs.declared.value.Value.{Value, Text, Number, Eight, Bytes, Truth, List', Map', Nothing}
 use Rattle.jaeger_model.specs.Proper as written
+use Rattle.span_tags.specs.Escapes.{escaped}
 use Rattle.span_tags.specs.laws.AttributeLaws.{all_attrs}
 use Rattle.span_tags.specs.laws.RunLaws.{scoped_all}
 use Rattle.span_tags.specs.laws.ColumnLaws.{all_rows}
@@ -32,12 +33,13 @@ use Rattle.span_tags.specs.Runs.{Scoped, scoped, spans_of}
 use Rattle.span_tags.specs.TagKeys.{service_key}
 use Rattle.span_tags.specs.TagWords.{row, text_given, without, code_given}
 use Rattle.map_jaeger.specs.ColumnWords.{flags_in, count_given, kind_given, error_given, description_given}
-use Rattle.map_jaeger.specs.Columns.{all_columns, row_of, columns_of, rows}
-use Rattle.map_jaeger.specs.Keys.{flags_key, event_key}
+use Rattle.map_jaeger.specs.Columns.{all_columns, row_of, columns_of, rows, is_reserved}
+use Rattle.map_jaeger.specs.Keys.{flags_key, event_key, is_event_reserved}
 use Rattle.map_jaeger.specs.TagValues.{tag_value, tag_of}
 use Rattle.map_jaeger.specs.Writing.{flags_of, tags_of, log_of, reference_of, jaeger_span, batch_of}
 use Rattle.map_jaeger.specs.declared.columns.Column.{Column}
 use Rattle.map_jaeger.specs.declared.columns.Column.TheVariants as columns
+use Rattle.map_jaeger.proofs.EscapedKeys.{escaped_proper}
 use Rattle.map_jaeger.proofs.FlagLemmas.{IsFlags, flags_are}
 use Rattle.map_jaeger.proofs.GroupProper.{TextsAreUtf8, ascii, service_utf8}
 
@@ -162,15 +164,19 @@ module _ (utf8 : TextsAreUtf8) where
 
   span_tags : (one : Scoped Span) → IsProperScoped one → All written.IsProperTag (tags_of one)
   span_tags one h =
-      let pairs = rows (columns_of one) ++ without flags_key one.span.attributes in
-      tags_proper (attrs pairs) (all_attrs IsProperPair pairs (All-append IsProperPair (rows (columns_of one)) (without flags_key one.span.attributes) (rows_proper one h) (without_proper flags_key one.span.attributes h.span.attributes)))
+      let others = without flags_key one.span.attributes in
+      let pairs = rows (columns_of one) ++ escaped is_reserved others in
+      tags_proper (attrs pairs) (all_attrs IsProperPair pairs (All-append IsProperPair (rows (columns_of one)) (escaped is_reserved others) (rows_proper one h)
+      (escaped_proper is_reserved others (without_proper flags_key one.span.attributes h.span.attributes))))
 
   log_proper : (event : Event) → IsProperEvent event → written.IsProperLog (log_of event)
   log_proper event h =
-      let pairs = row event_key (text_given event.name) ++ event.attributes in
+      let others = escaped is_event_reserved event.attributes in
+      let pairs = row event_key (text_given event.name) ++ others in
       record {
         time = omega (arith, h.time);
-        fields = tags_proper (attrs pairs) (all_attrs IsProperPair pairs (All-append IsProperPair (row event_key (text_given event.name)) event.attributes (row_proper event_key (word event_key (ascii event_key refl)) (text_given event.name) (text_held event.name h.name)) h.attributes));
+        fields = tags_proper (attrs pairs) (all_attrs IsProperPair pairs (All-append IsProperPair (row event_key (text_given event.name)) others
+            (row_proper event_key (word event_key (ascii event_key refl)) (text_given event.name) (text_held event.name h.name)) (escaped_proper is_event_reserved event.attributes h.attributes)));
       }
 
   span_proper : (one : Scoped Span) → IsProperScoped one → written.IsProperJSpan (jaeger_span one)

@@ -23,17 +23,19 @@ use Rattle.jaeger_model.specs.declared.span.SpanRef.{SpanRef}
 use Rattle.jaeger_model.specs.declared.tag.Tag.{Tag}
 use Rattle.jaeger_model.specs.declared.tag.TagValue.{TagValue}
 use Rattle.jaeger_model.specs.declared.tag.TagValue.TheVariants as tags
+use Rattle.span_tags.specs.Escapes.{unescaped}
 use Rattle.span_tags.specs.laws.AttributeLaws.{all_attrs}
 use Rattle.span_tags.specs.Runs.{Scoped, in_front, is_of, plain_scope, runs}
 use Rattle.span_tags.specs.TagKeys.{service_key}
 use Rattle.span_tags.specs.TagWords.{row, text_in, at_most, decimal_in, count_in, text_given, without, name_in}
 use Rattle.map_jaeger.specs.ColumnWords.{message_by}
-use Rattle.map_jaeger.specs.Columns.{row_of, looked, is_free}
-use Rattle.map_jaeger.specs.Keys.{flags_key, event_key, reference_key, child_of_word}
+use Rattle.map_jaeger.specs.Columns.{row_of, looked, is_free, is_reserved}
+use Rattle.map_jaeger.specs.Keys.{flags_key, event_key, is_event_reserved, reference_key, child_of_word}
 use Rattle.map_jaeger.specs.Reading.{attributes_of, flag_bits, high_flags, high_flags_of, event_of, link_of_reference, is_own_parent, parent_of, names, scoped_of, span_attributes, group_of}
 use Rattle.map_jaeger.specs.TagValues.{value_of, attribute_of}
 use Rattle.map_jaeger.specs.declared.columns.Column.{Column}
 use Rattle.map_jaeger.specs.declared.columns.Column.TheVariants as columns
+use Rattle.map_jaeger.proofs.EscapedKeys.{unescaped_proper}
 use Rattle.map_jaeger.proofs.GroupProper.{ascii}
 use Rattle.map_jaeger.proofs.ProperBatches.{IsProperScoped, row_proper, word, text_held}
 
@@ -122,15 +124,17 @@ flags_row n lt = by (n == 0)
 
 span_attributes_proper : (flags : ℤ) (attributes : List (List ℕ × Value)) → AreProper attributes → AreProper (span_attributes flags attributes)
 span_attributes_proper flags attributes all =
-    all_attrs IsProperPair (row flags_key (high_flags_of flags) ++ filter (λ attribute. is_free attribute.0) attributes)
-    (All-append IsProperPair (row flags_key (high_flags_of flags)) (filter (λ attribute. is_free attribute.0) attributes)
-    (flags_row (flag_bits flags - flag_bits flags % 2) (omega arith)) (All-filter (λ attribute. is_free attribute.0) IsProperPair attributes all))
+    let free = filter (λ attribute. is_free attribute.0) attributes in
+    all_attrs IsProperPair (row flags_key (high_flags_of flags) ++ unescaped is_reserved free)
+    (All-append IsProperPair (row flags_key (high_flags_of flags)) (unescaped is_reserved free)
+    (flags_row (flag_bits flags - flag_bits flags % 2) (omega arith))
+    (unescaped_proper is_reserved free (All-filter (λ attribute. is_free attribute.0) IsProperPair attributes all)))
 
 event_proper : (log : Log) → written.IsProperLog log → IsProperEvent (event_of log)
 event_proper log h =
     let attributes = attributes_of log.fields in
     let all : AreProper attributes = attributes_proper log.fields h.fields in
-    record { time = h.time; name = said (at event_key attributes) (under event_key attributes all); attributes = without_proper event_key attributes all; dropped = omega arith }
+    record { time = h.time; name = said (at event_key attributes) (under event_key attributes all); attributes = unescaped_proper is_event_reserved (without event_key attributes) (without_proper event_key attributes all); dropped = omega arith }
 
 mark_proper : (child_of : Bool) → AreProper (if child_of then (reference_key, Text child_of_word) ∷ [] else [])
 mark_proper true = row_proper reference_key (word reference_key (ascii reference_key refl)) (Some (Text child_of_word)) (word child_of_word (ascii child_of_word refl))

@@ -5,10 +5,11 @@ use Rattle.trace_model.specs.Attributes.{Rise, keys, attrs}
 use Rattle.trace_model.specs.declared.span.Event.{Event}
 use Rattle.trace_model.specs.declared.span.Span.{Span}
 use Rattle.trace_model.specs.declared.value.Value.{Value}
+use Rattle.span_tags.specs.Escapes.{unescaped}
 use Rattle.span_tags.specs.laws.AttributeLaws.{attrs_itself, attrs_rise, at_filter, filter_rise}
 use Rattle.span_tags.specs.Runs.{Scoped}
 use Rattle.span_tags.specs.TagWords.{Pairs, row}
-use Rattle.map_jaeger.specs.Columns.{Columns, row_of, looked, left_out, is_free}
+use Rattle.map_jaeger.specs.Columns.{Columns, row_of, looked, left_out, is_free, is_reserved}
 use Rattle.map_jaeger.specs.Keys.{flags_key}
 use Rattle.map_jaeger.specs.private.ReadColumns.{ArePartsOf, own_tags, free_tags, scoped_by_parts}
 use Rattle.map_jaeger.specs.Reading.{attributes_of, event_of, high_flags_of, scoped_by, scoped_of, span_attributes}
@@ -37,12 +38,12 @@ free_rise span tags parts same are = subst (λ (l : Pairs). Rise (keys l)) (sym 
     (filter_rise is_free tags (subst (λ (l : Pairs). Rise (keys l)) (sym same) (attrs_rise (map attribute_of span.tags))))
 
 pub read_of_parts : (span : JSpan) (tags attributes : Pairs) (parts : Parted) (events : List Event) → tags ≡ attributes_of span.tags → ArePartsOf tags parts
-    → attributes ≡ attrs (row flags_key (high_flags_of span.flags) ++ parts.free) → events ≡ map event_of span.logs
+    → attributes ≡ attrs (row flags_key (high_flags_of span.flags) ++ unescaped is_reserved parts.free) → events ≡ map event_of span.logs
     → scoped_by_parts (record span { tags = []; logs = [] }) parts.own attributes events ≡ scoped_of span
 read_of_parts span tags attributes parts events same are held read =
     let own : looked parts.own ≡ looked (attributes_of span.tags) = ap looked are.own ∙ (looked_own tags ∙ ap looked same) in
     let free : attributes ≡ span_attributes span.flags (attributes_of span.tags) =
-    held ∙ ap (λ l. attrs (row flags_key (high_flags_of span.flags) ++ l)) (are.free ∙ ap free_tags same) in
+    held ∙ ap (λ l. attrs (row flags_key (high_flags_of span.flags) ++ unescaped is_reserved l)) (are.free ∙ ap free_tags same) in
     λ i. by (own i) (free i) (read i)
   where
     by : Columns → Pairs → List Event → Scoped Span

@@ -15,12 +15,14 @@ use Rattle.trace_model.specs.Values.{IsSound, AreSound}
 use Rattle.trace_model.specs.declared.span.Span.{Span}
 use Rattle.trace_model.specs.declared.trace.Scope.{Scope}
 use Rattle.trace_model.specs.declared.value.Value.{Value, Text}
-use Rattle.span_tags.specs.laws.AttributeLaws.{attrs_rise, all_attrs, filter_rise}
+use Rattle.span_tags.specs.Escapes.{unescaped}
+use Rattle.span_tags.specs.laws.AttributeLaws.{attrs_rise, all_attrs}
+use Rattle.span_tags.specs.laws.EscapeLaws.{unescaped_all, unescaped_rise}
 use Rattle.span_tags.specs.Runs.{Scoped, in_front, is_of, plain_scope, runs}
 use Rattle.span_tags.specs.TagKeys.{service_key}
 use Rattle.span_tags.specs.TagWords.{row, text_given, without}
-use Rattle.map_jaeger.specs.Keys.{flags_key, event_key, reference_key, child_of_word}
-use Rattle.map_jaeger.specs.Columns.{is_free}
+use Rattle.map_jaeger.specs.Keys.{flags_key, event_key, is_event_reserved, reference_key, child_of_word}
+use Rattle.map_jaeger.specs.Columns.{is_free, is_reserved}
 use Rattle.map_jaeger.specs.Reading.{attributes_of, event_of, flag_bits, high_flags_of, is_own_parent, link_of_reference, names, parent_of, resource_of, scoped_of, span_attributes}
 use Rattle.map_jaeger.specs.TagValues.{attribute_of, value_of}
 
@@ -71,17 +73,19 @@ resource_sound batch = attrs_sound (row service_key (text_given batch.service) +
 span_attributes_sound : (span : JSpan) → AreSound (span_attributes span.flags (attributes_of span.tags))
 span_attributes_sound span =
     let high = flag_bits span.flags - flag_bits span.flags % 2 in
-    attrs_sound (row flags_key (high_flags_of span.flags) ++ filter (λ pair. is_free pair.0) (attributes_of span.tags))
-    (All-append HoldsSound (row flags_key (high_flags_of span.flags)) (filter (λ pair. is_free pair.0) (attributes_of span.tags))
+    let free = filter (λ pair. is_free pair.0) (attributes_of span.tags) in
+    attrs_sound (row flags_key (high_flags_of span.flags) ++ unescaped is_reserved free)
+    (All-append HoldsSound (row flags_key (high_flags_of span.flags)) (unescaped is_reserved free)
     (flags_row high (high == 0))
-    (All-filter (λ pair. is_free pair.0) HoldsSound (attributes_of span.tags) (tags_sound span.tags)))
+    (unescaped_all is_reserved HoldsSound free (All-filter (λ pair. is_free pair.0) HoldsSound (attributes_of span.tags) (tags_sound span.tags))))
 
 -- ---- parts of a span
 
 event_sound : (log : Log) → IsSoundEvent (event_of log)
 event_sound log = record {
-  rising = filter_rise (λ key. not (bytes_eq event_key key)) (attributes_of log.fields) (attrs_rise (map attribute_of log.fields));
-  values = All-filter (λ pair. not (bytes_eq event_key pair.0)) HoldsSound (attributes_of log.fields) (tags_sound log.fields);
+  rising = unescaped_rise is_event_reserved (without event_key (attributes_of log.fields));
+  values = unescaped_all is_event_reserved HoldsSound (without event_key (attributes_of log.fields))
+      (All-filter (λ pair. not (bytes_eq event_key pair.0)) HoldsSound (attributes_of log.fields) (tags_sound log.fields));
 }
 
 events_sound : (logs : List Log) → All IsSoundEvent (map event_of logs)

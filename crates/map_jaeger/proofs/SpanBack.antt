@@ -1,5 +1,5 @@
 -- A span that was written is read as its normal form, without a remark.
-use Rattle.std.proofs.Common.{◌≡◌, ℕ, Bool, true, false, cond, not, ◌&&◌, ◌==◌, List, [], ◌∷◌, ◌++◌, map, filter, find, get_or, suc, All, Contains, Option, Some, None, is_some, unwrap_or, option_map, refl, sym, ap, ◌∙◌, subst, true≢false, decimal}
+use Rattle.std.proofs.Common.{◌≡◌, ℕ, Bool, true, false, cond, not, ◌&&◌, ◌==◌, List, [], ◌∷◌, ◌++◌, map, filter, find, get_or, suc, All, Option, Some, None, is_some, unwrap_or, option_map, refl, sym, ap, ◌∙◌, subst, decimal}
 use Rattle.std.specs.List.{AllZip, zip}
 use Rattle.std.specs.Option.{option_or}
 use Rattle.std.specs.Str.{bytes_eq}
@@ -10,19 +10,21 @@ use Rattle.trace_model.specs.Proper.{IsProperSpan}
 use Rattle.trace_model.specs.Remarks.{tags_dropped, numbered}
 use Rattle.trace_model.specs.Soundness.{IsSoundSpan}
 use Rattle.trace_model.specs.declared.fault.Fault.{Fault}
-use Rattle.trace_model.specs.declared.fault.Fault.TheVariants.{Reserved, OwnKey, ChildOfLink}
+use Rattle.trace_model.specs.declared.fault.Fault.TheVariants.{OwnKey, ChildOfLink}
 use Rattle.trace_model.specs.declared.place.Place.TheVariants as places
 use Rattle.trace_model.specs.declared.span.Event.{Event}
 use Rattle.trace_model.specs.declared.span.Span.{Span}
 use Rattle.trace_model.specs.declared.value.Value.{Value, Text}
-use Rattle.span_tags.specs.laws.AttributeLaws.{same_key, key_itself, other_way, option_or-none, last_at, key_of_some, at_absent, attrs_rise, at_attrs-append, same_pairs, at_filter, filter_rise, at_map, map_rise}
+use Rattle.span_tags.specs.Escapes.{escaped, unescaped}
+use Rattle.span_tags.specs.laws.AttributeLaws.{same_key, key_itself, other_way, option_or-none, key_of_some, attrs_rise, at_attrs-append, same_pairs, at_filter, filter_rise, at_map, map_rise}
 use Rattle.span_tags.specs.laws.RowLaws.{last_at-row}
 use Rattle.span_tags.specs.laws.ColumnLaws.{none_left}
+use Rattle.span_tags.specs.laws.EscapeLaws.{at_reserved, at_untouched, escaped_rise, escaped_values, unescaped_escaped}
 use Rattle.span_tags.specs.Runs.{Scoped}
 use Rattle.span_tags.specs.TagWords.{row, text_in, without, is_idle, if_left}
 use Rattle.map_jaeger.specs.ColumnWords.{flags_in}
 use Rattle.map_jaeger.specs.Columns.{all_columns, row_of, columns_of, rows, looked, left_out, has_column, is_free, is_reserved}
-use Rattle.map_jaeger.specs.Faults.{in_span, in_event, IsSpanFault, IsOwnParent}
+use Rattle.map_jaeger.specs.Faults.{IsSpanFault, IsOwnParent}
 use Rattle.map_jaeger.specs.Keys.{flags_key, event_key}
 use Rattle.map_jaeger.specs.Normal.{normal_scoped, normal_event, normal_link, normal_attributes}
 use Rattle.map_jaeger.specs.Reading.{attributes_of, high_flags, high_flags_of, span_attributes, is_own_parent, parent_of, names, event_of, link_of_reference, links_of, scoped_by, scoped_of}
@@ -30,8 +32,10 @@ use Rattle.map_jaeger.specs.Remarks.{log_remarks, jspan_remarks, SpanKeys, Repea
 use Rattle.map_jaeger.specs.TagValues.{attribute_of, normal_value}
 use Rattle.map_jaeger.specs.Writing.{flags_of, log_of, reference_of, jaeger_span}
 use Rattle.map_jaeger.proofs.ColumnLemmas.{none_in_rows, AreFree, normal_column, looked_back_leaves}
+use Rattle.map_jaeger.proofs.EscapedKeys.{spans_apart}
 use Rattle.map_jaeger.proofs.FlagLemmas.{count_back, own_back, low_back, high_flags_back}
-use Rattle.map_jaeger.proofs.GroupLeaves.{map_back, attributes_back}
+use Rattle.map_jaeger.proofs.GroupLeaves.{map_back, attributes_back, without_normal_values}
+use Rattle.map_jaeger.proofs.GroupResource.{without_rise, at_without}
 use Rattle.map_jaeger.proofs.SpanParts.{back_each, find_none, filter_each, none_of, kind_back, code_back, message_back, text_back, name_back, columns_leaves, told_in, named, told_fields, event_back, event_told, root_link, kept_link, link_back}
 
 high_leaf : (n : ℕ) → normal_column (high_flags n) ≡ high_flags n
@@ -76,35 +80,34 @@ module _ (one : Scoped Span) (sound : IsSoundSpan one.span) (proper : IsProperSp
   up : Rise (keys one.span.attributes)
   up = sound.attributes.rising
 
-  reserved_absent : (k : List ℕ) → is_reserved k ≡ true → at k one.span.attributes ≡ None
-  reserved_absent k is = at_absent k one.span.attributes (λ there. faultless (Reserved k) (in_span is there))
-
   formed : is_some (at flags_key one.span.attributes) ≡ true → flags_in (at flags_key one.span.attributes) ≡ None → ⊥
   formed there none = faultless (OwnKey flags_key) (refl, key_of_some flags_key one.span.attributes there, none)
-
-  events_free : All (λ event. Contains (keys event.attributes) event_key → ⊥) one.span.events
-  events_free = none_of (λ event. Contains (keys event.attributes) event_key) one.span.events (λ any. faultless (Reserved event_key) (in_event refl any))
 
   links_free : All (λ link. IsOwnParent one.span link → ⊥) one.span.links
   links_free = none_of (IsOwnParent one.span) one.span.links (λ any. faultless ChildOfLink any)
 
   -- ---- tags
 
+  -- the attributes but the flags, and how they are written
+  abbrev kept : List (List ℕ × Value)
+  kept = without flags_key one.span.attributes
+
+  kept_rise : Rise (keys kept)
+  kept_rise = without_rise flags_key one.span.attributes up
+
   abbrev others : List (List ℕ × Value)
-  others = without flags_key one.span.attributes
+  others = escaped is_reserved kept
 
   others_rise : Rise (keys others)
-  others_rise = filter_rise (λ k. not (bytes_eq flags_key k)) one.span.attributes up
-
-  at_others : (k : List ℕ) → at k others ≡ cond (not (bytes_eq flags_key k)) (at k one.span.attributes) None
-  at_others k = at_filter k (λ q. not (bytes_eq flags_key q)) one.span.attributes
+  others_rise = escaped_rise is_reserved kept
 
   others_free : AreFree others
-  others_free k is = at_others k ∙ by (bytes_eq flags_key k) refl
+  others_free k is = by (bytes_eq flags_key k) refl
     where
-      by : (f : Bool) → bytes_eq flags_key k ≡ f → cond (not f) (at k one.span.attributes) None ≡ None
-      by true own_key = refl
-      by false apart = reserved_absent k (λ i. is i && not (apart i))
+      by : (f : Bool) → bytes_eq flags_key k ≡ f → at k others ≡ None
+      by true own_key = ap (λ q. at q others) (sym (same_key flags_key k own_key))
+          ∙ at_untouched is_reserved kept flags_key kept_rise refl ∙ at_without flags_key one.span.attributes
+      by false apart = at_reserved is_reserved spans_apart kept k (λ i. is i && not (apart i))
 
   abbrev told : List (List ℕ × Value)
   told = rows (columns_of one) ++ others
@@ -143,9 +146,6 @@ module _ (one : Scoped Span) (sound : IsSoundSpan one.span) (proper : IsProperSp
   pub own_leaf : normal_column own ≡ own
   own_leaf = subst (λ o. normal_column o ≡ o) (own_back own formed) (high_leaf (unwrap_or (flags_in own) 0))
 
-  abbrev read : List ℕ → Option Value
-  read k = option_or (at k (filter (λ attribute. is_free attribute.0) held)) (last_at k (row flags_key high))
-
   abbrev normal : List (List ℕ × Value)
   normal = normal_attributes one.span.attributes
 
@@ -155,40 +155,50 @@ module _ (one : Scoped Span) (sound : IsSoundSpan one.span) (proper : IsProperSp
   own_at : (k : List ℕ) → flags_key ≡ k → high ≡ at k normal
   own_at k e = high_back ∙ sym own_leaf ∙ sym (normal_at flags_key) ∙ ap (λ q. at q normal) e
 
-  read_by : (k : List ℕ) (b f : Bool) → has_column k ≡ b → bytes_eq flags_key k ≡ f
-      → option_or (cond (not b) (at k held) None) (cond (bytes_eq k flags_key) high None) ≡ at k normal
-  read_by k true true is own_key =
-      ap (λ b. cond b high None) (ap (λ q. bytes_eq q flags_key) (sym (same_key flags_key k own_key)) ∙ key_itself flags_key) ∙ own_at k (same_key flags_key k own_key)
-  read_by k true false is apart =
-      ap (λ b. cond b high None) (other_way flags_key k apart)
-      ∙ sym (normal_at k ∙ ap normal_column (reserved_absent k (λ i. is i && not (apart i))))
-  read_by k false true is own_key = absurd (true≢false (ap has_column (same_key flags_key k own_key) ∙ is))
-  read_by k false false is apart =
-      ap (λ b. option_or (at k held) (cond b high None)) (other_way flags_key k apart)
-      ∙ option_or-none (at k held)
-      ∙ at_held k is
-      ∙ ap normal_column (at_others k ∙ ap (λ b. cond (not b) (at k one.span.attributes) None) apart)
-      ∙ sym (normal_at k)
+  normal_rise : Rise (keys normal)
+  normal_rise = map_rise normal_value one.span.attributes up
 
-  read_at : (k : List ℕ) → read k ≡ at k normal
+  -- of what its tags hold, the table leaves these
+  abbrev free : List (List ℕ × Value)
+  free = filter (λ tag. is_free tag.0) held
+
+  free_by : (k : List ℕ) (b : Bool) → has_column k ≡ b → cond (not b) (at k held) None ≡ at k (normal_attributes others)
+  free_by k true is = sym (at_map normal_value k others ∙ ap normal_column (others_free k is))
+  free_by k false is = at_held k is ∙ sym (at_map normal_value k others)
+
+  free_back : free ≡ normal_attributes others
+  free_back = same_pairs free (normal_attributes others) (filter_rise is_free held held_rise) (map_rise normal_value others others_rise)
+      (λ k. at_filter k is_free held ∙ free_by k (has_column k) refl)
+
+  kept_back : unescaped is_reserved free ≡ without flags_key normal
+  kept_back =
+      ap (unescaped is_reserved) (free_back ∙ escaped_values is_reserved normal_value kept)
+      ∙ unescaped_escaped is_reserved spans_apart (normal_attributes kept) (map_rise normal_value kept kept_rise)
+      ∙ sym (without_normal_values flags_key one.span.attributes)
+
+  read_by : (k : List ℕ) (f : Bool) → bytes_eq flags_key k ≡ f
+      → option_or (cond (not f) (at k normal) None) (cond (bytes_eq k flags_key) high None) ≡ at k normal
+  read_by k true own_key =
+      ap (λ b. cond b high None) (ap (λ q. bytes_eq q flags_key) (sym (same_key flags_key k own_key)) ∙ key_itself flags_key) ∙ own_at k (same_key flags_key k own_key)
+  read_by k false apart = ap (λ b. option_or (at k normal) (cond b high None)) (other_way flags_key k apart) ∙ option_or-none (at k normal)
+
+  read_at : (k : List ℕ) → at k (attrs (row flags_key high ++ without flags_key normal)) ≡ at k normal
   read_at k =
-      (λ i. option_or (at_filter k is_free held i) (last_at-row k flags_key high i))
-      ∙ read_by k (has_column k) (bytes_eq flags_key k) refl refl
+      at_attrs-append k (row flags_key high) (without flags_key normal) (without_rise flags_key normal normal_rise)
+      ∙ (λ i. option_or (at_filter k (λ q. not (bytes_eq flags_key q)) normal i) (last_at-row k flags_key high i))
+      ∙ read_by k (bytes_eq flags_key k) refl
 
   attributes_same : span_attributes (flags_of one.span) held ≡ normal
-  attributes_same = same_pairs (span_attributes (flags_of one.span) held) normal
-      (attrs_rise (row flags_key high ++ filter (λ attribute. is_free attribute.0) held))
-      (map_rise normal_value one.span.attributes up)
-      (λ k. at_attrs-append k (row flags_key high) (filter (λ attribute. is_free attribute.0) held) (filter_rise is_free held held_rise) ∙ read_at k)
+  attributes_same =
+      ap (λ l. attrs (row flags_key high ++ l)) kept_back
+      ∙ same_pairs (attrs (row flags_key high ++ without flags_key normal)) normal
+      (attrs_rise (row flags_key high ++ without flags_key normal)) normal_rise read_at
 
   -- ---- events and links
 
-  event_absent : (event : Event) → (Contains (keys event.attributes) event_key → ⊥) → at event_key event.attributes ≡ None
-  event_absent event absent = at_absent event_key event.attributes absent
-
   events_back : map event_of (map log_of one.span.events) ≡ map normal_event one.span.events
   events_back = back_each event_of log_of normal_event one.span.events
-      (λ k d lt. event_back (get_or one.span.events k d) (sound.events k d lt).rising (event_absent (get_or one.span.events k d) (events_free k d lt)))
+      (λ k d lt. event_back (get_or one.span.events k d) (sound.events k d lt).rising)
 
   parent_by : (parent : Option ℕ) → one.span.parent ≡ parent
       → option_or parent (option_map (λ reference. reference.span) (find (is_own_parent one.span.trace) (map reference_of one.span.links))) ≡ parent
@@ -259,7 +269,7 @@ module _ (one : Scoped Span) (sound : IsSoundSpan one.span) (proper : IsProperSp
     quiet : (n : ℕ) → jspan_remarks n (jaeger_span one, no_repeats one) ≡ []
     quiet n = λ i. tags_dropped (places.Span n) (none_left_out i)
         ++ log_quiet n 1 one.span.events
-        (λ k d lt. event_told (get_or one.span.events k d) (sound.events k d lt).rising (event_absent (get_or one.span.events k d) (events_free k d lt))) i
+        (λ k d lt. event_told (get_or one.span.events k d) (sound.events k d lt).rising) i
 
     -- no key of a span that was written is repeated, and there is no remark on it
     pub span_plain : RepeatsOfSpan (jaeger_span one) (no_repeats one) × ((n : ℕ) → jspan_remarks n (jaeger_span one, no_repeats one) ≡ [])

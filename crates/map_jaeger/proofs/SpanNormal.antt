@@ -1,9 +1,8 @@
 -- The normal form of a span that Jaeger can hold: it can be held, is sound and proper, is its own normal form, and is written alike.
-use Rattle.std.proofs.Common.{◌≡◌, ℕ, ◌+◌, ◌%◌, ◌<◌, ◌≤◌, Bool, true, false, cond, nat_lt, ltb-true, List, [], ◌∷◌, ◌++◌, map, get_or, All, Contains, unwrap_or, refl, sym, ap, ◌∙◌, subst, ⊎_elim, arith}
-use Rattle.std.specs.Prelude.{Any, if◌then◌else◌, IsUtf8, not}
+use Rattle.std.proofs.Common.{◌≡◌, ℕ, ◌+◌, ◌%◌, ◌<◌, ◌≤◌, Bool, true, false, nat_lt, ltb-true, List, [], ◌∷◌, ◌++◌, map, get_or, All, Contains, unwrap_or, refl, sym, ap, ◌∙◌, subst, ⊎_elim, arith}
+use Rattle.std.specs.Prelude.{Any, if◌then◌else◌, IsUtf8}
 use Rattle.std.specs.List.{list_all}
 use Rattle.std.specs.Int.{w32, cast_signed}
-use Rattle.std.specs.Str.{bytes_eq}
 use Rattle.std.proofs.lemmas.Bool.{cases_lt}
 use Rattle.std.proofs.lemmas.List.Elements.{All-nil, All-cons, All-map, All-contains}
 use Rattle.std.proofs.lemmas.Str.{IsUtf8-nil, IsUtf8-from_ascii}
@@ -15,7 +14,7 @@ use Rattle.trace_model.specs.Proper.{IsProperPair, AreProper, IsProperEvent, IsP
 use Rattle.trace_model.specs.Soundness.{IsSoundEvent, IsSoundLink, IsSoundSpan}
 use Rattle.trace_model.specs.Values.{AreSound}
 use Rattle.trace_model.specs.declared.fault.Fault.{Fault}
-use Rattle.trace_model.specs.declared.fault.Fault.TheVariants.{EndBeforeStart, Reserved, OwnKey, EventText, ChildOfLink, DoubleInText}
+use Rattle.trace_model.specs.declared.fault.Fault.TheVariants.{EndBeforeStart, OwnKey, EventText, ChildOfLink, DoubleInText}
 use Rattle.trace_model.specs.declared.span.Code.{Code}
 use Rattle.trace_model.specs.declared.span.Code.TheVariants as statuses
 use Rattle.trace_model.specs.declared.span.Event.{Event}
@@ -24,20 +23,22 @@ use Rattle.trace_model.specs.declared.span.Kind.TheVariants as kinds
 use Rattle.trace_model.specs.declared.span.Link.{Link}
 use Rattle.trace_model.specs.declared.span.Span.{Span}
 use Rattle.trace_model.specs.declared.value.Value.{Value, Text}
+use Rattle.span_tags.specs.Escapes.{escaped}
 use Rattle.span_tags.specs.laws.AttributeLaws.{attrs_rise, at_map, keys_map, map_rise, map_attrs}
+use Rattle.span_tags.specs.laws.EscapeLaws.{escaped_values}
 use Rattle.span_tags.specs.Runs.{Scoped}
 use Rattle.span_tags.specs.TagWords.{row, text_given, without}
 use Rattle.map_jaeger.specs.ColumnWords.{flags_in, kind_given, description_given}
-use Rattle.map_jaeger.specs.Columns.{columns_of, rows}
-use Rattle.map_jaeger.specs.Faults.{HasReserved, in_span, in_event, IsOwnParent, HasDouble, IsSpanFault}
-use Rattle.map_jaeger.specs.Keys.{flags_key, event_key, reference_key, child_of_word}
+use Rattle.map_jaeger.specs.Columns.{columns_of, rows, is_reserved}
+use Rattle.map_jaeger.specs.Faults.{IsOwnParent, HasDouble, IsSpanFault}
+use Rattle.map_jaeger.specs.Keys.{flags_key, event_key, is_event_reserved, reference_key, child_of_word}
 use Rattle.map_jaeger.specs.Normal.{normal_attributes, normal_kind, normal_status, normal_event, normal_link, normal_span, normal_scoped}
 use Rattle.map_jaeger.specs.TagValues.{normal_value, tag_of}
 use Rattle.map_jaeger.specs.Writing.{flags_of, tags_of, log_of, is_child_of, reference_of, jaeger_span}
 use Rattle.map_jaeger.specs.declared.columns.Column.{Column}
 use Rattle.map_jaeger.specs.declared.columns.Column.TheVariants as columns
 use Rattle.map_jaeger.proofs.ColumnLemmas.{normal_rows}
-use Rattle.map_jaeger.proofs.GroupLeaves.{IsLeaf, AreLeaves, leaf_sound, normal_leaves, leaves_normal, leaves_plain, tags_same}
+use Rattle.map_jaeger.proofs.GroupLeaves.{IsLeaf, AreLeaves, leaf_sound, normal_leaves, leaves_normal, leaves_plain, tags_same, without_normal_values}
 use Rattle.map_jaeger.proofs.GroupProper.{TextsAreUtf8, normal_proper as attributes_proper}
 use Rattle.map_jaeger.proofs.SpanBack.{own_leaf}
 use Rattle.map_jaeger.proofs.SpanParts.{back_each, none_of, columns_leaves}
@@ -96,15 +97,6 @@ leaves_sound l up leaves = record { rising = up; values = λ k d lt. leaf_sound 
 
 -- ---- attributes
 
-without_map : (key : List ℕ) (l : List (List ℕ × Value)) → without key (normal_attributes l) ≡ normal_attributes (without key l)
-without_map key [] = refl
-without_map key (pair ∷ more) = by (not (bytes_eq key pair.0)) (without_map key more)
-  where
-    by : (b : Bool) → without key (normal_attributes more) ≡ normal_attributes (without key more)
-        → cond b ((pair.0, normal_value pair.1) ∷ without key (normal_attributes more)) (without key (normal_attributes more)) ≡ normal_attributes (cond b (pair ∷ without key more) (without key more))
-    by true rest = ap (λ l. (pair.0, normal_value pair.1) ∷ l) rest
-    by false rest = rest
-
 append_map : (a b : List (List ℕ × Value)) → normal_attributes (a ++ b) ≡ normal_attributes a ++ normal_attributes b
 append_map [] b = refl
 append_map (pair ∷ a) b = ap (λ l. (pair.0, normal_value pair.1) ∷ l) (append_map a b)
@@ -116,6 +108,13 @@ tags_alike told rest leaves =
     ∙ ap (λ l. map tag_of (attrs l)) (sym (append_map told rest))
     ∙ ap (map tag_of) (sym (map_attrs normal_value (told ++ rest)))
     ∙ tags_same (attrs (told ++ rest))
+
+-- and so they are behind them under the keys that they are written under
+escaped_alike : (is_reserved : List ℕ → Bool) (told rest : List (List ℕ × Value)) → normal_attributes told ≡ told
+    → map tag_of (attrs (told ++ escaped is_reserved (normal_attributes rest))) ≡ map tag_of (attrs (told ++ escaped is_reserved rest))
+escaped_alike is_reserved told rest leaves =
+    ap (λ l. map tag_of (attrs (told ++ l))) (sym (escaped_values is_reserved normal_value rest))
+    ∙ tags_alike told (escaped is_reserved rest) leaves
 
 -- ---- links
 
@@ -180,7 +179,7 @@ row_leaf (x ∷ more) = refl
 event_same : (event : Event) → log_of (normal_event event) ≡ log_of event
 event_same event = λ i. record {
   time = floor_twice event.time i;
-  fields = tags_alike (row event_key (text_given event.name)) event.attributes (row_leaf event.name) i;
+  fields = escaped_alike is_event_reserved (row event_key (text_given event.name)) event.attributes (row_leaf event.name) i;
 }
 
 event_sound : (event : Event) → IsSoundEvent event → IsSoundEvent (normal_event event)
@@ -200,16 +199,6 @@ module _ (span : Span) (sound : IsSoundSpan span) (proper : IsProperSpan span) (
   key_kept : (l : List (List ℕ × Value)) (key : List ℕ) → Contains (keys (normal_attributes l)) key → Contains (keys l) key
   key_kept l key there = subst (λ ks. Contains ks key) (keys_map normal_value l) there
 
-  no_reserved : (key : List ℕ) → HasReserved (normal_span span) key → ⊥
-  no_reserved key (in_span is there) = faultless (Reserved key) (in_span is (key_kept span.attributes key there))
-  no_reserved key (in_event same any) = no_any (λ event. Contains (keys event.attributes) key) (map normal_event span.events)
-      (All-map (λ event. Contains (keys event.attributes) key → ⊥) normal_event span.events
-      (λ k d lt there. event_free k d lt (key_kept (get_or span.events k d).attributes key there)))
-      any
-    where
-      event_free : All (λ event. Contains (keys event.attributes) key → ⊥) span.events
-      event_free = none_of (λ event. Contains (keys event.attributes) key) span.events (λ found. faultless (Reserved key) (in_event same found))
-
   parent_kept : (link : Link) → IsOwnParent (normal_span span) (normal_link link) → IsOwnParent span link
   parent_kept link is = (sym (mark_back (marked link)) ∙ is.0, is.1, is.2)
 
@@ -218,7 +207,6 @@ module _ (span : Span) (sound : IsSoundSpan span) (proper : IsProperSpan span) (
       (λ (lt : span.end < span.start). faultless EndBeforeStart lt)
       (λ (le : span.start ≤ span.end). let rises = floor_rises span.start span.end le in absurd (omega arith))
       (cases_lt span.end span.start)
-  normal_no_fault (Reserved key) has = no_reserved key has
   normal_no_fault (OwnKey key) has = faultless (OwnKey flags_key) (refl, key_kept span.attributes flags_key has.1, ap flags_in (sym own_same) ∙ has.2)
   normal_no_fault EventText has = has
   normal_no_fault ChildOfLink any = no_any (IsOwnParent (normal_span span)) (map normal_link span.links)
@@ -294,8 +282,8 @@ module _ (one : Scoped Span) (sound : IsSoundSpan one.span) (proper : IsProperSp
 
   tags_kept : tags_of (normal_scoped one) ≡ tags_of one
   tags_kept =
-      (λ i. map tag_of (attrs (rows (λ column. same_in column i) ++ without_map flags_key one.span.attributes i)))
-      ∙ tags_alike (rows (columns_of one)) (without flags_key one.span.attributes) (normal_rows (columns_of one) ∙ ap rows (columns_leaves one))
+      (λ i. map tag_of (attrs (rows (λ column. same_in column i) ++ escaped is_reserved (without_normal_values flags_key one.span.attributes i))))
+      ∙ escaped_alike is_reserved (rows (columns_of one)) (without flags_key one.span.attributes) (normal_rows (columns_of one) ∙ ap rows (columns_leaves one))
 
   flags_kept : flags_of (normal_span one.span) ≡ flags_of one.span
   flags_kept = λ i. cast_signed w32 (bit_twice one.span.flags i + unwrap_or (flags_in (own_same one.span sound proper faultless i)) 0)

@@ -15,14 +15,16 @@ use Rattle.trace_model.specs.declared.span.Kind.TheVariants as kinds
 use Rattle.trace_model.specs.declared.span.Link.{Link}
 use Rattle.trace_model.specs.declared.span.Span.{Span}
 use Rattle.trace_model.specs.declared.value.Value.{Value, Number}
+use Rattle.span_tags.specs.Escapes.{escaped, unescaped}
 use Rattle.span_tags.specs.laws.AttributeLaws.{same_key, other_way, option_or-none, attrs_rise, at_attrs-append, same_pairs, at_filter, filter_rise, at_map, map_rise}
+use Rattle.span_tags.specs.laws.EscapeLaws.{at_reserved, escaped_rise, escaped_values, unescaped_escaped}
 use Rattle.span_tags.specs.laws.RowLaws.{last_at-row}
 use Rattle.span_tags.specs.Runs.{Scoped}
 use Rattle.span_tags.specs.TagWords.{row, text_in, text_given, without, code_in, name_in, is_idle, if_left, code_given}
 use Rattle.map_jaeger.specs.ColumnWords.{count_given, kind_in, kind_given, error_in, error_given, is_idle_error, message_by, description_given, is_idle_description}
 use Rattle.map_jaeger.specs.Columns.{columns_of, is_idle_in}
 use Rattle.map_jaeger.specs.Faults.{IsOwnParent}
-use Rattle.map_jaeger.specs.Keys.{event_key, reference_key}
+use Rattle.map_jaeger.specs.Keys.{event_key, is_event_reserved, reference_key}
 use Rattle.map_jaeger.specs.Normal.{normal_kind, normal_status, normal_event, normal_link, normal_attributes}
 use Rattle.map_jaeger.specs.Reading.{attributes_of, event_of, link_of_reference, names}
 use Rattle.map_jaeger.specs.TagValues.{normal_value}
@@ -30,6 +32,7 @@ use Rattle.map_jaeger.specs.Writing.{log_of, is_child_of, reference_of}
 use Rattle.map_jaeger.specs.declared.columns.Column.{Column}
 use Rattle.map_jaeger.specs.declared.columns.Column.TheVariants as columns
 use Rattle.map_jaeger.proofs.ColumnLemmas.{normal_column, normal_columns}
+use Rattle.map_jaeger.proofs.EscapedKeys.{events_apart}
 use Rattle.map_jaeger.proofs.FlagLemmas.{count_told}
 use Rattle.map_jaeger.proofs.GroupLeaves.{attributes_back}
 
@@ -187,8 +190,15 @@ told_in one proper other = refl
 -- ---- an event
 
 module _ (event : Event) where
+  -- its attributes as they are written
+  abbrev others : List (List ℕ × Value)
+  others = escaped is_event_reserved event.attributes
+
+  others_rise : Rise (keys others)
+  others_rise = escaped_rise is_event_reserved event.attributes
+
   abbrev pub named : List (List ℕ × Value)
-  named = row event_key (text_given event.name) ++ event.attributes
+  named = row event_key (text_given event.name) ++ others
 
   abbrev pub told_fields : List (List ℕ × Value)
   told_fields = normal_attributes (attrs named)
@@ -196,35 +206,43 @@ module _ (event : Event) where
   pub fields_back : attributes_of (log_of event).fields ≡ told_fields
   fields_back = attributes_back (attrs named) (attrs_rise named)
 
-  module _ (up : Rise (keys event.attributes)) (absent : at event_key event.attributes ≡ None) where
-    at_fields : (k : List ℕ) → at k told_fields ≡ normal_column (option_or (at k event.attributes) (cond (bytes_eq k event_key) (text_given event.name) None))
+  module _ (up : Rise (keys event.attributes)) where
+    absent : at event_key others ≡ None
+    absent = at_reserved is_event_reserved events_apart event.attributes event_key refl
+
+    at_fields : (k : List ℕ) → at k told_fields ≡ normal_column (option_or (at k others) (cond (bytes_eq k event_key) (text_given event.name) None))
     at_fields k = at_map normal_value k (attrs named)
-        ∙ ap normal_column (at_attrs-append k (row event_key (text_given event.name)) event.attributes up ∙ ap (option_or (at k event.attributes)) (last_at-row k event_key (text_given event.name)))
+        ∙ ap normal_column (at_attrs-append k (row event_key (text_given event.name)) others others_rise ∙ ap (option_or (at k others)) (last_at-row k event_key (text_given event.name)))
 
     pub name_at : at event_key told_fields ≡ text_given event.name
     name_at = at_fields event_key ∙ ap (λ o. normal_column (option_or o (text_given event.name))) absent ∙ text_leaf event.name
 
-    others_by : (k : List ℕ) (b : Bool) → bytes_eq event_key k ≡ b → cond (not b) (at k told_fields) None ≡ at k (normal_attributes event.attributes)
-    others_by k true e = sym (at_map normal_value k event.attributes ∙ ap normal_column (ap (λ q. at q event.attributes) (sym (same_key event_key k e)) ∙ absent))
+    others_by : (k : List ℕ) (b : Bool) → bytes_eq event_key k ≡ b → cond (not b) (at k told_fields) None ≡ at k (normal_attributes others)
+    others_by k true e = sym (at_map normal_value k others ∙ ap normal_column (ap (λ q. at q others) (sym (same_key event_key k e)) ∙ absent))
     others_by k false e =
         at_fields k
-        ∙ ap (λ b. normal_column (option_or (at k event.attributes) (cond b (text_given event.name) None))) (other_way event_key k e)
-        ∙ ap normal_column (option_or-none (at k event.attributes))
-        ∙ sym (at_map normal_value k event.attributes)
+        ∙ ap (λ b. normal_column (option_or (at k others) (cond b (text_given event.name) None))) (other_way event_key k e)
+        ∙ ap normal_column (option_or-none (at k others))
+        ∙ sym (at_map normal_value k others)
 
-    others_back : without event_key told_fields ≡ normal_attributes event.attributes
-    others_back = same_pairs (without event_key told_fields) (normal_attributes event.attributes)
+    others_back : without event_key told_fields ≡ normal_attributes others
+    others_back = same_pairs (without event_key told_fields) (normal_attributes others)
         (filter_rise (λ k. not (bytes_eq event_key k)) told_fields (map_rise normal_value (attrs named) (attrs_rise named)))
-        (map_rise normal_value event.attributes up)
+        (map_rise normal_value others others_rise)
         (λ k. at_filter k (λ q. not (bytes_eq event_key q)) told_fields ∙ others_by k (bytes_eq event_key k) refl)
+
+    attributes_again : unescaped is_event_reserved (without event_key told_fields) ≡ normal_attributes event.attributes
+    attributes_again =
+        ap (unescaped is_event_reserved) (others_back ∙ escaped_values is_event_reserved normal_value event.attributes)
+        ∙ unescaped_escaped is_event_reserved events_apart (normal_attributes event.attributes) (map_rise normal_value event.attributes up)
 
     pub event_back : event_of (log_of event) ≡ normal_event event
     event_back =
         let name : unwrap_or (text_in (at event_key (attributes_of (log_of event).fields))) [] ≡ event.name =
         ap (λ l. unwrap_or (text_in (at event_key l)) []) fields_back ∙ ap (λ o. unwrap_or (text_in o) []) name_at ∙ text_back event.name in
-        let others : without event_key (attributes_of (log_of event).fields) ≡ normal_attributes event.attributes =
-        ap (without event_key) fields_back ∙ others_back in
-        λ i. record { time = (normal_event event).time; name = name i; attributes = others i; dropped = 0 }
+        let attributes : unescaped is_event_reserved (without event_key (attributes_of (log_of event).fields)) ≡ normal_attributes event.attributes =
+        ap (λ l. unescaped is_event_reserved (without event_key l)) fields_back ∙ attributes_again in
+        λ i. record { time = (normal_event event).time; name = name i; attributes = attributes i; dropped = 0 }
 
     pub event_told : if_left event_key (is_idle (at event_key (attributes_of (log_of event).fields)) (text_in (at event_key (attributes_of (log_of event).fields)))) ≡ []
     event_told =

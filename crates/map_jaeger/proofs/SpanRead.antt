@@ -1,5 +1,5 @@
 -- What is read of a span is its own normal form, and nothing in it is a fault. The flags have 32 bits, as jaeger.thrift says.
-use Rattle.std.proofs.Common.{◌≡◌, ℕ, ◌-◌, ◌%◌, decimal, Bool, true, false, cond, not, ◌&&◌, ◌==◌, List, [], ◌∷◌, ◌++◌, map, filter, find, get_or, All, Contains, Option, Some, None, is_some, unwrap_or, option_map, option_and_then, refl, sym, ap, ◌∙◌, true≢false, ⊎_elim, eq-eqb, arith}
+use Rattle.std.proofs.Common.{◌≡◌, ℕ, ◌-◌, ◌%◌, decimal, Bool, true, false, cond, not, ◌&&◌, ◌==◌, List, [], ◌∷◌, ◌++◌, map, filter, find, get_or, All, Option, Some, None, is_some, unwrap_or, option_map, option_and_then, refl, sym, ap, ◌∙◌, true≢false, ⊎_elim, eq-eqb, arith}
 use Rattle.std.specs.Prelude.{Any, if◌then◌else◌, codes}
 use Rattle.std.specs.Option.{option_or}
 use Rattle.std.specs.Str.{bytes_eq}
@@ -8,20 +8,22 @@ use Rattle.jaeger_model.specs.declared.span.JSpan.{JSpan}
 use Rattle.jaeger_model.specs.declared.span.Log.{Log}
 use Rattle.jaeger_model.specs.declared.span.SpanRef.{SpanRef}
 use Rattle.span_ids.specs.Times.{floor}
-use Rattle.trace_model.specs.Attributes.{keys, at}
+use Rattle.trace_model.specs.Attributes.{Rise, keys, at}
 use Rattle.trace_model.specs.declared.fault.Fault.{Fault}
-use Rattle.trace_model.specs.declared.fault.Fault.TheVariants.{EndBeforeStart, Reserved, OwnKey, EventText, ChildOfLink, DoubleInText}
+use Rattle.trace_model.specs.declared.fault.Fault.TheVariants.{EndBeforeStart, OwnKey, EventText, ChildOfLink, DoubleInText}
 use Rattle.trace_model.specs.declared.span.Code.{Code}
 use Rattle.trace_model.specs.declared.span.Code.TheVariants as statuses
 use Rattle.trace_model.specs.declared.span.Kind.TheVariants as kinds
 use Rattle.trace_model.specs.declared.value.Value.{Value, Text}
-use Rattle.span_tags.specs.laws.AttributeLaws.{other_way, some_of_key, at_there, attrs_rise, at_attrs-append, all_attrs, at_filter, filter_rise}
+use Rattle.span_tags.specs.Escapes.{unescaped}
+use Rattle.span_tags.specs.laws.AttributeLaws.{some_of_key, attrs_rise, at_attrs-append, all_attrs, at_filter, filter_rise}
+use Rattle.span_tags.specs.laws.EscapeLaws.{at_unescaped, unescaped_all, unescaped_rise}
 use Rattle.span_tags.specs.laws.RowLaws.{last_at-row}
 use Rattle.span_tags.specs.TagWords.{row, text_in, without}
 use Rattle.map_jaeger.specs.ColumnWords.{flags_in, kind_named, kind_in, message_by}
 use Rattle.map_jaeger.specs.Columns.{looked, status_of_columns, has_column, is_free, is_reserved}
-use Rattle.map_jaeger.specs.Faults.{HasReserved, in_span, in_event, IsOwnParent, HasDouble, IsSpanFault}
-use Rattle.map_jaeger.specs.Keys.{flags_key, event_key}
+use Rattle.map_jaeger.specs.Faults.{IsOwnParent, HasDouble, IsSpanFault}
+use Rattle.map_jaeger.specs.Keys.{flags_key, event_key, is_event_reserved}
 use Rattle.map_jaeger.specs.StatedLaws.{IsTimely}
 use Rattle.map_jaeger.specs.Normal.{normal_attributes, normal_kind, normal_status, normal_event, normal_link, normal_span}
 use Rattle.map_jaeger.specs.Reading.{attributes_of, flag_bits, high_flags, high_flags_of, span_attributes, event_of, link_of_reference, is_own_parent, parent_of, names, scoped_of}
@@ -29,7 +31,6 @@ use Rattle.map_jaeger.specs.TagValues.{attribute_of}
 use Rattle.map_jaeger.specs.declared.columns.Column.TheVariants as columns
 use Rattle.map_jaeger.proofs.FlagLemmas.{read_formed}
 use Rattle.map_jaeger.proofs.GroupLeaves.{IsLeaf, AreLeaves, tags_leaves, leaves_normal, leaves_plain}
-use Rattle.map_jaeger.proofs.GroupResource.{at_without}
 use Rattle.map_jaeger.proofs.SpanNormal.{bit_twice, no_any, mark, mark_back}
 use Rattle.map_jaeger.proofs.SpanParts.{back_each}
 
@@ -95,49 +96,55 @@ module _ (span : JSpan) where
   abbrev high : Option Value
   high = high_flags_of span.flags
 
+  -- the tags that aren't of the table, and the attributes that they are
+  abbrev free : List (List ℕ × Value)
+  free = filter (λ tag. is_free tag.0) tags
+
+  free_rise : Rise (keys free)
+  free_rise = filter_rise is_free tags (attrs_rise (map attribute_of span.tags))
+
   abbrev kept : List (List ℕ × Value)
-  kept = filter (λ attribute. is_free attribute.0) tags
+  kept = unescaped is_reserved free
 
   abbrev attributes : List (List ℕ × Value)
   attributes = span_attributes span.flags tags
 
   attributes_leaves : AreLeaves attributes
   attributes_leaves = all_attrs leaf (row flags_key high ++ kept)
-      (All-append leaf (row flags_key high) kept (high_leaves (flag_bits span.flags - flag_bits span.flags % 2)) (All-filter (λ attribute. is_free attribute.0) leaf tags tags_are_leaves))
+      (All-append leaf (row flags_key high) kept (high_leaves (flag_bits span.flags - flag_bits span.flags % 2)) (unescaped_all is_reserved leaf free (All-filter (λ tag. is_free tag.0) leaf tags tags_are_leaves)))
     where
       high_leaves : (n : ℕ) → AreLeaves (row flags_key (high_flags n))
       high_leaves n = high_by n (n == 0) (decimal n)
 
-  at_attributes : (k : List ℕ) → at k attributes ≡ option_or (cond (is_free k) (at k tags) None) (cond (bytes_eq k flags_key) high None)
-  at_attributes k =
-      at_attrs-append k (row flags_key high) kept (filter_rise is_free tags (attrs_rise (map attribute_of span.tags)))
-      ∙ (λ i. option_or (at_filter k is_free tags i) (last_at-row k flags_key high i))
+  none_reserved : (k : List ℕ) → is_reserved k ≡ true → at k free ≡ None
+  none_reserved k is = at_filter k is_free tags ∙ by (has_column k) is
+    where
+      by : (b : Bool) → (b && not (bytes_eq flags_key k)) ≡ true → cond (not b) (at k tags) None ≡ None
+      by true e = refl
+      by false e = absurd (true≢false (sym e))
 
+  -- the flags are those of the span
   own_at : at flags_key attributes ≡ high
-  own_at = at_attributes flags_key
-
-  reserved_by : (k : List ℕ) (b f : Bool) → bytes_eq flags_key k ≡ f → (b && not f) ≡ true → option_or (cond (not b) (at k tags) None) (cond (bytes_eq k flags_key) high None) ≡ None
-  reserved_by k true true own e = absurd (true≢false (sym e))
-  reserved_by k true false apart e = ap (λ b. cond b high None) (other_way flags_key k apart)
-  reserved_by k false f own e = absurd (true≢false (sym e))
-
-  reserved_at : (k : List ℕ) → is_reserved k ≡ true → at k attributes ≡ None
-  reserved_at k is = at_attributes k ∙ reserved_by k (has_column k) (bytes_eq flags_key k) refl is
+  own_at =
+      at_attrs-append flags_key (row flags_key high) kept (unescaped_rise is_reserved free)
+      ∙ (λ i. option_or (at_unescaped is_reserved free flags_key free_rise none_reserved i) (last_at-row flags_key flags_key high i))
+      ∙ ap (λ o. option_or o high) (at_filter flags_key is_free tags)
 
   -- ---- events
 
   abbrev fields : Log → List (List ℕ × Value)
   fields log = attributes_of log.fields
 
-  others_leaves : (log : Log) → AreLeaves (without event_key (fields log))
-  others_leaves log = All-filter (λ attribute. not (bytes_eq event_key attribute.0)) leaf (fields log) (all_attrs leaf (map attribute_of log.fields) (tags_leaves log.fields))
+  abbrev told : Log → List (List ℕ × Value)
+  told log = unescaped is_event_reserved (without event_key (fields log))
 
-  event_free : (key : List ℕ) → key ≡ event_key → (log : Log) → Contains (keys (without event_key (fields log))) key → ⊥
-  event_free key same log there = at_there key (without event_key (fields log)) there (ap (λ k. at k (without event_key (fields log))) same ∙ at_without event_key (fields log))
+  told_leaves : (log : Log) → AreLeaves (told log)
+  told_leaves log = unescaped_all is_event_reserved leaf (without event_key (fields log))
+      (All-filter (λ attribute. not (bytes_eq event_key attribute.0)) leaf (fields log) (all_attrs leaf (map attribute_of log.fields) (tags_leaves log.fields)))
 
   event_read : (log : Log) → log.time ≡ floor log.time → normal_event (event_of log) ≡ event_of log
   event_read log timely =
-      let others : normal_attributes (without event_key (fields log)) ≡ without event_key (fields log) = leaves_normal (without event_key (fields log)) (others_leaves log) in
+      let others : normal_attributes (told log) ≡ told log = leaves_normal (told log) (told_leaves log) in
       λ i. record { time = sym timely i; name = (event_of log).name; attributes = others i; dropped = 0 }
 
   -- ---- links
@@ -181,17 +188,10 @@ module _ (span : JSpan) where
 
   -- ---- faults
 
-  read_reserved : (key : List ℕ) → HasReserved (scoped_of span).span key → ⊥
-  read_reserved key (in_span is there) = at_there key attributes there (reserved_at key is)
-  read_reserved key (in_event same any) = no_any (λ event. Contains (keys event.attributes) key) (map event_of span.logs)
-      (All-map (λ event. Contains (keys event.attributes) key → ⊥) event_of span.logs (λ k d lt. event_free key same (get_or span.logs k d)))
-      any
-
   module _ (timely : IsTimely span) where
     -- nothing that was read is a fault
     pub read_no_fault : (fault : Fault) → IsSpanFault (scoped_of span).span fault → ⊥
     read_no_fault EndBeforeStart early = let ordered = timely.ordered in absurd (omega arith)
-    read_no_fault (Reserved key) has = read_reserved key has
     read_no_fault (OwnKey key) has = read_formed span.flags (ap is_some (sym own_at) ∙ some_of_key flags_key attributes has.1) (ap flags_in (sym own_at) ∙ has.2)
     read_no_fault EventText has = has
     read_no_fault ChildOfLink any = no_any (IsOwnParent (scoped_of span).span) (map link_of_reference others)
@@ -200,7 +200,7 @@ module _ (span : JSpan) where
         (λ (inside : HasDouble attributes). leaves_plain attributes attributes_leaves inside)
         (λ (any : Any (λ event. HasDouble event.attributes) (map event_of span.logs)). no_any (λ event. HasDouble event.attributes) (map event_of span.logs)
         (All-map (λ event. HasDouble event.attributes → ⊥) event_of span.logs
-        (λ k d lt inside. leaves_plain (without event_key (fields (get_or span.logs k d))) (others_leaves (get_or span.logs k d)) inside))
+        (λ k d lt inside. leaves_plain (told (get_or span.logs k d)) (told_leaves (get_or span.logs k d)) inside))
         any)
         has
 

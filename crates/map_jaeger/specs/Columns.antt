@@ -104,6 +104,6 @@ has_column key = is_key row_of all_columns key
 abbrev pub is_free : List ℕ → Bool
 is_free key = not (has_column key)
 
--- no attribute of a trace may stand under the key: all of these but the one of Jaeger's own
+-- a span's attribute of this key is written under another, since the key is reserved: all of these but the one of Jaeger's own
 abbrev pub is_reserved : List ℕ → Bool
 is_reserved key = has_column key && not (bytes_eq flags_key key)

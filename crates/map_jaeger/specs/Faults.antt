@@ -5,7 +5,7 @@ use Rattle.std.specs.Prelude.{◌≡◌, ℕ, ◌<◌, ◌⊎◌, true, List, An
 use Rattle.trace_model.specs.Attributes.{keys, at}
 use Rattle.trace_model.specs.ValueTexts.{has_double}
 use Rattle.trace_model.specs.declared.fault.Fault.{Fault}
-use Rattle.trace_model.specs.declared.fault.Fault.TheVariants.{EndBeforeStart, Reserved, OwnKey, EventText, ChildOfLink, DoubleInText}
+use Rattle.trace_model.specs.declared.fault.Fault.TheVariants.{EndBeforeStart, OwnKey, EventText, ChildOfLink, DoubleInText}
 use Rattle.trace_model.specs.declared.span.Link.{Link}
 use Rattle.trace_model.specs.declared.span.Span.{Span}
 use Rattle.trace_model.specs.declared.trace.Group.{Group}
@@ -13,16 +13,10 @@ use Rattle.trace_model.specs.declared.value.Value.{Value, List', Map'}
 use Rattle.span_tags.specs.PlacedFaults.{CountsBy}
 use Rattle.span_tags.specs.TagKeys.{service_key}
 use Rattle.map_jaeger.specs.ColumnWords.{flags_in}
-use Rattle.map_jaeger.specs.Columns.{is_reserved}
-use Rattle.map_jaeger.specs.Keys.{flags_key, event_key, reference_key}
+use Rattle.map_jaeger.specs.Keys.{flags_key, reference_key}
 use Rattle.map_jaeger.specs.Writing.{is_child_of}
 
 -- ---- the rows of a span
-
--- an attribute of the span, or one of an event, has a reserved key
-pub data HasReserved (span : Span) (key : List ℕ) : Type 0 where
-  in_span : is_reserved key ≡ true → Contains (keys span.attributes) key → HasReserved span key
-  in_event : key ≡ event_key → Any (λ event. Contains (keys event.attributes) key) span.events → HasReserved span key
 
 -- the attribute of Jaeger's own key isn't of its form
 abbrev pub HasOwn : Span → List ℕ → Type 0
@@ -43,7 +37,6 @@ HasDouble attributes = Any (λ attribute. HasDoubleInside attribute.1) attribute
 
 abbrev pub IsSpanFault : Span → Fault → Type 0
 IsSpanFault span EndBeforeStart = span.end < span.start
-IsSpanFault span (Reserved key) = HasReserved span key
 IsSpanFault span (OwnKey key) = HasOwn span key
 IsSpanFault span EventText = ⊥
 IsSpanFault span ChildOfLink = Any (IsOwnParent span) span.links

@@ -3,7 +3,6 @@ use Rattle.std.specs.Prelude.{ℕ, Bool, true, false, ◌&&◌, ◌==◌, is_som
 use Rattle.std.specs.List.{list_any}
 use Rattle.trace_model.specs.Attributes.{at}
 use Rattle.trace_model.specs.ValueTexts.{has_double}
-use Rattle.trace_model.specs.declared.span.Event.{Event}
 use Rattle.trace_model.specs.declared.span.Link.{Link}
 use Rattle.trace_model.specs.declared.span.Span.{Span}
 use Rattle.trace_model.specs.declared.value.Value.{Value, List', Map'}
@@ -12,12 +11,8 @@ use Rattle.span_tags.specs.FaultTables.{FaultTable, if_so, doubles_in, doubles_i
 use Rattle.span_tags.specs.TagKeys.{service_key}
 use Rattle.span_tags.specs.TagWords.{Pairs}
 use Rattle.map_jaeger.specs.ColumnWords.{flags_in}
-use Rattle.map_jaeger.specs.Columns.{is_reserved}
-use Rattle.map_jaeger.specs.Keys.{flags_key, event_key, reference_key}
+use Rattle.map_jaeger.specs.Keys.{flags_key, reference_key}
 use Rattle.map_jaeger.specs.Writing.{is_child_of}
-
-abbrev pub event_key_in : List Event → Option (List ℕ)
-event_key_in events = if_so (list_any (λ event. is_some (at event_key event.attributes)) events) event_key
 
 abbrev pub own_key : Pairs → Option (List ℕ)
 own_key attributes = if_so (is_some (at flags_key attributes) && is_none (flags_in (at flags_key attributes))) flags_key
@@ -37,8 +32,6 @@ double_inside other = false
 
 abbrev pub jaeger_faults : FaultTable
 jaeger_faults = record {
-  is_reserved = is_reserved;
-  reserved_in = event_key_in;
   own_key = own_key;
   has_event_fault = λ events. false;
   has_link_fault = λ span. list_any (is_own_link span) span.links;

@@ -1,5 +1,6 @@
 -- What a batch means (OpenTelemetry exporter page for Jaeger, read backwards; jaeger.thrift): its process is a resource, and each of its
--- spans a span, whose tags are attributes but for those of the table. Of equal tags the last counts, wherever it stands.
+-- spans a span, whose tags are attributes but for those of the table. Of equal tags the last counts, wherever it stands. Where
+-- the key of such an attribute is a reserved one behind copies of `otel.attr.`, one copy is taken off; so it is in a log.
 use Rattle.std.specs.Prelude.{ℕ, ◌-◌, ◌%◌, ◌^◌, ℤ, Bool, false, not, ◌&&◌, ◌==◌, if◌then◌else◌, List, [], ◌∷◌, ◌++◌, map, filter, find, Option, Some, None, option_map, unwrap_or, decimal}
 use Rattle.std.specs.Int.{w32, cast_unsigned}
 use Rattle.std.specs.Option.{option_or}
@@ -15,12 +16,13 @@ use Rattle.trace_model.specs.declared.span.Link.{Link}
 use Rattle.trace_model.specs.declared.span.Span.{Span}
 use Rattle.trace_model.specs.declared.trace.Group.{Group}
 use Rattle.trace_model.specs.declared.value.Value.{Value, Text}
+use Rattle.span_tags.specs.Escapes.{unescaped}
 use Rattle.span_tags.specs.Runs.{Scoped, runs}
 use Rattle.span_tags.specs.TagKeys.{service_key}
 use Rattle.span_tags.specs.TagWords.{row, text_in, count_in, text_given, name_in, without}
 use Rattle.map_jaeger.specs.ColumnWords.{kind_in, message_by}
-use Rattle.map_jaeger.specs.Columns.{Columns, looked, status_of_columns, is_free}
-use Rattle.map_jaeger.specs.Keys.{flags_key, event_key, reference_key, child_of_word}
+use Rattle.map_jaeger.specs.Columns.{Columns, looked, status_of_columns, is_free, is_reserved}
+use Rattle.map_jaeger.specs.Keys.{flags_key, event_key, is_event_reserved, reference_key, child_of_word}
 use Rattle.map_jaeger.specs.TagValues.{attribute_of}
 use Rattle.map_jaeger.specs.declared.columns.Column.TheVariants as columns
 
@@ -43,13 +45,13 @@ high_flags_of flags = high_flags (flag_bits flags - flag_bits flags % 2)
 -- ---- attributes, events and links
 
 abbrev pub span_attributes : ℤ → List (List ℕ × Value) → List (List ℕ × Value)
-span_attributes flags tags = attrs (row flags_key (high_flags_of flags) ++ filter (λ attribute. is_free attribute.0) tags)
+span_attributes flags tags = attrs (row flags_key (high_flags_of flags) ++ unescaped is_reserved (filter (λ tag. is_free tag.0) tags))
 
 abbrev pub event_of : Log → Event
 event_of log = record {
   time = log.time;
   name = unwrap_or (text_in (at event_key (attributes_of log.fields))) [];
-  attributes = without event_key (attributes_of log.fields);
+  attributes = unescaped is_event_reserved (without event_key (attributes_of log.fields));
   dropped = 0;
 }
 

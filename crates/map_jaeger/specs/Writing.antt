@@ -1,5 +1,5 @@
 -- The batch of a group (OpenTelemetry exporter page for Jaeger; jaeger.thrift), where nothing in it is a fault. Tags and log fields stand by
--- rising keys.
+-- rising keys. An attribute of a span or event under a reserved key, or under one behind copies of `otel.attr.`, gets one copy more.
 use Rattle.std.specs.Prelude.{◌+◌, ◌%◌, ℤ, Bool, false, List, ◌++◌, map, Option, Some, unwrap_or}
 use Rattle.std.specs.Int.{w32, cast_signed}
 use Rattle.std.specs.Str.{bytes_eq}
@@ -15,12 +15,13 @@ use Rattle.trace_model.specs.declared.span.Link.{Link}
 use Rattle.trace_model.specs.declared.span.Span.{Span}
 use Rattle.trace_model.specs.declared.trace.Group.{Group}
 use Rattle.trace_model.specs.declared.value.Value.{Value, Text}
+use Rattle.span_tags.specs.Escapes.{escaped}
 use Rattle.span_tags.specs.Runs.{Scoped, scoped}
 use Rattle.span_tags.specs.TagKeys.{service_key}
 use Rattle.span_tags.specs.TagWords.{row, text_given, without, text_or_none}
 use Rattle.map_jaeger.specs.ColumnWords.{flags_in}
-use Rattle.map_jaeger.specs.Columns.{columns_of, rows}
-use Rattle.map_jaeger.specs.Keys.{flags_key, event_key, reference_key, child_of_word}
+use Rattle.map_jaeger.specs.Columns.{columns_of, rows, is_reserved}
+use Rattle.map_jaeger.specs.Keys.{flags_key, event_key, is_event_reserved, reference_key, child_of_word}
 use Rattle.map_jaeger.specs.TagValues.{tag_of}
 
 -- ---- flags: the first bit of the span's, and those under the key of their own
@@ -31,12 +32,12 @@ flags_of span = cast_signed w32 (span.flags % 2 + unwrap_or (flags_in (at flags_
 -- ---- tags, logs and references
 
 abbrev pub tags_of : Scoped Span → List Tag
-tags_of one = map tag_of (attrs (rows (columns_of one) ++ without flags_key one.span.attributes))
+tags_of one = map tag_of (attrs (rows (columns_of one) ++ escaped is_reserved (without flags_key one.span.attributes)))
 
 abbrev pub log_of : Event → Log
 log_of event = record {
   time = floor event.time;
-  fields = map tag_of (attrs (row event_key (text_given event.name) ++ event.attributes));
+  fields = map tag_of (attrs (row event_key (text_given event.name) ++ escaped is_event_reserved event.attributes));
 }
 
 -- the mark of a link that is CHILD_OF

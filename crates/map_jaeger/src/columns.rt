@@ -2,6 +2,9 @@
 ghost use Rattle.std.specs.Prelude.{◌≡◌, ◌==◌, length, find};
 ghost use Rattle.map_jaeger.specs.Columns as told;
 ghost use Rattle.map_jaeger.specs.Columns.{row_of};
+ghost use Rattle.map_jaeger.specs.Keys.{is_event_reserved};
+
+use span_tags::Reserves;
 
 /// A tag of a span to which the table gives a meaning of its own.
 #[derive(Clone, Copy)]
@@ -91,9 +94,24 @@ pub(crate) fn is_free(key: &str) -> bool
     !has_column(key)
 }
 
-/// Whether no attribute of a trace may stand under the key.
-pub(crate) fn is_reserved(key: &str) -> bool
-    ensures { result ≡ told.is_reserved key.now }
-{
-    has_column(key) && "jaeger.flags" != key
+/// The keys that are reserved among the tags of a span.
+pub(crate) struct Spans;
+
+impl Reserves for Spans {
+    ghost reserved = { told.is_reserved };
+
+    fn is_reserved(key: &str) -> bool {
+        has_column(key) && "jaeger.flags" != key
+    }
+}
+
+/// The keys that are reserved among the fields of a log.
+pub(crate) struct Events;
+
+impl Reserves for Events {
+    ghost reserved = { is_event_reserved };
+
+    fn is_reserved(key: &str) -> bool {
+        "event" == key
+    }
 }

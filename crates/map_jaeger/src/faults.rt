@@ -1,15 +1,15 @@
 //! What Jaeger can't hold of a group.
-ghost use Rattle.std.specs.Prelude.{◌≡◌, ◌↔◌, None, IfOk};
+ghost use Rattle.std.specs.Prelude.{◌≡◌, ◌↔◌, None, IfOk, OnErr};
 ghost use Rattle.trace_model.specs.Soundness.{IsSoundGroup};
+ghost use Rattle.span_tags.specs.PlacedFaults.{MayWantMemory};
 ghost use Rattle.map_jaeger.specs.Faults.{HasNoFault, IsFaultOf, IsResourceFault, IsSpanFault};
 ghost use Rattle.map_jaeger.specs.LeastFault as least;
 
-use crate::columns;
 use crate::writing::flags::flags_in;
 use crate::writing::is_child_of;
 use span_ids::SpanId;
 use span_io::{Items, OutOfMemory};
-use span_tags::{Faults, fault_in_group, is_there};
+use span_tags::{Faults, fault_in_group};
 use std::alloc::Global;
 use trace_model::{Attrs, Event, Fault, Group, Link, Span, Value, find};
 
@@ -41,19 +41,6 @@ impl Faults for Jaeger {
     ghost of_span = { IsSpanFault };
 
     ghost table = { least.jaeger_faults };
-
-    fn is_reserved(key: &str) -> bool {
-        columns::is_reserved(key)
-    }
-
-    fn reserved_in(events: &Items<Event>) -> Option<&'static str> {
-        'events: for event in events.as_slice() {
-            if is_there(&event.attributes, "event") {
-                return Some("event");
-            }
-        }
-        None
-    }
 
     fn own_key(attributes: &Attrs) -> Option<&'static str> {
         let value = find(attributes, "jaeger.flags")?;
@@ -97,6 +84,8 @@ pub fn fault_of_group(alloc: Global, group: &Group) -> Result<Option<Fault>, Out
     requires sound { IsSoundGroup group.now }
     ensures judged { IfOk result (λ fault. IsFaultOf group.now fault) }
     ensures none { IfOk result (λ fault. (fault ≡ None) ↔ HasNoFault group.now) }
+    // A double in the resource, or a first span that ends before its start, takes no memory.
+    ensures wants { OnErr result (MayWantMemory IsResourceFault IsSpanFault group.now) }
 {
     fault_in_group::<Jaeger>(alloc, group)
 }

@@ -1,6 +1,10 @@
 //! Laws of the table, as contracts of functions that do nothing.
+ghost use Rattle.span_tags.specs.Escapes.{KeysReadBack};
+ghost use Rattle.map_jaeger.specs.Columns.{is_reserved};
+ghost use Rattle.map_jaeger.specs.Keys.{is_event_reserved};
 ghost use Rattle.map_jaeger.specs.StatedLaws.{BatchesReadBack, NormalForms, ReadIsNormal, ReadIsSound, FaultsFound, NoneLost, LossesMean, WrittenIsProper, ReadIsProper};
 
+use crate::columns::{Events, Spans};
 use crate::faults::Jaeger;
 
 /// Reading the batch of a group that Jaeger can hold gives its normal form, without a remark.
@@ -67,4 +71,14 @@ pub fn read_is_proper()
     ensures { ReadIsProper }
 {
     // The clause is the law.
+}
+
+/// No attribute is written under a reserved key, no two under one, and each key is read back: of a span,
+/// and of an event.
+pub fn keys_read_back()
+    ensures spans { KeysReadBack is_reserved }
+    ensures events { KeysReadBack is_event_reserved }
+{
+    span_tags::laws::keys_read_back::<Spans>();
+    span_tags::laws::keys_read_back::<Events>();
 }

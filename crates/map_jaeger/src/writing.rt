@@ -3,10 +3,13 @@ ghost use Rattle.std.specs.Prelude.{◌≡◌, ◌++◌, map, option_map, false,
 ghost use Rattle.std.specs.List.{list_any};
 ghost use Rattle.trace_model.specs.Attributes.{Rise, keys as keys_of};
 ghost use Rattle.trace_model.specs.Soundness.{IsSoundEvent, IsSoundGroup, IsSoundScope, IsSoundSpan};
+ghost use Rattle.span_tags.specs.Escapes as escapes;
 ghost use Rattle.span_tags.specs.PlacedFaults.{JudgesFault};
 ghost use Rattle.span_tags.specs.Runs.{scoped, spans_of, under};
 ghost use Rattle.span_tags.specs.TagKeys.{service_key};
 ghost use Rattle.span_tags.specs.TagWords.{without};
+ghost use Rattle.map_jaeger.specs.Columns.{is_reserved};
+ghost use Rattle.map_jaeger.specs.Keys.{flags_key};
 ghost use Rattle.map_jaeger.specs.private.Doubles.{event_has_double, group_has_double, scope_has_double};
 ghost use Rattle.map_jaeger.specs.Faults.{IsResourceFault, IsSpanFault};
 ghost use Rattle.map_jaeger.specs.StatedLaws.{IsTimely};
@@ -18,13 +21,13 @@ ghost use Rattle.map_jaeger.specs.private.WritingSoFar.{fields_held, tags_with};
 mod columns;
 pub(crate) mod flags;
 
-use crate::columns::COLUMNS;
+use crate::columns::{COLUMNS, Events, Spans};
 use crate::faults::fault_of_group;
 use columns::put_columns;
 use flags::flags_of;
 use jaeger_model::{Batch, JSpan, Log, SpanRef, Tag, TagValue};
 use span_io::{Halt, Items, OutOfMemory, Text};
-use span_tags::{others, put_row, text_kept, text_or_none, text_told};
+use span_tags::{escaped, others, put_row, text_kept, text_or_none, text_told};
 use std::alloc::Global;
 use std::mem;
 use trace_model::{Attrs, Event, Fault, Group, Link, Scope, Span, Value, find};
@@ -74,6 +77,15 @@ pub(crate) fn attributes_but(key: &str, attributes: Attrs) -> Attrs
     }
 }
 
+// The attributes of a span but its flags, under the keys that they have among its tags.
+#[tactic(auto, using(crate::proofs::GroupResource::without_rise))]
+fn others_of_span(alloc: Global, attributes: Attrs) -> Result<Attrs, OutOfMemory>
+    requires { Rise (keys_of attributes) }
+    ensures { IfOk result (λ others. others ≡ escapes.escaped is_reserved (without flags_key attributes)) }
+{
+    escaped::<Spans>(alloc, attributes_but("jaeger.flags", attributes))
+}
+
 // The tags of a span that has these attributes, under the name and version of its scope.
 fn tags_of_span(
     alloc: Global,
@@ -86,7 +98,8 @@ fn tags_of_span(
     requires rising { Rise (keys_of attributes) }
     ensures { IfOk result (λ tags. tags ≡ tags_with (under name.now version.now span.now) attributes) }
 {
-    let mut pairs = attributes_but("jaeger.flags", attributes).into_vec();
+    let others = others_of_span(alloc, attributes)?;
+    let mut pairs = others.into_vec();
     put_columns(alloc, &mut pairs, name, version, span, &COLUMNS)?;
     tags_in_order(alloc, pairs)
 }
@@ -99,7 +112,8 @@ fn fields_of(alloc: Global, name: Text, attributes: Attrs) -> Result<Items<Tag>,
     requires rising { Rise (keys_of attributes) }
     ensures { IfOk result (λ fields. fields ≡ fields_held name attributes) }
 {
-    let mut pairs = attributes.into_vec();
+    let others = escaped::<Events>(alloc, attributes)?;
+    let mut pairs = others.into_vec();
     put_row(alloc, &mut pairs, "event", text_kept(name))?;
     tags_in_order(alloc, pairs)
 }

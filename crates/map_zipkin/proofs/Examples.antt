@@ -1,5 +1,5 @@
 -- A group and its one span of Zipkin, computed there and back.
-use Rattle.std.proofs.Common.{◌≡◌, false, [], ◌∷◌, Some, refl}
+use Rattle.std.proofs.Common.{◌≡◌, false, true, [], ◌∷◌, Some, refl}
 use Rattle.std.specs.Fmt.{digits}
 use Rattle.std.specs.Prelude.{codes}
 use Rattle.span_tags.specs.TagKeys.{service_key}
@@ -16,7 +16,7 @@ use Rattle.map_zipkin.specs.Normal.{normal_spans}
 use Rattle.map_zipkin.specs.Reading.{run_span_of}
 use Rattle.map_zipkin.specs.Writing.{spans_of_group}
 
--- an error without a message, in a service that calls another
+-- an error without a message, in a service that calls another, with attributes under the keys of its tags and of those of a resource
 call : Span
 call = record {
   trace = 7;
@@ -27,7 +27,8 @@ call = record {
   kind = kinds.Client;
   start = 1500;
   end = 2999;
-  attributes = (codes "cached", Truth false) ∷ (peer_key, Text (codes "db")) ∷ (codes "zipkin.local.port", Text (codes "80")) ∷ [];
+  attributes = (codes "cached", Truth false) ∷ (codes "error", Truth true) ∷ (codes "otel.attr.error", Text (codes "b")) ∷ (codes "otel.attr.ok", Text (codes "c"))
+      ∷ (codes "otel.resource.host", Text (codes "d")) ∷ (peer_key, Text (codes "db")) ∷ (codes "zipkin.local.port", Text (codes "80")) ∷ [];
   dropped_attributes = 0;
   events = [];
   dropped_events = 0;
@@ -59,8 +60,9 @@ told = record {
   local = record { service = codes "cart"; ipv4 = []; ipv6 = []; port = 80 };
   remote = record { service = codes "db"; ipv4 = []; ipv6 = []; port = 0 };
   annotations = [];
-  tags = (codes "cached", codes "false") ∷ (codes "error", []) ∷ (codes "otel.resource.host", codes "a") ∷ (codes "otel.scope.name", codes "lib")
-      ∷ (codes "otel.scope.version", codes "2") ∷ (codes "otel.status_code", codes "ERROR") ∷ [];
+  tags = (codes "cached", codes "false") ∷ (codes "error", []) ∷ (codes "otel.attr.error", codes "true") ∷ (codes "otel.attr.ok", codes "c")
+      ∷ (codes "otel.attr.otel.attr.error", codes "b") ∷ (codes "otel.attr.otel.resource.host", codes "d") ∷ (codes "otel.resource.host", codes "a")
+      ∷ (codes "otel.scope.name", codes "lib") ∷ (codes "otel.scope.version", codes "2") ∷ (codes "otel.status_code", codes "ERROR") ∷ [];
 }
 
 written : spans_of_group group ≡ told ∷ []
@@ -74,7 +76,9 @@ back = (
   record call {
     start = 1000;
     end = 2000;
-    attributes = (codes "cached", Text (codes "false")) ∷ (peer_key, Text (codes "db")) ∷ (codes "zipkin.local.port", Text (codes "80")) ∷ [];
+    attributes = (codes "cached", Text (codes "false")) ∷ (codes "error", Text (codes "true")) ∷ (codes "otel.attr.error", Text (codes "b"))
+        ∷ (codes "otel.attr.ok", Text (codes "c")) ∷ (codes "otel.resource.host", Text (codes "d")) ∷ (peer_key, Text (codes "db"))
+        ∷ (codes "zipkin.local.port", Text (codes "80")) ∷ [];
     flags = 0;
   },
 )

@@ -8,7 +8,7 @@ use Rattle.span_tags.specs.PlacedFaults.{KeyAtMost}
 use Rattle.span_tags.specs.TagWords.{Pairs}
 use Rattle.span_tags.specs.laws.FaultLaws.{FindsRows, FindsFaults, doubles_decide, span_doubles}
 use Rattle.span_tags.specs.laws.LeastRows.{least_same, least_found, least_key_of, Rising, any_decides, itself, never}
-use Rattle.trace_model.specs.Attributes.{keys, at}
+use Rattle.trace_model.specs.Attributes.{at}
 use Rattle.trace_model.specs.EventExact.{EventTextsExact}
 use Rattle.trace_model.specs.EventReading.{event_text_read}
 use Rattle.trace_model.specs.EventTexts.{IsEventText}
@@ -19,8 +19,7 @@ use Rattle.trace_model.specs.declared.fault.Fault.TheVariants.{DoubleInText}
 use Rattle.trace_model.specs.declared.span.Event.{Event}
 use Rattle.trace_model.specs.declared.span.Span.{Span}
 use Rattle.trace_model.specs.declared.value.Value.{Value}
-use Rattle.map_zipkin.specs.Faults.{HasReservedKey, IsOutOfForm, HasOwnKey, IsToldWrong, IsZipkinSpanFault, IsZipkinResourceFault}
-use Rattle.map_zipkin.specs.Keys.{is_zipkin_reserved}
+use Rattle.map_zipkin.specs.Faults.{IsOutOfForm, HasOwnKey, IsToldWrong, IsZipkinSpanFault, IsZipkinResourceFault}
 use Rattle.map_zipkin.specs.LeastZipkinFault.{is_out_of_form, is_bare, is_told_wrong, zipkin_faults}
 use Rattle.map_zipkin.specs.OwnColumns.{own_forms}
 
@@ -120,9 +119,6 @@ module _ (exact : EventTextsExact) where
   rows : (span : Span) → IsSoundSpan span → FindsRows zipkin_faults span (IsZipkinSpanFault span)
   rows span sound = record {
     end = Decides-ltb span.end span.start;
-    reserved = least_same KeyAtMost (λ key. (is_zipkin_reserved key ≡ true) × Contains (keys span.attributes) key) (HasReservedKey span)
-        (λ key h. record { reserved = h.0; there = h.1 }) (λ key h. (h.reserved, h.there)) _
-        (least_found (λ key. key) is_zipkin_reserved (keys span.attributes) sound.attributes.rising);
     own = least_same KeyAtMost (IsOutAt span.attributes) (HasOwnKey span) (to_own span) (from_own span) _
         (least_key_of key_of (IsOut span.attributes) _ (least_found key_of (is_out span.attributes) own_forms own_forms_rise));
     event = any_decides is_told_wrong IsToldWrong (wrong_decides exact) span.events;
@@ -135,7 +131,6 @@ module _ (exact : EventTextsExact) where
     resource = doubles_decide zipkin_faults (λ value. has_double value ≡ true) (λ value. itself (has_double value));
     only_doubles = only_doubles;
     span = rows;
-    no_reserved = refl;
     no_own = refl;
     no_event = refl;
     no_link = refl;

@@ -1,4 +1,5 @@
 pub mod ColumnLemmas
+pub mod EscapedKeys
 pub mod EventFacts
 pub mod EventsBack
 pub mod Examples

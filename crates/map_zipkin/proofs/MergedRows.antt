@@ -12,12 +12,15 @@ use Rattle.std.proofs.lemmas.Map.Text.{is_eq-slice_cmp}
 use Rattle.trace_model.specs.Attributes.{Rise, keys, by_order, placed, attrs}
 use Rattle.trace_model.specs.ValueTexts.{value_text}
 use Rattle.trace_model.specs.declared.value.Value.{Value, Text}
+use Rattle.span_tags.specs.Escapes.{rekeyed, escaped}
 use Rattle.span_tags.specs.laws.AttributeLaws.{same_key, below_all, attrs_itself, attrs_rise, at_attrs, same_pairs, at_filter, filter_rise, map_attrs}
 use Rattle.span_tags.specs.laws.RowLaws.{last_at-filter}
 use Rattle.span_tags.specs.TagWords.{Pairs}
-use Rattle.map_zipkin.specs.Writing.{as_text, as_texts, is_told, told_pairs, zipkin_tag_of}
+use Rattle.map_zipkin.specs.Keys.{is_zipkin_reserved}
+use Rattle.map_zipkin.specs.Writing.{as_text, as_texts, is_told, told_pairs, escaped_pairs, zipkin_tag_of}
 use Rattle.map_zipkin.specs.private.WritingSoFar.{rows_below, rows_above}
-use Rattle.map_zipkin.proofs.RowsJoined.{attrs_within, in_front_of}
+use Rattle.map_zipkin.proofs.EscapedKeys.{tag_key, texts_moved, escaped_in_order}
+use Rattle.map_zipkin.proofs.RowsJoined.{attrs_within}
 
 abbrev cmp : List ℕ → List ℕ → Ordering
 cmp = slice_cmp nat_cmp
@@ -115,28 +118,23 @@ kept_in_order f l = same_pairs (filter (λ pair. f pair.0) (attrs l)) (attrs (fi
     ∙ (sym (last_at-filter k f l)
     ∙ sym (at_attrs k (filter (λ pair. f pair.0) l)))))
 
-told_in_order : (l : Pairs) → attrs (told_pairs (attrs l)) ≡ attrs (told_pairs l)
-told_in_order l =
-    attrs_itself (told_pairs (attrs l)) (told_rise (attrs l) (attrs_rise l))
-    ∙ (ap as_texts (kept_in_order is_told l)
-    ∙ map_attrs (λ value. Text (value_text value)) (filter (λ attribute. is_told attribute.0) l))
+-- what is told of attributes under the keys of their tags
+told_escaped : (l : Pairs) → told_pairs (escaped is_zipkin_reserved l) ≡ escaped_pairs l
+told_escaped l =
+    ap as_texts (kept_in_order is_told (rekeyed tag_key l))
+    ∙ (map_attrs (λ value. Text (value_text value)) (filter (λ attribute. is_told attribute.0) (rekeyed tag_key l))
+    ∙ ap attrs (texts_moved l))
 
--- attributes that are put in order make the same tags
-pub all_in_order : (own shared attributes held : Pairs) → held ≡ attrs attributes
-    → attrs (own ++ (shared ++ told_pairs held)) ≡ attrs (own ++ (shared ++ told_pairs attributes))
-all_in_order own shared attributes held e =
-    ap (λ l. attrs (own ++ (shared ++ told_pairs l))) e
-    ∙ in_front_of own (shared ++ told_pairs (attrs attributes)) (shared ++ told_pairs attributes)
-    (in_front_of shared (told_pairs (attrs attributes)) (told_pairs attributes) (told_in_order attributes))
+-- that are put in order before
+pub told_in_order : (l : Pairs) → told_pairs (escaped is_zipkin_reserved (attrs l)) ≡ escaped_pairs l
+told_in_order l = ap told_pairs (escaped_in_order l) ∙ told_escaped l
 
 -- rows that became one list before make the same tags
-pub joined_before : (own shared attributes held rows : Pairs) → held ≡ attrs attributes → rows ≡ attrs (own ++ shared)
-    → attrs (rows ++ told_pairs held) ≡ attrs (own ++ (shared ++ told_pairs attributes))
-joined_before own shared attributes held rows e is =
-    ap (λ l. attrs (l ++ told_pairs held)) is
-    ∙ (attrs_within (own ++ shared) (told_pairs held)
-    ∙ (ap attrs (append_assoc own shared (told_pairs held))
-    ∙ all_in_order own shared attributes held e))
+pub joined_before : (own shared others rows : Pairs) → rows ≡ attrs (own ++ shared) → attrs (rows ++ others) ≡ attrs (own ++ (shared ++ others))
+joined_before own shared others rows is =
+    ap (λ l. attrs (l ++ others)) is
+    ∙ (attrs_within (own ++ shared) others
+    ∙ ap attrs (append_assoc own shared others))
 
 -- ---- one attribute more
 

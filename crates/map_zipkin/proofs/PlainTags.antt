@@ -13,10 +13,13 @@ use Rattle.trace_model.specs.declared.value.Value.{Value}
 use Rattle.span_tags.specs.laws.AttributeLaws.{all_attrs}
 use Rattle.span_tags.specs.Doubles.{double_at}
 use Rattle.span_tags.specs.laws.ColumnLaws.{all_rows}
+use Rattle.span_tags.specs.laws.EscapeLaws.{escaped_all}
+use Rattle.span_tags.specs.Escapes.{escaped}
 use Rattle.span_tags.specs.Runs.{under}
 use Rattle.span_tags.specs.TagKeys.{service_key}
 use Rattle.span_tags.specs.TagWords.{Pairs, row, without, text_given}
 use Rattle.trace_model.specs.declared.span.Span.{Span}
+use Rattle.map_zipkin.specs.Keys.{is_zipkin_reserved}
 use Rattle.map_zipkin.specs.TagColumns.{row_of}
 use Rattle.map_zipkin.specs.Writing.{as_text, as_texts, prefixed, resource_pairs}
 use Rattle.map_zipkin.specs.private.WritingSoFar.{unshared_columns, span_columns, unshared_rows, shared_pairs, shared_rows, rows_below, rows_above}
@@ -79,8 +82,10 @@ pub rows_plain : (own shared held : Pairs) → holds_double own ≡ false → ho
 rows_plain own shared held own_is shared_is e =
     ap holds_double e ∙ none_double (attrs (own ++ shared)) (all_attrs Plain (own ++ shared) (All-append Plain own shared (each_plain own own_is) (each_plain shared shared_is)))
 
-pub attrs_plain : (l held : Pairs) → holds_double l ≡ false → held ≡ attrs l → holds_double held ≡ false
-attrs_plain l held plain e = ap holds_double e ∙ none_double (attrs l) (all_attrs Plain l (each_plain l plain))
+-- attributes under the keys of their tags
+pub escaped_plain : (l held : Pairs) → holds_double l ≡ false → held ≡ escaped is_zipkin_reserved (attrs l) → holds_double held ≡ false
+escaped_plain l held plain e = ap holds_double e
+    ∙ none_double (escaped is_zipkin_reserved (attrs l)) (escaped_all is_zipkin_reserved Plain (attrs l) (all_attrs Plain l (each_plain l plain)))
 
 -- ---- rows around a key
 

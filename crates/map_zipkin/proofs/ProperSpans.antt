@@ -12,6 +12,8 @@ use Rattle.std.proofs.lemmas.Str.{IsUtf8-nil, IsUtf8-append, IsUtf8-from_ascii}
 use Rattle.span_ids.specs.Times.{floor}
 use Rattle.span_tags.specs.laws.AttributeLaws.{attrs_rise, all_attrs}
 use Rattle.span_tags.specs.laws.ColumnLaws.{all_rows}
+use Rattle.span_tags.specs.laws.EscapeLaws.{escaped_all, esc_holds}
+use Rattle.span_tags.specs.Escapes.{front, esc}
 use Rattle.span_tags.specs.Runs.{Scoped, scoped}
 use Rattle.span_tags.specs.TagKeys.{service_key}
 use Rattle.span_tags.specs.TagWords.{Pairs, row, without, text_given, code_given, text_or_none}
@@ -28,11 +30,11 @@ use Rattle.trace_model.specs.declared.trace.Group.{Group}
 use Rattle.trace_model.specs.declared.value.Value.{Value, Text, Truth, Number, Eight, Bytes, List', Map', Nothing}
 use Rattle.zipkin_json.specs.Proper as written
 use Rattle.map_zipkin.specs.Faults.{HasNoZipkinFault}
-use Rattle.map_zipkin.specs.Keys.{resource_prefix, peer_key}
+use Rattle.map_zipkin.specs.Keys.{resource_prefix, is_zipkin_reserved, peer_key}
 use Rattle.map_zipkin.specs.OwnColumns.{OwnColumns, own_row, own_in}
 use Rattle.map_zipkin.specs.StatedLaws.{IsHeldByZipkin, WrittenIsWritable}
 use Rattle.map_zipkin.specs.TagColumns.{all_columns, count_text, error_message, row_of, zipkin_columns_of, column_rows, text_told}
-use Rattle.map_zipkin.specs.Writing.{as_text, as_texts, prefixed, resource_pairs, is_told, told_pairs, zipkin_tag_of, zipkin_tags_of, annotation_of, zipkin_span, spans_of_group}
+use Rattle.map_zipkin.specs.Writing.{as_text, as_texts, prefixed, resource_pairs, is_told, told_pairs, escaped_pairs, zipkin_tag_of, zipkin_tags_of, annotation_of, zipkin_span, spans_of_group}
 use Rattle.map_zipkin.specs.declared.columns.Column.{Column}
 use Rattle.map_zipkin.specs.declared.columns.Column.TheVariants as columns
 use Rattle.map_zipkin.specs.declared.own.Own.{Own}
@@ -124,6 +126,9 @@ tag_keys : (l : Pairs) → map (λ tag. tag.0) (map zipkin_tag_of l) ≡ keys l
 tag_keys [] = refl
 tag_keys (p ∷ l) = ap (λ ks. p.0 ∷ ks) (tag_keys l)
 
+tag_utf8 : (key : List ℕ) → IsUtf8 key → IsUtf8 (esc is_zipkin_reserved key)
+tag_utf8 = esc_holds is_zipkin_reserved IsUtf8 (λ key utf8. IsUtf8-append front key (word front refl) utf8)
+
 -- laws of the model: texts of values and of events are UTF-8
 abbrev pub TextsAreUtf8 : Type 0
 TextsAreUtf8 = (value : Value) → IsProperValue value → IsUtf8 (value_text value)
@@ -135,7 +140,7 @@ EventsAreUtf8 = (name : List ℕ) (attributes : Pairs) → IsUtf8 name → ArePr
 
 pub span_timely : (resource : Pairs) (one : Scoped Span) → NoSpanFault one.span → written.IsTimelyZSpan (zipkin_span resource one)
 span_timely resource one none =
-    let pairs = column_rows (zipkin_columns_of one) ++ (resource_pairs resource ++ told_pairs one.span.attributes) in
+    let pairs = column_rows (zipkin_columns_of one) ++ (resource_pairs resource ++ escaped_pairs one.span.attributes) in
     record {
       start = floor_again one.span.start;
       end = floor_again one.span.end;
@@ -167,11 +172,15 @@ module _ (utf8 : TextsAreUtf8) (events_utf8 : EventsAreUtf8) where
   told_proper : (attributes : Pairs) → AreProper attributes → AreProper (told_pairs attributes)
   told_proper attributes proper = texts_proper (filter (λ attribute. is_told attribute.0) attributes) (All-filter (λ attribute. is_told attribute.0) IsProperPair attributes proper)
 
+  escaped_proper : (attributes : Pairs) → AreProper attributes → AreProper (escaped_pairs attributes)
+  escaped_proper attributes proper = escaped_all is_zipkin_reserved IsProperPair (told_pairs attributes) (λ k d lt.
+      let its = told_proper attributes proper k d lt in record { key = tag_utf8 (get_or (told_pairs attributes) k d).0 its.key; value = its.value })
+
   tags_proper : (resource : Pairs) (one : Scoped Span) → AreProper resource → IsHeldSpan one → All written.IsProperZTag (zipkin_tags_of resource one)
   tags_proper resource one proper h =
-      let pairs = column_rows (zipkin_columns_of one) ++ (resource_pairs resource ++ told_pairs one.span.attributes) in
+      let pairs = column_rows (zipkin_columns_of one) ++ (resource_pairs resource ++ escaped_pairs one.span.attributes) in
       let all : AreProper (attrs pairs) = all_attrs IsProperPair pairs (All-append IsProperPair (column_rows (zipkin_columns_of one)) _ (rows_proper one h)
-      (All-append IsProperPair (resource_pairs resource) (told_pairs one.span.attributes) (resource_proper resource proper) (told_proper one.span.attributes h.proper.attributes))) in
+      (All-append IsProperPair (resource_pairs resource) (escaped_pairs one.span.attributes) (resource_proper resource proper) (escaped_proper one.span.attributes h.proper.attributes))) in
       All-map written.IsProperZTag zipkin_tag_of (attrs pairs) (λ k d lt. ((all k d lt).key, utf8 (get_or (attrs pairs) k d).1 (all k d lt).value))
 
   -- ---- the span

@@ -8,25 +8,24 @@ use Rattle.std.proofs.lemmas.Fmt.{decimal_is_IsNumeral_wide}
 use Rattle.std.proofs.lemmas.List.Elements.{All-nil, All-cons, All-head, All-tail, All-map, All-contains}
 use Rattle.span_tags.specs.laws.AttributeLaws.{key_itself, same_key}
 use Rattle.span_tags.specs.TagWords.{Pairs, decimal_in, text_given}
-use Rattle.trace_model.specs.Attributes.{keys, at}
+use Rattle.trace_model.specs.Attributes.{at}
 use Rattle.trace_model.specs.EventReading.{event_text_read}
 use Rattle.trace_model.specs.EventTexts.{holds_double}
 use Rattle.trace_model.specs.ValueTexts.{has_double}
 use Rattle.trace_model.specs.declared.fault.Fault.{Fault}
-use Rattle.trace_model.specs.declared.fault.Fault.TheVariants.{EndBeforeStart, Reserved, OwnKey, EventText, ChildOfLink, DoubleInText}
+use Rattle.trace_model.specs.declared.fault.Fault.TheVariants.{EndBeforeStart, OwnKey, EventText, ChildOfLink, DoubleInText}
 use Rattle.trace_model.specs.declared.value.Value.{Value, Text}
 use Rattle.zipkin_json.specs.Proper.{IsProperZSpan, IsTimelyZSpan}
 use Rattle.zipkin_json.specs.declared.span.ZSpan.{ZSpan}
 use Rattle.map_zipkin.specs.Faults.{IsOutOfForm, IsToldWrong, HasDoubleIn, IsZipkinSpanFault, IsZipkinResourceFault}
-use Rattle.map_zipkin.specs.Keys.{is_zipkin_reserved, peer_key}
-use Rattle.map_zipkin.specs.OwnColumns.{own_row, own_form, own_forms, own_of, is_own, truth_given, is_true_text, is_address, has_port, is_port_text}
-use Rattle.map_zipkin.specs.Reading.{pairs_of, is_free_tag, attributes_by, event_by, zipkin_event_of, run_span_of}
+use Rattle.map_zipkin.specs.OwnColumns.{own_row, own_form, own_forms, own_of, truth_given, is_true_text, is_address, has_port, is_port_text}
+use Rattle.map_zipkin.specs.Reading.{pairs_of, attributes_by, event_by, zipkin_event_of, run_span_of}
 use Rattle.map_zipkin.specs.TagColumns.{count_text}
 use Rattle.map_zipkin.specs.declared.own.Own.{Own}
 use Rattle.map_zipkin.specs.declared.own.Own.TheVariants as owns
-use Rattle.map_zipkin.proofs.ColumnLemmas.{own_apart}
+use Rattle.map_zipkin.proofs.EscapedKeys.{attribute_key, free_own}
 use Rattle.map_zipkin.proofs.EventFacts.{EventsRead}
-use Rattle.map_zipkin.proofs.ReadTexts.{kept, IsTextPair, attributes_all, attributes_texts}
+use Rattle.map_zipkin.proofs.ReadTexts.{free_all, IsTextPair, attributes_all, attributes_texts}
 
 -- ---- lists
 
@@ -62,36 +61,10 @@ found_has P k (q ∷ qs) v all e = by (found_has P k qs v (All-tail P q qs all))
         subst P both (All-head P q qs all)
     by rest false apart e = rest e
 
--- ---- reserved keys
-
-abbrev IsUnreserved : List ℕ × Value → Type 0
-IsUnreserved pair = is_zipkin_reserved pair.0 ≡ false
-
-free_unreserved : (a b : Bool) → not (a || b) ≡ true → a ≡ false
-free_unreserved true b e = absurd (true≢false (sym e))
-free_unreserved false b e = refl
-
-free_own : (a b c : Bool) → not (a || (b || c)) ≡ true → b ≡ false
-free_own true b c e = absurd (true≢false (sym e))
-free_own false true c e = absurd (true≢false (sym e))
-free_own false false c e = refl
+-- ---- forms of own keys
 
 anything : (l : Pairs) → All (λ pair. Unit {0}) l
 anything l k d lt = tt
-
-unreserved : (span : ZSpan) (tags : Pairs) → All IsUnreserved (attributes_by span tags)
-unreserved span tags = attributes_all IsUnreserved span tags (record {
-  service = λ x more e. refl;
-  tag = λ x more e. refl;
-  own = λ own value e. own_apart own;
-  others = kept (λ pair. Unit {0}) IsUnreserved (λ tag. is_free_tag tag.0) (λ pair held e. free_unreserved (is_zipkin_reserved pair.0) _ e) tags (anything tags);
-})
-
-no_reserved : (attributes : Pairs) (key : List ℕ) → All IsUnreserved attributes → is_zipkin_reserved key ≡ true → Contains (keys attributes) key → ⊥
-no_reserved attributes key all is there =
-    true≢false (sym is ∙ All-contains (λ k. is_zipkin_reserved k ≡ false) (keys attributes) key (All-map (λ k. is_zipkin_reserved k ≡ false) (λ pair. pair.0) attributes all) there)
-
--- ---- forms of own keys
 
 abbrev is_fine : List ℕ × Value → List ℕ × (Value → Bool) → Bool
 is_fine pair own = not (bytes_eq pair.0 own.0) || own.1 pair.1
@@ -159,8 +132,7 @@ formed span proper tags = attributes_all IsFormed span tags (record {
   service = λ x more e. refl;
   tag = λ x more e. refl;
   own = λ own value e. fine_own own value (own_formed span proper own value e);
-  others = kept (λ pair. Unit {0}) IsFormed (λ tag. is_free_tag tag.0)
-      (λ pair held e. other_formed pair own_forms (free_own (is_zipkin_reserved pair.0) (is_own pair.0) (bytes_eq peer_key pair.0) e)) tags (anything tags);
+  others = free_all (λ pair. Unit {0}) IsFormed (λ pair held e. other_formed (attribute_key pair.0, pair.1) own_forms (free_own pair.0 e)) tags (anything tags);
 })
 
 fine_by : (key : List ℕ) (form : Value → Bool) (value : Value) → is_fine (key, value) (key, form) ≡ true → form value ≡ false → ⊥
@@ -215,8 +187,6 @@ module _ (facts : EventsRead) where
 
   pub read_no_fault : (span : ZSpan) → IsTimelyZSpan span → IsProperZSpan span → (fault : Fault) → IsZipkinSpanFault (run_span_of span).1 fault → ⊥
   read_no_fault span timely proper EndBeforeStart is = let order = timely.order in omega (arith, is, order)
-  read_no_fault span timely proper (Reserved key) is =
-      no_reserved (attributes_by span (pairs_of span)) key (unreserved span (pairs_of span)) is.reserved is.there
   read_no_fault span timely proper (OwnKey key) is = no_own (attributes_by span (pairs_of span)) key (formed span proper (pairs_of span)) is
   read_no_fault span timely proper EventText is = events_right span.annotations is
   read_no_fault span timely proper ChildOfLink is = is

@@ -11,7 +11,9 @@ use Rattle.std.proofs.lemmas.Bool.{ltb-true}
 use Rattle.std.proofs.Math.Dec.{ltb}
 use Rattle.std.specs.List.{list_all}
 use Rattle.std.proofs.lemmas.Str.{IsUtf8-nil, IsUtf8-drop, IsUtf8-from_ascii, IsCharBoundary-after_ascii}
+use Rattle.span_tags.specs.Escapes.{front, unesc}
 use Rattle.span_tags.specs.laws.AttributeLaws.{attrs_rise, same_key}
+use Rattle.span_tags.specs.laws.EscapeLaws.{unesc_holds}
 use Rattle.span_tags.specs.TagKeys.{service_key}
 use Rattle.span_tags.specs.TagWords.{Pairs, text_in, text_given, at_most, decimal_in, count_in, name_in}
 use Rattle.trace_model.specs.Attributes.{Rise, keys, at}
@@ -25,9 +27,9 @@ use Rattle.trace_model.specs.declared.value.Value.{Value, Text, Truth, Number, E
 use Rattle.zipkin_json.specs.Proper as written
 use Rattle.zipkin_json.specs.Proper.{IsProperZSpan}
 use Rattle.zipkin_json.specs.declared.span.ZSpan.{ZSpan}
-use Rattle.map_zipkin.specs.Keys.{resource_prefix, peer_key}
+use Rattle.map_zipkin.specs.Keys.{resource_prefix, is_zipkin_reserved, peer_key}
 use Rattle.map_zipkin.specs.OwnColumns.{own_row, own_of, truth_given}
-use Rattle.map_zipkin.specs.Reading.{pair_of, pairs_of, is_free_tag, resource_tags, resource_by, attributes_by, event_by, zipkin_event_of, message_of, run_span_of}
+use Rattle.map_zipkin.specs.Reading.{pair_of, pairs_of, resource_tags, resource_by, attributes_by, event_by, zipkin_event_of, message_of, run_span_of}
 use Rattle.map_zipkin.specs.TagColumns.{TagColumns, count_text, row_of, columns_in}
 use Rattle.map_zipkin.specs.declared.columns.Column.{Column}
 use Rattle.map_zipkin.specs.declared.columns.Column.TheVariants as columns
@@ -35,7 +37,7 @@ use Rattle.map_zipkin.specs.declared.own.Own.{Own}
 use Rattle.map_zipkin.specs.declared.own.Own.TheVariants as owns
 use Rattle.map_zipkin.proofs.EventFacts.{EventsRead, EventsProper}
 use Rattle.map_zipkin.proofs.ReadFaults.{found_has}
-use Rattle.map_zipkin.proofs.ReadTexts.{IsTextPair, attributes_all, attributes_texts, attributes_rise, resource_all, resource_tags_all, resource_texts, resource_rise}
+use Rattle.map_zipkin.proofs.ReadTexts.{free_all, IsTextPair, attributes_all, attributes_texts, attributes_rise, resource_all, resource_tags_all, resource_texts, resource_rise}
 
 -- ---- sound
 
@@ -157,6 +159,12 @@ key_behind key k true same e utf8 =
     let whole : key ≡ resource_prefix ++ drop 14 key = sym (take-append-drop 14 key) ∙ ap (λ l. l ++ drop 14 key) (same_key (take 14 key) resource_prefix same) in
     subst IsUtf8 rest (behind (drop 14 key) (subst IsUtf8 whole utf8))
 
+behind_front : (more : List ℕ) → IsUtf8 (front ++ more) → IsUtf8 more
+behind_front more utf8 = IsUtf8-drop (front ++ more) 10 utf8 (IsCharBoundary-after_ascii (front ++ more) 9 utf8 (omega arith) (lit≤ tt))
+
+attribute_utf8 : (key : List ℕ) → IsUtf8 key → IsUtf8 (unesc is_zipkin_reserved key)
+attribute_utf8 = unesc_holds is_zipkin_reserved IsUtf8 behind_front
+
 number_utf8 : (n : ℕ) → n < 65536 → IsUtf8 (decimal n)
 number_utf8 n lt = IsUtf8-from_ascii (decimal n) (IsAscii-decimal n (omega (arith, lt)))
 
@@ -195,7 +203,7 @@ module _ (span : ZSpan) (proper : IsProperZSpan span) where
     service = λ x more e. record { key = word peer_key refl; value = subst IsUtf8 e proper.remote.service };
     tag = λ x more e. record { key = word peer_key refl; value = (found_has IsProperPair peer_key (pairs_of span) (Text (x ∷ more)) (tags_proper span proper) e).value };
     own = λ own value e. record { key = word (own_row own).key (own_ascii own); value = own_proper own value e };
-    others = All-filter (λ tag. is_free_tag tag.0) IsProperPair (pairs_of span) (tags_proper span proper);
+    others = free_all IsProperPair IsProperPair (λ pair is e. record { key = attribute_utf8 pair.0 is.key; value = is.value }) (pairs_of span) (tags_proper span proper);
   })
 
   pub resource_proper : AreProper (resource_by span.local.service (pairs_of span))

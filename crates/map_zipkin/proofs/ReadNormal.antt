@@ -1,6 +1,6 @@
 -- What is read of Zipkin is its own normal form.
 use Rattle.std.proofs.Common.{◌≡◌, ℕ, Bool, true, false, List, [], ◌∷◌, ◌++◌, map, get_or, All, Option, Some, None, refl, sym, ap, ◌∙◌, subst, true≢false}
-use Rattle.std.specs.Prelude.{not, ◌||◌}
+use Rattle.std.specs.Prelude.{not}
 use Rattle.std.specs.List.{flat_map}
 use Rattle.std.specs.Str.{bytes_eq}
 use Rattle.std.proofs.lemmas.List.Elements.{All-head, All-tail}
@@ -19,20 +19,21 @@ use Rattle.zipkin_json.specs.Proper.{IsTimelyZSpan}
 use Rattle.zipkin_json.specs.declared.span.ZKind.{ZKind}
 use Rattle.zipkin_json.specs.declared.span.ZKind.TheVariants as zkinds
 use Rattle.zipkin_json.specs.declared.span.ZSpan.{ZSpan}
-use Rattle.map_zipkin.specs.Keys.{is_zipkin_reserved, peer_key}
-use Rattle.map_zipkin.specs.OwnColumns.{own_row, is_own}
+use Rattle.map_zipkin.specs.Keys.{peer_key}
+use Rattle.map_zipkin.specs.OwnColumns.{own_row}
 use Rattle.map_zipkin.specs.StatedLaws.{ReadIsZipkinNormal}
 use Rattle.map_zipkin.specs.Normal.{zipkin_normal_kind, message_kept, zipkin_normal_event, zipkin_normal_span, normal_pairs, normal_spans, zipkin_normal}
-use Rattle.map_zipkin.specs.Reading.{pairs_of, resource_tags, resource_by, attributes_by, is_free_tag, event_by, zipkin_event_of, zipkin_kind_read, message_of, run_span_of, groups_of}
+use Rattle.map_zipkin.specs.Reading.{pairs_of, resource_tags, resource_by, attributes_by, event_by, zipkin_event_of, zipkin_kind_read, message_of, run_span_of, groups_of}
 use Rattle.map_zipkin.specs.TagColumns.{columns_in}
 use Rattle.map_zipkin.specs.declared.columns.Column.TheVariants as columns
 use Rattle.map_zipkin.specs.Regrouped.{RunSpan, run_of, runs_of, regrouped}
 use Rattle.map_zipkin.proofs.ColumnLemmas.{own_no_peer}
+use Rattle.map_zipkin.proofs.EscapedKeys.{attribute_key, free_peer}
 use Rattle.map_zipkin.proofs.EventFacts.{EventsRead}
 use Rattle.map_zipkin.proofs.GroupsHeld.{read_without_fault}
 use Rattle.map_zipkin.proofs.NormalPairs.{normal_itself}
 use Rattle.map_zipkin.proofs.ReadFaults.{found_has}
-use Rattle.map_zipkin.proofs.ReadTexts.{kept, IsTextPair, attributes_all, attributes_texts, attributes_rise, resource_all, resource_texts, resource_rise}
+use Rattle.map_zipkin.proofs.ReadTexts.{kept, free_all, IsTextPair, attributes_all, attributes_texts, attributes_rise, resource_all, resource_texts, resource_rise}
 use Rattle.map_zipkin.proofs.Regrouping.{regrouped_spans}
 
 -- ---- normal forms of spans of runs
@@ -99,12 +100,6 @@ stays key l said texts (Some value) e =
 anything : (l : Pairs) → All (λ pair. Unit {0}) l
 anything l k d lt = tt
 
-free_peer : (a b c : Bool) → not (a || (b || c)) ≡ true → c ≡ false
-free_peer true b c e = absurd (true≢false (sym e))
-free_peer false true c e = absurd (true≢false (sym e))
-free_peer false false true e = absurd (true≢false (sym e))
-free_peer false false false e = refl
-
 not_true : (b : Bool) → not b ≡ true → b ≡ false
 not_true true e = absurd (true≢false (sym e))
 not_true false e = refl
@@ -114,8 +109,8 @@ peer_said span tags = attributes_all (IsSaid peer_key) span tags (record {
   service = λ x more e same empty. some_text x more empty;
   tag = λ x more e same empty. some_text x more empty;
   own = λ own value e same empty. off (bytes_eq peer_key (own_row own).key) (own_no_peer own) same;
-  others = kept (λ pair. Unit {0}) (IsSaid peer_key) (λ tag. is_free_tag tag.0)
-      (λ pair held e same empty. off (bytes_eq peer_key pair.0) (free_peer (is_zipkin_reserved pair.0) (is_own pair.0) (bytes_eq peer_key pair.0) e) same) tags (anything tags);
+  others = free_all (λ pair. Unit {0}) (IsSaid peer_key)
+      (λ pair held e same empty. off (bytes_eq peer_key (attribute_key pair.0)) (free_peer pair.0 e) same) tags (anything tags);
 })
 
 service_said : (service : List ℕ) (tags : Pairs) → All (IsSaid service_key) (resource_by service tags)

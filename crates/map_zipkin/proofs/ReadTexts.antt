@@ -1,22 +1,23 @@
--- What is read of a span of Zipkin has texts alone as attributes of the resource and of the span, none of them under a reserved key, and those
--- under keys of Zipkin's own are of their forms.
+-- What is read of a span of Zipkin has texts alone as attributes of the resource and of the span.
 use Rattle.std.proofs.Common.{◌≡◌, ℕ, ◌==◌, Bool, true, false, cond, List, [], ◌∷◌, ◌++◌, map, All, Option, Some, None, option_and_then, decimal, refl}
 use Rattle.std.specs.Prelude.{not, codes, filter}
 use Rattle.std.specs.Str.{bytes_eq}
 use Rattle.std.proofs.lemmas.List.Elements.{All-nil, All-cons, All-head, All-tail, All-append, All-filter}
 use Rattle.span_tags.specs.laws.AttributeLaws.{all_attrs, attrs_rise}
 use Rattle.span_tags.specs.laws.ColumnLaws.{all_rows}
+use Rattle.span_tags.specs.laws.EscapeLaws.{unescaped_all}
 use Rattle.span_tags.specs.TagKeys.{service_key}
 use Rattle.span_tags.specs.TagWords.{Pairs, row, without, text_in, text_given}
 use Rattle.trace_model.specs.Attributes.{Rise, keys, at}
 use Rattle.trace_model.specs.declared.value.Value.{Value, Text}
 use Rattle.zipkin_json.specs.declared.span.ZSpan.{ZSpan}
-use Rattle.map_zipkin.specs.Keys.{resource_key, peer_key}
+use Rattle.map_zipkin.specs.Keys.{resource_key, is_zipkin_reserved, peer_key}
 use Rattle.map_zipkin.specs.OwnColumns.{all_own, own_row, own_rows, own_of, truth_given}
-use Rattle.map_zipkin.specs.Reading.{pair_of, pairs_of, resource_row, resource_tags, resource_by, peer_of, is_free_tag, attributes_by}
+use Rattle.map_zipkin.specs.Reading.{pair_of, pairs_of, resource_row, resource_tags, resource_by, peer_of, is_free_tag, free_pairs, attributes_by}
 use Rattle.map_zipkin.specs.TagColumns.{count_text}
 use Rattle.map_zipkin.specs.declared.own.Own.{Own}
 use Rattle.map_zipkin.specs.declared.own.Own.TheVariants as owns
+use Rattle.map_zipkin.proofs.EscapedKeys.{attribute_key}
 
 -- ---- lists
 
@@ -28,6 +29,12 @@ kept P Q test each (x ∷ l) all = by (kept P Q test each l (All-tail P x l all)
     by : All Q (filter test l) → (b : Bool) → test x ≡ b → All Q (cond b (x ∷ filter test l) (filter test l))
     by rest true e = All-cons Q x (filter test l) (each x (All-head P x l all) e) rest
     by rest false e = rest
+
+-- what holds of each tag that is an attribute, under the key that it has as such
+pub free_all : (P Q : List ℕ × Value → Type 0) → ((pair : List ℕ × Value) → P pair → is_free_tag pair.0 ≡ true → Q (attribute_key pair.0, pair.1))
+    → (tags : Pairs) → All P tags → All Q (free_pairs tags)
+free_all P Q each tags all = unescaped_all is_zipkin_reserved Q (filter (λ tag. is_free_tag tag.0) tags)
+    (kept P (λ pair. Q (attribute_key pair.0, pair.1)) (λ tag. is_free_tag tag.0) each tags all)
 
 -- ---- rows of texts
 
@@ -57,11 +64,11 @@ pub record HoldOf (P : List ℕ × Value → Type 0) (span : ZSpan) (tags : Pair
   pub service : (x : ℕ) (more : List ℕ) → span.remote.service ≡ x ∷ more → P (peer_key, Text (x ∷ more))
   pub tag : (x : ℕ) (more : List ℕ) → at peer_key tags ≡ Some (Text (x ∷ more)) → P (peer_key, Text (x ∷ more))
   pub own : (own : Own) (value : Value) → own_of span own ≡ Some value → P ((own_row own).key, value)
-  pub others : All P (filter (λ tag. is_free_tag tag.0) tags)
+  pub others : All P (free_pairs tags)
 
 pub attributes_all : (P : List ℕ × Value → Type 0) (span : ZSpan) (tags : Pairs) → HoldOf P span tags → All P (attributes_by span tags)
 attributes_all P span tags h =
-    all_attrs P (row peer_key (peer_of span.remote.service (at peer_key tags)) ++ (own_rows (own_of span) ++ filter (λ tag. is_free_tag tag.0) tags))
+    all_attrs P (row peer_key (peer_of span.remote.service (at peer_key tags)) ++ (own_rows (own_of span) ++ free_pairs tags))
     (All-append P (row peer_key (peer_of span.remote.service (at peer_key tags))) _ (peer_all P peer_key span.remote.service (at peer_key tags) h.service h.tag)
     (All-append P (own_rows (own_of span)) _ (all_rows own_row P all_own (own_of span) (λ own. value_all P (own_row own).key (own_of span own) (h.own own))) h.others))
 
@@ -116,7 +123,7 @@ attributes_texts span = attributes_all IsTextPair span (pairs_of span) (record {
   service = λ x more e. text_pair peer_key (x ∷ more);
   tag = λ x more e. text_pair peer_key (x ∷ more);
   own = λ own value e. let is = own_text span own value e in record { text = is.0; is = is.1 };
-  others = All-filter (λ tag. is_free_tag tag.0) IsTextPair (pairs_of span) (tags_texts span.tags);
+  others = free_all IsTextPair IsTextPair (λ pair is e. record { text = is.text; is = is.is }) (pairs_of span) (tags_texts span.tags);
 })
 
 under_all : (P : List ℕ × Value → Type 0) (key : Option (List ℕ)) (value : Value) → ((k : List ℕ) → key ≡ Some k → P (k, value)) → All P (resource_row key value)
@@ -140,7 +147,7 @@ resource_texts service span = resource_all IsTextPair service (pairs_of span) (�
 -- ---- their keys rise
 
 pub attributes_rise : (span : ZSpan) (tags : Pairs) → Rise (keys (attributes_by span tags))
-attributes_rise span tags = attrs_rise (row peer_key (peer_of span.remote.service (at peer_key tags)) ++ (own_rows (own_of span) ++ filter (λ tag. is_free_tag tag.0) tags))
+attributes_rise span tags = attrs_rise (row peer_key (peer_of span.remote.service (at peer_key tags)) ++ (own_rows (own_of span) ++ free_pairs tags))
 
 pub resource_rise : (service : List ℕ) (tags : Pairs) → Rise (keys (resource_by service tags))
 resource_rise service tags = attrs_rise (row service_key (text_given service) ++ without service_key (resource_tags tags))

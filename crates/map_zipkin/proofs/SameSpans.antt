@@ -4,6 +4,7 @@ use Rattle.std.specs.List.{flat_map}
 use Rattle.std.proofs.lemmas.List.Elements.{All-nil, All-head, All-tail, All-map, All-append, All-weaker}
 use Rattle.span_ids.specs.Times.{floor}
 use Rattle.span_tags.specs.laws.RunLaws.{scoped_all}
+use Rattle.span_tags.specs.Escapes.{escaped}
 use Rattle.span_tags.specs.Runs.{spans_of, scoped}
 use Rattle.span_tags.specs.TagKeys.{service_key}
 use Rattle.trace_model.specs.Attributes.{Rise, keys, attrs}
@@ -20,7 +21,7 @@ use Rattle.trace_model.specs.declared.trace.Scope.{Scope}
 use Rattle.trace_model.specs.declared.value.Value.{Value, Text}
 use Rattle.zipkin_json.specs.declared.span.ZSpan.{ZSpan}
 use Rattle.map_zipkin.specs.Faults.{IsOutOfForm, HasOwnKey}
-use Rattle.map_zipkin.specs.Keys.{peer_key}
+use Rattle.map_zipkin.specs.Keys.{is_zipkin_reserved, peer_key}
 use Rattle.map_zipkin.specs.OwnColumns.{own_row, own_form, own_in, is_true_text, is_address, is_port_text}
 use Rattle.map_zipkin.specs.StatedLaws.{IsHeldByZipkin}
 use Rattle.map_zipkin.specs.Normal.{normal_pairs, zipkin_normal_kind, message_kept, zipkin_normal_event, zipkin_normal}
@@ -119,7 +120,7 @@ module _ (texts : SameEventText) where
       let local = text_kept service_key one.0.resource up_resource in
       let remote = text_kept peer_key s.attributes up in
       let resource = resource_same one.0.resource up_resource in
-      let told = told_same s.attributes up in
+      let told = ap (escaped is_zipkin_reserved) (told_same s.attributes up) in
       let annotations : map annotation_of (map zipkin_normal_event s.events) ≡ map annotation_of s.events =
       map_each annotation_of zipkin_normal_event annotation_of s.events (λ k d lt. annotation_same (get_or s.events k d)) in
       λ i. record {

@@ -2,13 +2,12 @@
 use Rattle.std.proofs.Common.{◌≡◌, ℕ, false, List, [], ◌∷◌, ◌++◌, map, get_or, All, None, is_some, unwrap_or, refl, ap, ◌∙◌, inr}
 use Rattle.std.proofs.lemmas.List.Elements.{All-head, All-tail, All-map}
 use Rattle.span_ids.specs.Times.{floor}
-use Rattle.span_tags.specs.laws.AttributeLaws.{at_absent}
 use Rattle.span_tags.specs.laws.ColumnLaws.{none_left}
 use Rattle.span_tags.specs.Runs.{Scoped, scoped}
 use Rattle.span_tags.specs.TagKeys.{service_key}
 use Rattle.span_tags.specs.TagWords.{Pairs, text_in, code_in, name_in, text_given, code_given, text_or_none, is_idle, if_left}
 use Rattle.trace_model.specs.Attributes.{Rise, keys, at}
-use Rattle.trace_model.specs.declared.fault.Fault.TheVariants.{Reserved, OwnKey, EventText, DoubleInText}
+use Rattle.trace_model.specs.declared.fault.Fault.TheVariants.{OwnKey, EventText, DoubleInText}
 use Rattle.trace_model.specs.declared.span.Code.{Code}
 use Rattle.trace_model.specs.declared.span.Code.TheVariants as statuses
 use Rattle.trace_model.specs.declared.span.Kind.{Kind}
@@ -31,7 +30,7 @@ use Rattle.map_zipkin.proofs.ColumnLemmas.{own_apart, own_untold, own_there}
 use Rattle.map_zipkin.proofs.EventsBack.{none_of, ReadsEvents, EventsReadBack, event_back}
 use Rattle.map_zipkin.proofs.HeldSpans.{NoSpanFault, IsHeldSpan, held_spans}
 use Rattle.map_zipkin.proofs.OwnForms.{count_back, count_told}
-use Rattle.map_zipkin.proofs.TagsBack.{HasNoReserved, AreFormed, held, tags_back, columns_read, resource_back, service_none, placed_none, attributes_back}
+use Rattle.map_zipkin.proofs.TagsBack.{AreFormed, held, tags_back, columns_read, resource_back, service_none, placed_none, attributes_back}
 
 -- ---- lists
 
@@ -88,9 +87,6 @@ code_told statuses.Fail = refl
 
 -- ---- what no fault says
 
-no_reserved : (span : Span) → NoSpanFault span → HasNoReserved span.attributes
-no_reserved span none k is = at_absent k span.attributes (λ there. none (Reserved k) (record { reserved = is; there = there }))
-
 pub all_formed : (span : Span) → NoSpanFault span → AreFormed span.attributes
 all_formed span none own bad =
     let there = own_there own in
@@ -103,22 +99,19 @@ events_plain : (span : Span) → NoSpanFault span → All (λ event. HasDoubleIn
 events_plain span none = none_of (λ event. HasDoubleIn event.attributes) span.events (λ any. none DoubleInText (inr any))
 
 module _ (resource : Pairs) (up : Rise (keys resource)) (one : Scoped Span) (known : IsHeldSpan one) where
-  free : HasNoReserved one.span.attributes
-  free = no_reserved one.span known.no_fault
-
   abbrev its_tags : Pairs
-  its_tags = held resource one up known.sound.attributes.rising free
+  its_tags = held resource one up known.sound.attributes.rising
 
   read_tags : pairs_of (zipkin_span resource one) ≡ its_tags
-  read_tags = tags_back resource one up known.sound.attributes.rising free
+  read_tags = tags_back resource one up known.sound.attributes.rising
 
   read_columns : columns_in its_tags ≡ zipkin_columns_of one
-  read_columns = columns_read resource one up known.sound.attributes.rising free
+  read_columns = columns_read resource one up known.sound.attributes.rising
 
   -- ---- no tag is left out
 
   own_none : (own : Own) → is_some (own_in its_tags own) ≡ false
-  own_none own = ap is_some (placed_none resource one up known.sound.attributes.rising free (own_row own).key (own_apart own) (own_untold own))
+  own_none own = ap is_some (placed_none resource one up known.sound.attributes.rising (own_row own).key (own_apart own) (own_untold own))
 
   told_in : (column : Column) → is_idle_in (zipkin_columns_of one) column ≡ false
   told_in columns.Error = message_told one.span.status.code one.span.status.message
@@ -130,9 +123,9 @@ module _ (resource : Pairs) (up : Rise (keys resource)) (one : Scoped Span) (kno
 
   none_left_out : left_out_by (zipkin_span resource one).remote.service (zipkin_columns_of one) its_tags ≡ []
   none_left_out = λ i. (none_left row_of first_columns (zipkin_columns_of one) told_in i
-      ++ (if_left (resource_prefix ++ service_key) (is_some (service_none resource one up known.sound.attributes.rising free i))
+      ++ (if_left (resource_prefix ++ service_key) (is_some (service_none resource one up known.sound.attributes.rising i))
       ++ if_left (row_of columns.Code).key (told_in columns.Code i)))
-      ++ (if_left peer_key (is_idle_peer (text_or_none (at peer_key one.span.attributes)) (text_in (placed_none resource one up known.sound.attributes.rising free peer_key refl refl i)))
+      ++ (if_left peer_key (is_idle_peer (text_or_none (at peer_key one.span.attributes)) (text_in (placed_none resource one up known.sound.attributes.rising peer_key refl refl i)))
       ++ none_left own_row all_own (own_in its_tags) own_none i)
 
   pub span_plainly : zipkin_left_out (zipkin_span resource one) ≡ []
@@ -152,7 +145,7 @@ module _ (resource : Pairs) (up : Rise (keys resource)) (one : Scoped Span) (kno
     by_columns : (run_by (zipkin_span resource one) (zipkin_columns_of one) its_tags, span_read_by (zipkin_span resource one) (zipkin_columns_of one) its_tags) ≡ normal_one resource one
     by_columns = λ i. (
       record {
-        resource = resource_back resource one up known.sound.attributes.rising free i;
+        resource = resource_back resource one up known.sound.attributes.rising i;
         name = name_back one.name i;
         version = name_back one.version i;
       },
@@ -165,7 +158,7 @@ module _ (resource : Pairs) (up : Rise (keys resource)) (one : Scoped Span) (kno
         kind = kind_back one.span.kind i;
         start = floor one.span.start;
         end = floor one.span.end;
-        attributes = attributes_back resource one up known.sound.attributes.rising free (all_formed one.span known.no_fault) i;
+        attributes = attributes_back resource one up known.sound.attributes.rising (all_formed one.span known.no_fault) i;
         dropped_attributes = count_back one.span.dropped_attributes known.proper.dropped_attributes i;
         events = events_back i;
         dropped_events = count_back one.span.dropped_events known.proper.dropped_events i;

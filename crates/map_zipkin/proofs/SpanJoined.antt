@@ -1,5 +1,5 @@
 -- The run and the span that are read, of their parts.
-use Rattle.std.proofs.Common.{◌≡◌, ℕ, List, [], ◌++◌, map, filter, Option, ap, ◌∙◌, append_assoc}
+use Rattle.std.proofs.Common.{◌≡◌, ℕ, List, [], ◌++◌, map, Option, ap, ◌∙◌, append_assoc}
 use Rattle.trace_model.specs.Attributes.{attrs, at}
 use Rattle.trace_model.specs.declared.span.Event.{Event}
 use Rattle.trace_model.specs.declared.span.Kind.{Kind}
@@ -9,7 +9,7 @@ use Rattle.zipkin_json.specs.declared.span.ZSpan.{ZSpan}
 use Rattle.span_tags.specs.TagWords.{Pairs, row}
 use Rattle.map_zipkin.specs.Keys.{peer_key}
 use Rattle.map_zipkin.specs.private.ReadColumns.{IsZipkinToldBy, ArePartedBy}
-use Rattle.map_zipkin.specs.Reading.{pairs_of, zipkin_event_of, zipkin_kind_read, peer_of, is_free_tag, resource_by, run_by, span_read_by, run_span_of}
+use Rattle.map_zipkin.specs.Reading.{pairs_of, zipkin_event_of, zipkin_kind_read, peer_of, free_pairs, resource_by, run_by, span_read_by, run_span_of}
 use Rattle.map_zipkin.specs.Regrouped.{RunSpan}
 use Rattle.map_zipkin.specs.OwnColumns.{own_rows, own_of}
 use Rattle.map_zipkin.specs.TagColumns.{columns_in}
@@ -44,7 +44,7 @@ module _ (span : ZSpan) (told : Told) (parted : Parted) (events : List Event) (l
       → pairs ≡ row peer_key (peer_of span.remote.service (at peer_key tags)) ++ own_rows (own_of span) → ArePartedBy service pairs tags parted
       → kind ≡ zipkin_kind_read span.kind → links ≡ [] → read ≡ (run_by span (columns_in tags) tags, span_read_by span (columns_in tags) tags)
   groups_joined tags pairs service tells events_are service_is pairs_are parts kind_is no_links =
-      let free : Pairs = filter (λ tag. is_free_tag tag.0) tags in
+      let free : Pairs = free_pairs tags in
       let peer : Pairs = row peer_key (peer_of span.remote.service (at peer_key tags)) in
       let attributes : parted.attributes ≡ attrs (peer ++ (own_rows (own_of span) ++ free)) =
       parts.attributes ∙ ap (λ l. attrs (l ++ free)) pairs_are ∙ ap attrs (append_assoc peer (own_rows (own_of span)) free) in

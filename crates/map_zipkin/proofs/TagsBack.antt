@@ -10,33 +10,28 @@ use Rattle.trace_model.specs.declared.span.Span.{Span}
 use Rattle.trace_model.specs.declared.value.Value.{Value}
 use Rattle.span_tags.specs.laws.AttributeLaws.{same_key, option_or-none, last_at, last_at-append, last_at-rising, attrs_rise, at_attrs, same_pairs, at_filter, filter_rise, on_values, at_map, map_rise, map_attrs}
 use Rattle.span_tags.specs.laws.ColumnLaws.{each_key}
+use Rattle.span_tags.specs.laws.EscapeLaws.{esc_free, escaped_rise, unescaped_rise, escaped_values, at_esc, at_reserved, at_unescaped, NoneReserved}
 use Rattle.span_tags.specs.laws.RowLaws.{last_at-filter}
+use Rattle.span_tags.specs.Escapes.{escaped}
 use Rattle.span_tags.specs.Runs.{Scoped}
 use Rattle.span_tags.specs.TagKeys.{service_key}
 use Rattle.span_tags.specs.TagWords.{Pairs, row, without, text_in, text_given, code_given, text_or_none}
 use Rattle.map_zipkin.specs.Keys.{resource_prefix, resource_key, is_zipkin_reserved, peer_key}
 use Rattle.map_zipkin.specs.Normal.{normal_pairs}
-use Rattle.map_zipkin.specs.Reading.{pair_of, resource_tags, resource_by, peer_of, is_free_tag, attributes_by}
+use Rattle.map_zipkin.specs.Reading.{pair_of, resource_tags, resource_by, peer_of, is_free_tag, free_pairs, attributes_by}
 use Rattle.map_zipkin.specs.OwnColumns.{all_own, own_row, own_form, is_own, own_rows, own_in, own_of}
 use Rattle.map_zipkin.specs.TagColumns.{error_message, row_of, is_column, columns_in, zipkin_columns_of, column_rows}
-use Rattle.map_zipkin.specs.Writing.{as_texts, prefixed, resource_pairs, is_told, told_pairs, zipkin_tag_of, zipkin_tags_of, zipkin_span}
+use Rattle.map_zipkin.specs.Writing.{as_texts, prefixed, resource_pairs, is_told, told_pairs, escaped_pairs, zipkin_tag_of, zipkin_tags_of, zipkin_span}
 use Rattle.map_zipkin.specs.declared.columns.Column.{Column}
 use Rattle.map_zipkin.specs.declared.columns.Column.TheVariants as columns
 use Rattle.map_zipkin.specs.declared.own.Own.{Own}
 use Rattle.map_zipkin.specs.declared.own.Own.TheVariants as owns
 use Rattle.map_zipkin.proofs.ColumnLemmas.{its_key, none_in_rows, AreFree, columns_back, textual, texts_of_columns, texts_in_rows, own_at}
+use Rattle.map_zipkin.proofs.EscapedKeys.{apart, tag_key, placed_stays, free_tag, reserved_not_free}
 use Rattle.map_zipkin.proofs.OwnForms.{text_leaf, count_leaf, IsFormed, truth_back, address_back, port_back, truth_text_leaf, address_leaf, port_leaf}
 use Rattle.map_zipkin.proofs.ResourceTags.{last_at-resource_tags, last_at-prefixed, none_prefixed}
 
 -- ---- options and truth values
-
-none_told : (b : Bool) (o : Option Value) → o ≡ None → option_map textual (cond b o None) ≡ None
-none_told true o e = ap (option_map textual) e
-none_told false o e = refl
-
-none_kept : (b : Bool) (o : Option Value) → o ≡ None → cond b o None ≡ None
-none_kept true o e = e
-none_kept false o e = refl
 
 left_false : (a b : Bool) → (a || b) ≡ false → a ≡ false
 left_false true b e = absurd (true≢false e)
@@ -84,6 +79,10 @@ prefixed_again : (l : Pairs) → on_values textual (map prefixed (as_texts l)) �
 prefixed_again [] = refl
 prefixed_again (p ∷ l) = ap (λ more. (resource_prefix ++ p.0, textual p.1) ∷ more) (prefixed_again l)
 
+escaped_again : (l : Pairs) → on_values textual (escaped_pairs l) ≡ escaped_pairs l
+escaped_again l = escaped_values is_zipkin_reserved textual (told_pairs l)
+    ∙ ap (escaped is_zipkin_reserved) (texts_again (filter (λ attribute. is_told attribute.0) l))
+
 tags_read : (l : Pairs) → map pair_of (map zipkin_tag_of l) ≡ on_values textual l
 tags_read [] = refl
 tags_read (p ∷ l) = ap (λ more. (p.0, textual p.1) ∷ more) (tags_read l)
@@ -92,7 +91,7 @@ tags_read (p ∷ l) = ap (λ more. (p.0, textual p.1) ∷ more) (tags_read l)
 
 -- what is told in them, before it is put in order
 abbrev pub pairs_by : Pairs → Scoped Span → Pairs
-pairs_by resource one = column_rows (zipkin_columns_of one) ++ (resource_pairs resource ++ told_pairs one.span.attributes)
+pairs_by resource one = column_rows (zipkin_columns_of one) ++ (resource_pairs resource ++ escaped_pairs one.span.attributes)
 
 -- those of the columns are
 pub texts_in_columns : (one : Scoped Span) → on_values textual (column_rows (zipkin_columns_of one)) ≡ column_rows (zipkin_columns_of one)
@@ -101,20 +100,16 @@ texts_in_columns one = texts_in_rows (zipkin_columns_of one) ∙ ap column_rows 
 pub pairs_texts : (resource : Pairs) (one : Scoped Span) → on_values textual (pairs_by resource one) ≡ pairs_by resource one
 pairs_texts resource one =
     let each : List ℕ × Value → List ℕ × Value = λ pair. (pair.0, textual pair.1) in
-    map-append each (column_rows (zipkin_columns_of one)) (resource_pairs resource ++ told_pairs one.span.attributes)
+    map-append each (column_rows (zipkin_columns_of one)) (resource_pairs resource ++ escaped_pairs one.span.attributes)
     ∙ (λ i. texts_in_columns one i
-    ++ (map-append each (resource_pairs resource) (told_pairs one.span.attributes)
-    ∙ (λ j. prefixed_again (without service_key resource) j ++ texts_again (filter (λ attribute. is_told attribute.0) one.span.attributes) j)) i)
+    ++ (map-append each (resource_pairs resource) (escaped_pairs one.span.attributes)
+    ∙ (λ j. prefixed_again (without service_key resource) j ++ escaped_again one.span.attributes j)) i)
 
 -- ---- keys
 
 column_unprefixed : (column : Column) → resource_key (row_of column).key ≡ None
 column_unprefixed columns.Error = refl
 column_unprefixed other = refl
-
--- no reserved key stands in these
-abbrev pub HasNoReserved : Pairs → Type 0
-HasNoReserved attributes = (k : List ℕ) → is_zipkin_reserved k ≡ true → at k attributes ≡ None
 
 -- what stands at the own keys is of their forms
 abbrev pub AreFormed : Pairs → Type 0
@@ -127,8 +122,7 @@ own_leaves attributes formed owns.LocalPort = port_leaf (own_in attributes owns.
 own_leaves attributes formed owns.RemotePort = port_leaf (own_in attributes owns.RemotePort) (formed owns.RemotePort)
 own_leaves attributes formed other = address_leaf (own_in attributes other) (formed other)
 
-module _ (resource : Pairs) (one : Scoped Span) (up_resource : Rise (keys resource)) (up : Rise (keys one.span.attributes))
-    (free : HasNoReserved one.span.attributes) where
+module _ (resource : Pairs) (one : Scoped Span) (up_resource : Rise (keys resource)) (up : Rise (keys one.span.attributes)) where
   -- ---- what stands at a key
 
   abbrev others : Pairs
@@ -138,16 +132,22 @@ module _ (resource : Pairs) (one : Scoped Span) (up_resource : Rise (keys resour
   others_rise = map_rise textual (without service_key resource) (filter_rise (λ k. not (bytes_eq service_key k)) resource up_resource)
 
   abbrev told : Pairs
-  told = told_pairs one.span.attributes
+  told = escaped_pairs one.span.attributes
 
-  last_in_told : (k : List ℕ) → last_at k told ≡ option_map textual (cond (is_told k) (at k one.span.attributes) None)
+  told_rise : Rise (keys told)
+  told_rise = escaped_rise is_zipkin_reserved (told_pairs one.span.attributes)
+
+  -- an attribute stands under the key of its tag
+  last_in_told : (k : List ℕ) → last_at (tag_key k) told ≡ option_map textual (cond (is_told k) (at k one.span.attributes) None)
   last_in_told k =
-      last_at-rising k told (map_rise textual (filter (λ attribute. is_told attribute.0) one.span.attributes) (filter_rise is_told one.span.attributes up))
-      ∙ at_map textual k (filter (λ attribute. is_told attribute.0) one.span.attributes)
+      let others = filter (λ attribute. is_told attribute.0) one.span.attributes in
+      last_at-rising (tag_key k) told told_rise
+      ∙ at_esc is_zipkin_reserved (told_pairs one.span.attributes) k (map_rise textual others (filter_rise is_told one.span.attributes up))
+      ∙ at_map textual k others
       ∙ ap (option_map textual) (at_filter k is_told one.span.attributes)
 
   none_reserved : (k : List ℕ) → is_zipkin_reserved k ≡ true → last_at k told ≡ None
-  none_reserved k is = last_in_told k ∙ none_told (is_told k) (at k one.span.attributes) (free k is)
+  none_reserved k is = last_at-rising k told told_rise ∙ at_reserved is_zipkin_reserved apart (told_pairs one.span.attributes) k is
 
   abbrev rest : Pairs
   rest = resource_pairs resource ++ told
@@ -229,7 +229,11 @@ module _ (resource : Pairs) (one : Scoped Span) (up_resource : Rise (keys resour
 
   -- nor has a key with a place of its own
   pub placed_none : (k : List ℕ) → is_zipkin_reserved k ≡ false → is_told k ≡ false → at k held ≡ None
-  placed_none k e f = at_held k e ∙ last_in_told k ∙ ap (λ b. option_map textual (cond b (at k one.span.attributes) None)) f
+  placed_none k e f =
+      at_held k e
+      ∙ ap (λ q. last_at q told) (sym (placed_stays k f))
+      ∙ last_in_told k
+      ∙ ap (λ b. option_map textual (cond b (at k one.span.attributes) None)) f
 
   abbrev peer : List ℕ
   peer = text_or_none (at peer_key one.span.attributes)
@@ -254,28 +258,37 @@ module _ (resource : Pairs) (one : Scoped Span) (up_resource : Rise (keys resour
         back owns.RemotePort = port_back (own_in one.span.attributes owns.RemotePort) (formed owns.RemotePort)
         back other = address_back (own_in one.span.attributes other) (formed other)
 
-    read_by : (k : List ℕ) (r o p : Bool) → is_zipkin_reserved k ≡ r → is_own k ≡ o → bytes_eq peer_key k ≡ p
-        → option_or (cond (not (r || (o || p))) (at k held) None) (cond o (at k one.span.attributes) None) ≡ option_map textual (cond (not p) (at k one.span.attributes) None)
-    read_by k true o p is own is_peer =
-        none_kept o (at k one.span.attributes) (free k is) ∙ sym (none_told (not p) (at k one.span.attributes) (free k is))
-    read_by k false true true is own is_peer = absurd (true≢false (sym own ∙ ap is_own (sym (same_key peer_key k is_peer))))
-    read_by k false true false is own is_peer =
+    -- what stands at a key as its tag does
+    abbrev kept_at : List ℕ → Bool → Option Value
+    kept_at k told_is = option_map textual (cond told_is (at k one.span.attributes) None)
+
+    none_free : NoneReserved is_zipkin_reserved (filter (λ tag. is_free_tag tag.0) held)
+    none_free q is = at_filter q is_free_tag held ∙ ap (λ b. cond b (at q held) None) (reserved_not_free q is)
+
+    free_at : (k : List ℕ) → last_at k (free_pairs held) ≡ cond (is_told k) (kept_at k (is_told k)) None
+    free_at k =
+        let tags = filter (λ tag. is_free_tag tag.0) held in
+        last_at-rising k (free_pairs held) (unescaped_rise is_zipkin_reserved tags)
+        ∙ at_unescaped is_zipkin_reserved tags k (filter_rise is_free_tag held (attrs_rise pairs)) none_free
+        ∙ at_filter (tag_key k) is_free_tag held
+        ∙ (λ i. cond (free_tag k i) ((at_held (tag_key k) (esc_free is_zipkin_reserved apart k) ∙ last_in_told k) i) None)
+
+    read_by : (k : List ℕ) (o p : Bool) → is_own k ≡ o → bytes_eq peer_key k ≡ p
+        → option_or (cond (not (o || p)) (kept_at k (not (o || p))) None) (cond o (at k one.span.attributes) None) ≡ kept_at k (not p)
+    read_by k true true own is_peer = absurd (true≢false (sym own ∙ ap is_own (sym (same_key peer_key k is_peer))))
+    read_by k true false own is_peer =
         sym (each_key own_row (λ q. option_map textual (at q one.span.attributes) ≡ at q one.span.attributes) all_own (own_leaves one.span.attributes formed) k own)
-    read_by k false false true is own is_peer = refl
-    read_by k false false false is own is_peer =
-        let free_key : is_told k ≡ true = λ i. not (own i || is_peer i) in
-        option_or-none (at k held) ∙ at_held k is ∙ last_in_told k ∙ ap (λ b. option_map textual (cond b (at k one.span.attributes) None)) free_key
+    read_by k false true own is_peer = refl
+    read_by k false false own is_peer = option_or-none (option_map textual (at k one.span.attributes))
 
     abbrev read : Pairs
-    read = own_rows (own_of (zipkin_span resource one)) ++ filter (λ tag. is_free_tag tag.0) held
+    read = own_rows (own_of (zipkin_span resource one)) ++ free_pairs held
 
     read_at : (k : List ℕ) → last_at k read ≡ last_at k (as_texts (without peer_key one.span.attributes))
     read_at k =
-        last_at-append k (own_rows (own_of (zipkin_span resource one))) (filter (λ tag. is_free_tag tag.0) held)
-        ∙ (λ i. option_or
-        ((last_at-filter k is_free_tag held ∙ ap (λ o. cond (is_free_tag k) o None) (last_at-rising k held (attrs_rise pairs))) i)
-        ((ap (λ c. last_at k (own_rows c)) own_back ∙ own_at k one.span.attributes) i))
-        ∙ read_by k (is_zipkin_reserved k) (is_own k) (bytes_eq peer_key k) refl refl refl
+        last_at-append k (own_rows (own_of (zipkin_span resource one))) (free_pairs held)
+        ∙ (λ i. option_or (free_at k i) ((ap (λ c. last_at k (own_rows c)) own_back ∙ own_at k one.span.attributes) i))
+        ∙ read_by k (is_own k) (bytes_eq peer_key k) refl refl
         ∙ sym (normal_at k)
 
     pub attributes_back : attributes_by (zipkin_span resource one) held ≡ normal_pairs peer_key one.span.attributes

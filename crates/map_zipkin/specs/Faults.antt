@@ -1,23 +1,17 @@
 -- What Zipkin can't hold of a group.
-use Rattle.std.specs.Prelude.{◌≡◌, ℕ, ◌<◌, ◌⊎◌, true, false, List, [], Any, Contains, Bool, Option, Some, None}
+use Rattle.std.specs.Prelude.{◌≡◌, ℕ, ◌<◌, ◌⊎◌, true, false, List, [], Any, Bool, Option, Some, None}
 use Rattle.span_tags.specs.PlacedFaults.{CountsBy}
 use Rattle.span_tags.specs.TagWords.{Pairs}
-use Rattle.trace_model.specs.Attributes.{keys, at}
+use Rattle.trace_model.specs.Attributes.{at}
 use Rattle.trace_model.specs.EventTexts.{IsEventText}
 use Rattle.trace_model.specs.ValueTexts.{has_double}
 use Rattle.trace_model.specs.declared.fault.Fault.{Fault}
-use Rattle.trace_model.specs.declared.fault.Fault.TheVariants.{EndBeforeStart, Reserved, OwnKey, EventText, ChildOfLink, DoubleInText}
+use Rattle.trace_model.specs.declared.fault.Fault.TheVariants.{EndBeforeStart, OwnKey, EventText, ChildOfLink, DoubleInText}
 use Rattle.trace_model.specs.declared.span.Event.{Event}
 use Rattle.trace_model.specs.declared.span.Span.{Span}
 use Rattle.trace_model.specs.declared.trace.Group.{Group}
 use Rattle.trace_model.specs.declared.value.Value.{Value}
-use Rattle.map_zipkin.specs.Keys.{is_zipkin_reserved}
 use Rattle.map_zipkin.specs.OwnColumns.{own_forms}
-
--- an attribute of the span has a reserved key
-pub record HasReservedKey (span : Span) (key : List ℕ) : Type 0 where
-  pub reserved : is_zipkin_reserved key ≡ true
-  pub there : Contains (keys span.attributes) key
 
 -- the attribute of a key of Zipkin's own isn't of its form
 abbrev pub IsOutOfForm : (Value → Bool) → Option Value → Type 0
@@ -40,7 +34,6 @@ HasDoubleIn attributes = Any (λ attribute. has_double attribute.1 ≡ true) att
 
 abbrev pub IsZipkinSpanFault : Span → Fault → Type 0
 IsZipkinSpanFault span EndBeforeStart = span.end < span.start
-IsZipkinSpanFault span (Reserved key) = HasReservedKey span key
 IsZipkinSpanFault span (OwnKey key) = HasOwnKey span key
 IsZipkinSpanFault span EventText = Any IsToldWrong span.events
 IsZipkinSpanFault span ChildOfLink = ⊥

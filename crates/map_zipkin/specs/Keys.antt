@@ -1,5 +1,5 @@
--- The keys of tags to which the OpenTelemetry exporter page for Zipkin gives a meaning of their own, so that no attribute may stand under
--- them, and that of the service at the other end.
+-- The keys of tags to which the OpenTelemetry exporter page for Zipkin gives a meaning of their own, so that attributes of a span are written
+-- under others in place of them, and that of the service at the other end.
 use Rattle.std.specs.Prelude.{ℕ, Bool, ◌||◌, if◌then◌else◌, is_some, List, take, drop, Option, Some, None, codes}
 use Rattle.std.specs.Str.{bytes_eq}
 use Rattle.map_zipkin.specs.TagColumns.{is_column}

@@ -8,7 +8,6 @@ use Rattle.trace_model.specs.EventReading.{event_text_read}
 use Rattle.trace_model.specs.ValueTexts.{has_double}
 use Rattle.trace_model.specs.declared.span.Event.{Event}
 use Rattle.trace_model.specs.declared.value.Value.{Value}
-use Rattle.map_zipkin.specs.Keys.{is_zipkin_reserved}
 use Rattle.map_zipkin.specs.OwnColumns.{own_forms}
 
 abbrev pub is_out_of_form : (Value → Bool) → Option Value → Bool
@@ -28,8 +27,6 @@ is_told_wrong event = is_bare event.attributes && is_some (event_text_read event
 
 abbrev pub zipkin_faults : FaultTable
 zipkin_faults = record {
-  is_reserved = is_zipkin_reserved;
-  reserved_in = λ events. None;
   own_key = λ attributes. out_of_form attributes own_forms;
   has_event_fault = λ events. list_any is_told_wrong events;
   has_link_fault = λ span. false;

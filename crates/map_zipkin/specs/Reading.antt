@@ -1,8 +1,10 @@
 -- What a span of Zipkin means (OpenTelemetry exporter page for Zipkin, read backwards; Zipkin v2 API): a span of a run. Its tags are attributes,
--- all of them texts, but for those of the resource and of the reserved keys; its endpoints and marks stand under keys of Zipkin's own.
+-- all of them texts, but for those of the resource and of the reserved keys; one behind copies of the front, whose key is reserved without
+-- them, stands behind one copy fewer. Its endpoints and marks stand under keys of Zipkin's own.
 use Rattle.std.specs.Prelude.{ℕ, Bool, not, ◌||◌, if◌then◌else◌, List, [], ◌∷◌, ◌++◌, map, filter, Option, Some, None, option_and_then, unwrap_or, is_some}
 use Rattle.std.specs.Option.{option_or}
 use Rattle.std.specs.Str.{bytes_eq}
+use Rattle.span_tags.specs.Escapes.{unescaped}
 use Rattle.span_tags.specs.TagKeys.{service_key}
 use Rattle.span_tags.specs.TagWords.{Pairs, row, without, text_in, count_in, code_in, name_in, text_given}
 use Rattle.trace_model.specs.Attributes.{attrs, at}
@@ -70,9 +72,13 @@ peer_of service tag = option_or (text_given service) (option_and_then text_given
 abbrev pub is_free_tag : List ℕ → Bool
 is_free_tag key = not (is_zipkin_reserved key || (is_own key || bytes_eq peer_key key))
 
+-- the tags that are attributes, under the keys that they have as such
+abbrev pub free_pairs : Pairs → Pairs
+free_pairs tags = unescaped is_zipkin_reserved (filter (λ tag. is_free_tag tag.0) tags)
+
 abbrev pub attributes_by : ZSpan → Pairs → Pairs
 attributes_by span tags =
-    attrs (row peer_key (peer_of span.remote.service (at peer_key tags)) ++ (own_rows (own_of span) ++ filter (λ tag. is_free_tag tag.0) tags))
+    attrs (row peer_key (peer_of span.remote.service (at peer_key tags)) ++ (own_rows (own_of span) ++ free_pairs tags))
 
 -- ---- events: an annotation is an event text, or a name alone
 

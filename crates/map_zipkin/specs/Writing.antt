@@ -1,8 +1,10 @@
 -- The spans of Zipkin of a group (OpenTelemetry exporter page for Zipkin; Zipkin v2 API), where nothing in it is a fault. Tags stand by rising
--- keys, and each value is told as its text.
+-- keys, and each value is told as its text. An attribute of a span whose key is reserved, behind copies of the front or not, stands behind one
+-- copy more.
 use Rattle.std.specs.Prelude.{ℕ, Bool, not, ◌||◌, is_some, List, ◌++◌, map, filter}
 use Rattle.std.specs.Str.{bytes_eq}
 use Rattle.span_ids.specs.Times.{floor}
+use Rattle.span_tags.specs.Escapes.{escaped}
 use Rattle.span_tags.specs.Runs.{Scoped, scoped}
 use Rattle.span_tags.specs.TagKeys.{service_key}
 use Rattle.span_tags.specs.TagWords.{Pairs, without, text_or_none}
@@ -19,7 +21,7 @@ use Rattle.zipkin_json.specs.declared.span.Endpoint.{Endpoint}
 use Rattle.zipkin_json.specs.declared.span.ZKind.{ZKind}
 use Rattle.zipkin_json.specs.declared.span.ZKind.TheVariants as zkinds
 use Rattle.zipkin_json.specs.declared.span.ZSpan.{ZSpan}
-use Rattle.map_zipkin.specs.Keys.{resource_prefix, peer_key}
+use Rattle.map_zipkin.specs.Keys.{resource_prefix, is_zipkin_reserved, peer_key}
 use Rattle.map_zipkin.specs.OwnColumns.{OwnColumns, is_own, own_in}
 use Rattle.map_zipkin.specs.TagColumns.{column_rows, zipkin_columns_of, text_told, port_told}
 use Rattle.map_zipkin.specs.declared.own.Own.TheVariants as owns
@@ -54,12 +56,16 @@ is_told key = not (is_own key || bytes_eq peer_key key)
 abbrev pub told_pairs : Pairs → Pairs
 told_pairs attributes = as_texts (filter (λ attribute. is_told attribute.0) attributes)
 
+-- under the keys by which they are written
+abbrev pub escaped_pairs : Pairs → Pairs
+escaped_pairs attributes = escaped is_zipkin_reserved (told_pairs attributes)
+
 -- a tag is a text
 abbrev pub zipkin_tag_of : List ℕ × Value → List ℕ × List ℕ
 zipkin_tag_of pair = (pair.0, value_text pair.1)
 
 abbrev pub zipkin_tags_of : Pairs → Scoped Span → List (List ℕ × List ℕ)
-zipkin_tags_of resource one = map zipkin_tag_of (attrs (column_rows (zipkin_columns_of one) ++ (resource_pairs resource ++ told_pairs one.span.attributes)))
+zipkin_tags_of resource one = map zipkin_tag_of (attrs (column_rows (zipkin_columns_of one) ++ (resource_pairs resource ++ escaped_pairs one.span.attributes)))
 
 -- ---- endpoints and annotations
 

@@ -1,13 +1,13 @@
 //! What Zipkin can't hold of a group.
-ghost use Rattle.std.specs.Prelude.{◌≡◌, is_some, option_map, IfOk};
+ghost use Rattle.std.specs.Prelude.{◌≡◌, is_some, option_map, IfOk, OnErr};
 ghost use Rattle.trace_model.specs.EventReading.{event_text_read};
 ghost use Rattle.trace_model.specs.Soundness.{IsSoundGroup};
+ghost use Rattle.span_tags.specs.PlacedFaults.{MayWantMemory};
 ghost use Rattle.span_tags.specs.TagWords as tags;
 ghost use Rattle.map_zipkin.specs.Faults.{IsZipkinFaultOf, IsZipkinResourceFault, IsZipkinSpanFault};
 ghost use Rattle.map_zipkin.specs.LeastZipkinFault as least;
 ghost use Rattle.map_zipkin.specs.OwnColumns as columns;
 
-use crate::keys;
 use crate::own::{OWN_KEYS, Own, own_held, own_part};
 use span_io::{Items, OutOfMemory, Text};
 use span_tags::{Faults, decimal_in, fault_in_group};
@@ -117,14 +117,6 @@ impl Faults for Zipkin {
 
     ghost table = { least.zipkin_faults };
 
-    fn is_reserved(key: &str) -> bool {
-        keys::is_reserved(key)
-    }
-
-    fn reserved_in(_: &Items<Event>) -> Option<&'static str> {
-        None
-    }
-
     fn own_key(attributes: &Attrs) -> Option<&'static str> {
         let part = own_part(attributes);
         if part.len() == 0 {
@@ -159,7 +151,9 @@ impl Faults for Zipkin {
 /// for Zipkin).
 pub fn fault_of_group(alloc: Global, group: &Group) -> Result<Option<Fault>, OutOfMemory>
     requires sound { IsSoundGroup group.now }
-    ensures { IfOk result (λ fault. IsZipkinFaultOf group.now fault) }
+    ensures judged { IfOk result (λ fault. IsZipkinFaultOf group.now fault) }
+    // A double in the resource, or a first span that ends before its start, takes no memory.
+    ensures wants { OnErr result (MayWantMemory IsZipkinResourceFault IsZipkinSpanFault group.now) }
 {
     trace_model::laws::event_texts_exact();
     fault_in_group::<Zipkin>(alloc, group)

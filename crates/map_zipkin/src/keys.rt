@@ -8,6 +8,7 @@ ghost use Rattle.map_zipkin.specs.Writing as written;
 
 use crate::columns::is_column;
 use crate::own::{OWN_KEYS, is_key_of, may_be_own};
+use span_tags::Reserves;
 use trace_model::Attrs;
 
 /// The key of the resource's attribute, behind the prefix.
@@ -24,11 +25,15 @@ fn may_be_reserved(key: &str) -> bool
     matches!(key.as_bytes(), [b'e' | b'o' | b'w', ..])
 }
 
-/// Whether no attribute of a span may have the key.
-pub(crate) fn is_reserved(key: &str) -> bool
-    ensures { result ≡ told.is_zipkin_reserved key.now }
-{
-    may_be_reserved(key) && (is_column(key) || resource_key(key).is_some())
+/// The keys that are reserved on a span.
+pub(crate) struct Spans;
+
+impl Reserves for Spans {
+    ghost reserved = { told.is_zipkin_reserved };
+
+    fn is_reserved(key: &str) -> bool {
+        may_be_reserved(key) && (is_column(key) || resource_key(key).is_some())
+    }
 }
 
 /// Whether one of the tags may stand under a reserved key. Those of most spans don't.
@@ -61,5 +66,5 @@ pub(crate) fn is_told(key: &str) -> bool
 pub(crate) fn is_free(key: &str) -> bool
     ensures { result ≡ meant.is_free_tag key.now }
 {
-    !is_reserved(key) && is_told(key)
+    !Spans::is_reserved(key) && is_told(key)
 }

@@ -1,7 +1,10 @@
 //! Laws of the table, as contracts of functions that do nothing.
+ghost use Rattle.span_tags.specs.Escapes.{KeysReadBack};
+ghost use Rattle.map_zipkin.specs.Keys.{is_zipkin_reserved};
 ghost use Rattle.map_zipkin.specs.StatedLaws.{GroupsNoted, NothingLost, LossesMean, Regroupings, SpansReadBack, WrittenIsWritable, ReadIsHeld, ReadIsZipkinNormal, ZipkinNormalForms, ZipkinFaultsFound};
 
 use crate::faults::Zipkin;
+use crate::keys::Spans;
 
 /// Spans that are regrouped are the same spans, in order, in plain groups; and they are regrouped as
 /// before.
@@ -89,4 +92,11 @@ pub fn losses_mean()
     ensures { LossesMean }
 {
     trace_model::laws::texts_for_bytes();
+}
+
+/// No attribute of a span is written under a reserved key, no two under one, and each key is read back.
+pub fn keys_read_back()
+    ensures { KeysReadBack is_zipkin_reserved }
+{
+    span_tags::laws::keys_read_back::<Spans>();
 }

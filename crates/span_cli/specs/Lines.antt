@@ -55,7 +55,6 @@ usage_line = codes "usage: spanx convert|losses|show|check|headers|gauge|serve O
 
 -- the faults that tell a key
 abbrev pub HasKey : Fault → Type 0
-HasKey (faults.Reserved key) = Unit {0}
 HasKey (faults.OwnKey key) = Unit {0}
 HasKey faults.EndBeforeStart = ⊥
 HasKey faults.EventText = ⊥

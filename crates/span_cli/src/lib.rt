@@ -15,4 +15,5 @@ mod serve_words;
 mod top;
 
 pub use command::{Command, read_words};
+pub use note::note_more;
 pub use top::run;

@@ -135,7 +135,7 @@ fn note_pieces<N: Sink>(notes: &mut N, pieces: &[&[u8]])
 }
 
 /// Notes pieces one after the other, where no note has failed, and answers whether none has then.
-pub(crate) fn note_more<N: Sink>(notes: &mut N, holds: bool, pieces: &[&[u8]]) -> bool
+pub fn note_more<N: Sink>(notes: &mut N, holds: bool, pieces: &[&[u8]]) -> bool
     ensures { NotesMore holds result (N.outlet notes.old) (N.outlet notes.new) (pieces_text pieces.now) }
 {
     gains_then();

@@ -54,7 +54,7 @@ fn key_of(alloc: Global, fault: &Fault) -> Result<Option<Blob>, OutOfMemory>
     ensures wants { IsErr result → HasKey fault.now }
 {
     match fault {
-        Fault::Reserved(key) | Fault::OwnKey(key) => match json_of(alloc, key.as_str()) {
+        Fault::OwnKey(key) => match json_of(alloc, key.as_str()) {
             Ok(key) => Ok(Some(key)),
             Err(OutOfMemory) => Err(OutOfMemory),
         },

@@ -8,7 +8,7 @@ use Rattle.std.specs.declared.cmp.Ordering.TheVariants.{Less, Equal, Greater}
 use Rattle.std.proofs.lemmas.Cmp.{nat_list_cmp_total}
 use Rattle.trace_model.specs.Faults.{fault_number}
 use Rattle.trace_model.specs.declared.fault.Fault.{Fault}
-use Rattle.trace_model.specs.declared.fault.Fault.TheVariants.{EndBeforeStart, Reserved, OwnKey, EventText, ChildOfLink, DoubleInText}
+use Rattle.trace_model.specs.declared.fault.Fault.TheVariants.{EndBeforeStart, OwnKey, EventText, ChildOfLink, DoubleInText}
 use Rattle.trace_model.specs.declared.span.Span.{Span}
 use Rattle.trace_model.specs.declared.trace.Group.{Group}
 use Rattle.trace_model.specs.declared.value.Value.{Value}
@@ -18,7 +18,6 @@ use Rattle.span_tags.specs.PlacedFaults.{FaultAtMost, key_in, CountsBy}
 
 same_fault : (a b : Fault) → fault_number a ≡ fault_number b → key_in a ≡ key_in b → a ≡ b
 same_fault EndBeforeStart EndBeforeStart number key = refl
-same_fault (Reserved one) (Reserved other) number key = ap Reserved key
 same_fault (OwnKey one) (OwnKey other) number key = ap OwnKey key
 same_fault EventText EventText number key = refl
 same_fault ChildOfLink ChildOfLink number key = refl

@@ -18,7 +18,6 @@ refusal_line refusal =
 
 -- a key is told as a JSON string (RFC 8259, section 7)
 abbrev pub key_part : Fault → List ℕ
-key_part (faults.Reserved key) = codes " " ++ print (string key ∷ [])
 key_part (faults.OwnKey key) = codes " " ++ print (string key ∷ [])
 key_part faults.EndBeforeStart = []
 key_part faults.EventText = []

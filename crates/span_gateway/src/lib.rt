@@ -11,4 +11,5 @@ mod serve;
 mod whole;
 
 pub use ended::{Ended, ServeFault};
+pub use note_lines::{append_pieces, key_of};
 pub use serve::serve_connection;

@@ -57,12 +57,12 @@ pub(crate) fn write_fault(
     )
 }
 
-// A space and the key of a fault that has one, as a JSON string, or nothing.
-fn key_of(alloc: Global, fault: &Fault) -> Result<Blob, OutOfMemory>
+/// A space and the key of a fault that has one, as a JSON string, or nothing.
+pub fn key_of(alloc: Global, fault: &Fault) -> Result<Blob, OutOfMemory>
     ensures { IfOk result (λ key. key ≡ key_part fault.now) }
 {
     match fault {
-        Fault::Reserved(key) | Fault::OwnKey(key) => json_of(alloc, key.as_str()),
+        Fault::OwnKey(key) => json_of(alloc, key.as_str()),
         Fault::EndBeforeStart | Fault::EventText | Fault::ChildOfLink | Fault::DoubleInText => {
             Ok(Blob::new(alloc))
         }
@@ -81,8 +81,8 @@ fn json_of(alloc: Global, text: &str) -> Result<Blob, OutOfMemory>
     Ok(json)
 }
 
-// Appends pieces, one after the other.
-fn append_pieces(out: &mut Blob, pieces: &[&[u8]]) -> Result<(), OutOfMemory>
+/// Appends pieces, one after the other.
+pub fn append_pieces(out: &mut Blob, pieces: &[&[u8]]) -> Result<(), OutOfMemory>
     ensures { OnOk result (out.new ≡ out.old ++ pieces_text pieces.now) }
 {
     'pieces: for piece in pieces {

@@ -1,23 +1,22 @@
 -- What Zipkin leaves of a span that both can hold is no fault of Jaeger.
-use Rattle.std.proofs.Common.{◌≡◌, ℕ, ◌<◌, true, List, [], map, Contains, Option, Some, None, option_map, refl, sym, ap, ◌∙◌, subst, ⊎_elim, inr, arith}
+use Rattle.std.proofs.Common.{◌≡◌, ℕ, ◌<◌, true, List, [], map, Contains, Option, Some, None, option_map, refl, sym, ap, ◌∙◌, ⊎_elim, inr, arith}
 use Rattle.std.specs.Prelude.{Any}
 use Rattle.std.proofs.lemmas.List.Folds.{Any-from_list_any, list_any-from_Any}
 use Rattle.span_ids.specs.Times.{floor}
 use Rattle.trace_model.specs.Attributes.{Rise, keys, at}
-use Rattle.trace_model.specs.EventTexts.{holds_double, bytes_as_texts, with_texts}
+use Rattle.trace_model.specs.EventTexts.{holds_double, with_texts}
 use Rattle.trace_model.specs.ValueTexts.{has_double}
 use Rattle.trace_model.specs.declared.fault.Fault.{Fault}
-use Rattle.trace_model.specs.declared.fault.Fault.TheVariants.{EndBeforeStart, Reserved, OwnKey, EventText, ChildOfLink, DoubleInText}
+use Rattle.trace_model.specs.declared.fault.Fault.TheVariants.{EndBeforeStart, OwnKey, EventText, ChildOfLink, DoubleInText}
 use Rattle.trace_model.specs.declared.span.Event.{Event}
 use Rattle.trace_model.specs.declared.span.Span.{Span}
 use Rattle.trace_model.specs.declared.value.Value.{Value, Text, List', Map'}
-use Rattle.span_tags.specs.laws.AttributeLaws.{keys_map}
 use Rattle.span_tags.specs.laws.LeastRows.{any_none}
 use Rattle.span_tags.specs.TagKeys.{service_key}
 use Rattle.span_tags.specs.TagWords.{Pairs}
 use Rattle.span_tags.specs.laws.FaultLaws.{plain_span}
 use Rattle.map_jaeger.specs.ColumnWords.{flags_in}
-use Rattle.map_jaeger.specs.Faults.{HasReserved, in_span, in_event, IsOwnParent, HasDoubleInside, HasDouble, HasDoubleAt, IsSpanFault, IsResourceFault}
+use Rattle.map_jaeger.specs.Faults.{IsOwnParent, HasDoubleInside, HasDouble, HasDoubleAt, IsSpanFault, IsResourceFault}
 use Rattle.map_jaeger.specs.Keys.{flags_key}
 use Rattle.map_zipkin.specs.Faults.{HasDoubleIn, IsZipkinSpanFault}
 use Rattle.map_zipkin.specs.Keys.{peer_key}
@@ -60,13 +59,6 @@ event_doubles stay attributes (k, pair, lt, there, inside) =
 
 module _ (span : Span) (up : Rise (keys span.attributes)) (jaeger : (fault : Fault) → IsSpanFault span fault → ⊥)
     (zipkin : (fault : Fault) → IsZipkinSpanFault span fault → ⊥) (stay : DoublesStay) where
-  -- keys stay
-  not_reserved : (key : List ℕ) → HasReserved (zipkin_normal_span span) key → ⊥
-  not_reserved key (in_span is there) = jaeger (Reserved key) (in_span is (left_key peer_key span.attributes up key there))
-  not_reserved key (in_event same any) = jaeger (Reserved key) (in_event same
-      (any_back (λ event. Contains (keys event.attributes) key) (λ event. Contains (keys event.attributes) key) zipkin_normal_event
-      (λ event there. subst (λ ks. Contains ks key) (keys_map bytes_as_texts event.attributes) there) span.events any))
-
   not_own : Contains (keys (normal_pairs peer_key span.attributes)) flags_key → flags_in (at flags_key (normal_pairs peer_key span.attributes)) ≡ None → ⊥
   not_own there none = jaeger (OwnKey flags_key) (
     refl,
@@ -80,7 +72,6 @@ module _ (span : Span) (up : Rise (keys span.attributes)) (jaeger : (fault : Fau
 
   pub no_jaeger_fault : (fault : Fault) → IsSpanFault (zipkin_normal_span span) fault → ⊥
   no_jaeger_fault EndBeforeStart early = jaeger EndBeforeStart (floor_below span.end span.start early)
-  no_jaeger_fault (Reserved key) has = not_reserved key has
   no_jaeger_fault (OwnKey key) has = not_own has.1 has.2
   no_jaeger_fault EventText has = has
   no_jaeger_fault ChildOfLink any = any_none (IsOwnParent (zipkin_normal_span span)) any
@@ -104,8 +95,6 @@ resource_no_jaeger_fault resource other is = is
 
 pub plain_for_jaeger : (fault : Fault) → IsSpanFault plain_span fault → ⊥
 plain_for_jaeger EndBeforeStart is = omega (arith, is)
-plain_for_jaeger (Reserved key) (in_span is there) = omega (arith, there.1)
-plain_for_jaeger (Reserved key) (in_event same any) = any_none (λ (event : Event). Contains (keys event.attributes) key) any
 plain_for_jaeger (OwnKey key) is = omega (arith, is.1.1)
 plain_for_jaeger EventText is = is
 plain_for_jaeger ChildOfLink is = any_none (IsOwnParent plain_span) is

@@ -1,16 +1,16 @@
 -- What Jaeger leaves of a span or resource in which Zipkin finds no fault is no fault of Zipkin.
-use Rattle.std.proofs.Common.{◌≡◌, ℕ, Bool, true, false, List, [], ◌∷◌, ◌++◌, map, All, Contains, Option, Some, None, option_map, refl, sym, subst, ⊎_elim, inl, inr, true≢false, arith}
+use Rattle.std.proofs.Common.{◌≡◌, ℕ, Bool, true, false, List, [], ◌∷◌, ◌++◌, map, All, Option, Some, None, option_map, refl, sym, subst, ⊎_elim, inl, inr, true≢false, arith}
 use Rattle.std.specs.Prelude.{Any, not}
 use Rattle.std.specs.Str.{bytes_eq}
 use Rattle.std.proofs.lemmas.List.Elements.{All-nil, All-cons, All-append, All-contains, All-filter, All-from_recursion, All-map, All-weaker}
 use Rattle.trace_model.specs.Attributes.{at}
 use Rattle.trace_model.specs.ValueTexts.{has_double}
 use Rattle.trace_model.specs.declared.fault.Fault.{Fault}
-use Rattle.trace_model.specs.declared.fault.Fault.TheVariants.{EndBeforeStart, Reserved, OwnKey, EventText, ChildOfLink, DoubleInText}
+use Rattle.trace_model.specs.declared.fault.Fault.TheVariants.{EndBeforeStart, OwnKey, EventText, ChildOfLink, DoubleInText}
 use Rattle.trace_model.specs.declared.span.Event.{Event}
 use Rattle.trace_model.specs.declared.span.Span.{Span}
 use Rattle.trace_model.specs.declared.value.Value.{Value, Text, Eight}
-use Rattle.span_tags.specs.laws.AttributeLaws.{all_attrs, at_map, keys_map}
+use Rattle.span_tags.specs.laws.AttributeLaws.{all_attrs, at_map}
 use Rattle.span_tags.specs.laws.LeastRows.{any_none}
 use Rattle.span_tags.specs.TagKeys.{service_key}
 use Rattle.span_tags.specs.TagWords.{Pairs, row, without, text_given, text_or_none}
@@ -103,8 +103,6 @@ doubles_before attributes double = any_back IsDoublePair IsDoublePair normal_att
 module _ (span : Span) (zipkin : (fault : Fault) → IsZipkinSpanFault span fault → ⊥) where
   pub no_zipkin_fault : (fault : Fault) → IsZipkinSpanFault (normal_span span) fault → ⊥
   no_zipkin_fault EndBeforeStart early = zipkin EndBeforeStart (floor_below span.end span.start early)
-  no_zipkin_fault (Reserved key) has = zipkin (Reserved key)
-      (record { reserved = has.reserved; there = subst (λ ks. Contains ks key) (keys_map normal_value span.attributes) has.there })
   no_zipkin_fault (OwnKey key) has = zipkin (OwnKey key) (own_key span key has)
   no_zipkin_fault EventText any = zipkin EventText (any_back IsToldWrong IsToldWrong normal_event told_wrong span.events any)
   no_zipkin_fault ChildOfLink has = has
@@ -145,7 +143,6 @@ resource_no_zipkin_fault resource plain other is = is
 
 pub plain_for_zipkin : (fault : Fault) → IsZipkinSpanFault plain_span fault → ⊥
 plain_for_zipkin EndBeforeStart is = omega (arith, is)
-plain_for_zipkin (Reserved key) is = let there = is.there in omega (arith, there.1)
 plain_for_zipkin (OwnKey key) (k, own, lt, there, here) = here.1
 plain_for_zipkin EventText is = any_none IsToldWrong is
 plain_for_zipkin ChildOfLink is = is

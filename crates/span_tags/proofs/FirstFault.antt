@@ -8,7 +8,7 @@ use Rattle.trace_model.specs.Faults.{fault_number}
 use Rattle.trace_model.specs.LeastOf.{IsLeastOf}
 use Rattle.trace_model.specs.Soundness.{IsSoundSpan, IsSoundScope, IsSoundGroup}
 use Rattle.trace_model.specs.declared.fault.Fault.{Fault}
-use Rattle.trace_model.specs.declared.fault.Fault.TheVariants.{EndBeforeStart, Reserved, OwnKey, EventText, ChildOfLink, DoubleInText}
+use Rattle.trace_model.specs.declared.fault.Fault.TheVariants.{EndBeforeStart, OwnKey, EventText, ChildOfLink, DoubleInText}
 use Rattle.trace_model.specs.declared.span.Span.{Span}
 use Rattle.trace_model.specs.declared.trace.Group.{Group}
 use Rattle.trace_model.specs.declared.trace.Scope.{Scope}
@@ -58,13 +58,13 @@ record Leads (n : ℕ) (Told : Fault → Type 0) (found : Option Fault) : Type 0
   begins : (f : Fault) → Told f → n ≤ fault_number f
 
 -- one more row in front
-in_front : (n : ℕ) (Row Rest : Fault → Type 0) (one found : Option Fault) → IsLeastOf FaultAtMost Row one → ((f : Fault) → Row f → fault_number f ≡ n)
-    → Leads (suc n) Rest found → Leads n (λ f. Row f ⊎ Rest f) (option_or one found)
-in_front n Row Rest one found least number rest = record {
+in_front : (n m : ℕ) → n < m → (Row Rest : Fault → Type 0) (one found : Option Fault) → IsLeastOf FaultAtMost Row one
+    → ((f : Fault) → Row f → fault_number f ≡ n) → Leads m Rest found → Leads n (λ f. Row f ⊎ Rest f) (option_or one found)
+in_front n m before Row Rest one found least number rest = record {
   least = least_or FaultAtMost Row Rest one found least rest.least
-      (λ x y row other. let here = number x row in let behind = rest.begins y other in inl (omega (arith, here, behind)));
+      (λ x y row other. let here = number x row in let behind = rest.begins y other in inl (omega (arith, before, here, behind)));
   begins = λ f h. ⊎_elim (λ (row : Row f). let here = number f row in omega (arith, here))
-      (λ (other : Rest f). let behind = rest.begins f other in omega (arith, behind)) h;
+      (λ (other : Rest f). let behind = rest.begins f other in omega (arith, before, behind)) h;
 }
 
 module _ (table : FaultTable) (span : Span) (P : Fault → Type 0) (rows : FindsRows table span P) where
@@ -89,35 +89,29 @@ module _ (table : FaultTable) (span : Span) (P : Fault → Type 0) (rows : Finds
   abbrev FromOwn : Fault → Type 0
   FromOwn f = IsNamed OwnKey f ⊎ FromEvent f
 
-  abbrev FromReserved : Fault → Type 0
-  FromReserved f = IsNamed Reserved f ⊎ FromOwn f
-
   abbrev Rows : Fault → Type 0
-  Rows f = Is EndBeforeStart f ⊎ FromReserved f
+  Rows f = Is EndBeforeStart f ⊎ FromOwn f
 
   all_rows : Leads 20 Rows (fault_of_span table span)
   all_rows =
-      in_front 20 (Is EndBeforeStart) FromReserved _ _ (if_told EndBeforeStart (P EndBeforeStart) _ rows.end) (λ f h. ap fault_number h.0)
-      (in_front 21 (IsNamed Reserved) FromOwn _ _ (least_named Reserved 21 (λ k. refl) (λ k. refl) (λ k. P (Reserved k)) _ rows.reserved) (λ f h. ap fault_number h.1)
-      (in_front 22 (IsNamed OwnKey) FromEvent _ _ (least_named OwnKey 22 (λ k. refl) (λ k. refl) (λ k. P (OwnKey k)) _ rows.own) (λ f h. ap fault_number h.1)
-      (in_front 23 (Is EventText) FromLink _ _ (if_told EventText (P EventText) _ rows.event) (λ f h. ap fault_number h.0)
-      (in_front 24 (Is ChildOfLink) (Is DoubleInText) _ _ (if_told ChildOfLink (P ChildOfLink) _ rows.link) (λ f h. ap fault_number h.0) double))))
+      in_front 20 22 (omega arith) (Is EndBeforeStart) FromOwn _ _ (if_told EndBeforeStart (P EndBeforeStart) _ rows.end) (λ f h. ap fault_number h.0)
+      (in_front 22 23 (omega arith) (IsNamed OwnKey) FromEvent _ _ (least_named OwnKey 22 (λ k. refl) (λ k. refl) (λ k. P (OwnKey k)) _ rows.own) (λ f h. ap fault_number h.1)
+      (in_front 23 24 (omega arith) (Is EventText) FromLink _ _ (if_told EventText (P EventText) _ rows.event) (λ f h. ap fault_number h.0)
+      (in_front 24 25 (omega arith) (Is ChildOfLink) (Is DoubleInText) _ _ (if_told ChildOfLink (P ChildOfLink) _ rows.link) (λ f h. ap fault_number h.0) double)))
 
   to_fault : (f : Fault) → Rows f → P f
   to_fault f (inl h) = subst P (sym h.0) h.1
   to_fault f (inr (inl h)) = subst P (sym h.1) h.2
-  to_fault f (inr (inr (inl h))) = subst P (sym h.1) h.2
+  to_fault f (inr (inr (inl h))) = subst P (sym h.0) h.1
   to_fault f (inr (inr (inr (inl h)))) = subst P (sym h.0) h.1
-  to_fault f (inr (inr (inr (inr (inl h))))) = subst P (sym h.0) h.1
-  to_fault f (inr (inr (inr (inr (inr h))))) = subst P (sym h.0) h.1
+  to_fault f (inr (inr (inr (inr h)))) = subst P (sym h.0) h.1
 
   from_fault : (f : Fault) → P f → Rows f
   from_fault EndBeforeStart h = inl (refl, h)
-  from_fault (Reserved key) h = inr (inl (key, refl, h))
-  from_fault (OwnKey key) h = inr (inr (inl (key, refl, h)))
-  from_fault EventText h = inr (inr (inr (inl (refl, h))))
-  from_fault ChildOfLink h = inr (inr (inr (inr (inl (refl, h)))))
-  from_fault DoubleInText h = inr (inr (inr (inr (inr (refl, h)))))
+  from_fault (OwnKey key) h = inr (inl (key, refl, h))
+  from_fault EventText h = inr (inr (inl (refl, h)))
+  from_fault ChildOfLink h = inr (inr (inr (inl (refl, h))))
+  from_fault DoubleInText h = inr (inr (inr (inr (refl, h))))
 
   span_least : IsLeastOf FaultAtMost P (fault_of_span table span)
   span_least = least_same FaultAtMost Rows P to_fault from_fault (fault_of_span table span) all_rows.least

@@ -1,3 +1,5 @@
+pub mod Examples
+pub mod KeysBehind
 pub mod RunsAtBack
 pub mod Decimals
 pub mod PlacedRows

@@ -1,12 +1,9 @@
 -- How a target finds the fault of a group that counts: place by place, and at a place row by row.
-use Rattle.std.specs.Prelude.{ℕ, ◌≤◌, nat_lt, Bool, ◌||◌, cond, List, [], ◌∷◌, find, Option, Some, None, option_map}
-use Rattle.std.specs.Cmp.Lexicographic.{slice_cmp}
+use Rattle.std.specs.Prelude.{ℕ, ◌≤◌, nat_lt, Bool, ◌||◌, cond, List, [], ◌∷◌, Option, Some, None, option_map}
 use Rattle.std.specs.List.{list_any}
 use Rattle.std.specs.Option.{option_or}
-use Rattle.std.specs.Ordering.{nat_cmp}
-use Rattle.trace_model.specs.Attributes.{by_order, keys}
 use Rattle.trace_model.specs.declared.fault.Fault.{Fault}
-use Rattle.trace_model.specs.declared.fault.Fault.TheVariants.{EndBeforeStart, Reserved, OwnKey, EventText, ChildOfLink, DoubleInText}
+use Rattle.trace_model.specs.declared.fault.Fault.TheVariants.{EndBeforeStart, OwnKey, EventText, ChildOfLink, DoubleInText}
 use Rattle.trace_model.specs.declared.span.Event.{Event}
 use Rattle.trace_model.specs.declared.span.Span.{Span}
 use Rattle.trace_model.specs.declared.trace.Group.{Group}
@@ -15,9 +12,6 @@ use Rattle.trace_model.specs.declared.value.Value.{Value}
 use Rattle.span_tags.specs.TagWords.{Pairs}
 
 pub record FaultTable : Type 0 where
-  -- which keys are reserved, and which one an attribute of an event has that it may not have
-  pub is_reserved : List ℕ → Bool
-  pub reserved_in : List Event → Option (List ℕ)
   -- the first key of the target's own under which an attribute isn't of its form
   pub own_key : Pairs → Option (List ℕ)
   pub has_event_fault : List Event → Bool
@@ -39,12 +33,6 @@ BeginsWith P (x ∷ more) = P x
 abbrev pub if_so : {A : Type 0} → Bool → A → Option A
 if_so so found = cond so (Some found) None
 
--- the lesser of two keys
-abbrev pub least_key : Option (List ℕ) → Option (List ℕ) → Option (List ℕ)
-least_key None other = other
-least_key (Some key) None = Some key
-least_key (Some key) (Some other) = Some (by_order (slice_cmp nat_cmp key other) key key other)
-
 module _ (table : FaultTable) where
   abbrev pub doubles_in : Pairs → Bool
   doubles_in attributes = list_any (λ pair. table.has_double pair.1) attributes
@@ -55,18 +43,13 @@ module _ (table : FaultTable) where
   abbrev pub doubles_in_resource : Pairs → Bool
   doubles_in_resource resource = table.has_double_besides resource || doubles_in resource
 
-  -- the keys of a span's attributes rise, so that the first that is reserved is the least
-  abbrev pub reserved_key : Span → Option (List ℕ)
-  reserved_key span = least_key (table.reserved_in span.events) (find table.is_reserved (keys span.attributes))
-
   -- the rows by their numbers
   abbrev pub fault_of_span : Span → Option Fault
   fault_of_span span = option_or (if_so (nat_lt span.end span.start) EndBeforeStart)
-      (option_or (option_map Reserved (reserved_key span))
       (option_or (option_map OwnKey (table.own_key span.attributes))
       (option_or (if_so (table.has_event_fault span.events) EventText)
       (option_or (if_so (table.has_link_fault span) ChildOfLink)
-      (if_so (doubles_in_span span) DoubleInText)))))
+      (if_so (doubles_in_span span) DoubleInText))))
 
   abbrev pub fault_of_spans : List Span → Option Fault
   fault_of_spans [] = None

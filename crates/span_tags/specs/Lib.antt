@@ -1,5 +1,6 @@
 pub mod Columns
 pub mod Doubles
+pub mod Escapes
 pub mod FaultTables
 pub mod LossMeanings
 pub mod Losses

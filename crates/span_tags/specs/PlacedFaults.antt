@@ -9,7 +9,7 @@ use Rattle.span_io.specs.declared.halt.Halt.TheVariants as halts
 use Rattle.trace_model.specs.Faults.{fault_number}
 use Rattle.trace_model.specs.LeastOf.{IsLeastOf}
 use Rattle.trace_model.specs.declared.fault.Fault.{Fault}
-use Rattle.trace_model.specs.declared.fault.Fault.TheVariants.{Reserved, OwnKey}
+use Rattle.trace_model.specs.declared.fault.Fault.TheVariants.{OwnKey}
 use Rattle.trace_model.specs.declared.span.Span.{Span}
 use Rattle.trace_model.specs.declared.trace.Group.{Group}
 use Rattle.trace_model.specs.declared.value.Value.{Value}
@@ -22,7 +22,6 @@ pub record Placed : Type 0 where
 
 -- the key of a fault, where it has one
 abbrev pub key_in : Fault → List ℕ
-key_in (Reserved key) = key
 key_in (OwnKey key) = key
 key_in other = []
 

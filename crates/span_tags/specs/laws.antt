@@ -1,6 +1,7 @@
 pub mod AttributeLaws
 pub mod BeginLaws
 pub mod ColumnLaws
+pub mod EscapeLaws
 pub mod FaultLaws
 pub mod LeastRows
 pub mod LossSteps

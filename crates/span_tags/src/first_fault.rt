@@ -1,8 +1,7 @@
 //! The fault of a group that counts. The spans are gone over once, and nothing is copied but the key
 //! of the fault.
-ghost use Rattle.std.specs.Prelude.{◌≡◌, ◌↔◌, false, find, None, option_map, IfOk, OnErr};
+ghost use Rattle.std.specs.Prelude.{◌≡◌, ◌↔◌, false, None, option_map, IfOk, OnErr};
 ghost use Rattle.std.specs.List.{list_any};
-ghost use Rattle.trace_model.specs.Attributes.{keys};
 ghost use Rattle.trace_model.specs.Soundness.{IsSoundGroup};
 ghost use Rattle.trace_model.specs.declared.fault.Fault.{Fault};
 ghost use Rattle.trace_model.specs.declared.span.Span.{Span};
@@ -15,7 +14,6 @@ ghost use Rattle.span_tags.specs.laws.FaultLaws.{FindsFaults};
 
 use span_io::{Items, OutOfMemory, Text};
 use std::alloc::Global;
-use std::cmp::Ordering;
 use trace_model::{Attrs, Event, Fault, Group, Scope, Span, Value};
 
 /// How a target finds what it can't hold of a resource and of a span.
@@ -26,14 +24,6 @@ pub trait Faults {
     ghost of_span: { Span → Fault → Type 0 };
 
     ghost table: { FaultTable };
-
-    /// Whether no attribute of a span may have the key.
-    fn is_reserved(key: &str) -> bool
-        ensures { result ≡ table.is_reserved key.now };
-
-    /// A key that no attribute of an event may have, where one has it.
-    fn reserved_in(events: &Items<Event>) -> Option<&'static str>
-        ensures { option_map (λ key. key.now) result ≡ table.reserved_in events.now };
 
     /// The first of the target's own keys under which an attribute isn't of its form.
     fn own_key(attributes: &Attrs) -> Option<&'static str>
@@ -54,47 +44,6 @@ pub trait Faults {
     /// Whether one does elsewhere in a resource.
     fn has_double_besides(resource: &Attrs) -> bool
         ensures { result ≡ table.has_double_besides resource.now };
-}
-
-// ---- reserved keys
-
-// The first key that is reserved.
-fn reserved_among<F: Faults>(attributes: &Attrs) -> Option<&str>
-    ensures { option_map (λ key. key.now) result ≡ find F.table.is_reserved (keys attributes.now) }
-{
-    'attributes: for pair in attributes.as_slice() {
-        let key = pair.0.as_str();
-        if F::is_reserved(key) {
-            return Some(key);
-        }
-    }
-    None
-}
-
-// The lesser of two keys.
-fn least_key<'a>(one: Option<&'a str>, other: Option<&'a str>) -> Option<&'a str>
-    ensures { option_map (λ key. key.now) result
-        ≡ told.least_key (option_map (λ key. key.now) one.entry) (option_map (λ key. key.now) other.entry) }
-{
-    let Some(key) = one else {
-        return other;
-    };
-    let Some(second) = other else {
-        return Some(key);
-    };
-    match key.cmp(second) {
-        Ordering::Less | Ordering::Equal => Some(key),
-        Ordering::Greater => Some(second),
-    }
-}
-
-fn reserved_key<F: Faults>(span: &Span) -> Option<&str>
-    ensures { option_map (λ key. key.now) result ≡ told.reserved_key F.table span.now }
-{
-    least_key(
-        F::reserved_in(&span.events),
-        reserved_among::<F>(&span.attributes),
-    )
 }
 
 // ---- doubles
@@ -141,9 +90,6 @@ fn fault_of_span<F: Faults>(alloc: Global, span: &Span) -> Result<Option<Fault>,
 {
     if span.end.0 < span.start.0 {
         return Ok(Some(Fault::EndBeforeStart));
-    }
-    if let Some(key) = reserved_key::<F>(span) {
-        return Ok(Some(Fault::Reserved(Text::of(alloc, key)?)));
     }
     if let Some(key) = F::own_key(&span.attributes) {
         return Ok(Some(Fault::OwnKey(Text::of(alloc, key)?)));

@@ -3,6 +3,7 @@
 #![tactic(auto)]
 
 mod decimal_texts;
+mod escapes;
 mod first_fault;
 pub mod laws;
 mod left_out;
@@ -13,6 +14,7 @@ mod runs;
 mod words;
 
 pub use decimal_texts::decimal_in;
+pub use escapes::{Reserves, escaped, unescaped};
 pub use first_fault::{Faults, fault_in_group};
 pub use left_out::{
     is_idle_code, is_idle_count, is_idle_library, is_idle_text, is_there, remark_if,

@@ -9,7 +9,7 @@ use Rattle.std.proofs.lemmas.List.Folds.{list_any_none}
 use Rattle.trace_model.specs.Attributes.{keys, at}
 use Rattle.trace_model.specs.ValueTexts.{has_double}
 use Rattle.trace_model.specs.declared.fault.Fault.{Fault}
-use Rattle.trace_model.specs.declared.fault.Fault.TheVariants.{EndBeforeStart, Reserved, OwnKey, EventText, ChildOfLink, DoubleInText}
+use Rattle.trace_model.specs.declared.fault.Fault.TheVariants.{EndBeforeStart, OwnKey, EventText, ChildOfLink, DoubleInText}
 use Rattle.trace_model.specs.declared.span.Span.{Span}
 use Rattle.trace_model.specs.declared.trace.Scope.{Scope}
 use Rattle.trace_model.specs.declared.value.Value.{Value}
@@ -18,10 +18,8 @@ use Rattle.span_tags.specs.laws.RunLaws.{scoped_all}
 use Rattle.span_tags.specs.Runs.{Scoped, scoped, spans_of, under}
 use Rattle.otlp_json.specs.Doubles.{double_in_span, double_in_group}
 use Rattle.map_jaeger.specs.Faults as jaeger
-use Rattle.map_jaeger.specs.Columns.{is_reserved}
 use Rattle.map_jaeger.specs.Keys.{flags_key}
 use Rattle.map_zipkin.specs.Faults as zipkin
-use Rattle.map_zipkin.specs.Keys.{is_zipkin_reserved}
 use Rattle.map_zipkin.specs.OwnColumns.{own_forms}
 use Rattle.span_vectors.specs.Gauge.{gauge_attributes, gauge_resource, gauge_span, gauge_spans, gauge_scope, gauge_group, first_span, group_size}
 use Rattle.span_vectors.proofs.Held.{alone, both, number_pair, text_pair, service_pair}
@@ -81,16 +79,10 @@ none_of {X} P xs all h = All-contains (λ (x : X). P x → ⊥) xs h.1 all (h.0,
 none_at_all : {X : Type 0} (P : X → Type 0) → Any P [] → ⊥
 none_at_all P h = omega arith
 
-abbrev IsOther : (List ℕ → Bool) → List ℕ → Type 0
-IsOther test key = test key ≡ true → ⊥
-
 own_keys : (i : ℕ) (P : List ℕ → Type 0) → P (codes "n") → P (codes "t") → All P (keys (gauge_attributes i))
 own_keys i P number text = both P (codes "n") (codes "t") number text
 
 -- ---- Jaeger
-
-not_reserved : (i : ℕ) (key : List ℕ) → is_reserved key ≡ true → Contains (keys (gauge_attributes i)) key → ⊥
-not_reserved i key is there = All-contains (IsOther is_reserved) (keys (gauge_attributes i)) key (own_keys i (IsOther is_reserved) (λ e. false≢true e) (λ e. false≢true e)) there is
 
 no_flags : (i : ℕ) → Contains (keys (gauge_attributes i)) flags_key → ⊥
 no_flags i there = All-contains (λ (key : List ℕ). key ≡ flags_key → ⊥) (keys (gauge_attributes i)) flags_key (own_keys i (λ (key : List ℕ). key ≡ flags_key → ⊥) (λ e. cc) (λ e. cc)) there refl
@@ -101,7 +93,6 @@ no_double_inside i h = none_of (λ (pair : List ℕ × Value). jaeger.HasDoubleI
 
 jaeger_resource : (fault : Fault) → jaeger.IsResourceFault gauge_resource fault → ⊥
 jaeger_resource EndBeforeStart h = h
-jaeger_resource (Reserved key) h = h
 jaeger_resource (OwnKey key) h = h
 jaeger_resource EventText h = h
 jaeger_resource ChildOfLink h = h
@@ -112,8 +103,6 @@ jaeger_resource DoubleInText (inr h) = none_of (λ (pair : List ℕ × Value). j
 jaeger_span : (i : ℕ) (fault : Fault) → jaeger.IsSpanFault (gauge_span i) fault → ⊥
 unfolding gauge_span
 jaeger_span i EndBeforeStart h = omega arith
-jaeger_span i (Reserved key) (jaeger.in_span is there) = not_reserved i key is there
-jaeger_span i (Reserved key) (jaeger.in_event is h) = none_at_all _ h
 jaeger_span i (OwnKey key) h = no_flags i h.1
 jaeger_span i EventText h = h
 jaeger_span i ChildOfLink h = none_at_all _ h
@@ -124,10 +113,6 @@ pub jaeger_fine : (spans group : ℕ) → jaeger.HasNoFault (gauge_group spans g
 jaeger_fine spans group = no_fault jaeger.IsResourceFault jaeger.IsSpanFault spans group jaeger_resource jaeger_span
 
 -- ---- Zipkin
-
-not_zipkin_reserved : (i : ℕ) (key : List ℕ) → is_zipkin_reserved key ≡ true → Contains (keys (gauge_attributes i)) key → ⊥
-not_zipkin_reserved i key is there =
-    All-contains (IsOther is_zipkin_reserved) (keys (gauge_attributes i)) key (own_keys i (IsOther is_zipkin_reserved) (λ e. false≢true e) (λ e. false≢true e)) there is
 
 -- none of its keys is one of Zipkin's own
 no_own : (i : ℕ) (key : List ℕ) → Any (λ own. (key ≡ own.0) × zipkin.IsOutOfForm own.1 (at own.0 (gauge_attributes i))) own_forms → ⊥
@@ -142,7 +127,6 @@ no_double_in i h = none_of (λ (pair : List ℕ × Value). has_double pair.1 ≡
 
 zipkin_resource : (fault : Fault) → zipkin.IsZipkinResourceFault gauge_resource fault → ⊥
 zipkin_resource EndBeforeStart h = h
-zipkin_resource (Reserved key) h = h
 zipkin_resource (OwnKey key) h = h
 zipkin_resource EventText h = h
 zipkin_resource ChildOfLink h = h
@@ -152,7 +136,6 @@ zipkin_resource DoubleInText h = none_of (λ (pair : List ℕ × Value). has_dou
 zipkin_span : (i : ℕ) (fault : Fault) → zipkin.IsZipkinSpanFault (gauge_span i) fault → ⊥
 unfolding gauge_span
 zipkin_span i EndBeforeStart h = omega arith
-zipkin_span i (Reserved key) h = not_zipkin_reserved i key h.reserved h.there
 zipkin_span i (OwnKey key) h = no_own i key h
 zipkin_span i EventText h = none_at_all _ h
 zipkin_span i ChildOfLink h = h

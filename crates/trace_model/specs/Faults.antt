@@ -1,11 +1,10 @@
 -- The numbers and names of faults, as notes print them.
 use Rattle.std.specs.Prelude.{ℕ, List, codes}
 use Rattle.trace_model.specs.declared.fault.Fault.{Fault}
-use Rattle.trace_model.specs.declared.fault.Fault.TheVariants.{EndBeforeStart, Reserved, OwnKey, EventText, ChildOfLink, DoubleInText}
+use Rattle.trace_model.specs.declared.fault.Fault.TheVariants.{EndBeforeStart, OwnKey, EventText, ChildOfLink, DoubleInText}
 
 abbrev pub fault_number : Fault → ℕ
 fault_number EndBeforeStart = 20
-fault_number (Reserved key) = 21
 fault_number (OwnKey key) = 22
 fault_number EventText = 23
 fault_number ChildOfLink = 24
@@ -13,7 +12,6 @@ fault_number DoubleInText = 25
 
 abbrev pub fault_name : Fault → List ℕ
 fault_name EndBeforeStart = codes "EndBeforeStart"
-fault_name (Reserved key) = codes "Reserved"
 fault_name (OwnKey key) = codes "OwnKey"
 fault_name EventText = codes "EventText"
 fault_name ChildOfLink = codes "ChildOfLink"

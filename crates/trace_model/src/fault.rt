@@ -4,13 +4,11 @@ ghost use Rattle.trace_model.specs.Faults.{fault_number, fault_name};
 use span_io::Text;
 
 /// What a target can't hold of a trace. Each fault has a number, which never changes, and a name,
-/// which notes print.
+/// which notes print. 21 was a reserved key, which is no fault now, and isn't given again.
 #[derive(Debug, Drop)]
 pub enum Fault {
     /// A span's end in nanoseconds is less than its start (Jaeger and Zipkin).
     EndBeforeStart,
-    /// An attribute's key is reserved by the target (Jaeger and Zipkin). It holds the key.
-    Reserved(Text),
     /// A span's attribute under one of the target's own keys is not of its form: `jaeger.flags`
     /// (Jaeger), or a key under `zipkin.` (Zipkin). It holds the key.
     OwnKey(Text),
@@ -29,7 +27,6 @@ impl Fault {
     {
         match self {
             Fault::EndBeforeStart => 20,
-            Fault::Reserved(_) => 21,
             Fault::OwnKey(_) => 22,
             Fault::EventText => 23,
             Fault::ChildOfLink => 24,
@@ -42,7 +39,6 @@ impl Fault {
     {
         match self {
             Fault::EndBeforeStart => "EndBeforeStart",
-            Fault::Reserved(_) => "Reserved",
             Fault::OwnKey(_) => "OwnKey",
             Fault::EventText => "EventText",
             Fault::ChildOfLink => "ChildOfLink",

@@ -1,16 +1,18 @@
 //! The attributes that tags leave, and the flags among them.
 ghost use Rattle.std.specs.Prelude.{◌≡◌, ◌++◌, IfOk};
 ghost use Rattle.trace_model.specs.Attributes.{Rise, attrs, keys};
+ghost use Rattle.span_tags.specs.Escapes as escapes;
 ghost use Rattle.span_tags.specs.TagWords as told;
+ghost use Rattle.map_jaeger.specs.Columns.{is_reserved};
 ghost use Rattle.map_jaeger.specs.Keys.{flags_key};
 ghost use Rattle.map_jaeger.specs.Reading as meant;
 ghost use Rattle.map_jaeger.specs.private.ReadColumns.{ArePartsOf};
 
-use crate::columns::is_free;
+use crate::columns::{Spans, is_free};
 use crate::writing::attributes_but;
 use jaeger_model::JSpan;
 use span_io::{Items, LONGEST, OutOfMemory, Text};
-use span_tags::{put_row, text_kept};
+use span_tags::{put_row, text_kept, unescaped};
 use std::alloc::Global;
 use trace_model::{Attrs, Value};
 
@@ -22,10 +24,11 @@ pub(crate) fn span_attributes(
 ) -> Result<Attrs, OutOfMemory>
     requires { Rise (keys free) }
     ensures { IfOk result (λ attributes.
-        attributes ≡ attrs (told.row flags_key (meant.high_flags_of span.now.flags) ++ free)) }
+        attributes ≡ attrs (told.row flags_key (meant.high_flags_of span.now.flags) ++ escapes.unescaped is_reserved free)) }
 {
+    let attributes = unescaped::<Spans>(alloc, free)?;
     let high = high_flags_of(alloc, span.flags)?;
-    with_row(alloc, "jaeger.flags", high, free)
+    with_row(alloc, "jaeger.flags", high, attributes)
 }
 
 /// The attributes of a process of this service that has these tags.

@@ -1,16 +1,21 @@
 //! Logs as events.
 ghost use Rattle.std.specs.Prelude.{◌≡◌, [], ◌∷◌, ◌++◌, map, IfOk, OnOk};
 ghost use Rattle.jaeger_model.specs.Counted.{IsCounted};
+ghost use Rattle.trace_model.specs.Attributes.{Rise, keys};
+ghost use Rattle.span_tags.specs.Escapes as escapes;
+ghost use Rattle.span_tags.specs.TagWords.{without};
+ghost use Rattle.map_jaeger.specs.Keys.{event_key, is_event_reserved};
 ghost use Rattle.map_jaeger.specs.private.Noted.{AddsNoted, AreNumbered};
 ghost use Rattle.map_jaeger.specs.Reading as meant;
 ghost use Rattle.map_jaeger.specs.Remarks.{RepeatsOf, is_idle_event, log_remarks};
 
+use crate::columns::Events;
 use crate::reading::tags::attributes_of;
 use jaeger_model::Log;
 use span_io::{Items, OutOfMemory, Text};
-use span_tags::{is_idle_text, others, remark_if, text_or_empty};
+use span_tags::{is_idle_text, others, remark_if, text_or_empty, unescaped};
 use std::alloc::Global;
-use trace_model::{Event, Noted, Place, Remark, find, remark_keys};
+use trace_model::{Attrs, Event, Noted, Place, Remark, find, remark_keys};
 
 // Adds the event of the log of this number, of the span of that number, and the remarks on it.
 fn add_event(
@@ -59,6 +64,15 @@ struct ReadEvent {
     idle: bool,
 }
 
+// The attributes of an event that the fields of its log are.
+#[tactic(auto, using(crate::proofs::GroupResource::without_rise))]
+fn event_attributes(alloc: Global, fields: Attrs) -> Result<Attrs, OutOfMemory>
+    requires { Rise (keys fields) }
+    ensures { IfOk result (λ attributes. attributes ≡ escapes.unescaped is_event_reserved (without event_key fields)) }
+{
+    unescaped::<Events>(alloc, others("event", fields))
+}
+
 fn event_of(alloc: Global, log: Log) -> Result<ReadEvent, OutOfMemory>
     ensures event { IfOk result (λ read. read.event ≡ meant.event_of log) }
     ensures repeated { IfOk result (λ read. RepeatsOf log read.keys) }
@@ -70,7 +84,7 @@ fn event_of(alloc: Global, log: Log) -> Result<ReadEvent, OutOfMemory>
     let event = Event {
         time: log.time,
         name,
-        attributes: others("event", tags),
+        attributes: event_attributes(alloc, tags)?,
         dropped: 0,
     };
     Ok(ReadEvent { event, keys, idle })

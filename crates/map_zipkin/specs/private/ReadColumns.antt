@@ -1,9 +1,10 @@
 -- Parts of the span that a span of Zipkin means, as its reader comes by them.
-use Rattle.std.specs.Prelude.{◌≡◌, ℕ, false, List, [], ◌++◌, filter, All, unwrap_or}
+use Rattle.std.specs.Prelude.{◌≡◌, ℕ, false, List, [], ◌++◌, All, unwrap_or}
 use Rattle.span_tags.specs.TagWords.{Pairs, text_in, count_in, name_in}
 use Rattle.trace_model.specs.Attributes.{attrs}
-use Rattle.map_zipkin.specs.Reading.{status_code, message_of, is_free_tag, resource_by}
+use Rattle.map_zipkin.specs.Reading.{status_code, message_of, free_pairs, resource_by}
 use Rattle.map_zipkin.specs.TagColumns.{TagColumns, columns_in}
+use Rattle.map_zipkin.specs.Writing.{is_told}
 use Rattle.map_zipkin.specs.declared.columns.Column.TheVariants as columns
 use Rattle.map_zipkin.specs.declared.reading.attributes.Parted.{Parted}
 use Rattle.map_zipkin.specs.declared.reading.columns.Told.{Told}
@@ -25,10 +26,10 @@ IsZipkinToldBy tags told = IsZipkinTold (columns_in tags) told
 
 -- ---- the tags in two parts: those of the resource, and attributes
 
--- no tag under such a key is an attribute
-abbrev pub AreNotFree : Pairs → Type 0
-AreNotFree pairs = All (λ pair. is_free_tag pair.0 ≡ false) pairs
+-- each has a place of its own
+abbrev pub ArePlaced : Pairs → Type 0
+ArePlaced pairs = All (λ pair. is_told pair.0 ≡ false) pairs
 
 pub record ArePartedBy (service : List ℕ) (pairs tags : Pairs) (parted : Parted) : Type 0 where
   pub resource : parted.resource ≡ resource_by service tags
-  pub attributes : parted.attributes ≡ attrs (pairs ++ filter (λ tag. is_free_tag tag.0) tags)
+  pub attributes : parted.attributes ≡ attrs (pairs ++ free_pairs tags)

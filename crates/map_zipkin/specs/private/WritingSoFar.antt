@@ -8,7 +8,7 @@ use Rattle.span_tags.specs.TagWords.{Pairs, row, text_given}
 use Rattle.trace_model.specs.Attributes.{by_order, attrs}
 use Rattle.trace_model.specs.declared.span.Span.{Span}
 use Rattle.map_zipkin.specs.TagColumns.{TagColumns, row_of, zipkin_columns_of}
-use Rattle.map_zipkin.specs.Writing.{resource_pairs, told_pairs, zipkin_tag_of}
+use Rattle.map_zipkin.specs.Writing.{resource_pairs, escaped_pairs, zipkin_tag_of}
 use Rattle.map_zipkin.specs.declared.columns.Column.{Column}
 use Rattle.map_zipkin.specs.declared.columns.Column.TheVariants as columns
 
@@ -33,7 +33,7 @@ shared_rows resource name version = attrs (shared_pairs resource name version)
 
 -- the tags of a span that has these rows, these in common with its scope, and these attributes
 abbrev pub tags_by : Pairs → Pairs → Pairs → List (List ℕ × List ℕ)
-tags_by own shared attributes = map zipkin_tag_of (attrs (own ++ (shared ++ told_pairs attributes)))
+tags_by own shared attributes = map zipkin_tag_of (attrs (own ++ (shared ++ escaped_pairs attributes)))
 
 -- ---- rising rows around a key
 

@@ -5,14 +5,14 @@ ghost use Rattle.span_tags.specs.TagWords.{row, without};
 ghost use Rattle.map_zipkin.specs.Keys.{peer_key};
 ghost use Rattle.map_zipkin.specs.OwnColumns as told;
 ghost use Rattle.map_zipkin.specs.OwnColumns.{end_rows, own_rows, own_told};
-ghost use Rattle.map_zipkin.specs.private.ReadColumns.{AreNotFree, ArePartedBy};
+ghost use Rattle.map_zipkin.specs.private.ReadColumns.{ArePartedBy, ArePlaced};
 ghost use Rattle.map_zipkin.specs.Reading as meant;
 
 use crate::count_texts::count_text;
-use crate::keys::{is_free, resource_key};
+use crate::keys::{Spans, is_free, resource_key};
 use crate::own::Own;
 use span_io::{Items, OutOfMemory, Text};
-use span_tags::{add_row, text_in, text_kept, word_given};
+use span_tags::{add_row, text_in, text_kept, unescaped, word_given};
 use std::alloc::Global;
 use trace_model::{Attrs, Value, attrs_of};
 use zipkin_json::Endpoint;
@@ -155,7 +155,7 @@ fn add_pairs(list: &mut Attrs, pairs: Attrs) -> Result<(), OutOfMemory>
     Ok(())
 }
 
-/// The tags in two parts, with this service and these pairs, none of which is under the key of an attribute.
+/// The tags in two parts, with this service and these pairs, each of which has a place of its own.
 /// The pairs are put behind the tags, since their keys are above those of most tags: what rises isn't sorted.
 #[tactic(auto, using(crate::proofs::OwnBehind::own_behind))]
 pub(crate) fn parted_by(
@@ -164,7 +164,7 @@ pub(crate) fn parted_by(
     pairs: Attrs,
     tags: Attrs,
 ) -> Result<Parted, OutOfMemory>
-    requires { AreNotFree pairs }
+    requires { ArePlaced pairs }
     ensures { IfOk result (ArePartedBy service pairs tags) }
 {
     let mut resource = Items::new(alloc);
@@ -179,9 +179,10 @@ pub(crate) fn parted_by(
     }
     add_pairs(&mut parted.attributes, pairs)?;
     let resource = attrs_of(alloc, parted.resource)?;
-    let attributes = attrs_of(alloc, parted.attributes)?;
+    let (attributes, _) = attrs_of(alloc, parted.attributes)?;
+    let attributes = unescaped::<Spans>(alloc, attributes)?;
     Ok(Parted {
         resource: resource.0,
-        attributes: attributes.0,
+        attributes,
     })
 }

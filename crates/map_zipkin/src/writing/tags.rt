@@ -1,5 +1,5 @@
-//! The tags of a span. Those in common with its scope and its attributes are two rising lists, which
-//! become the tags by going over each once.
+//! The tags of a span. Those in common with its scope and its attributes, under the keys of their tags,
+//! are two rising lists, which become the tags by going over each once.
 ghost use Rattle.std.specs.Prelude.{◌≡◌, ◌∷◌, ◌++◌, map, false, IfOk, OnOk};
 ghost use Rattle.trace_model.specs.Attributes.{Rise, attrs, keys};
 ghost use Rattle.trace_model.specs.EventTexts.{holds_double};
@@ -8,9 +8,9 @@ ghost use Rattle.span_tags.specs.TagWords.{Pairs};
 ghost use Rattle.map_zipkin.specs.Writing as told;
 ghost use Rattle.map_zipkin.specs.private.WritingSoFar.{rows_above, rows_below, tags_by};
 
-use crate::keys::is_told;
+use crate::keys::{Spans, is_told};
 use span_io::{Items, OutOfMemory, Text};
-use span_tags::{put_rows, text_told};
+use span_tags::{escaped, put_rows, text_told};
 use std::alloc::Global;
 use std::cmp::Ordering;
 use trace_model::{Attrs, Value, attrs_of};
@@ -30,11 +30,12 @@ pub(crate) fn tags_of(
     ensures { IfOk result (λ tags. tags ≡ tags_by own shared.now attributes) }
 {
     let (attributes, _) = attrs_of(alloc, attributes)?;
+    let written = escaped::<Spans>(alloc, attributes)?;
     if own.len() == 0 {
-        return merged(alloc, shared, attributes);
+        return merged(alloc, shared, written);
     }
     let rows = rows_with(alloc, own, shared)?;
-    merged(alloc, rows.as_slice(), attributes)
+    merged(alloc, rows.as_slice(), written)
 }
 
 // ---- the rows of a span among those in common

@@ -11,7 +11,7 @@ use Rattle.trace_model.specs.LeastOf.{IsLeastOf}
 use Rattle.trace_model.specs.Soundness.{IsSoundEvent, IsSoundLink, IsSoundSpan, IsSoundScope, IsSoundGroup}
 use Rattle.trace_model.specs.Values.{IsSound}
 use Rattle.trace_model.specs.declared.fault.Fault.{Fault}
-use Rattle.trace_model.specs.declared.fault.Fault.TheVariants.{EndBeforeStart, Reserved, OwnKey, EventText, ChildOfLink, DoubleInText}
+use Rattle.trace_model.specs.declared.fault.Fault.TheVariants.{EndBeforeStart, OwnKey, EventText, ChildOfLink, DoubleInText}
 use Rattle.trace_model.specs.declared.span.Code.TheVariants as statuses
 use Rattle.trace_model.specs.declared.span.Event.{Event}
 use Rattle.trace_model.specs.declared.span.Kind.TheVariants as kinds
@@ -19,7 +19,7 @@ use Rattle.trace_model.specs.declared.span.Span.{Span}
 use Rattle.trace_model.specs.declared.trace.Group.{Group}
 use Rattle.trace_model.specs.declared.trace.Scope.{Scope}
 use Rattle.trace_model.specs.declared.value.Value.{Value}
-use Rattle.span_tags.specs.FaultTables.{FaultTable, doubles_in, doubles_in_span, doubles_in_resource, reserved_key}
+use Rattle.span_tags.specs.FaultTables.{FaultTable, doubles_in, doubles_in_span, doubles_in_resource}
 use Rattle.span_tags.specs.PlacedFaults.{KeyAtMost, CountsBy, in_resource, in_span}
 use Rattle.span_tags.specs.Runs.{Scoped, under, spans_of, scoped}
 use Rattle.span_tags.specs.TagWords.{Pairs}
@@ -32,7 +32,6 @@ use Rattle.span_tags.specs.laws.RunLaws.{scoped_all}
 -- these are the faults of a span, of those with keys the least
 pub record FindsRows (table : FaultTable) (span : Span) (IsFault : Fault → Type 0) : Type 0 where
   pub end : Decides (nat_lt span.end span.start) (IsFault EndBeforeStart)
-  pub reserved : IsLeastOf KeyAtMost (λ key. IsFault (Reserved key)) (reserved_key table span)
   pub own : IsLeastOf KeyAtMost (λ key. IsFault (OwnKey key)) (table.own_key span.attributes)
   pub event : Decides (table.has_event_fault span.events) (IsFault EventText)
   pub link : Decides (table.has_link_fault span) (IsFault ChildOfLink)
@@ -64,7 +63,6 @@ pub record FindsFaults (table : FaultTable) (IsResourceFault : Pairs → Fault �
   pub resource : (resource : Pairs) → Decides (doubles_in_resource table resource) (IsResourceFault resource DoubleInText)
   pub only_doubles : (resource : Pairs) (fault : Fault) → IsResourceFault resource fault → fault ≡ DoubleInText
   pub span : (span : Span) → IsSoundSpan span → FindsRows table span (IsSpanFault span)
-  pub no_reserved : reserved_key table plain_span ≡ None
   pub no_own : table.own_key [] ≡ None
   pub no_event : table.has_event_fault [] ≡ false
   pub no_link : table.has_link_fault plain_span ≡ false
@@ -95,7 +93,6 @@ module _ (table : FaultTable) (IsResourceFault : Pairs → Fault → Type 0) (Is
 
   pub none_plain : (fault : Fault) → IsSpanFault plain_span fault → ⊥
   none_plain EndBeforeStart h = true≢false (sym (plain.end.1 h))
-  none_plain (Reserved key) h = subst (IsLeastOf KeyAtMost (λ k. IsSpanFault plain_span (Reserved k))) lawful.no_reserved plain.reserved key h
   none_plain (OwnKey key) h = subst (IsLeastOf KeyAtMost (λ k. IsSpanFault plain_span (OwnKey k))) lawful.no_own plain.own key h
   none_plain EventText h = true≢false (sym (plain.event.1 h) ∙ lawful.no_event)
   none_plain ChildOfLink h = true≢false (sym (plain.link.1 h) ∙ lawful.no_link)

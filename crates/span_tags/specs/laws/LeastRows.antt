@@ -3,20 +3,18 @@ use Rattle.std.proofs.Common.{◌≡◌, ℕ, Bool, true, false, cond, List, [],
 use Rattle.std.specs.Prelude.{◌⊎◌, Any, Contains}
 use Rattle.std.specs.Bool.{Decides}
 use Rattle.std.specs.List.{list_any, AllByRecursion}
-use Rattle.std.specs.Ordering.{nat_cmp, is_eq, ordering_reverse}
+use Rattle.std.specs.Ordering.{nat_cmp, is_eq}
 use Rattle.std.specs.declared.cmp.Ordering.{Ordering}
-use Rattle.std.specs.declared.cmp.Ordering.TheVariants.{Less, Equal, Greater}
+use Rattle.std.specs.declared.cmp.Ordering.TheVariants.{Less, Greater}
 use Rattle.std.specs.Cmp.Lexicographic.{slice_cmp}
 use Rattle.std.specs.List.Sorted.{IsStrictlySortedBy}
-use Rattle.std.proofs.lemmas.Cmp.{nat_list_cmp_total}
 use Rattle.std.proofs.lemmas.List.Elements.{Contains-append_right}
 use Rattle.std.proofs.lemmas.List.Folds.{Any-from_list_any, list_any-from_Any}
 use Rattle.std.proofs.lemmas.Map.Keys.{sorted_head, sorted_tail}
 use Rattle.std.proofs.lemmas.Map.Text.{is_eq-slice_cmp}
 use Rattle.std.proofs.lemmas.Slice.Eq.{bytes_eq-Decides}
-use Rattle.trace_model.specs.Attributes.{by_order}
 use Rattle.trace_model.specs.LeastOf.{IsLeastOf}
-use Rattle.span_tags.specs.FaultTables.{if_so, least_key}
+use Rattle.span_tags.specs.FaultTables.{if_so}
 use Rattle.span_tags.specs.PlacedFaults.{KeyAtMost}
 
 module _ {X : Type 0} (AtMost : X → X → Type 0) (First Second : X → Type 0) where
@@ -36,9 +34,6 @@ least_if AtMost itself found P false d = λ x h. true≢false (sym (d.1 h.1))
 abbrev cmp : List ℕ → List ℕ → Ordering
 cmp = slice_cmp nat_cmp
 
-same_from_Equal : (x y : List ℕ) → cmp x y ≡ Equal → x ≡ y
-same_from_Equal x y e = (bytes_eq-Decides x y).0 (sym (is_eq-slice_cmp x y) ∙ ap is_eq e)
-
 pub not_above_itself : (k : List ℕ) → KeyAtMost k k
 not_above_itself k e =
     let same : is_eq (cmp k k) ≡ true = is_eq-slice_cmp k k ∙ (bytes_eq-Decides k k).1 refl in
@@ -47,34 +42,6 @@ not_above_itself k e =
 
 below_is_at_most : (a b : List ℕ) → cmp a b ≡ Less → KeyAtMost a b
 below_is_at_most a b less greater = let never : Less ≡ Greater = sym less ∙ greater in cc
-
-after_below : (a b c : List ℕ) → cmp a b ≡ Less → KeyAtMost b c → KeyAtMost a c
-after_below a b c less rest = by (cmp b c) refl
-  where
-    by : (o : Ordering) → cmp b c ≡ o → KeyAtMost a c
-    by Less e = below_is_at_most a c (nat_list_cmp_total.trans a b c less e)
-    by Equal e = below_is_at_most a c (subst (λ (k : List ℕ). cmp a k ≡ Less) (same_from_Equal b c e) less)
-    by Greater e = absurd (rest e)
-
-module _ (P Q : List ℕ → Type 0) where
-  both_least : (key other : List ℕ) → (P key × ((x : List ℕ) → P x → KeyAtMost key x)) → (Q other × ((x : List ℕ) → Q x → KeyAtMost other x))
-      → (o : Ordering) → cmp key other ≡ o → IsLeastOf KeyAtMost (λ k. P k ⊎ Q k) (Some (by_order o key key other))
-  both_least key other one two Less e = (inl one.0, λ x h. ⊎_elim (one.1 x) (λ (q : Q x). after_below key other x e (two.1 x q)) h)
-  both_least key other one two Equal e = (
-    inl one.0,
-    λ x h. ⊎_elim (one.1 x)
-        (λ (q : Q x). subst (λ (k : List ℕ). KeyAtMost k x) (sym (same_from_Equal key other e)) (two.1 x q)) h,
-  )
-  both_least key other one two Greater e =
-      let less : cmp other key ≡ Less = nat_list_cmp_total.antisymm other key ∙ ap ordering_reverse e in
-      (inr two.0, λ x h. ⊎_elim (λ (p : P x). after_below other key x less (one.1 x p)) (two.1 x) h)
-
-  pub least_of_keys : (one other : Option (List ℕ)) → IsLeastOf KeyAtMost P one → IsLeastOf KeyAtMost Q other
-      → IsLeastOf KeyAtMost (λ k. P k ⊎ Q k) (least_key one other)
-  least_of_keys None None one other = λ x h. ⊎_elim (one x) (other x) h
-  least_of_keys None (Some y) one other = (inr other.0, λ x h. ⊎_elim (λ (p : P x). absurd (one x p)) (other.1 x) h)
-  least_of_keys (Some k) None one other = (inl one.0, λ x h. ⊎_elim (one.1 x) (λ (q : Q x). absurd (other x q)) h)
-  least_of_keys (Some k) (Some y) one other = both_least k y one other (cmp k y) refl
 
 -- ---- tests
 

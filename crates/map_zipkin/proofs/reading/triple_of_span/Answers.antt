@@ -12,17 +12,17 @@ use Rattle.map_zipkin.specs.OwnColumns.{own_of, own_rows}
 use Rattle.map_zipkin.specs.Reading.{pair_of, pairs_of, peer_of, zipkin_event_of}
 use Rattle.map_zipkin.specs.Remarks.{left_out_by}
 use Rattle.map_zipkin.specs.TagColumns.{columns_in}
-use Rattle.map_zipkin.specs.private.ReadColumns.{AreNotFree}
+use Rattle.map_zipkin.specs.private.ReadColumns.{ArePlaced}
 use Rattle.map_zipkin.proofs.EventFacts.{EventsRead}
 use Rattle.map_zipkin.proofs.OwnBehind.{own_pairs}
 use Rattle.map_zipkin.proofs.ReadHeld.{resource_sound, span_sound}
 use Rattle.map_zipkin.proofs.SpanJoined.{span_joined}
 use Rattle.map_zipkin.proofs.reading.triple_of_span.Goals as goal
 
--- the attributes of the span's own are under keys of no tag that is an attribute
+-- the attributes of the span's own have a place of their own
 pub parted_by-requires : goal.parted_by-requires
 parted_by-requires c =
-    subst AreNotFree (sym c.in_ok-own.ensures) (own_pairs (peer_of c.replace-peer.result (option_map (λ v. v.now) c.find-tag.result)) (own_of c.args.span))
+    subst ArePlaced (sym c.in_ok-own.ensures) (own_pairs (peer_of c.replace-peer.result (option_map (λ v. v.now) c.find-tag.result)) (own_of c.args.span))
 
 pub returns-clause-value : goal.returns-clause-value
 returns-clause-value c =

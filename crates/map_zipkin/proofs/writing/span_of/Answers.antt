@@ -2,7 +2,7 @@ use Rattle.std.proofs.Common.{◌≡◌, ◌++◌, ap, map, is_some, ◌∙◌}
 use Rattle.trace_model.specs.Attributes.{attrs}
 use Rattle.trace_model.specs.EventTexts.{holds_double}
 use Rattle.span_tags.specs.Runs.{under}
-use Rattle.map_zipkin.specs.Writing.{local_endpoint, remote_endpoint, told_pairs, zipkin_tag_of, zipkin_tags_of}
+use Rattle.map_zipkin.specs.Writing.{local_endpoint, remote_endpoint, escaped_pairs, zipkin_tag_of, zipkin_tags_of}
 use Rattle.map_zipkin.specs.declared.own.Own.TheVariants as owns
 use Rattle.map_zipkin.specs.private.Unfit.{ports_unfit}
 use Rattle.map_zipkin.proofs.OwnParts.{same_ports}
@@ -20,7 +20,7 @@ endpoints_of-requires-clause-ports c = same_ports c.own_part-part.result.now c.a
 pub returns : goal.returns
 returns c = λ name version is.
     let one = under name version c.args.span in
-    let told = told_pairs c.args.span.attributes in
+    let told = escaped_pairs c.args.span.attributes in
     let held = c.own_part-part.ensures in
     let tags : c.in_ok-tags.tags ≡ zipkin_tags_of c.args.resource.now one =
     c.in_ok-tags.ensures

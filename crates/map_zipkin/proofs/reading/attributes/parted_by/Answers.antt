@@ -1,9 +1,11 @@
 use Rattle.std.proofs.Common.{◌≡◌, [], ◌++◌, filter, ap, sym, ◌∙◌}
 use Rattle.std.proofs.lemmas.List.{append-nil}
 use Rattle.trace_model.specs.Attributes.{attrs}
+use Rattle.span_tags.specs.Escapes.{unescaped}
 use Rattle.span_tags.specs.laws.Moved.{none_left}
 use Rattle.span_tags.specs.TagKeys.{service_key}
 use Rattle.span_tags.specs.TagWords.{Pairs, without}
+use Rattle.map_zipkin.specs.Keys.{is_zipkin_reserved}
 use Rattle.map_zipkin.specs.Reading.{is_free_tag, resource_tags}
 use Rattle.map_zipkin.proofs.OwnBehind.{own_behind}
 use Rattle.map_zipkin.proofs.ReadKeys.{free_step, resource_step}
@@ -28,5 +30,7 @@ returns c =
     sym (ap (λ l. attributes ++ filter (λ tag. is_free_tag tag.0) l) none ∙ append-nil attributes) ∙ c.tags.invariant.attributes in
     let all_resource = sym (ap (λ l. resource ++ without service_key (resource_tags l)) none ∙ append-nil resource) ∙ c.tags.invariant.resource in record {
       resource = c.in_ok-resource.ensures.same ∙ ap attrs all_resource;
-      attributes = c.in_ok-attributes.ensures.same ∙ ap attrs (c.in_ok-add_pairs.ensures ∙ ap (λ l. l ++ c.args.pairs) all_free) ∙ own_behind c.args.pairs c.args.tags c.requires;
+      attributes = c.in_ok-attributes-2.ensures.value
+          ∙ ap (unescaped is_zipkin_reserved) (c.in_ok-attributes.ensures.same ∙ ap attrs (c.in_ok-add_pairs.ensures ∙ ap (λ l. l ++ c.args.pairs) all_free))
+          ∙ own_behind c.args.pairs c.args.tags c.requires;
     }
