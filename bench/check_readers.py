@@ -65,6 +65,12 @@ def longer(more):
     return bytes(sizes.get(at, byte) for at, byte in enumerate(SMALL)) + more
 
 
+NO_SERVICE = SMALL_BATCH.replace(hexed("0b00010000000173"), hexed("0b000100000000"))
+# A truth value under the key `error`, which both have for the status of a span, as a request and as a batch.
+ERROR_REQUEST = longer("4a0b 0a056572726f72 12021001")
+ERROR_BATCH = NO_SERVICE[:-2] + hexed("0f000a0c00000001 0b00010000000f 6f74656c2e617474722e6572726f72 08000200000002 02000501 00") + NO_SERVICE[-2:]
+
+
 def worked():
     """Each worked text with its two forms, and the status, note and output that it must have."""
     refused = lambda cause, unit=1: (3, f"unit {unit}: cause {cause}\n", b"")
@@ -76,7 +82,9 @@ def worked():
         (SMALL_BATCH + DOUBLE_BATCH, JAEGER, JAEGER, written(SMALL_BATCH + DOUBLE_BATCH)),
         (SMALL, OTLP, OTLP, written(SMALL)), (UNKNOWN, OTLP, OTLP, written(SMALL)), (b"", JAEGER, OTLP, written(b"")),
         (longer("39d107000000000000 41d007000000000000"), OTLP, JAEGER, faulted("20 EndBeforeStart")),
-        (longer("4a0b 0a056572726f72 12021001"), OTLP, JAEGER, faulted('21 Reserved "error"')),
+        (ERROR_REQUEST, OTLP, JAEGER, written(ERROR_BATCH)), (ERROR_BATCH, JAEGER, JAEGER, written(ERROR_BATCH)),
+        (ERROR_BATCH, JAEGER, OTLP, written(longer("3001 4a0b 0a056572726f72 12021001"))),
+        (longer("4a12 0a0c6a61656765722e666c616773 12021801"), OTLP, JAEGER, faulted('22 OwnKey "jaeger.flags"')),
         (longer("3006"), OTLP, OTLP, refused("13 BadEnum")), (longer("2a0161"), OTLP, JAEGER, refused("7 FieldTwice")),
         (SMALL[:-1] + b"\xff", OTLP, JAEGER, refused("9 NotText")), (SMALL + SMALL[:-1], OTLP, OTLP, (3, "unit 2: cause 1 Truncated\n", SMALL)),
         (hexed("0a19 1217 1215 0a1000000000000000000000000000000001 2a0161"), OTLP, JAEGER, refused("12 BadId")),
@@ -141,7 +149,7 @@ def worked_compact():
         (FLAGS, COMPACT, COMPACT, written(FLAGS)), (LONG_LIST, COMPACT, COMPACT, written(FLAGS)),
         (KEY_COMPACT, COMPACT, COMPACT, written(KEY_COMPACT)), (CLIENT, COMPACT, COMPACT, written(CLIENT)),
         (REPEATED, COMPACT, COMPACT, written(REPEATED_WRITTEN)),
-        (longer("4a0b 0a056572726f72 12021001"), OTLP, COMPACT, (4, 'unit 1: fault 21 Reserved "error"\n', b"")),
+        (ERROR_REQUEST, OTLP, COMPACT, written(KEY_COMPACT)), (KEY_COMPACT, COMPACT, JAEGER, written(ERROR_BATCH)),
         refused("1c" * 32, "5 TooDeep"), refused("1c" * 31, "1 Truncated"), refused("1c18017300 1915 00 00", "14 BadElement"),
         refused("00", "8 Missing"), refused("1d", "3 BadWire"), refused("10", "3 BadWire"), refused("0c 80800400", "3 BadWire"),
         refused("15 8080808010", "2 BadVarint"), refused("14 808004", "2 BadVarint"), refused("16" + "80" * 9 + "02", "2 BadVarint"),
@@ -161,7 +169,6 @@ SHARED = unwrapped("""
 {"traceId":"463ac35c9f6413ad","id":"a2fb4a1d1a96d312","kind":"SERVER","shared":true}]
 """)
 SHARED_WRITTEN = TEXTS["SHARED_SPANS"]
-NO_SERVICE = SMALL_BATCH.replace(hexed("0b00010000000173"), hexed("0b000100000000"))
 NAMELESS = NO_SERVICE.replace(hexed("0b00050000000161"), hexed("0b000500000000"))
 IDS = b'"traceId":"1","id":"2"'
 
@@ -203,6 +210,7 @@ def worked_zipkin():
         to(request(**attribute("ok", "truth", True)), "", "", ',"tags":{"ok":"true"}'), to(request(links=[link])),
         to(request(**event("e", {"event": ("text", "x")})), annotation), (FLAGS, COMPACT, ZIPKIN, written(FLAGS_ZIPKIN)),
         (REPEATED, COMPACT, ZIPKIN, written(small_zipkin("", SERVICE, ',"tags":{"error":"","k":"2","otel.status_code":"ERROR"}') + b"]")),
+        to(ERROR_REQUEST, "", "", ',"tags":{"otel.attr.error":"true"}'),
         (SMALL + SMALL, OTLP, ZIPKIN, written(small_zipkin() + b"," + small_zipkin()[1:] + b"]")),
         faulted(request(start=2001, end=2000), "20 EndBeforeStart"), faulted(request(**event('"a":{"b":"c"}')), "23 EventText"),
         faulted(request(**attribute("zipkin.debug", "truth", True)), '22 OwnKey "zipkin.debug"'),
@@ -216,7 +224,9 @@ def worked_documents():
     """Each worked document that is read."""
     written = lambda text: (0, "", text)
     good = written(otlp.write_group(otlp.Group(scopes=[otlp.Scope(spans=[otlp.Span(1, 2, kind=1)])])))
-    two = b'[{%b},{%b,"tags":{"otel.resource.a":"","span.kind":"x"}}]' % (IDS, IDS)
+    two = lambda key: b'[{%b},{%b,"tags":{"otel.resource.a":"","%b":"x"}}]' % (IDS, IDS, key)
+    kind = hexed("0f000a0c00000001 0b000100000013 6f74656c2e617474722e7370616e2e6b696e64 08000200000000 0b00030000000178 00")
+    second = NAMELESS.replace(hexed("0b000100000000"), hexed("0b000100000000 0f00020c00000001 0b00010000000161 08000200000000 0b000300000000 00"))
     return [
         (b"[]", ZIPKIN, OTLP, written(b"")), (b" [ ] ", ZIPKIN, ZIPKIN, written(b"[]")), (SPAN_ZIPKIN, ZIPKIN, ZIPKIN, written(SPAN_ZIPKIN)),
         (CLIENT_ZIPKIN, ZIPKIN, COMPACT, written(CLIENT.replace(hexed("2502"), hexed("2500")))),
@@ -226,7 +236,8 @@ def worked_documents():
         (deep(127), ZIPKIN, OTLP, good),
         (b'[{"id":7,"traceId":"1","id":"0002","parentId":"00","kind":null}]', ZIPKIN, OTLP, good),
         (b'[{%b,"tags":{"error":""}},{"id":"0"}]' % IDS, ZIPKIN, JAEGER, (3, "unit 2: cause 8 Missing\n", b"")),
-        (two, ZIPKIN, JAEGER, (4, 'unit 2: fault 21 Reserved "span.kind"\n', NAMELESS)),
+        (two(b"span.kind"), ZIPKIN, JAEGER, written(NAMELESS + second[:-2] + kind + second[-2:])),
+        (two(b"jaeger.flags"), ZIPKIN, JAEGER, (4, 'unit 2: fault 22 OwnKey "jaeger.flags"\n', NAMELESS)),
     ]
 
 
@@ -286,6 +297,20 @@ def nested_value(levels, last):
     return last
 
 
+# The keys of tags that Zipkin has of attributes of these keys.
+ZIPKIN_TAGS = {
+    "ok": "ok", "error": "otel.attr.error", "otel.attr.error": "otel.attr.otel.attr.error", "otel.attr.ok": "otel.attr.ok", "otel.attr.": "otel.attr.",
+    "otel.resource.x": "otel.attr.otel.resource.x", "span.kind": "span.kind", "event": "event",
+}
+# The batch of a span whose event `e` has an attribute `event`.
+EVENT_BATCH = NO_SERVICE[:-2] + hexed("""
+0f000b0c00000001 0a00010000000000000001 0f00020c00000002
+0b0001000000056576656e74 08000200000000 0b00030000000165 00
+0b00010000000f6f74656c2e617474722e6576656e74 08000200000000 0b00030000000178 00
+00
+""") + NO_SERVICE[-2:]
+
+
 def worked_groups():
     """Each worked text that has to do with OTLP/JSON, and is written or has a fault."""
     written = lambda text: (0, "", text)
@@ -299,6 +324,7 @@ def worked_groups():
     link = f',"links":[{{"traceId":"{1:032x}","spanId":"{1:016x}",{child_of}}}]'
     annotation = '"annotations":[{"timestamp":1,"value":"\\"e\\":{\\"event\\":\\"x\\"}"}],'
     one_key = ',"attributes":[{"key":"%s","value":{"boolValue":true}}]'
+    error = (one_key % "error")[1:] + ',"kind":1,'
     twice = ',"attributes":[{"key":"k","value":{"intValue":"1"}},{"key":"k","value":{"intValue":2}}],"links":[{"traceId":"","spanId":""}]'
     to_zipkin = lambda more, *parts: (small_json(more), JSON, ZIPKIN, written(small_zipkin(*parts) + b"]"))
     stopped = lambda more, target, fault: (small_json(more), JSON, target, faulted(fault))
@@ -316,8 +342,9 @@ def worked_groups():
         (small_zipkin("", "", ',"timestamp":5') + b"]", ZIPKIN, JSON, written(groups_of(FIVE_JSON))),
         stopped(ends_before, JAEGER, "20 EndBeforeStart"), stopped(ends_before, ZIPKIN, "20 EndBeforeStart"),
         to_itself(ends_before, '"endTimeUnixNano":"2000",', "", ',"startTimeUnixNano":"2001"'),
-        stopped(one_key % "error", COMPACT, '21 Reserved "error"'), to_zipkin(one_key % "ok", "", "", ',"tags":{"ok":"true"}'),
-        stopped(an_event, JAEGER, '21 Reserved "event"'), to_zipkin(an_event, annotation), stopped(event_text, ZIPKIN, "23 EventText"),
+        (small_json(one_key % "error"), JSON, COMPACT, written(KEY_COMPACT)), (KEY_COMPACT, COMPACT, JSON, written(written_json(error))),
+        *(to_zipkin(one_key % key, "", "", ',"tags":{"%s":"true"}' % tag) for key, tag in ZIPKIN_TAGS.items()),
+        (small_json(an_event), JSON, JAEGER, written(EVENT_BATCH)), to_zipkin(an_event, annotation), stopped(event_text, ZIPKIN, "23 EventText"),
         stopped(one_key % "zipkin.debug", ZIPKIN, '22 OwnKey "zipkin.debug"'), stopped(link, JAEGER, "24 ChildOfLink"), to_zipkin(link),
         to_itself(twice, '"attributes":[{"key":"k","value":{"intValue":"2"}}],'),
         to_itself(',"parentSpanId":"","kind":0,"status":{"code":0},"flags":"-0","startTimeUnixNano":"000","events":[],"links":[{}],"attributes":null'),

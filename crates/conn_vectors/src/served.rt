@@ -117,11 +117,20 @@ ended closed
 
 a span with a fault
 to jaeger-binary
+stream POST /v1/traces HTTP/1.1\r\nHost: x\r\nContent-Type: application/json\r\nContent-Length: 199\r\n\r\n
+ {"resourceSpans":[{"scopeSpans":[{"spans":[{"traceId":"00000000000000000000000000000001","spanId":"0000000000000002","name":"a",
+ "attributes":[{"key":"jaeger.flags","value":{"boolValue":true}}]}]}]}]}
+written HTTP/1.1 422 Unprocessable Content\r\nContent-Type: text/plain\r\nContent-Length: 39\r\n\r\n
+ unit 1: fault 22 OwnKey "jaeger.flags"\n
+ended closed
+
+an attribute of a key that the target has for something else
+to zipkin-json
 stream POST /v1/traces HTTP/1.1\r\nHost: x\r\nContent-Type: application/json\r\nContent-Length: 192\r\n\r\n
  {"resourceSpans":[{"scopeSpans":[{"spans":[{"traceId":"00000000000000000000000000000001","spanId":"0000000000000002","name":"a",
  "attributes":[{"key":"error","value":{"boolValue":true}}]}]}]}]}
-written HTTP/1.1 422 Unprocessable Content\r\nContent-Type: text/plain\r\nContent-Length: 34\r\n\r\n
- unit 1: fault 21 Reserved "error"\n
+written HTTP/1.1 200 OK\r\nContent-Type: application/json\r\nContent-Length: 117\r\n\r\n
+ [{"id":"0000000000000002","name":"a","tags":{"otel.attr.error":"true"},"traceId":"00000000000000000000000000000001"}]
 ended closed
 
 HTTP/1.0

@@ -87,6 +87,65 @@ code Unset
 remark span 1 EqualKey span.kind
 remark span 1 TagDropped span.kind
 
+a reserved key behind the front, which is an attribute
+tag otel.attr.error true
+attribute error true
+kind Internal
+code Unset
+
+a reserved key beside the same behind the front
+tag error true
+tag otel.attr.error 1
+attribute error 1
+kind Internal
+code Fail
+
+a reserved tag that says nothing beside the same behind the front
+tag otel.attr.span.kind server
+tag span.kind Client
+attribute span.kind server
+kind Internal
+code Unset
+remark span 1 TagDropped span.kind
+
+equal tags behind the front, remarked under the key of the tag
+tag otel.attr.error 1
+tag a 2
+tag otel.attr.error 3
+attribute a 2
+attribute error 3
+kind Internal
+code Unset
+remark span 1 EqualKey otel.attr.error
+
+a reserved key behind two copies of the front
+tag otel.attr.otel.attr.error 1
+attribute otel.attr.error 1
+kind Internal
+code Unset
+
+keys behind the front that aren't reserved
+tag otel.attr. 1
+tag otel.attr.event 2
+tag otel.attr.jaeger.flags 3
+attribute otel.attr. 1
+attribute otel.attr.event 2
+attribute otel.attr.jaeger.flags 3
+kind Internal
+code Unset
+
+attributes in the order of their keys, and not of the tags
+tag otel.attr.error 1
+tag f 2
+tag otel.attr.w3c.tracestate 3
+tag otel.b 4
+attribute error 1
+attribute f 2
+attribute otel.b 4
+attribute w3c.tracestate 3
+kind Internal
+code Unset
+
 error beside a code
 tag error true
 tag otel.status_code OK

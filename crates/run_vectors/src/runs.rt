@@ -7,6 +7,8 @@ mod compact;
 mod compact_stops;
 mod devices;
 mod documents;
+mod escaped_batches;
+mod escaped_spans;
 mod failing_connections;
 mod gauges;
 mod groups;
@@ -52,6 +54,16 @@ const CONVERSIONS: [&str; 13] = [
     groups_again::MEMBERS,
     groups_again::VALUES,
     groups_numbers::WRITTEN,
+];
+
+// Of attributes under keys that a form reserves.
+const ESCAPED: [&str; 6] = [
+    escaped_batches::TO_BATCHES,
+    escaped_batches::OF_BATCHES,
+    escaped_batches::KEYS,
+    escaped_spans::TO_SPANS,
+    escaped_spans::OF_SPANS,
+    escaped_spans::KEYS,
 ];
 
 const STOPS: [&str; 8] = [
@@ -181,6 +193,11 @@ fn expect_tables(
 #[test]
 fn converts(rt: HostRuntime) -> Result<(), Fail> {
     expect_tables(&rt, rt.alloc(), &CONVERSIONS, &CUTS)
+}
+
+#[test]
+fn converts_escaped_keys(rt: HostRuntime) -> Result<(), Fail> {
+    expect_tables(&rt, rt.alloc(), &ESCAPED, &CUTS)
 }
 
 #[test]

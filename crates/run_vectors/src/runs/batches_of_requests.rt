@@ -81,87 +81,6 @@ run convert --from otlp-proto --to jaeger-binary
 input-hex @ENDS_BEFORE_START_REQUEST
 stops 4 unit 1: fault 20 EndBeforeStart
 
-reserved error
-run convert --from otlp-proto --to jaeger-binary
-input-hex @ERROR_REQUEST
-stops 4 unit 1: fault 21 Reserved "error"
-
-reserved otel.dropped_attributes_count
-run convert --from otlp-proto --to jaeger-binary
-input-hex 0a48124612440a1000000000000000000000000000000001120800000000000000022a01614a230a1d6f74656c2e64726f707065645f617474
- 726962757465735f636f756e7412021001
-stops 4 unit 1: fault 21 Reserved "otel.dropped_attributes_count"
-
-reserved otel.dropped_events_count
-run convert --from otlp-proto --to jaeger-binary
-input-hex 0a44124212400a1000000000000000000000000000000001120800000000000000022a01614a1f0a196f74656c2e64726f707065645f657665
- 6e74735f636f756e7412021001
-stops 4 unit 1: fault 21 Reserved "otel.dropped_events_count"
-
-reserved otel.dropped_links_count
-run convert --from otlp-proto --to jaeger-binary
-input-hex 0a431241123f0a1000000000000000000000000000000001120800000000000000022a01614a1e0a186f74656c2e64726f707065645f6c696e
- 6b735f636f756e7412021001
-stops 4 unit 1: fault 21 Reserved "otel.dropped_links_count"
-
-reserved otel.library.name
-run convert --from otlp-proto --to jaeger-binary
-input-hex 0a3c123a12380a1000000000000000000000000000000001120800000000000000022a01614a170a116f74656c2e6c6962726172792e6e616d
- 6512021001
-stops 4 unit 1: fault 21 Reserved "otel.library.name"
-
-reserved otel.library.version
-run convert --from otlp-proto --to jaeger-binary
-input-hex 0a3f123d123b0a1000000000000000000000000000000001120800000000000000022a01614a1a0a146f74656c2e6c6962726172792e766572
- 73696f6e12021001
-stops 4 unit 1: fault 21 Reserved "otel.library.version"
-
-reserved otel.scope.name
-run convert --from otlp-proto --to jaeger-binary
-input-hex 0a3a123812360a1000000000000000000000000000000001120800000000000000022a01614a150a0f6f74656c2e73636f70652e6e616d6512
- 021001
-stops 4 unit 1: fault 21 Reserved "otel.scope.name"
-
-reserved otel.scope.version
-run convert --from otlp-proto --to jaeger-binary
-input-hex 0a3d123b12390a1000000000000000000000000000000001120800000000000000022a01614a180a126f74656c2e73636f70652e7665727369
- 6f6e12021001
-stops 4 unit 1: fault 21 Reserved "otel.scope.version"
-
-reserved otel.status_code
-run convert --from otlp-proto --to jaeger-binary
-input-hex 0a3b123912370a1000000000000000000000000000000001120800000000000000022a01614a160a106f74656c2e7374617475735f636f6465
- 12021001
-stops 4 unit 1: fault 21 Reserved "otel.status_code"
-
-reserved otel.status_description
-run convert --from otlp-proto --to jaeger-binary
-input-hex 0a421240123e0a1000000000000000000000000000000001120800000000000000022a01614a1d0a176f74656c2e7374617475735f64657363
- 72697074696f6e12021001
-stops 4 unit 1: fault 21 Reserved "otel.status_description"
-
-reserved span.kind
-run convert --from otlp-proto --to jaeger-binary
-input-hex 0a34123212300a1000000000000000000000000000000001120800000000000000022a01614a0f0a097370616e2e6b696e6412021001
-stops 4 unit 1: fault 21 Reserved "span.kind"
-
-reserved w3c.tracestate
-run convert --from otlp-proto --to jaeger-binary
-input-hex 0a39123712350a1000000000000000000000000000000001120800000000000000022a01614a140a0e7733632e747261636573746174651202
- 1001
-stops 4 unit 1: fault 21 Reserved "w3c.tracestate"
-
-reserved event
-run convert --from otlp-proto --to jaeger-binary
-input-hex @EVENT_REQUEST
-stops 4 unit 1: fault 21 Reserved "event"
-
-the least of two keys
-run convert --from otlp-proto --to jaeger-binary
-input-hex 0a45124312410a1000000000000000000000000000000001120800000000000000022a01614a100a097370616e2e6b696e6412030a01785a0e
- 1a0c0a056576656e7412030a0178
-stops 4 unit 1: fault 21 Reserved "event"
-
 own key
 run convert --from otlp-proto --to jaeger-binary
 input-hex 0a38123612340a1000000000000000000000000000000001120800000000000000022a01614a130a0c6a61656765722e666c61677312030a01
@@ -171,6 +90,12 @@ stops 4 unit 1: fault 22 OwnKey "jaeger.flags"
 own key as a number
 run convert --from otlp-proto --to jaeger-binary
 input-hex 0a37123512330a1000000000000000000000000000000001120800000000000000022a01614a120a0c6a61656765722e666c61677312021802
+stops 4 unit 1: fault 22 OwnKey "jaeger.flags"
+
+own key beside a key that batches reserve
+run convert --from otlp-proto --to jaeger-binary
+input-hex 0a44124212400a1000000000000000000000000000000001120800000000000000022a01614a0b0a056572726f72120210014a120a0c6a6165676572
+ 2e666c61677312021802
 stops 4 unit 1: fault 22 OwnKey "jaeger.flags"
 
 child_of link of a root

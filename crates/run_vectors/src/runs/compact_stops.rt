@@ -2,10 +2,10 @@
 
 /// What stops batches in the compact protocol.
 pub const STOPPED: &str = r#"
-reserved error
+own key
 run convert --from otlp-proto --to jaeger-compact
-input-hex @ERROR_REQUEST
-stops 4 unit 1: fault 21 Reserved "error"
+input-hex 0a37123512330a1000000000000000000000000000000001120800000000000000022a01614a120a0c6a61656765722e666c61677312021001
+stops 4 unit 1: fault 22 OwnKey "jaeger.flags"
 
 containers 33 deep
 run convert --from jaeger-compact --to jaeger-binary

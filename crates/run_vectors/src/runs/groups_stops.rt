@@ -12,16 +12,11 @@ run convert --from otlp-json --to zipkin-json
 input @ENDS_BEFORE_START
 stops 4 unit 1: fault 20 EndBeforeStart
 
-a reserved key
+own key, to batches
 run convert --from otlp-json --to jaeger-compact
-input {"resourceSpans":[{"scopeSpans":[{"spans":[{"traceId":"00000000000000000000000000000001","spanId":"0000000000000002",
- "name":"a","attributes":[{"key":"error","value":{"boolValue":true}}]}]}]}]}
-stops 4 unit 1: fault 21 Reserved "error"
-
-a reserved key of an event
-run convert --from otlp-json --to jaeger-binary
-input @EVENT_GROUP
-stops 4 unit 1: fault 21 Reserved "event"
+input @MEMBERS
+input "attributes":[{"key":"jaeger.flags","value":{"boolValue":true}}]}]}]}]}
+stops 4 unit 1: fault 22 OwnKey "jaeger.flags"
 
 a name that reads as event text
 run convert --from otlp-json --to zipkin-json

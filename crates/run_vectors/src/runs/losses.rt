@@ -451,10 +451,10 @@ output-lines losses 0\n
 a fault of the second unit of a document
 run losses --from otlp-json --to jaeger-compact
 input {"resourceSpans":[{"scopeSpans":[{"spans":[{"traceId":"00000000000000000000000000000001","spanId":"0000000000000002",
- "name":"a"}]}]},{"scopeSpans":[{"spans":[{"traceId":"00000000000000000000000000000001","spanId":"0000000000000002",
- "name":"a","attributes":[{"key":"error","value":{"boolValue":true}}]}]}]}]}
+ "name":"a"}]}]},{"scopeSpans":[{"spans":[{"traceId":"00000000000000000000000000000001","spanId":"0000000000000002","name":"a",
+ "attributes":[{"key":"jaeger.flags","value":{"boolValue":true}}]}]}]}]}
 output-lines unit 1 span 1: kind\n
-stops 4 unit 2: fault 21 Reserved "error"
+stops 4 unit 2: fault 22 OwnKey "jaeger.flags"
 
 a cause of the second unit of a document
 run losses --from otlp-json --to jaeger-compact

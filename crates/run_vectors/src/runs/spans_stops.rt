@@ -4,23 +4,16 @@
 pub const FAULTS: &str = r#"
 a fault of the second group
 run convert --from zipkin-json --to jaeger-binary
-input [{"id":"0000000000000002","localEndpoint":{"serviceName":"s"},"name":"a",
- "traceId":"00000000000000000000000000000001"},{"id":"0000000000000002","localEndpoint":{"serviceName":"s"},"name":"a",
- "traceId":"00000000000000000000000000000001"},{"traceId":"1","id":"2","localEndpoint":{"serviceName":"t"},
- "tags":{"span.kind":"server"}}]
+input [{"id":"0000000000000002","localEndpoint":{"serviceName":"s"},"name":"a","traceId":"00000000000000000000000000000001"},
+ {"id":"0000000000000002","localEndpoint":{"serviceName":"s"},"name":"a","traceId":"00000000000000000000000000000001"},
+ {"traceId":"1","id":"2","localEndpoint":{"serviceName":"t"},"tags":{"jaeger.flags":"x"}}]
 output-hex @BATCH_OF_TWO
-stops 4 unit 2: fault 21 Reserved "span.kind"
+stops 4 unit 2: fault 22 OwnKey "jaeger.flags"
 
 ends before it starts
 run convert --from otlp-proto --to zipkin-json
 input-hex @ENDS_BEFORE_START_REQUEST
 stops 4 unit 1: fault 20 EndBeforeStart
-
-a key for resources
-run convert --from otlp-proto --to zipkin-json
-input-hex 0a3b123912370a1000000000000000000000000000000001120800000000000000022a01614a160a0f6f74656c2e7265736f757263652e6112
- 030a0178
-stops 4 unit 1: fault 21 Reserved "otel.resource.a"
 
 own key
 run convert --from otlp-proto --to zipkin-json
@@ -50,23 +43,29 @@ input-hex 0a000a0212000a35123312310a10000000000000000000000000000000011208000000
 output [
 stops 4 unit 3: fault 20 EndBeforeStart
 
-an end before the start, a reserved key and event text
+an end before the start, an own key and event text
 run convert --from otlp-proto --to zipkin-json
-input-hex 0a61125f125d0a100000000000000000000000000000000112080000000000000002300139e80300000000000041e7030000000000004a0f0a
- 056572726f7212060a046c6174655a1a09e803000000000000120f227265747279223a7b226e223a317d
+input-hex 0a68126612640a100000000000000000000000000000000112080000000000000002300139e80300000000000041e7030000000000004a160a0c7a69
+ 706b696e2e646562756712060a046c6174655a1a09e803000000000000120f227265747279223a7b226e223a317d
 stops 4 unit 1: fault 20 EndBeforeStart
 
-a reserved key beside event text
+a key for resources, which is no fault, beside event text
 run convert --from otlp-proto --to zipkin-json
-input-hex 0a6c126a12680a100000000000000000000000000000000112080000000000000002300139e80300000000000041e8030000000000004a1a0a
- 126f74656c2e7265736f757263652e686f737412040a026e315a1a09e803000000000000120f227265747279223a7b226e223a317d
-stops 4 unit 1: fault 21 Reserved "otel.resource.host"
+input-hex 0a6c126a12680a100000000000000000000000000000000112080000000000000002300139e80300000000000041e8030000000000004a1a0a126f74
+ 656c2e7265736f757263652e686f737412040a026e315a1a09e803000000000000120f227265747279223a7b226e223a317d
+stops 4 unit 1: fault 23 EventText
 
 an own key, spelled otherwise, beside event text
 run convert --from otlp-proto --to zipkin-json
 input-hex 0a6c126a12680a100000000000000000000000000000000112080000000000000002300139e80300000000000041e8030000000000004a1a0a
  117a69706b696e2e6c6f63616c2e706f727412050a033038305a1a09e803000000000000120f227265747279223a7b226e223a317d
 stops 4 unit 1: fault 22 OwnKey "zipkin.local.port"
+
+the least of two own keys
+run convert --from otlp-proto --to zipkin-json
+input-hex 0a521250124e0a10000000000000000000000000000000011208000000000000000230014a120a0c7a69706b696e2e6465627567120210014a1a0a11
+ 7a69706b696e2e6c6f63616c2e706f727412050a03303830
+stops 4 unit 1: fault 22 OwnKey "zipkin.debug"
 
 event text beside a double
 run convert --from otlp-proto --to zipkin-json
@@ -79,13 +78,6 @@ run convert --from otlp-proto --to zipkin-json
 input-hex 0a55125312510a100000000000000000000000000000000112080000000000000002300139e80300000000000041e8030000000000004a0e0a
  0161120921000000000000f03f5a0f09e803000000000000120473656e74
 stops 4 unit 1: fault 25 DoubleInText
-
-a key that is no plain text
-run convert --from otlp-proto --to zipkin-json
-input-hex 0a40123e123c0a1000000000000000000000000000000001120800000000000000024a1e0a176f74656c2e7265736f757263652e61225c2f0a
- 1f7fc3a912030a0178
-status 4
-note-lines unit 1: fault 21 Reserved "otel.resource.a\\"\\\\/\\n\\u001f\x7fé"\n
 "#;
 
 /// What stops the reading of spans.
@@ -129,6 +121,6 @@ stops 3 unit 2: cause 8 Missing
 
 a cause behind a fault
 run convert --from zipkin-json --to jaeger-binary
-input [{"traceId":"1","id":"2","tags":{"span.kind":"server"}},{"traceId":"1","id":"2","duration":-1}]
+input [{"traceId":"1","id":"2","tags":{"jaeger.flags":"x"}},{"traceId":"1","id":"2","duration":-1}]
 stops 3 unit 2: cause 16 BadTime
 "#;

@@ -42,6 +42,45 @@ text-hex @SPAN_BATCH
 a span of Zipkin as a client writes it
 form zipkin-json
 text @CLIENT_SPANS
+
+attributes under each key that a form reserves, and behind the front
+form otlp-json
+text @MEMBERS
+text "attributes":[{"key":"error","value":{"stringValue":"1"}},{"key":"event","value":{"stringValue":"2"}},{"key":"otel.attr.",
+ "value":{"stringValue":"0"}},{"key":"otel.attr.error","value":{"stringValue":"-1"}},{"key":"otel.attr.event",
+ "value":{"stringValue":"-2"}},{"key":"otel.attr.otel.attr.error","value":{"stringValue":"x"}},
+ {"key":"otel.attr.otel.dropped_attributes_count","value":{"stringValue":"-3"}},{"key":"otel.attr.otel.dropped_events_count",
+ "value":{"stringValue":"-4"}},{"key":"otel.attr.otel.dropped_links_count","value":{"stringValue":"-5"}},
+ {"key":"otel.attr.otel.library.name","value":{"stringValue":"-6"}},{"key":"otel.attr.otel.library.version",
+ "value":{"stringValue":"-7"}},{"key":"otel.attr.otel.resource.a","value":{"stringValue":"-8"}},
+ {"key":"otel.attr.otel.scope.name","value":{"stringValue":"-9"}},{"key":"otel.attr.otel.scope.version",
+ "value":{"stringValue":"-10"}},{"key":"otel.attr.otel.status_code","value":{"stringValue":"-11"}},
+ {"key":"otel.attr.otel.status_description","value":{"stringValue":"-12"}},{"key":"otel.attr.span.kind",
+ "value":{"stringValue":"-13"}},{"key":"otel.attr.w3c.tracestate","value":{"stringValue":"-14"}},
+ {"key":"otel.dropped_attributes_count","value":{"stringValue":"3"}},{"key":"otel.dropped_events_count",
+ "value":{"stringValue":"4"}},{"key":"otel.dropped_links_count","value":{"stringValue":"5"}},{"key":"otel.library.name",
+ "value":{"stringValue":"6"}},{"key":"otel.library.version","value":{"stringValue":"7"}},{"key":"otel.resource.a",
+ "value":{"stringValue":"8"}},{"key":"otel.scope.name","value":{"stringValue":"9"}},{"key":"otel.scope.version",
+ "value":{"stringValue":"10"}},{"key":"otel.status_code","value":{"stringValue":"11"}},{"key":"otel.status_description",
+ "value":{"stringValue":"12"}},{"key":"span.kind","value":{"stringValue":"13"}},{"key":"w3c.tracestate",
+ "value":{"stringValue":"14"}}],"events":[{"timeUnixNano":"1000","name":"e","attributes":[{"key":"error",
+ "value":{"stringValue":"1"}},{"key":"event","value":{"stringValue":"2"}},{"key":"otel.attr.event",
+ "value":{"stringValue":"3"}}]}]}]}]}]}
+
+a batch of such tags
+form jaeger-compact
+text-hex 1c180173191c18056572726f7215001801780000191c1602160016041600180161250016001600197c18056572726f7215043100180a6f74656c2e617
+ 474722e150018013100180f6f74656c2e617474722e6572726f7215001801320018196f74656c2e617474722e6f74656c2e617474722e6572726f721500180133
+ 0018196f74656c2e617474722e6f74656c2e7265736f757263652e6115001801340018136f74656c2e617474722e7370616e2e6b696e64150018013500180f6f7
+ 4656c2e7265736f757263652e61150018013600191c1602193c18056576656e74150018016500180f6f74656c2e617474722e6576656e7415001801370018196f
+ 74656c2e617474722e6f74656c2e617474722e6576656e74150018013800000000
+
+spans of Zipkin with such tags
+form zipkin-json
+text [{"annotations":[{"timestamp":1,"value":"\"e\":{\"event\":\"8\",\"otel.attr.event\":\"9\"}"}],"id":"0000000000000002",
+ "name":"a","tags":{"error":"","otel.attr.":"1","otel.attr.error":"2","otel.attr.otel.attr.error":"3",
+ "otel.attr.otel.resource.a":"4","otel.attr.span.kind":"5","otel.resource.a":"6","otel.status_code":"ERROR","span.kind":"7"},
+ "traceId":"00000000000000000000000000000001"}]
 "#;
 
 // Converts the input of the bench to a form. What is written of it is the next input.
