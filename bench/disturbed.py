@@ -13,6 +13,8 @@ import sys
 import tempfile
 import time
 
+import forms
+import otlp
 from forms import FORMS, JSON, OTLP, ZIPKIN
 from gateway import text_of
 from program import PROGRAM, TOP, command, losses_command, report_command
@@ -42,6 +44,9 @@ WORKED = [
     (BINARY, "DOUBLE_BATCH", {BINARY: "DOUBLE_BATCH", COMPACT: "DOUBLE_COMPACT"}),
     (OTLP, "CUT_SPAN", {}),
 ]
+# A span and an event of which attributes have keys of a target's own, some of them behind `otel.attr.` already.
+KEYS = {key: ("text", "x") for key in ["error", "event", "otel.attr.error", "otel.attr.otel.resource.a", "otel.resource.a", "span.kind", "z"]}
+KEYED = [otlp.Group(KEYS, scopes=[otlp.Scope(spans=[otlp.Span(1, 2, kind=1, attributes=KEYS, events=[otlp.Event(1000, "e", KEYS)])])])]
 SHOWN = b'0000000000000000463ac35c9f6413ad 463ac35c9f6413ad - CLIENT 1472470996199000000 1472470996406000000 ERROR "get"\n'
 TRACEPARENT = b"traceparent: 00-0af7651916cd43dd8448eb211c80319c-b7ad6b7169203331-01\ntracestate: a=1, b=2\n"
 HEADERS = {
@@ -91,9 +96,12 @@ def serving(name, target, sent, wanted=None):
 
 
 def cases(folders):
-    """The worked texts and the samples, by each command, headers, the gauge and served connections."""
+    """The worked texts, a trace with keys of a target's own and the samples, by each command, headers, the gauge and served connections."""
     for form, name, becomes in WORKED:
         yield from commands(form, name, TEXTS[name], {target: TEXTS[text] for target, text in becomes.items()})
+    for form in FORMS:
+        text = forms.write(KEYED, form)
+        yield from commands(form, f"keys of a target's own, {form}", text, {target: forms.verdict(text, form, target)[2] for target in FORMS})
     for form, name, text in texts(folders):
         yield from commands(form, name, text, {})
     for form, wanted in HEADERS.items():

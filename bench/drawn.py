@@ -3,9 +3,13 @@ import random
 
 import jaeger
 import otlp
+import zipkin
+from escapes import FRONT
 from protocols import BINARY, DOUBLE, I8, I16, I32, I64, KINDS, LIST, MAP, PROTOCOLS, SET, STRUCT, TRUTH, Struct
 
 KEYS = ["a", "b", "", "a.b", "é", "\U00010000", "\uffff", "service.name", "event", "error", "span.kind", "jaeger.flags", "zz"]
+# Keys that some target reserves on a span or an event.
+RESERVED = [*jaeger.RESERVED, jaeger.EVENT, *(zipkin.RESOURCE + key for key in ["", "a", "service.name", FRONT + "error"])]
 BAD_FLAGS = ["1", "3", "257", "0", "02", "4294967295", "4294967296", "+2", " 2", "2\n", "", "٢", "-2", "2" * 5000]
 DOUBLES = [b"\x3f\xf0" + bytes(6), b"\x7f\xf8" + bytes(5) + b"\1", bytes(8)]
 
@@ -39,6 +43,14 @@ class Drawn:
     def id(self, bits):
         return self.choice(1, 2, 3, 2**bits - 1, 2**63, self.random.getrandbits(bits) or 1)
 
+    def behind_fronts(self, key):
+        """A key, behind one copy or two of the front of escaped keys by chance."""
+        return FRONT * self.choice(0, 0, 1, 1, 2) + key
+
+    def reserved_key(self):
+        """One that a target reserves, or one that is written or read otherwise for such a one."""
+        return self.behind_fronts(self.choice(*RESERVED))
+
     def leaf(self):
         kind = self.choice("text", "truth", "number", "double", "bytes")
         held = {
@@ -67,6 +79,7 @@ class Batches(Drawn):
 
     def tags(self, reserved):
         keys = [self.random.choice(reserved) if self.chance(0.5) else self.random.choice(KEYS) for _ in range(self.some(12))]
+        keys = [self.behind_fronts(key) if self.chance(0.2) else key for key in keys]
         return [(key, self.tag_value(key)) for key in keys]
 
     def reference(self, trace, id):
@@ -203,13 +216,10 @@ class Traces(Drawn):
         value = self.value(levels - 1)
         return ("text", "x") if value[0] == "double" else value
 
-    def attributes(self, reserved=()):
-        """Attributes with none of these keys but by chance."""
-        out = {self.choice(*KEYS, self.text()): self.value() for _ in range(self.some(6))}
-        out = {key: value for key, value in out.items() if key not in reserved}
-        if reserved and self.fault(21):
-            out[self.random.choice(reserved)] = self.leaf()
-        return out
+    def attributes(self):
+        """Attributes under keys of all kinds, also such as a target reserves."""
+        keys = [self.reserved_key() if self.chance(0.3) else self.choice(*KEYS, self.text()) for _ in range(self.some(6))]
+        return {key: self.value() for key in keys}
 
     def resource(self):
         out = self.attributes()
@@ -241,7 +251,7 @@ class Traces(Drawn):
         return link
 
     def event(self):
-        return otlp.Event(self.time(), self.choice("", "e", self.text()), self.attributes(["event"]), self.choice(0, 3))
+        return otlp.Event(self.time(), self.choice("", "e", self.text()), self.attributes(), self.choice(0, 3))
 
     def time(self):
         return self.choice(0, 1, 999, 1000, 2**64 - 1, 2**64 - 616, self.random.getrandbits(64))
@@ -250,7 +260,7 @@ class Traces(Drawn):
         span = otlp.Span(self.choice(1, self.id(128)), self.id(64), self.choice("", "a=b", self.text()), self.choice(0, 0, 1, self.id(64)), self.text())
         span.kind, span.code, span.message = self.random.randrange(6), self.random.randrange(3), self.choice("", self.text())
         span.start, span.end = sorted([self.time(), self.time()], reverse=self.fault(20))
-        span.attributes, span.flags = self.flags(self.attributes(jaeger.RESERVED)), self.choice(0, 1, 257, 2**32 - 1)
+        span.attributes, span.flags = self.flags(self.attributes()), self.choice(0, 1, 257, 2**32 - 1)
         span.dropped_attributes, span.dropped_events, span.dropped_links = (self.choice(0, 1, 2**32 - 1) for _ in range(3))
         span.events = [self.event() for _ in range(self.some(3))]
         span.links = [self.link(span) for _ in range(self.some(4))]

@@ -36,7 +36,7 @@ class Spans(Drawn):
 
     def attributes(self):
         """What an event may have, read back as it is."""
-        held = {self.choice(*KEYS, self.text()): self.leaf() for _ in range(self.some(4))}
+        held = {self.reserved_key() if self.chance(0.2) else self.choice(*KEYS, self.text()): self.leaf() for _ in range(self.some(4))}
         return {key: ("number", 5) if kind in ["double", "bytes"] else (kind, value) for key, (kind, value) in held.items()}
 
     def annotation(self):
@@ -59,6 +59,7 @@ class Spans(Drawn):
     def tags(self, resource):
         special = [*RESERVED, *OWN, "peer.service", RESOURCE + "service.name", "span.kind"]
         keys = [self.choice(*special) if self.chance(0.5) else self.choice(*KEYS, self.text()) for _ in range(self.some(12))]
+        keys += [self.behind_fronts(key) for key in special if self.chance(0.05)]
         keys = [key for key in keys if not key.startswith(("otel.scope", "otel.library"))]
         return {key: self.tag_value(key) for key in keys} | {RESOURCE + key: text for key, text in resource.items()}
 
@@ -171,10 +172,6 @@ class ZipkinTraces(Traces):
         kind, held = super().leaf()
         return ("number", 7) if kind == "double" and not self.fault(25) else (kind, held)
 
-    def attributes(self, reserved=()):
-        """Attributes with none of these keys but by chance."""
-        return super().attributes([] if reserved == ["event"] else reserved)
-
     def own(self):
         """Attributes under the own keys."""
         texts = {"debug": ["true"], "shared": ["true"], "ipv4": ["10.0.0.7", "x"], "ipv6": ["::1"], "port": ["1", "80", "65535"]}
@@ -195,10 +192,7 @@ class ZipkinTraces(Traces):
 
     def span(self):
         span = super().span()
-        attributes = {key: value for key, value in span.attributes.items() if not zipkin.is_reserved(key) and key not in OWN}
-        span.attributes = attributes | self.own()
-        if self.fault(21):
-            span.attributes[self.choice(*RESERVED, RESOURCE, RESOURCE + "a", RESOURCE + "service.name")] = self.leaf()
+        span.attributes = {key: value for key, value in span.attributes.items() if key not in OWN} | self.own()
         return span
 
     def group(self):

@@ -14,7 +14,7 @@ from protocols import PROTOCOLS
 OTLP, JSON, ZIPKIN = "otlp-proto", "otlp-json", "zipkin-json"
 FORMS = [OTLP, JSON, *PROTOCOLS, ZIPKIN]
 PAIRS = list(itertools.product(FORMS, FORMS))
-FAULTS = {20: "EndBeforeStart", 21: "Reserved", 22: "OwnKey", 23: "EventText", 24: "ChildOfLink", 25: "DoubleInText"}
+FAULTS = {20: "EndBeforeStart", 22: "OwnKey", 23: "EventText", 24: "ChildOfLink", 25: "DoubleInText"}
 
 # Of each form in JSON how its groups are read, and of each binary form how its next unit is found, the offences of a unit, and the group that it means.
 DOCUMENTS = {JSON: otlp_json.read_groups, ZIPKIN: lambda text: zipkin.groups_of_spans(zipkin.read_spans(text))}
@@ -77,7 +77,7 @@ def write(groups, target):
 
 def faulted(number, fault):
     place, cause, key = fault
-    key = f" {json.dumps(key, ensure_ascii=False)}" if cause in [21, 22] else ""
+    key = f" {json.dumps(key, ensure_ascii=False)}" if cause == 22 else ""
     return 4, f"unit {number}: fault {cause} {FAULTS[cause]}{key}\n", FAULTS[cause]
 
 

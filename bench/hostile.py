@@ -22,6 +22,7 @@ import forms
 import losses
 import reports
 from hostile_documents import document_cases, to_document_cases, groups_cases, to_groups_cases
+from hostile_keys import key_cases
 from hostile_reports import report_cases
 from hostile_units import SAME_FORM, cases, batch_cases, compact_cases
 from program import BUILD, PROGRAM, Measured, command, losses_command, report_command
@@ -86,7 +87,7 @@ def run(name, pair, text, status, note, output):
 def main():
     words = [word for word in sys.argv[1:] if not word.startswith("--")]
     every = [(name, SAME_FORM, make) for name, make in cases()] + batch_cases() + compact_cases() + document_cases() + to_document_cases() + groups_cases() + to_groups_cases()
-    every += report_cases()
+    every += key_cases() + report_cases()
     chosen = [(name, pair, make) for name, pair, make in every if not words or any(word in f"{name}, {' to '.join(pair)}" for word in words)]
     if "--list" in sys.argv:
         for name, pair, make in chosen:

@@ -156,7 +156,7 @@ def event_spelled(held):
 
 def document_cases():
     """The name of each case of documents with its pair of forms, and what makes its input and what must be seen."""
-    fault, batch = json_span(middle=b',"tags":{"span.kind":"x"}'), DOCUMENT_TO_BATCH
+    fault, batch = json_span(middle=b',"tags":{"jaeger.flags":"x"}'), DOCUMENT_TO_BATCH
     request = lambda text: bytes_field(1, bytes_field(2, REQUEST_SPAN * text.count(b"{")))
     chains = lambda: listed_parts(b"[" * 124 + b"]" * 124, UNIT)
     cases = [
@@ -178,7 +178,7 @@ def document_cases():
     out = [(name, SAME_DOCUMENT, make) for name, make in cases]
     out.append(("spans of other services than the one before", FROM_DOCUMENT, changing_services))
     out.append(("smallest good spans", FROM_DOCUMENT, lambda: writes(good_spans(), request(good_spans()))))
-    out.append(("smallest good spans, the last with a reserved tag", batch, lambda: faulted(good_spans(fault), 1, '21 Reserved "span.kind"')))
+    out.append(("smallest good spans, the last with a tag that a batch can't hold", batch, lambda: faulted(good_spans(fault), 1, '22 OwnKey "jaeger.flags"')))
     return out + [(name, FROM_DOCUMENT, lambda make=make, unit=unit, cause=cause: refused(make(), unit, cause)) for name, make, unit, cause in document_causes()]
 
 

@@ -447,9 +447,9 @@ def cut_batches():
     return refused(GOOD_BATCH * count + GOOD_BATCH[:-1], count + 1, "1 Truncated", GOOD_BATCH * count)
 
 
-def reserved_last():
-    """One span with an attribute as often as it fits, and a reserved one behind."""
-    last = bytes_field(9, bytes_field(1, b"error"))
+def own_last():
+    """One span with an attribute as often as it fits, and behind it one that is a batch's own without a value of its form."""
+    last = bytes_field(9, bytes_field(1, b"jaeger.flags"))
     return one_span(filled(BARE_ATTRIBUTE, REST_ROOM - len(last)) + last)
 
 
@@ -506,7 +506,7 @@ def batch_cases():
         (f"chains of lists {DEEPEST} deep, as a tag's text", TO_BATCHES, many_chains),
         ("a list of a text of control characters", TO_BATCHES, listed_controls),
         ("a double in the last of many lists", TO_BATCHES, lambda: faulted(one_value(list_value(filled(DEEP_LIST, LIST_ROOM - 11) + LAST_DOUBLE)), 1, "25 DoubleInText")),
-        ("a reserved key behind many others", TO_BATCHES, lambda: faulted(reserved_last(), 1, '21 Reserved "error"')),
+        ("a batch's own key behind many others", TO_BATCHES, lambda: faulted(own_last(), 1, '22 OwnKey "jaeger.flags"')),
         ("empty events", TO_BATCHES, lambda: writes(one_span(filled(b"\x5a\0", REST_ROOM)), batch(spans=[field(LIST, 11, list_of(REST_ROOM // 2, LOG * (REST_ROOM // 2)))]))),
     ]
 

@@ -10,12 +10,13 @@ import json
 import re
 
 import otlp
+from escapes import escaped, unescaped
 from otlp import UNIT, by_key, is_text
 from protocols import BINARY, DOUBLE, I32, I64, LIST, PROTOCOLS, STRUCT, TRUTH, Struct
 
 FORMS = ["otlp-proto", *PROTOCOLS]
 PAIRS = list(itertools.product(FORMS, FORMS))
-FAULTS = [20, 21, 22, 24, 25]
+FAULTS = [20, 22, 24, 25]
 LAST_MICROS = (2**64 - 1) // 1000
 
 # Of each struct its known fields: the id with the type and what the field is.
@@ -240,6 +241,20 @@ KINDS_BY_TEXT = {"internal": 1, "server": 2, "client": 3, "producer": 4, "consum
 CODES_BY_TEXT = {"OK": 1, "ERROR": 2}
 DROPPED_KEYS = ["otel.dropped_attributes_count", "otel.dropped_events_count", "otel.dropped_links_count"]
 CHILD_OF = {"opentracing.ref_type": ("text", "child_of")}
+# The keys of a span's tags, and of a log's fields, that say something of the span or the log.
+RESERVED = [
+    "span.kind", "error", "otel.status_code", "otel.status_description", "otel.scope.name", "otel.scope.version",
+    "otel.library.name", "otel.library.version", *DROPPED_KEYS, "w3c.tracestate",
+]
+EVENT = "event"
+
+
+def is_reserved(key):
+    return key in RESERVED
+
+
+def is_event_key(key):
+    return key == EVENT
 
 
 def take_text(attributes, key):
@@ -279,8 +294,8 @@ def take_scope(attributes, part):
 
 def group_event(log):
     attributes = dict(log.fields)
-    name = take_text(attributes, "event")
-    return otlp.Event(log.time * 1000, name or "", attributes)
+    name = take_text(attributes, EVENT)
+    return otlp.Event(log.time * 1000, name or "", unescaped(attributes, is_event_key))
 
 
 def parent_and_links(span):
@@ -303,6 +318,7 @@ def group_span(span):
     dropped = [take_count(attributes, key) for key in DROPPED_KEYS]
     state = take_text(attributes, "w3c.tracestate") or ""
     attributes.pop("jaeger.flags", None)
+    attributes = unescaped(attributes, is_reserved)
     others = span.flags % 2**32 - span.flags % 2
     if others:
         attributes["jaeger.flags"] = ("text", str(others))
@@ -328,10 +344,6 @@ def group_of_batch(batch):
 # ---- from a group to a batch
 
 TEXTS_BY_KIND = {number: text for text, number in KINDS_BY_TEXT.items() if text != "internal"}
-RESERVED = [
-    "span.kind", "error", "otel.status_code", "otel.status_description", "otel.scope.name", "otel.scope.version",
-    "otel.library.name", "otel.library.version", *DROPPED_KEYS, "w3c.tracestate",
-]
 
 
 def value_json(value):
@@ -381,11 +393,11 @@ def batch_span(span, scope):
     start = span.start // 1000
     logs = []
     for event in span.events:
-        name = {"event": ("text", event.name)} if event.name else {}
-        logs.append(Log(event.time // 1000, tags_of(event.attributes | name)))
+        name = {EVENT: ("text", event.name)} if event.name else {}
+        logs.append(Log(event.time // 1000, tags_of(escaped(event.attributes, is_event_key) | name)))
     return Span(
         span.trace, span.id, span.parent, span.name, [Reference(is_child_of(link), link.trace, link.id) for link in span.links],
-        signed(span.flags % 2 + others, 32), start, span.end // 1000 - start, tags_of(attributes | own_tags(span, scope)), logs,
+        signed(span.flags % 2 + others, 32), start, span.end // 1000 - start, tags_of(escaped(attributes, is_reserved) | own_tags(span, scope)), logs,
     )
 
 
@@ -427,8 +439,6 @@ def names_parent(span, link):
 def span_faults(span):
     """The faults of a span and what stands in it, each a number and a key."""
     found = [(20, "")] if span.end < span.start else []
-    found += [(21, key) for key in span.attributes if key in RESERVED]
-    found += [(21, "event") for event in span.events if "event" in event.attributes]
     if "jaeger.flags" in span.attributes and not is_own_flags(span.attributes["jaeger.flags"]):
         found.append((22, "jaeger.flags"))
     found += [(24, "") for link in span.links if names_parent(span, link)]

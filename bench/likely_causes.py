@@ -204,7 +204,6 @@ CASES = [
     (CAUSES, "identifiers of another length", [b"b3: 0af7-b7ad-1\n", b"X-B3-TraceId: 0af7651916cd43dd\n"]),
     (CAUSES, "one with other signs than colons", [b"uber-trace-id: 1;2;0;1\n", b"uber-trace-id: 1:2\n"]),
     (FAULTS, "a span whose end was never set", ["no end"], MEND, None, 1),
-    (FAULTS, "an attribute `error`", [request(attributes=[("error", ("truth", True))])], MEND, None, 1),
     (FAULTS, "the number of the flags", [request(attributes=[("jaeger.flags", ("number", 2))])], MEND, None, 1),
     (FAULTS, "a truth value in place", [request(attributes=[("zipkin.debug", ("truth", True))])], MEND, None, 1),
     (FAULTS, "an event whose name is itself", [group((11, field(2, b'"retry":{"attempt":1}')))], MEND, None, 1),
@@ -359,7 +358,7 @@ def post(path="/v1/traces", kind="application/x-protobuf", body=REQUEST, more=b"
     return b"POST " + path.encode() + b" HTTP/1.1\r\nContent-Type: " + kind.encode() + b"\r\n" + more + b"Content-Length: %d\r\n\r\n" % len(body) + body
 
 
-RESERVED = request(attributes=[("error", ("truth", True))])
+FAULTED = request(attributes=[("jaeger.flags", ("number", 2))])
 NO_BODY = b"POST /v1/traces HTTP/1.1\r\nContent-Type: application/x-protobuf\r\n"
 ANSWERED = [
     ("400, with a line", [post(body=DOCUMENT), post(kind="application/json", body=REQUEST)]),
@@ -370,7 +369,7 @@ ANSWERED = [
     ("413", [NO_BODY + b"Content-Length: 67108865\r\n\r\n"]),
     ("415, of a body", [post(more=b"Content-Encoding: gzip\r\n", body=gzip.compress(REQUEST))]),
     ("415, of a type", [post(kind=kind) for kind in ["application/x-www-form-urlencoded", "application/grpc"]] + [post("/api/v2/spans")]),
-    ("422, with a line", [post(body=RESERVED)]),
+    ("422, with a line", [post(body=FAULTED)]),
     ("431", [NO_BODY + b"Cookie: " + b"x" * 16_384 + b"\r\n\r\n", NO_BODY + b"A: b\r\n" * 64 + b"\r\n"]),
     ("501", [NO_BODY + b"Transfer-Encoding: chunked\r\n\r\n0\r\n\r\n"]),
 ]

@@ -127,7 +127,7 @@ ROWS = {
     ],
 }
 AT_ONE_PLACE = document(unit(scope(span(kind=0, flags=2, endTimeUnixNano=1, attributes=[Z, M, L], status={"message": "m"})), dropped=1, schemaUrl="r", resource=[service(""), L]))
-FAULTED = document(unit(scope(span(flags=2))), unit(scope(span(flags=2, attributes=[pair("error", intValue=1)]))))
+FAULTED = document(unit(scope(span(flags=2))), unit(scope(span(flags=2, attributes=[pair("jaeger.flags", intValue=1)]))))
 # Of sentences of the page the inputs that they are about.
 SAID = {
     "the one line is `losses 0`; a double to `otlp-json` is a fault.": [
@@ -147,7 +147,7 @@ SAID = {
     "A unit without spans between two keeps none apart.": [
         told(document(unit(scope(span(), name="a")), unit(resource=[service("t")]), unit(scope(span()))), ZIPKIN, "unit 2: unit-empty", "unit 3: unit-joined"),
     ],
-    "What goes of its own resource and scopes is told besides.": [
+    "What its own resource and scopes lose is told besides,": [
         told(document(unit(scope(attributes=V), resource=[N])), ZIPKIN, "unit 1: unit-empty", 'unit 1 resource: value "n"', "unit 1 scope 1: attributes", "unit 1 scope 1: scope-empty"),
     ],
     "Units have the numbers that they have in the input, and so have scopes, spans and links.": [
@@ -160,7 +160,7 @@ SAID = {
              *(f"unit 1 span 1: {row}" for row in ['value "l"', 'value "m"', 'value "z"', "end", "kind", "message", "flags"])),
     ],
     "It has its note and status 4, the lines of the units before were written, and the last line is missing.": [
-        (FAULTED, JSON, JAEGER, (4, b"unit 1 span 1: flags\n", 'unit 2: fault 21 Reserved "error"\n')),
+        (FAULTED, JSON, JAEGER, (4, b"unit 1 span 1: flags\n", 'unit 2: fault 22 OwnKey "jaeger.flags"\n')),
     ],
     "**Then a check has no counts line, and `losses` no last one**": [
         (batch([text("k", "1")]) + b"\0", BINARY, ZIPKIN, (3, b"unit 1 span 1: flags\n", "unit 2: cause 8 Missing\n")),

@@ -95,7 +95,7 @@ def checks(lines, manual):
     for number, name in (causes | header_causes).items():
         said -= {f"unit 2: cause {number} {name}", f"cause {number} {name}"}
     for number, name in faults.items():
-        said -= {f'unit 1: fault {number} {name} "error"'}
+        said -= {f'unit 1: fault {number} {name} "jaeger.flags"'}
     # The lines of connections that are served begin with their number.
     said -= {f"connection 1{end}" for line in lines for end in re.findall(r'"connection " .* codes "([^"]*)\\n"', line)}
     yield "lines on standard error", fixed, said

@@ -6,7 +6,8 @@ In an indented block, a line that begins with `$ ` is a command, which goes on i
 stands below it is what it prints, on both outputs. The commands of a page run one after the other in a folder of its own, beside
 which the examples lie. A command within a sentence must stand in one of these, or name a script that is there, or print nothing.
 What they post goes to servers of Python's on this machine that take what a Collector, Jaeger and Zipkin take by their documents
-(stand_ins.py). Then the rows of pages are tried that say what is lost and refused (tried_rows.py).
+(stand_ins.py). Then the rows of pages are tried that say what is lost and refused (tried_rows.py), and under which keys attributes
+stand (tried_keys.py).
 
 It needs the built program and Debian's curl, jq, protobuf-compiler, thrift-compiler and python3-thrift, and is run as
 bench/pages.py [--update]; with --update it writes what was printed into the pages. It ends with 1 on a difference.
@@ -20,6 +21,7 @@ import sys
 import tempfile
 
 import stand_ins
+import tried_keys
 import tried_rows
 from program import BUILD, PROGRAM, TOP
 
@@ -150,7 +152,7 @@ def main():
             if count and not differences:
                 print(f"ok: {os.path.relpath(path, TOP)}: {count} commands")
             wrong += len(differences)
-    return wrong + tried_rows.main()
+    return wrong + tried_rows.main() + tried_keys.main()
 
 
 if __name__ == "__main__":

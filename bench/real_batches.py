@@ -214,6 +214,7 @@ def named_batches():
     """The name of each case with its batches."""
     many = [(f"key {i * 7 % 20:02}", ("number", i)) for i in range(20)]
     reserved = [(key, ("text", "x")) for key in jaeger.RESERVED] + [("jaeger.flags", ("text", "2"))]
+    escaped = [("otel.attr." * copies + key, ("text", "x")) for copies in [1, 2] for key in [*jaeger.RESERVED, "", "event", "jaeger.flags", "x"]]
     own = [
         ("span.kind", ("text", "consumer")), ("error", ("truth", True)), ("otel.status_description", ("text", "declined")),
         ("otel.library.name", ("text", "older")), ("otel.scope.version", ("text", "1.0")), ("otel.dropped_events_count", ("number", 3)),
@@ -231,6 +232,7 @@ def named_batches():
         ("references, of which the first of the own trace is the parent", single(references=references)),
         ("references beside a parent", single(parent=4, references=references)),
         ("reserved tags that mean nothing", single(tags=reserved)), ("reserved tags with a meaning", single(tags=own)),
+        ("tags of attributes under reserved keys", single(tags=own + escaped, logs=[jaeger.Log(5, log.fields + escaped)])),
         ("all flags", single(flags=-1)), ("flags without the first", single(flags=-(2**31))),
         ("the last microsecond", single(start=jaeger.LAST_MICROS, duration=0)), ("logs without fields", single(logs=[jaeger.Log(0, [])] * 2)),
         ("log fields `event` of other types", single(logs=[jaeger.Log(5, [("event", value)]) for _, value in EVERY_TYPE])),

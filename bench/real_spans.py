@@ -130,6 +130,7 @@ def documents(folders):
         with open(path, "rb") as file:
             yield f"file {os.path.basename(path)}", file.read()
     ids = '"traceId":"1","id":"2"'
+    escaped = {"otel.attr." * copies + key: "x" for copies in [0, 1, 2] for key in [*zipkin.RESERVED, "", "otel.resource.a", "span.kind", "x"]}
     controls = {chr(n): chr(n) for n in [*range(32), 127, 128, 0x2028, 0xFFFF, 0x10FFFF]}
     texts = {"http.url": "http://例え.jp/?q=ü&<b>", "error": 'boom "q"', "nul\0": "tab\t", "line\u2028": "\x7f"}
     yield "no spans", b"[]"
@@ -138,6 +139,7 @@ def documents(folders):
     yield "what aiozipkin has", joined()
     yield from printed_by_go()
     yield "every control character", json.dumps([{"traceId": "1", "id": "2", "tags": controls}]).encode()
+    yield "tags of attributes under reserved keys", json.dumps([{"traceId": "1", "id": "2", "tags": escaped}]).encode()
     yield "every escape", f'[{{{ids},"name":"\\"\\\\\\/\\b\\f\\n\\r\\t\\u00e9\\uD83d\\uDe00\\u0000\\uffff"}}]'.encode()
     yield "equal members", f'[{{"id":5,{ids},"tags":7,"tags":{{"a":"1","b":null,"a":"2"}},"name":"x","name":null}}]'.encode()
     yield "127 deep", f'[{{{ids},"x":{"[" * 125}{"]" * 125}}}]'.encode()

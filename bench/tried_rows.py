@@ -342,10 +342,10 @@ def cases():
             yield "OTLP-PROTO.md", row, lambda _, first=first, second=second: same(first, second, "otlp-proto")
 
 
-def main():
+def tried(cases):
     """Prints what differs, and answers how many cases do."""
     wrong, rows = 0, {}
-    for page, row, differs in cases():
+    for page, row, differs in cases:
         with open(os.path.join(TOP, "docs", page), encoding="utf-8") as file:
             line = next((line for line in file if line.startswith(row)), None)
         why = differs(line) if line else "the page has no such line"
@@ -356,3 +356,7 @@ def main():
     for page, held in rows.items():
         print(f"tried: docs/{page}: {len(held)} rows")
     return wrong
+
+
+def main():
+    return tried(cases())

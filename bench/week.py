@@ -192,8 +192,10 @@ def try_moves(room):
     move("empty", "otlp-proto", "otlp-json", b"", 1, "no spans were read")
     move("other kind", "otlp-json", "otlp-proto", b'{"data":[]}', 1, "no spans were read")
     move("refused", "otlp-proto", "otlp-json", good[:300], 3, "cause 1 Truncated")
-    span = otlp.Span(trace=1, id=1, attributes={"error": ("text", "x")})
-    move("faulted", "otlp-proto", "zipkin-json", otlp.write_group(otlp.Group({}, scopes=[otlp.Scope(spans=[span])])), 4, 'fault 21 Reserved "error"')
+    request_of = lambda key: otlp.write_group(otlp.Group({}, scopes=[otlp.Scope(spans=[otlp.Span(1, 1, kind=1, attributes={key: ("text", "x")})])]))
+    move("faulted", "otlp-proto", "zipkin-json", request_of("zipkin.debug"), 4, 'fault 22 OwnKey "zipkin.debug"')
+    held = move("escaped", "otlp-proto", "zipkin-json", request_of("error"), 0, "units 1, spans 1, remarks 0, losses 0")
+    must(json.loads(held)[0]["tags"] == {"otel.attr.error": "x"}, f"move.sh, escaped: {held}")
     move("no folder", "otlp-proto", "otlp-json", good, 6, "can't be written", output="nowhere/out")
     done = script("move.sh", "otlp-proto", "otlp-json", "absent", "absent.out", folder=room, SPANX=PROGRAM)
     must(done[0] == 5 and "can't be read" in done[2], f"move.sh, absent: {done}")
@@ -282,7 +284,6 @@ def try_wrong():
             must(not output or words[0] == "losses_by_key.py", f"{words} of {text[:80]} writes {output[:80]}")
         status, output, note = script(words[0], "no", "such", "words")
         must(status == 1 and not output and "It is run as" in note, f"{words[0]} with wrong words: {status} {note[-300:]}")
-    must(script("mend_faults.py", "zipkin-json", "otel.resource.", text=b'{"resourceSpans":[]}')[0] == 1, "a prefix that is reserved is taken")
     print(f"ok: {count} wrong inputs", flush=True)
 
 

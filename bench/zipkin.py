@@ -11,11 +11,12 @@ import re
 import jaeger
 import json_text
 import otlp
+from escapes import escaped, unescaped
 from jaeger import CODES_BY_TEXT, DROPPED_KEYS, LAST_MICROS, has_double, take_count, take_scope, value_json, value_text
 from json_text import LIMIT, given, is_whole
 from otlp import DEEPEST, by_key
 
-FAULTS = [20, 21, 22, 23, 25]
+FAULTS = [20, 22, 23, 25]
 KINDS = {"SERVER": 2, "CLIENT": 3, "PRODUCER": 4, "CONSUMER": 5}
 KINDS_BY_NUMBER = {number: text for text, number in KINDS.items()}
 RESOURCE = "otel.resource."
@@ -33,6 +34,11 @@ TABLE = {
     "annotation": [("timestamp", True, "time"), ("value", True, "text")],
 }
 TIMESTAMP, DURATION = 5, 6
+
+
+def is_reserved(key):
+    """Whether a span's tag of this key says something of the span or of its resource."""
+    return key in RESERVED or key.startswith(RESOURCE)
 
 
 # ---- offences
@@ -280,6 +286,7 @@ def group_span(span):
     scope = take_scope(attributes, "name"), take_scope(attributes, "version")
     dropped = [take_count(attributes, key) for key in DROPPED_KEYS]
     state = attributes.pop("w3c.tracestate", ("text", ""))[1]
+    attributes = unescaped(attributes, is_reserved)
     return resource_of(span), scope, otlp.Span(
         trace=span.trace, id=span.id, state=state, parent=span.parent, name=span.name, kind=KINDS.get(span.kind, 1),
         start=span.start * 1000, end=(span.start + span.duration) * 1000, attributes=attributes, dropped_attributes=dropped[0],
@@ -326,7 +333,7 @@ def zipkin_span(span, scope, resource):
     local = endpoint(resource.pop("service.name", ""), tags, "local")
     remote = endpoint(tags.pop("peer.service", ""), tags, "remote")
     debug, shared = (tags.pop(key, None) is not None for key in FLAGS)
-    tags |= {RESOURCE + key: text for key, text in resource.items()} | own_tags(span, scope)
+    tags = escaped(tags, is_reserved) | {RESOURCE + key: text for key, text in resource.items()} | own_tags(span, scope)
     start = span.start // 1000
     return Span(
         span.trace, span.id, span.parent, span.name, KINDS_BY_NUMBER.get(span.kind, ""), start, span.end // 1000 - start, debug, shared,
@@ -340,10 +347,6 @@ def spans_of_group(group):
 
 
 # ---- faults
-
-
-def is_reserved(key):
-    return key in RESERVED or key.startswith(RESOURCE)
 
 
 def is_own(key, value):
@@ -365,7 +368,6 @@ def has_any_double(attributes):
 def span_faults(span):
     """The faults of a span and what stands in it, each a number and a key."""
     found = [(20, "")] if span.end < span.start else []
-    found += [(21, key) for key in span.attributes if is_reserved(key)]
     found += [(22, key) for key in [*FLAGS, *MEMBERS] if key in span.attributes and not is_own(key, span.attributes[key])]
     found += [(23, "") for event in span.events if not event.attributes and read_event_text(event.name) is not None]
     return found + [(25, "") for attributes in [span.attributes, *(event.attributes for event in span.events)] if has_any_double(attributes)]

@@ -5,7 +5,6 @@ It is run as examples/faults_by_service.py FORM < request.json, where FORM is th
 `spanx` names the first fault and stops; this names each, with its number:
 
   20 EndBeforeStart   the name of a span that ends before it starts
-  21 Reserved         the key of an attribute that the target has for something else
   22 OwnKey           the key of one of the target's own attributes that doesn't have its form
   23 EventText        the name of an event that Zipkin would take for an event with attributes
   24 ChildOfLink      the name of a span with a link that Jaeger would take for its parent
@@ -22,17 +21,12 @@ import sys
 
 from written_json import Number, Wrong, given, quoted, read, run
 
-COUNTS = ["otel.dropped_attributes_count", "otel.dropped_events_count", "otel.dropped_links_count"]
-LIBRARY = ["otel.library.name", "otel.library.version", "otel.scope.name", "otel.scope.version"]
-OF_ZIPKIN = {"error", "otel.status_code", "w3c.tracestate", *COUNTS, *LIBRARY}
-OF_JAEGER = {"span.kind", "otel.status_description", *OF_ZIPKIN}
 MARKS = ["zipkin.debug", "zipkin.shared"]
 PORTS = ["zipkin.local.port", "zipkin.remote.port"]
 ADDRESSES = [f"zipkin.{side}.{version}" for side in ["local", "remote"] for version in ["ipv4", "ipv6"]]
 CHILD_OF = "opentracing.ref_type"
 FORMS = ["otlp-proto", "otlp-json", "jaeger-binary", "jaeger-compact", "zipkin-json"]
-NAMES = {15: "DoubleInJson", 20: "EndBeforeStart", 21: "Reserved", 22: "OwnKey", 23: "EventText", 24: "ChildOfLink"}
-NAMES[25] = "DoubleInText"
+NAMES = {15: "DoubleInJson", 20: "EndBeforeStart", 22: "OwnKey", 23: "EventText", 24: "ChildOfLink", 25: "DoubleInText"}
 
 
 # ---- the parts of a request
@@ -97,12 +91,6 @@ def parts(value):
 def is_count(spelled, most):
     """Whether a text is the decimal of a number up to this, without zeros in front."""
     return re.fullmatch("0|[1-9][0-9]{0,9}", spelled) is not None and int(spelled) <= most
-
-
-def is_reserved(key, form):
-    if form == "zipkin-json":
-        return key in OF_ZIPKIN or key.startswith("otel.resource.")
-    return form.startswith("jaeger") and key in OF_JAEGER
 
 
 def is_own(key, form):
@@ -196,12 +184,9 @@ def faults_of_span(span, form):
     is_jaeger, is_zipkin = form.startswith("jaeger"), form == "zipkin-json"
     if (is_jaeger or is_zipkin) and whole(span, "endTimeUnixNano") < whole(span, "startTimeUnixNano"):
         found.append((20, name))
-    found += [(21, key) for key in held if is_reserved(key, form)]
     found += [(22, key) for key, value in held.items() if is_own(key, form) and not has_own_form(key, value)]
     for event in listed(span, "events"):
         found += faults_of_doubles(event, form, "event")
-        if is_jaeger and "event" in attributes(event):
-            found.append((21, "event"))
         if is_zipkin and not listed(event, "attributes") and is_event_text(text(event, "name")):
             found.append((23, text(event, "name")))
     for link in listed(span, "links"):

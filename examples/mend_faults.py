@@ -5,21 +5,20 @@ It is run as examples/mend_faults.py FORM PREFIX < request.json > mended.json, w
 `spanx convert --to`, and PREFIX, as app., comes in front of keys and names:
 
   20 EndBeforeStart   the span ends where it starts; when it was to end stands in its attribute PREFIXendTimeUnixNano, as a text
-  21 Reserved         the attribute has its key with PREFIX in front
-  22 OwnKey           the same
+  22 OwnKey           the attribute has its key with PREFIX in front
   23 EventText        the event has its name with PREFIX in front
   24 ChildOfLink      the link's mark, opentracing.ref_type, has its key with PREFIX in front: it is a link, and no parent
   25 DoubleInText, 15 DoubleInJson   the double is a text, with the letters that it had
 
-Where a key with PREFIX is there already, or is a fault too, PREFIX comes once more. Doubles become texts wherever they stand,
-since `spanx` reads none in JSON. All else stays, numbers as they were written. The lines of examples/faults_by_service.py, of
-what was mended, go to standard error. Wrong input is told there in one line, with status 1. It needs nothing but Python.
+Where a key with PREFIX is there already, PREFIX comes once more. Doubles become texts wherever they stand, since `spanx` reads
+none in JSON. All else stays, numbers as they were written. The lines of examples/faults_by_service.py, of what was mended, go to
+standard error. Wrong input is told there in one line, with status 1. It needs nothing but Python.
 """
 import sys
 
 from faults_by_service import (
-    CHILD_OF, FORMS, attributes, groups_of, has_own_form, has_parts, is_event_text, is_own, is_reserved, listed, listing,
-    names_parent, parts, spans_of, text, whole,
+    CHILD_OF, FORMS, attributes, groups_of, has_own_form, has_parts, is_event_text, is_own, listed, listing, names_parent, parts,
+    spans_of, text, whole,
 )
 from written_json import Number, Wrong, given, read, run, write
 
@@ -39,18 +38,18 @@ def mend_doubles(held):
         mend_value(given(pair, "value", dict, {}))
 
 
-def free(key, held, prefix, form):
-    """A key with the prefix in front, once or more, that isn't among these and no fault."""
+def free(key, held, prefix):
+    """A key with the prefix in front, once or more, that isn't among these."""
     new = prefix + key
-    while new in held or is_reserved(new, form) or is_own(new, form):
+    while new in held:
         new = prefix + new
     return new
 
 
-def rename(held, wrong, prefix, form):
+def rename(held, wrong, prefix):
     """Gives the attributes of these keys others."""
     for key in wrong:
-        new = free(key, attributes(held), prefix, form)
+        new = free(key, attributes(held), prefix)
         for pair in listed(held, "attributes"):
             if text(pair, "key") == key:
                 pair["key"] = new
@@ -58,16 +57,14 @@ def rename(held, wrong, prefix, form):
 
 def wrong_keys(span, form):
     """The keys of a span that are faults."""
-    held = attributes(span)
-    own = [key for key, value in held.items() if is_own(key, form) and not has_own_form(key, value)]
-    return [key for key in held if is_reserved(key, form)] + own
+    return [key for key, value in attributes(span).items() if is_own(key, form) and not has_own_form(key, value)]
 
 
-def mend_end(span, prefix, form):
+def mend_end(span, prefix):
     """A span that ends before it starts ends where it starts."""
     end = whole(span, "endTimeUnixNano")
     if end < whole(span, "startTimeUnixNano"):
-        key = free("endTimeUnixNano", attributes(span), prefix, form)
+        key = free("endTimeUnixNano", attributes(span), prefix)
         span["attributes"] = [*listed(span, "attributes"), {"key": key, "value": {"stringValue": str(end)}}]
         span["endTimeUnixNano"] = span["startTimeUnixNano"]
 
@@ -75,24 +72,20 @@ def mend_end(span, prefix, form):
 def mend_span(span, form, prefix):
     is_jaeger, is_zipkin = form.startswith("jaeger"), form == "zipkin-json"
     mend_doubles(span)
-    rename(span, wrong_keys(span, form), prefix, form)
+    rename(span, wrong_keys(span, form), prefix)
     if is_jaeger or is_zipkin:
-        mend_end(span, prefix, form)
+        mend_end(span, prefix)
     for event in listed(span, "events"):
         mend_doubles(event)
-        if is_jaeger and "event" in attributes(event):
-            rename(event, ["event"], prefix, form)
         if is_zipkin and not listed(event, "attributes") and is_event_text(text(event, "name")):
             event["name"] = prefix + event["name"]
     for link in listed(span, "links"):
         mend_doubles(link)
         if is_jaeger and names_parent(span, link):
-            rename(link, [CHILD_OF], prefix, form)
+            rename(link, [CHILD_OF], prefix)
 
 
 def main(given_text, form, prefix):
-    if is_reserved(prefix + "x", form):
-        raise Wrong(f"{form} has all keys with this prefix for something else: {prefix}")
     document = read(given_text)
     lines, _ = listing(document, form)
     for group in groups_of(document):
