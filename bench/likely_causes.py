@@ -3,8 +3,8 @@
 gives all spans, where that is a command.
 
 Each case stands beside the beginning of the cell that tells the kind. A row without a case, a case without a row, and a script of
-examples/ in a row that no case runs is a difference. It needs the built program, Debian's xxd and zstd, and is run as
-bench/likely_causes.py after ./spanx has built the program. It ends with 1 on a difference.
+examples/ in a row that no case runs is a difference. It needs both built programs, Debian's xxd and zstd, and is run as
+bench/likely_causes.py after ./spanx and ./spanx_agent have built them. It ends with 1 on a difference.
 """
 import base64
 import gzip
@@ -19,6 +19,7 @@ import tempfile
 import time
 
 import otlp
+from agent import AGENT, Agent, binary_head, compact_head
 from program import BUILD, PROGRAM, TOP, convert
 from protocols import varint
 from tried_rows import BINARY, COMPACT, HALF, NESTED, batch, field, group, request
@@ -26,6 +27,7 @@ from tried_rows import BINARY, COMPACT, HALF, NESTED, batch, field, group, reque
 PAGE = os.path.join(TOP, "docs", "CAUSES.md")
 PROTO, JSON, ZIPKIN = "otlp-proto", "otlp-json", "zipkin-json"
 SECONDS = 20
+TELLS = re.compile(r"datagram (\d+): (.*)\n")
 
 
 def example(name):
@@ -311,11 +313,68 @@ def large_documents():
         return None if spans == 70_000 and len(os.listdir(folder)) == 2 else f"{spans} spans in {len(os.listdir(folder))} files"
 
 
+# ---- what the agent notes
+
+AGENT_NOTES = "## What `spanx_agent` notes"
+# Of each row the beginning of what the datagram is, and datagrams of the kind.
+DATAGRAMS = [
+    ("none of a client of Jaeger's", [b"", b"page.views:1|c\n", b"GET / HTTP/1.1\r\n\r\n", b"\n"]),
+    ("a batch without a message", [BATCH, COMPACTED]),
+    ("a message in the older form", [b"\0\0\0\x09emitBatch\4\0\0\0\0\x0c\0\1" + BATCH + b"\0"]),
+    ("JSON or protobuf", [REQUEST, DOCUMENT, ZSPANS]),
+    ("Zipkin's spans in Thrift", [compact_head(name=b"emitZipkinBatch") + b"\x19\x0c\0", binary_head(name=b"emitZipkinBatch") + b"\x0f\0\1\x0c\0\0\0\0\0"]),
+    ("one that was cut", [DATAGRAM[:-20], BINARY_DATAGRAM[:-20]]),
+    ("one whose stop byte", [DATAGRAM[:-1], BINARY_DATAGRAM[:-1]]),
+    ("one whose bytes went through a text", [as_text(DATAGRAM), as_text(BINARY_DATAGRAM)]),
+    ("one that carries two batches", [compact_head() + b"\x1c" + COMPACTED + b"\x0c\2" + COMPACTED + b"\0"]),
+    ("one of a writer of its own, whose batch has another number", [compact_head() + b"\x2c" + COMPACTED + b"\0", compact_head() + b"\0"]),
+    ("two messages in one datagram", [DATAGRAM + DATAGRAM, BINARY_DATAGRAM + BINARY_DATAGRAM]),
+    ("one with a byte too many", [DATAGRAM + b"\n", BINARY_DATAGRAM + b"\n"]),
+    ("one of a writer of its own, whose batch lacks", [compact_head() + b"\x1c\0\0", binary_head() + b"\x0c\0\1" + batch().replace(b"\x08\0\7\0\0\0\1", b"") + b"\0"]),
+    ("one with a span whose trace", [binary_head() + b"\x0c\0\1" + batch().replace(b"\x0a\0\1" + bytes(7) + b"\1", b"\x0a\0\1" + bytes(8)) + b"\0"]),
+    ("one with a double in a tag", [binary_head() + b"\x0c\0\1" + batch([("ratio", HALF)]) + b"\0"]),
+]
+
+
+def lines_of(sent, to):
+    """The line that the agent has for each datagram, without its number; nothing of a good one."""
+    agent, found = Agent(to, len(sent) + 1), []
+    for text in sent:
+        agent.socket.sendto(text, agent.address)
+        time.sleep(0.02)
+    # A bad one at the end, behind which nothing is to be waited for.
+    agent.socket.sendto(b"", agent.address)
+    status, _, notes = agent.ends()
+    told = {int(number): line for number, line in TELLS.findall(notes.decode())}
+    found = [told.get(number, "") for number in range(1, len(sent) + 1)]
+    return found if status == 0 else [f"status {status}"] * len(sent)
+
+
+def try_datagrams(rows):
+    """What differs in the rows of what the agent notes."""
+    left = list(rows)
+    for begin, sent in DATAGRAMS:
+        row = next((row for row in left if row[1].startswith(begin)), None)
+        if not row:
+            yield f"no row begins with: {begin}"
+            continue
+        left.remove(row)
+        for to in ["zipkin-json", "otlp-json"]:
+            for text, line in zip(sent, lines_of(sent, to)):
+                if line != row[0].strip("`"):
+                    yield f"{begin}, to {to}: {line}, and not {row[0]}, for {text[:40]}"
+        if "head -c -1" in row[2] and any(lines_of([text[:-1] for text in sent], JSON)):
+            yield f"{begin}: it isn't good without its last byte"
+        if "--to otlp-proto" in row[2] and any(line for to in [PROTO, BINARY, COMPACT] for line in lines_of(sent, to)):
+            yield f"{begin}: another form doesn't hold it"
+    yield from [f"not tried: {row[0]}, {row[1]}" for row in left]
+
+
 # ---- the other statuses
 
 
-def ended(words, **settings):
-    done = subprocess.run([PROGRAM, *words], capture_output=True, timeout=SECONDS, **settings)
+def ended(words, program=PROGRAM, **settings):
+    done = subprocess.run([program, *words], capture_output=True, timeout=SECONDS, **settings)
     return done.returncode, done.stderr.decode().strip()
 
 
@@ -331,6 +390,14 @@ def statuses():
     ]
     for words in usages:
         yield "usage: spanx", 2, ended(words, input=REQUEST)
+    here = ["--listen", "127.0.0.1:0"]
+    for words in [[*here, "--to", "otlp", "--count", "1"], [*here, "--to", JSON], [*here, "--to", JSON, *here], [*here, "--to", JSON, "--count", "0"],
+                  ["--listen=127.0.0.1:6831", "--to", JSON, "--count", "1"]]:
+        yield "usage: spanx_agent", 2, ended(words, AGENT)
+    with socket.socket(socket.AF_INET, socket.SOCK_DGRAM) as taken:
+        taken.bind(("127.0.0.1", 0))
+        for address in [f"127.0.0.1:{taken.getsockname()[1]}", "192.0.2.1:6831", "127.0.0.1"]:
+            yield "post failed", 5, ended(["--listen", address, "--to", JSON, "--count", "1"], AGENT)
     folder = os.open(TOP, os.O_RDONLY)
     yield "input failed", 5, ended(["check", "--from", PROTO], stdin=folder)
     os.close(folder)
@@ -455,7 +522,7 @@ def out_of_memory():
 
 
 def main():
-    if not os.access(PROGRAM, os.X_OK):
+    if not os.access(PROGRAM, os.X_OK) or not os.access(AGENT, os.X_OK):
         sys.exit(BUILD)
     with open(PAGE, encoding="utf-8") as page:
         lines = page.read().split("\n")
@@ -471,6 +538,8 @@ def main():
             wrong += [f"{heading}, {row[0]}, {case[1]}: {why}" for why in try_row(heading, row, case)]
         wrong += [f"{heading}: not tried: {row[0]}, {row[2]}" for row in left]
         print(f"tried: {heading[3:]}: {len(rows[heading])} rows")
+    wrong += [f"{AGENT_NOTES}: {why}" for why in try_datagrams(rows[AGENT_NOTES])]
+    print(f"tried: {AGENT_NOTES[3:]}: {len(rows[AGENT_NOTES])} rows")
     if why := large_documents():
         wrong.append(f"a document of more than 64 MiB: {why}")
     others, tried = {row[0].strip("`"): row[1] for row in rows["## The other statuses"]}, set()

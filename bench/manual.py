@@ -1,6 +1,7 @@
 #!/usr/bin/env python3
-"""Checks that the man page docs/spanx.1 and the pages say what the specification files say: the numbers and names of causes and
-faults, the statuses, the lines on standard error, the words, those of reports and the rows of losses too, and the limits. It checks the man page's own form by `mandoc`, too.
+"""Checks that the man pages docs/spanx.1 and docs/spanx_agent.1 and the pages say what the specification files say: the numbers and names of causes and
+faults, the statuses, the lines on standard error, the words, those of reports and the rows of losses too, and the limits. It checks
+the man pages' own form by `mandoc`, too.
 
 The words are looked up by their names in all files under crates/*/specs, whichever file they stand in. It ends with 0 where
 all agree. Another folder of crates can be named: bench/manual.py FOLDER. It needs Debian's `mandoc`.
@@ -15,12 +16,13 @@ import json_text
 
 TOP = os.path.dirname(os.path.dirname(os.path.abspath(__file__)))
 MANUAL = os.path.join(TOP, "docs", "spanx.1")
+AGENT = os.path.join(TOP, "docs", "spanx_agent.1")
 PAGES = [os.path.join(TOP, "README.md"), *sorted(glob.glob(os.path.join(TOP, "docs", "*.md")))]
 
 
-def specifications(crates):
-    """The lines of all specification files."""
-    return [line.rstrip("\n") for path in sorted(glob.glob(os.path.join(crates, "*", "specs", "**", "*.antt"), recursive=True)) for line in open(path, encoding="utf-8")]
+def specifications(crates, crate="*"):
+    """The lines of all specification files, or of those of one crate."""
+    return [line.rstrip("\n") for path in sorted(glob.glob(os.path.join(crates, crate, "specs", "**", "*.antt"), recursive=True)) for line in open(path, encoding="utf-8")]
 
 
 def equations(lines, word):
@@ -37,6 +39,11 @@ def numbered(lines, word):
     """The numbers and names of a table."""
     names = texts(lines, f"{word}_name")
     return {int(number): names[constructor] for constructor, number in equations(lines, f"{word}_number").items()}
+
+
+def datagram_causes(lines):
+    """The numbers and names that datagrams alone have: the others are those of reading."""
+    return numbered([line for line in lines if "Reading" not in line], "agent_cause")
 
 
 def whole_lines(lines):
@@ -73,6 +80,23 @@ class Manual:
         return {item.removeprefix("Cm ") for item in self.items[at]}
 
 
+def agent_checks(lines, agent_lines, manual):
+    """The same of the man page of the agent."""
+    own = datagram_causes(lines)
+    items = [item.split(" ") for item in manual.items["DIAGNOSTICS"]]
+    rows = {int(item[0]): item[1] for item in items if len(item) == 2}
+    known = numbered(lines, "cause") | own
+    yield "causes of datagrams", own, {number: name for number, name in rows.items() if number >= 40}
+    yield "causes beside these", {number: known.get(number) for number in rows}, rows
+    ends = {int(status) for status in equations(agent_lines, "end_status").values()} | {2}
+    yield "statuses of the agent", ends, {int(item) for item in manual.items["EXIT STATUS"]}
+    with open(AGENT, encoding="utf-8") as page:
+        said = {line.removeprefix(".Li ").removesuffix(" .") for line in page.read().split("\n.Sh EXIT STATUS\n")[1].split("\n.Sh ")[0].split("\n") if line.startswith(".Li ")}
+    yield "lines of the agent", whole_lines(agent_lines), said
+    with open(AGENT, encoding="utf-8") as page:
+        yield "forms of the agent", set(texts(lines, "form_word").values()), set(re.findall(r"^\.Cm ([a-z]+-[a-z]+)", page.read(), re.MULTILINE))
+
+
 def checks(lines, manual):
     """Pairs of what the specification says and what the man page says, each with a name."""
     causes, header_causes, faults = (numbered(lines, word) for word in ["cause", "header_cause", "fault"])
@@ -98,7 +122,9 @@ def checks(lines, manual):
         said -= {f'unit 1: fault {number} {name} "jaeger.flags"'}
     # The lines of connections that are served begin with their number.
     said -= {f"connection 1{end}" for line in lines for end in re.findall(r'"connection " .* codes "([^"]*)\\n"', line)}
-    yield "lines on standard error", fixed, said
+    # Those of the agent stand in the other man page.
+    agent_lines = {"usage: spanx_agent OPTIONS", "post failed"}
+    yield "lines on standard error", fixed - agent_lines, said
 
     yield "forms", set(texts(lines, "form_word").values()), manual.words("Forms")
     yield "forms of headers", set(texts(lines, "header_form_word").values()), manual.words("Headers")
@@ -115,7 +141,7 @@ def checks(lines, manual):
     wanted = {int(line.split()[-1]) for line in lines if re.fullmatch(r"(most|all)_levels = \d+", line)} | {json_text.DEEPEST}
     yield "levels", wanted, {int(item.split(" ")[0]) for item in manual.items["LIMITS"] if item.endswith("levels")}
 
-    known = causes | header_causes | faults
+    known = causes | header_causes | faults | datagram_causes(lines)
     for path in PAGES:
         rows = [(int(number), name) for number, name in re.findall(r"^\| (\d+) \| (\w+) \|", open(path, encoding="utf-8").read(), re.MULTILINE)]
         if rows:
@@ -125,9 +151,12 @@ def checks(lines, manual):
 if __name__ == "__main__":
     folder = sys.argv[1] if len(sys.argv) > 1 else os.path.join(TOP, "crates")
     wrong = 0
-    for name, wanted, found in checks(specifications(folder), Manual(MANUAL)):
+    held = specifications(folder)
+    for name, wanted, found in [*checks(held, Manual(MANUAL)), *agent_checks(held, specifications(folder, "span_agent"), Manual(AGENT))]:
         print(f"ok: {name}" if wanted == found else f"WRONG: {name}: specified {wanted}, on the page {found}")
         wrong += wanted != found
-    lint = subprocess.run(["mandoc", "-Tlint", MANUAL], capture_output=True, text=True)
-    print("ok: mandoc -Tlint is silent" if not (lint.returncode or lint.stdout) else f"WRONG: mandoc -Tlint: {lint.stdout}")
-    sys.exit(1 if wrong or lint.returncode or lint.stdout else 0)
+    # The agent's page names that of spanx, which needn't be installed.
+    lint = subprocess.run(["mandoc", "-Tlint", MANUAL, AGENT], capture_output=True, text=True).stdout
+    lint = [line for line in lint.splitlines() if line and "referenced manual not found: Xr spanx" not in line]
+    print(f"WRONG: mandoc -Tlint: {lint}" if lint else "ok: mandoc -Tlint is silent")
+    sys.exit(1 if wrong or lint else 0)

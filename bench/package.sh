@@ -1,8 +1,8 @@
 #!/bin/bash
 # Makes the packages twice, which must give the same bytes, and runs their programs in a root that holds the C library and nothing
-# else: from each form to each that of the archive must write what ./spanx writes here, byte by byte. The pages in both must link
-# what lies beside them, and name no script of bench/. Debian's package is installed in that root by dpkg and removed, and lintian,
-# where it is there, finds no error in it. It ends with 0 where all of it holds.
+# else: from each form to each that of the archive must write what ./spanx writes here, byte by byte, and its agent what that makes
+# of the batch in a datagram. The pages in both must link what lies beside them, and name no script of bench/. Debian's package is
+# installed in that root by dpkg and removed, and lintian, where it is there, finds no error in it. It ends with 0 where all holds.
 # By bench/package.sh --debian URL the root is Debian's smallest system instead, which `debootstrap` makes. Who isn't root needs
 # `unshare`, which not every machine allows, and leaves the installing out.
 cd "$(dirname "$0")/.." || exit 2
@@ -37,7 +37,7 @@ odd() {
         grep -o '](\([^)#]*\)' "$page" | sed 's/^](//' | sort -u | while read -r target; do
             case $target in http*) ;; *) [ -e "$(dirname "$page")/$target" ] || echo "$page links $target" ;; esac
         done
-        grep -n -e '`bench/' -e 'docs/spanx\.1' -e '``' "$page" /dev/null
+        grep -n -e '`bench/' -e 'docs/spanx[_a-z]*\.1' -e '``' "$page" /dev/null
     done
 }
 same_pages() {
@@ -51,6 +51,7 @@ holds "its pages link what is there, and name nothing that isn't" [ -z "$(odd "$
 holds "its pages are all of those of the checkout, line by line" same_pages
 holds "the unit is in it" cmp -s examples/spanx@.service "$unpacked/share/doc/spanx/examples/spanx@.service"
 holds "its man page is that of the checkout" cmp -s docs/spanx.1 "$unpacked/share/man/man1/spanx.1"
+holds "so is that of the agent" cmp -s docs/spanx_agent.1 "$unpacked/share/man/man1/spanx_agent.1"
 
 # The root.
 root=$room/root
@@ -63,7 +64,7 @@ else
         cp -L "$name" "$root$name" || exit 2
     done
 fi
-cp "$unpacked/bin/spanx" "$root/spanx"
+cp "$unpacked/bin/spanx" "$unpacked/bin/spanx_agent" "$root/"
 cp "$deb" "$root/spanx.deb"
 inside=(chroot "$root")
 [ "$(id -u)" = 0 ] || inside=(unshare -r chroot "$root")
@@ -96,6 +97,19 @@ done
 told="status $?, $(cut -d ' ' -f 1 "$room/notes")"
 holds "no words: $told" [ "$told" = "status 2, usage:" ]
 
+# The agents, which are sent one datagram: agent_at PROGRAM.
+examples/batch_of_datagram.py <examples/checkout_datagram.bin | ./spanx convert --from jaeger-compact --to otlp-json >"$room/of_datagram"
+echo >>"$room/of_datagram"
+agent_at() {
+    local tries=0
+    "${inside[@]}" "$1" --listen 127.0.0.1:16831 --to otlp-json --count 1 >"$room/there" &
+    # 16831 in hexadecimal is 41BF.
+    until grep -q ':41BF ' /proc/net/udp || [ $((tries += 1)) = 50 ]; do sleep 0.1; done
+    cat examples/checkout_datagram.bin >/dev/udp/127.0.0.1/16831
+    wait $! && cmp "$room/of_datagram" "$room/there"
+}
+holds "its agent, of a datagram" agent_at /spanx_agent
+
 # Debian's package.
 if command -v lintian >/dev/null; then
     lintian --fail-on error "$deb" >"$room/said" 2>/dev/null
@@ -123,14 +137,16 @@ if [ "$(id -u)" = 0 ]; then
         "${inside[@]}" /usr/bin/spanx convert --from "$from" --to otlp-proto <"$room/$from" >"$room/there"
         holds "its program, from $from" cmp "$room/here" "$room/there"
     done
+    holds "its agent, of a datagram" agent_at /usr/bin/spanx_agent
     dpkg-deb --fsys-tarfile "$deb" | tar -t | sed 's/^/    /'
     doc=$root/usr/share/doc/spanx
     holds "its pages link what is there, and name nothing that isn't" [ -z "$(odd "$doc")" ]
     holds "its man page is that of the checkout" cmp -s docs/spanx.1 <(gzip -dc "$root/usr/share/man/man1/spanx.1.gz")
+    holds "so is that of the agent" cmp -s docs/spanx_agent.1 <(gzip -dc "$root/usr/share/man/man1/spanx_agent.1.gz")
     holds "its unit is that of the checkout" cmp -s examples/spanx@.service "$root/lib/systemd/system/spanx@.service"
     holds "dpkg removes it" "${dpkg[@]}" --purge spanx >"$room/log" 2>&1
     cat "$room/log"
-    holds "nothing of it is left" [ -z "$(find "$root/usr/bin/spanx" "$doc" "$root/lib/systemd/system" -name '*spanx*' 2>/dev/null)" ]
+    holds "nothing of it is left" [ -z "$(find "$root/usr/bin" "$doc" "$root/lib/systemd/system" -name '*spanx*' 2>/dev/null)" ]
 else
     echo "left out: who isn't root installs nothing"
 fi

@@ -1,0 +1,11 @@
+pub mod AgentCauses
+pub mod AgentRuns
+pub mod AgentWords
+pub mod Arguments
+pub mod Contents
+pub mod Datagrams
+pub mod Headers
+pub mod Messages
+pub mod Pieces
+pub mod Posts
+pub mod private

@@ -1,0 +1,81 @@
+-- What contracts see of a post: how often it was refused, and, each where it is told, where it is, whether it listens, whether it was
+-- asked to listen elsewhere, and the datagrams still to come.
+use Rattle.std.specs.Prelude.{◌≡◌, ℕ, Bool, List, ◌∷◌, Option, Some, None}
+use Rattle.span_io.specs.Doors.{Doorway, IsAt, IsListening, listened, not_listened, refused}
+
+pub record Mailbox : Type 0 where
+  pub faults : ℕ
+  pub address : Option (List ℕ)
+  pub listening : Option Bool
+  pub astray : Option Bool
+  pub left : Option (List (List ℕ))
+
+-- The most bytes that a datagram has: its size is told by 16 bits (UDP, RFC 768).
+abbrev pub most_bytes : ℕ
+most_bytes = 65535
+
+-- What a post shares with a door, of which the same words are said: a door that tells no connections.
+abbrev pub as_door : Mailbox → Doorway
+as_door post = record {
+  faults = post.faults;
+  out = 0;
+  address = post.address;
+  listening = post.listening;
+  astray = post.astray;
+  waiting = None;
+  closed = None;
+  course = None;
+}
+
+-- it listens, and it is at this address, each where that is told
+abbrev pub PostListens : Mailbox → Type 0
+PostListens post = IsListening (as_door post)
+
+abbrev pub IsPostAt : Mailbox → List ℕ → Type 0
+IsPostAt post address = IsAt (as_door post) address
+
+-- asked to listen at an address, it listens, as a door does
+pub record ListensNow (before now : Mailbox) (address : List ℕ) : Type 0 where
+  pub door : as_door now ≡ listened (as_door before) address
+  pub left : now.left ≡ before.left
+
+-- or it refused, as a door does
+pub record RefusesToListen (before now : Mailbox) (address : List ℕ) : Type 0 where
+  pub door : as_door now ≡ not_listened (as_door before) address now.faults
+  pub left : now.left ≡ before.left
+
+-- the first that is still to come is this one, where they are told
+abbrev pub LosesDatagram : Option (List (List ℕ)) → Option (List (List ℕ)) → List ℕ → Type 0
+LosesDatagram None now datagram = now ≡ None
+LosesDatagram (Some before) now datagram = (others : List (List ℕ)) × (before ≡ datagram ∷ others) × (now ≡ Some others)
+
+-- the next datagram was this one, and nothing else changed
+pub record Receives (before now : Mailbox) (datagram : List ℕ) : Type 0 where
+  pub left : LosesDatagram before.left now.left datagram
+  pub door : as_door now ≡ as_door before
+
+-- asked for a datagram, it gave none, as a door does
+pub record RefusesToReceive (before now : Mailbox) : Type 0 where
+  pub left : now.left ≡ before.left
+  pub door : as_door now ≡ refused (as_door before) now.faults
+
+-- ---- posts in memory
+
+-- the address, the datagrams still to come, the calls that fail, two counts, and whether it listens and was led astray
+pub record PostState : Type 0 where
+  pub address : List ℕ
+  pub left : List (List ℕ)
+  pub fail : List ℕ
+  pub calls : ℕ
+  pub faults : ℕ
+  pub listening : Bool
+  pub astray : Bool
+
+abbrev pub mailbox_of : PostState → Mailbox
+mailbox_of state = record {
+  faults = state.faults;
+  address = Some state.address;
+  listening = Some state.listening;
+  astray = Some state.astray;
+  left = Some state.left;
+}

@@ -1,0 +1,3 @@
+pub mod AgentSteps
+pub mod Arguments
+pub mod Finding
