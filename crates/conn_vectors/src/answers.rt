@@ -8,8 +8,9 @@ use span_vectors::texts::ANSWERED;
 use std::alloc::Global;
 
 // Statuses, and their status lines (RFC 9110, section 15; of 431 RFC 6585, section 5).
-const STATUSES: [(u16, &str); 10] = [
+const STATUSES: [(u16, &str); 12] = [
     (200, "HTTP/1.1 200 OK\r\n"),
+    (202, "HTTP/1.1 202 Accepted\r\n"),
     (400, "HTTP/1.1 400 Bad Request\r\n"),
     (404, "HTTP/1.1 404 Not Found\r\n"),
     (405, "HTTP/1.1 405 Method Not Allowed\r\n"),
@@ -19,6 +20,7 @@ const STATUSES: [(u16, &str); 10] = [
     (422, "HTTP/1.1 422 Unprocessable Content\r\n"),
     (431, "HTTP/1.1 431 Request Header Fields Too Large\r\n"),
     (501, "HTTP/1.1 501 Not Implemented\r\n"),
+    (503, "HTTP/1.1 503 Service Unavailable\r\n"),
 ];
 
 // A media type, a content, whether the connection ends, and what stands behind the status line.
@@ -62,7 +64,7 @@ fn is_status(status: u16) -> bool
 {
     matches!(
         status,
-        200 | 400 | 404 | 405 | 411 | 413 | 415 | 422 | 431 | 501
+        200 | 202 | 400 | 404 | 405 | 411 | 413 | 415 | 422 | 431 | 501 | 503
     )
 }
 

@@ -11,6 +11,8 @@ mod pieces;
 #[cfg(test)]
 mod requests;
 #[cfg(test)]
+mod sent;
+#[cfg(test)]
 mod served;
 #[cfg(test)]
 mod texts;

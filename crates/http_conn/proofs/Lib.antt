@@ -1,3 +1,4 @@
+pub mod AnswerHeadLemmas
 pub mod AnswerLemmas
 pub mod CountLemmas
 pub mod DigitLemmas
@@ -7,4 +8,5 @@ pub mod Growth
 pub mod HeadLemmas
 pub mod NextLemmas
 pub mod PlaceLemmas
+pub mod SendLemmas
 pub mod StatusLemmas

@@ -1,8 +1,12 @@
+pub mod AnswerHeads
 pub mod Bodies
 pub mod Fields
 pub mod Heads
+pub mod MediaTypes
 pub mod NextRequests
+pub mod Posts
 pub mod Replies
+pub mod Sendings
 pub mod Services
 pub mod StatedLaws
 pub mod private

@@ -5,15 +5,16 @@ use Rattle.httparse.specs.Ascii.{space, crlf_bytes}
 
 -- the statuses of answers
 abbrev pub statuses : List ℕ
-statuses = 200 ∷ 400 ∷ 404 ∷ 405 ∷ 411 ∷ 413 ∷ 415 ∷ 422 ∷ 431 ∷ 501 ∷ []
+statuses = 200 ∷ 202 ∷ 400 ∷ 404 ∷ 405 ∷ 411 ∷ 413 ∷ 415 ∷ 422 ∷ 431 ∷ 501 ∷ 503 ∷ []
 
 abbrev pub is_status : ℕ → Bool
 is_status status = list_any (λ s. s == status) statuses
 
 -- the reason phrase of a status (RFC 9110, section 15; of 431 RFC 6585, section 5)
-abbrev pub reason : ℕ → List ℕ
+unfoldable pub reason : ℕ → List ℕ
 reason status =
     if status == 200 then codes "OK"
+    else (if status == 202 then codes "Accepted"
     else (if status == 400 then codes "Bad Request"
     else (if status == 404 then codes "Not Found"
     else (if status == 405 then codes "Method Not Allowed"
@@ -22,7 +23,8 @@ reason status =
     else (if status == 415 then codes "Unsupported Media Type"
     else (if status == 422 then codes "Unprocessable Content"
     else (if status == 431 then codes "Request Header Fields Too Large"
-    else (if status == 501 then codes "Not Implemented" else [])))))))))
+    else (if status == 501 then codes "Not Implemented"
+    else (if status == 503 then codes "Service Unavailable" else [])))))))))))
 
 abbrev pub status_line : ℕ → List ℕ
 status_line status = codes "HTTP/1.1 " ++ (decimal status ++ (space ∷ [] ++ (reason status ++ crlf_bytes)))

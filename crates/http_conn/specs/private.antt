@@ -1,1 +1,2 @@
 pub mod FoundFields
+pub mod SendingSteps

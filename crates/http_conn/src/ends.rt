@@ -1,5 +1,5 @@
-//! The end of a head.
-ghost use Rattle.std.specs.Prelude.{◌≡◌, ◌<◌, ◌↔◌, ℕ, IsTrue, IfSome, IfNone};
+//! The end of a head, and the bytes up to it.
+ghost use Rattle.std.specs.Prelude.{◌≡◌, ◌<◌, ◌↔◌, ℕ, take, IsTrue, IfSome, IfNone};
 ghost use Rattle.http_conn.specs.Heads.{EndsAt, EndsFirstAt, EndsNowhere};
 
 // The place of the first CR LF CR LF, none of which stands before a known place.
@@ -21,4 +21,14 @@ fn is_end(rest: &[u8]) -> bool
     ensures { IsTrue result ↔ EndsAt rest.now 0 }
 {
     matches!(rest, [b'\r', b'\n', b'\r', b'\n', ..])
+}
+
+// So many bytes at the front, or all where there are fewer.
+pub(crate) fn front(bytes: &[u8], most: usize) -> &[u8]
+    ensures { result.now ≡ take most bytes.now }
+{
+    if bytes.len() <= most {
+        return bytes;
+    }
+    &bytes[..most]
 }

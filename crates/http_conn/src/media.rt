@@ -3,7 +3,23 @@ ghost use Rattle.std.specs.Prelude.{◌≡◌, ◌≢◌, ◌<◌, ◌≤◌, �
 ghost use Rattle.std.specs.Str.{str_eq_ignore_ascii_case};
 ghost use Rattle.httparse.specs.Grammar.{is_ows, skip_ows, trim_ows};
 ghost use Rattle.http_conn.specs.Fields.{before};
+ghost use Rattle.http_conn.specs.MediaTypes as forms;
 ghost use Rattle.http_conn.specs.Services as told;
+
+use span_io::Form;
+
+/// The media type of a text in a form.
+pub fn type_of(form: Form) -> &'static str
+    ensures { result.now ≡ forms.type_of form }
+{
+    match form {
+        Form::OtlpProto => "application/x-protobuf",
+        Form::OtlpJson => "application/json",
+        Form::JaegerBinary => "application/vnd.apache.thrift.binary",
+        Form::JaegerCompact => "application/vnd.apache.thrift.compact",
+        Form::ZipkinJson => "application/json",
+    }
+}
 
 // Whether two texts are equal in all but the case of letters.
 pub(crate) fn same_word(text: &[u8], word: &[u8]) -> bool

@@ -43,7 +43,7 @@ fn write_status(out: &mut Blob, status: u16) -> Result<(), OutOfMemory>
 }
 
 #[tactic(auto, using(crate::proofs::Growth::in_pieces), unfolding(crate::specs::Replies::type_line))]
-fn write_type(out: &mut Blob, kind: &[u8]) -> Result<(), OutOfMemory>
+pub(crate) fn write_type(out: &mut Blob, kind: &[u8]) -> Result<(), OutOfMemory>
     ensures ok { OnOk result (out.new ≡ out.old ++ type_line kind.now) }
     ensures err { OnErr result (GrowsFront out.old out.new (type_line kind.now)) }
 {
@@ -63,7 +63,7 @@ fn write_kind(out: &mut Blob, kind: &[u8]) -> Result<(), OutOfMemory>
 }
 
 #[tactic(auto, using(crate::proofs::Growth::in_pieces))]
-fn write_length(out: &mut Blob, count: usize) -> Result<(), OutOfMemory>
+pub(crate) fn write_length(out: &mut Blob, count: usize) -> Result<(), OutOfMemory>
     ensures ok { OnOk result (out.new ≡ out.old ++ length_line count) }
     ensures err { OnErr result (GrowsFront out.old out.new (length_line count)) }
 {
@@ -73,7 +73,7 @@ fn write_length(out: &mut Blob, count: usize) -> Result<(), OutOfMemory>
 }
 
 #[tactic(auto, using(crate::proofs::Growth::in_pieces), unfolding(crate::specs::Replies::close_line))]
-fn write_close(out: &mut Blob, close: bool) -> Result<(), OutOfMemory>
+pub(crate) fn write_close(out: &mut Blob, close: bool) -> Result<(), OutOfMemory>
     ensures ok { OnOk result (out.new ≡ out.old ++ close_line close) }
     ensures err { OnErr result (GrowsFront out.old out.new (close_line close)) }
 {
@@ -84,12 +84,14 @@ fn write_close(out: &mut Blob, close: bool) -> Result<(), OutOfMemory>
 }
 
 // The reason phrase of a status.
+#[tactic(auto, unfolding(crate::specs::Replies::reason))]
 fn reason(status: u16) -> &'static [u8]
     requires { IsTrue (is_status status) }
     ensures { result.now ≡ told.reason status }
 {
     match status {
         200 => b"OK",
+        202 => b"Accepted",
         400 => b"Bad Request",
         404 => b"Not Found",
         405 => b"Method Not Allowed",
@@ -98,6 +100,7 @@ fn reason(status: u16) -> &'static [u8]
         415 => b"Unsupported Media Type",
         422 => b"Unprocessable Content",
         431 => b"Request Header Fields Too Large",
-        _ => b"Not Implemented",
+        501 => b"Not Implemented",
+        _ => b"Service Unavailable",
     }
 }

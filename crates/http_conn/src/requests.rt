@@ -1,5 +1,5 @@
 //! The first request of the bytes of a connection.
-ghost use Rattle.std.specs.Prelude.{◌≡◌, ◌==◌, ◌||◌, ◌+◌, ◌≤◌, ◌<◌, ℕ, length, take, IfOk};
+ghost use Rattle.std.specs.Prelude.{◌≡◌, ◌==◌, ◌||◌, ◌+◌, ◌≤◌, ◌<◌, ℕ, length, IfOk};
 ghost use Rattle.span_io.specs.Limits.{AreLimits};
 ghost use Rattle.httparse.specs.Grammar.{RequestHead};
 ghost use Rattle.http_conn.specs.private.FoundFields.{IsHead};
@@ -7,7 +7,7 @@ ghost use Rattle.http_conn.specs.Heads.{EndsAt};
 ghost use Rattle.http_conn.specs.NextRequests.{IfNeed, IfWhole, IsNext, IsWithin, Knows, Tells, form_of, next_by, request_of, unended, verdict_of};
 
 use crate::bodies::{body_length, judge};
-use crate::ends::find_end;
+use crate::ends::{find_end, front};
 use crate::head::{Head, read_head};
 use crate::known::Known;
 use crate::lines::{has_lone_feed, is_long};
@@ -68,16 +68,6 @@ fn search(known: &mut Known, bytes: &[u8], searched: usize, limits: &Limits) -> 
             next_without(bytes.len(), limits.head)
         }
     }
-}
-
-// So many bytes at the front, or all where there are fewer.
-fn front(bytes: &[u8], most: usize) -> &[u8]
-    ensures { result.now ≡ take most bytes.now }
-{
-    if bytes.len() <= most {
-        return bytes;
-    }
-    &bytes[..most]
 }
 
 // What a head tells, where so many bytes came.
