@@ -1,14 +1,12 @@
 pub mod BlockLemmas
 pub mod CommandLemmas
 pub mod ConversionEndings
-pub mod CountWords
 pub mod EndingLaws
 pub mod GaugeEndings
 pub mod HeadersEndings
 pub mod InputLemmas
 pub mod LinesBack
 pub mod LossesTold
-pub mod NoteLemmas
 pub mod SameRuns
 pub mod ServeLemmas
 pub mod ServeWords

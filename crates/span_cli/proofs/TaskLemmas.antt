@@ -1,5 +1,5 @@
 -- What the words ask for, as it was read of them.
-use Rattle.std.proofs.Common.{◌≡◌, ◌≢◌, ◌↔◌, ℕ, ◌<◌, List, Option, Some, refl, sym, ap, subst, ◌∙◌, arith}
+use Rattle.std.proofs.Common.{◌≡◌, ◌≢◌, ◌↔◌, ℕ, List, Option, Some, refl, sym, ap, subst, ◌∙◌, arith}
 use Rattle.std.specs.Prelude.{slice_get}
 use Rattle.span_io.specs.declared.form.Form.{Form}
 use Rattle.span_cli.specs.Commands.{OnJob, OnServing, Spells, SpellsServe}
@@ -12,7 +12,7 @@ use Rattle.span_cli.specs.Servings.{end_status}
 use Rattle.span_cli.specs.declared.serve.ServeEnd.{ServeEnd}
 use Rattle.span_cli.specs.declared.serve.ServeEnd.TheVariants.{AllServed, DoorFailed, NoMemory}
 use Rattle.span_cli.proofs.CommandLemmas.{in_range}
-use Rattle.span_cli.proofs.ServeWords.{one_word, place_within}
+use Rattle.span_notes.specs.laws.WordLaws.{one_word}
 
 -- ---- the status of serving
 
@@ -84,6 +84,3 @@ module _ (t : List (List ℕ)) (read : Command) (spelled : (command : Command) �
         let same_count : n ≡ count = cc in
         let same_word : word ≡ own = one_word word own (sym at ∙ ap (λ (i : ℕ). slice_get t i) same_address ∙ here) in
         subst (λ (m : ℕ). P word f m) (sym same_count) (subst (λ (g : Form). P word g count) (sym same_form) (subst (λ (w : List ℕ). P w to count) (sym same_word) p))
-
-    pub address_within : address < 7
-    address_within = place_within address serve_spelled.listen.1.is_place

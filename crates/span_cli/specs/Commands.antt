@@ -1,9 +1,10 @@
 -- How a command is spelled in words.
-use Rattle.std.specs.Prelude.{◌≡◌, ◌≤◌, ◌⊎◌, ◌-◌, ℕ, List, [], ◌∷◌, Some, map, length, slice_get, codes, decimal, String, string_bytes}
-use Rattle.std.specs.declared.alloc.Global.{Global}
+use Rattle.std.specs.Prelude.{◌≡◌, ◌⊎◌, ℕ, List, [], ◌∷◌, Some, length, slice_get, codes, decimal}
 use Rattle.span_io.specs.Forms.{form_word}
 use Rattle.span_io.specs.declared.form.Form.{Form}
 use Rattle.span_convert.specs.declared.written.Written.{Written}
+use Rattle.span_notes.specs.Pairs.{CountStands, FormStands, PlaceStands}
+pub use Rattle.span_notes.specs.Pairs.{texts}
 use Rattle.span_cli.specs.GaugeLines.{IsGaugeCount}
 use Rattle.span_cli.specs.Jobs.{Job, IfMakes, IfSpans, task_of}
 use Rattle.span_cli.specs.declared.command.Command.{Command}
@@ -16,10 +17,6 @@ use Rattle.span_cli.specs.declared.command.Short.{Short}
 use Rattle.span_cli.specs.declared.command.Short.TheVariants as shorts
 use Rattle.span_cli.specs.declared.command.Side.{Side}
 use Rattle.span_cli.specs.declared.command.Side.TheVariants.{From, To}
-
--- the bytes of each word
-abbrev pub texts : List (String Global) → List (List ℕ)
-texts words = map string_bytes words
 
 -- the options
 abbrev pub side_word : Side → List ℕ
@@ -87,25 +84,13 @@ SpellsLong long from to words =
     (words ≡ long_word long ∷ side_word From ∷ form_word from ∷ side_word To ∷ form_word to ∷ [])
     ⊎ (words ≡ long_word long ∷ side_word To ∷ form_word to ∷ side_word From ∷ form_word from ∷ [])
 
--- the place of the word of an option, behind the mode and the option
-abbrev pub IsWordPlace : ℕ → Type 0
-IsWordPlace place = (place ≡ 2) ⊎ (place ≡ 4) ⊎ (place ≡ 6)
-
--- this word stands at the place, and the option before it
-pub record HasOption (words : List (List ℕ)) (option : List ℕ) (place : ℕ) (word : List ℕ) : Type 0 where
-  pub is_place : IsWordPlace place
-  pub is_option : slice_get words (place - 1) ≡ Some option
-  pub is_word : slice_get words place ≡ Some word
-
 -- `serve` with `--listen A`, `--to F` and `--count N`, in any order. The word A stands at the place `address`.
 pub record SpellsServe (address : ℕ) (to : Form) (count : ℕ) (words : List (List ℕ)) : Type 0 where
   pub number : length words ≡ 7
   pub mode : slice_get words 0 ≡ Some (codes "serve")
-  pub listen : (word : List ℕ) × HasOption words (codes "--listen") address word
-  pub form : (place : ℕ) × HasOption words (codes "--to") place (form_word to)
-  pub connections : (place : ℕ) × HasOption words (codes "--count") place (decimal count)
-  pub some : 1 ≤ count
-  pub most : count ≤ 4294967295
+  pub listen : PlaceStands words 1 (codes "--listen") address
+  pub form : FormStands words 1 (codes "--to") to
+  pub connections : CountStands words 1 (codes "--count") count
 
 -- `convert` and `losses` with both; `show` and `check` with `--from F`; `headers` with `--to H`; `gauge` with `--spans N`; `serve`
 -- with its three

@@ -1,14 +1,14 @@
 -- How a run ends: its status, and the line that is noted.
-use Rattle.std.specs.Prelude.{ℕ, ◌⊎◌, ◌==◌, if◌then◌else◌, List, [], ◌∷◌, ◌++◌, Option, Some, None, IsTrue, codes, decimal}
+use Rattle.std.specs.Prelude.{ℕ, ◌==◌, if◌then◌else◌, List, [], ◌∷◌, ◌++◌, Option, Some, None, IsTrue, codes, decimal}
 use Rattle.std.specs.List.{list_any}
 use Rattle.span_io.specs.Causes.{cause_number, cause_name}
-use Rattle.span_io.specs.Outside.{Outlet, Gains, OutputHolds, FailsAt}
 use Rattle.span_io.specs.declared.cause.Cause.TheVariants.{InputTooLong}
 use Rattle.propagation.specs.HeaderCauses.{header_cause_number, header_cause_name}
 use Rattle.propagation.specs.declared.header_cause.HeaderCause.{HeaderCause}
 use Rattle.trace_model.specs.declared.fault.Fault.{Fault}
 use Rattle.trace_model.specs.declared.fault.Fault.TheVariants as faults
-pub use Rattle.span_gateway.specs.NoteLines.{fault_line, key_part, pieces_text, refusal_line}
+pub use Rattle.span_answers.specs.NoteLines.{fault_line, key_part, refusal_line}
+pub use Rattle.span_notes.specs.Notes.{Notes}
 use Rattle.span_cli.specs.declared.ending.Ending.{Ending}
 use Rattle.span_cli.specs.declared.ending.Ending.TheVariants as endings
 use Rattle.span_cli.specs.declared.noted_fault.NotedFault.{NotedFault}
@@ -103,7 +103,3 @@ ending_line endings.NoIds = no_ids_line
 ending_line endings.InputFailed = codes "input failed\n"
 ending_line endings.OutputFailed = codes "output failed\n"
 ending_line endings.NoMemory = codes "out of memory\n"
-
--- the notes gained the line without a fault, or failed at a byte of it
-abbrev pub Notes : Outlet → Outlet → List ℕ → Type 0
-Notes before now line = Gains before now line × OutputHolds before now ⊎ FailsAt before now line

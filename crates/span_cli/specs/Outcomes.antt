@@ -1,5 +1,5 @@
 -- What a job makes of its input: the status, what is written, and the line that is noted.
-use Rattle.std.specs.Prelude.{◌↔◌, false, ◌≡◌, ◌≤◌, ◌<◌, ◌^◌, ℕ, Bool, List, [], length, Option, IfSome, codes}
+use Rattle.std.specs.Prelude.{◌↔◌, false, ◌≡◌, ◌≤◌, ◌<◌, ℕ, Bool, List, [], length, Option, IfSome, codes}
 use Rattle.propagation.specs.Heads.{Head, IsHeaderCause}
 use Rattle.propagation.specs.StatedLaws.{AreProperIds}
 use Rattle.propagation.specs.NormalContexts.{IsSoundContext, CannotTell, context_lines, normal_context}

@@ -1,17 +1,16 @@
 -- How connections are served: one after the other, with a line on the notes for each that had a fault.
-use Rattle.std.specs.Prelude.{◌≡◌, ◌⊎◌, ℕ, ◌+◌, ◌<◌, ◌≤◌, true, List, [], ◌∷◌, ◌++◌, map, length, Option, Some, None, option_map, Result, Ok, Err, codes, decimal}
-use Rattle.span_io.specs.Doors.{Doorway, IsAt, astray_at}
+use Rattle.std.specs.Prelude.{◌≡◌, ℕ, ◌+◌, ◌<◌, ◌≤◌, Bool, true, false, List, [], ◌∷◌, ◌++◌, map, length, Result, Ok, Err, codes, decimal}
+use Rattle.span_io.specs.Doors.{Doorway}
 use Rattle.span_io.specs.Limits.{shipped_limits}
 use Rattle.span_io.specs.Links.{Link}
-use Rattle.span_io.specs.Outside.{Outlet, Rose}
-use Rattle.span_io.specs.declared.course.DoorCourse.{DoorCourse}
-use Rattle.span_io.specs.declared.course.DoorCourse.TheVariants as courses
+use Rattle.span_io.specs.Outside.{Outlet}
 use Rattle.span_io.specs.declared.form.Form.{Form}
 use Rattle.span_gateway.specs.Serving.{KeepsMark, Serves}
-use Rattle.span_gateway.specs.declared.ended.Ended.{Ended}
-use Rattle.span_gateway.specs.declared.ended.ServeFault.{ServeFault}
-use Rattle.span_gateway.specs.declared.ended.ServeFault.TheVariants as faults
-use Rattle.span_cli.specs.Lines.{Notes}
+use Rattle.conn_service.specs.declared.ended.Ended.{Ended}
+use Rattle.conn_service.specs.declared.ended.ServeFault.{ServeFault}
+use Rattle.conn_service.specs.declared.ended.ServeFault.TheVariants as faults
+use Rattle.conn_service.specs.DoorRuns.{LeavesDoor}
+use Rattle.span_notes.specs.Notes.{Notes}
 use Rattle.span_cli.specs.declared.serve.ServeEnd.{ServeEnd}
 use Rattle.span_cli.specs.declared.serve.ServeEnd.TheVariants.{AllServed, DoorFailed, NoMemory}
 
@@ -65,10 +64,12 @@ abbrev pub visit_lines : ℕ → List Visit → List ℕ
 visit_lines number [] = []
 visit_lines number (visit ∷ visits) = visit_line number visit.ended ++ visit_lines (number + 1) visits
 
--- the first that waited were these, where they are told
-abbrev pub LosesFirsts : Option (List Link) → Option (List Link) → List Link → Type 0
-LosesFirsts None now links = now ≡ None
-LosesFirsts (Some before) now links = (others : List Link) × (before ≡ links ++ others) × (now ≡ Some others)
+-- the connections as they were accepted and as they were given back
+abbrev pub links_of : List Visit → List Link
+links_of visits = map (λ (visit : Visit). visit.before) visits
+
+abbrev pub backs_of : List Visit → List Link
+backs_of visits = map (λ (visit : Visit). visit.now) visits
 
 -- ---- the end
 
@@ -89,35 +90,11 @@ Reaches AllServed count visits = (length visits ≡ count) × NoneWants visits
 Reaches DoorFailed count visits = (length visits < count) × NoneWants visits
 Reaches NoMemory count visits = (length visits ≤ count) × LastWants visits
 
--- the door failed, or it didn't
-abbrev pub DoorFaults : ServeEnd → ℕ → ℕ → Type 0
-DoorFaults AllServed before now = now ≡ before
-DoorFaults DoorFailed before now = Rose before now
-DoorFaults NoMemory before now = now ≡ before
-
--- how the door's calls went
-abbrev pub end_course : ServeEnd → DoorCourse
-end_course AllServed = courses.Listening
-end_course DoorFailed = courses.Stopped
-end_course NoMemory = courses.Listening
-
--- it listens at its own address, which is this one, each where it is told
-pub record Listens (asked : List ℕ) (before now : Doorway) : Type 0 where
-  pub right : IsAt before asked
-  pub listening : now.listening ≡ option_map (λ _. true) before.listening
-
--- The door was asked to listen at this address. It gave these connections, and took each of them back before it was asked for the
--- next.
-pub record LeavesDoor (end : ServeEnd) (asked : List ℕ) (visits : List Visit) (before now : Doorway) : Type 0 where
-  pub waiting : LosesFirsts before.waiting now.waiting (map (λ (visit : Visit). visit.before) visits)
-  pub closed : now.closed ≡ option_map (λ links. links ++ map (λ (visit : Visit). visit.now) visits) before.closed
-  pub faults : DoorFaults end before.faults now.faults
-  pub out : now.out ≡ before.out
-  pub address : now.address ≡ before.address
-  pub astray : now.astray ≡ astray_at before.address asked before.astray
-  pub listening : (now.listening ≡ before.listening) ⊎ Listens asked before now
-  pub listens : 1 ≤ length visits → Listens asked before now
-  pub course : before.course ≡ Some courses.Fresh → now.course ≡ Some (end_course end)
+-- the door failed where it gave fewer
+abbrev pub door_failed : ServeEnd → Bool
+door_failed AllServed = false
+door_failed DoorFailed = true
+door_failed NoMemory = false
 
 -- Connections that wait at the door were served one after the other, each was given back before the next one, and the notes
 -- gained their lines and then that of the end.
@@ -128,5 +105,5 @@ pub record ServesConnections (address : List ℕ) (to : Form) (count status : �
   pub is_status : status ≡ end_status end
   pub served : AreVisits to visits
   pub reaches : Reaches end count visits
-  pub door : LeavesDoor end address visits door_before door_now
+  pub door : LeavesDoor (door_failed end) address door_before door_now (links_of visits) (backs_of visits)
   pub notes : Notes notes_before notes_now (visit_lines 1 visits ++ end_line end)

@@ -9,7 +9,7 @@ ghost use Rattle.span_cli.specs.declared.command.Side.{Side};
 use crate::serve_words::serve_of;
 use propagation::HeaderForm;
 use span_io::Form;
-use span_tags::decimal_in;
+use span_notes::decimal_of;
 
 /// The most spans that a gauge is asked for.
 const MOST_SPANS: u32 = 1_000_000;
@@ -142,7 +142,7 @@ fn gauge(spans: &str) -> Option<Command>
 fn spans_told(word: &str) -> Option<u32>
     ensures { (spans : ℕ) → (result ≡ Some spans) ↔ TellsSpans word.now spans }
 {
-    let spans = decimal_in(word)?;
+    let spans = decimal_of(word)?;
     if spans == 0 || spans > MOST_SPANS {
         return None;
     }

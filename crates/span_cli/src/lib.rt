@@ -15,5 +15,4 @@ mod serve_words;
 mod top;
 
 pub use command::{Command, read_words};
-pub use note::note_more;
 pub use top::run;

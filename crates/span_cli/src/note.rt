@@ -1,14 +1,12 @@
-//! What is noted: the line that tells how a run ended, and other lines in pieces.
-ghost use Rattle.std.specs.Prelude.{◌≡◌, ◌++◌, [], codes, OnOk, OnErr};
-ghost use Rattle.span_io.specs.Outside.{FailsAt, Gains, OutputHolds};
-ghost use Rattle.span_cli.specs.private.ServingSteps.{NotesMore};
-ghost use Rattle.span_cli.specs.Lines.{Notes, ending_line, named_cause_line, pieces_text, noted_line, refusal_line, usage_line};
+//! What is noted: the line that tells how a run ended.
+ghost use Rattle.std.specs.Prelude.{◌≡◌, ◌++◌, codes};
+ghost use Rattle.span_cli.specs.Lines.{Notes, ending_line, named_cause_line, noted_line, refusal_line, usage_line};
 
 use crate::ending::Ending;
 use crate::noted_fault::NotedFault;
 use itoa::Buffer;
-use span_io::laws::gains_then;
-use span_io::{Cause, Failed, Refusal, Sink, write_all};
+use span_io::{Cause, Refusal, Sink};
+use span_notes::{note_line, note_pieces};
 
 /// Notes that the words are no command. What the notes refuse changes nothing.
 pub fn note_usage<N: Sink>(notes: &mut N)
@@ -40,13 +38,6 @@ pub fn note_ending<N: Sink>(notes: &mut N, ending: &Ending)
         Ending::OutputFailed => note_line(notes, b"output failed\n"),
         Ending::NoMemory => note_line(notes, b"out of memory\n"),
     }
-}
-
-fn note_line<N: Sink>(notes: &mut N, line: &[u8])
-    ensures line { Notes (N.outlet notes.old) (N.outlet notes.new) line.now }
-    ensures silent { line.now ≡ [] → notes.new ≡ notes.old }
-{
-    let _ = write_all(notes, line);
 }
 
 // Notes the unit and the cause of a refusal.
@@ -125,40 +116,4 @@ fn note_fault_in<'a, N: Sink>(
             b"\n".as_slice(),
         ],
     );
-}
-
-// Notes pieces one after the other, up to the first that fails.
-fn note_pieces<N: Sink>(notes: &mut N, pieces: &[&[u8]])
-    ensures { Notes (N.outlet notes.old) (N.outlet notes.new) (pieces_text pieces.now) }
-{
-    let _ = write_pieces(notes, pieces);
-}
-
-/// Notes pieces one after the other, where no note has failed, and answers whether none has then.
-pub fn note_more<N: Sink>(notes: &mut N, holds: bool, pieces: &[&[u8]]) -> bool
-    ensures { NotesMore holds result (N.outlet notes.old) (N.outlet notes.new) (pieces_text pieces.now) }
-{
-    gains_then();
-    if !holds {
-        return false;
-    }
-    match write_pieces(notes, pieces) {
-        Ok(()) => true,
-        Err(Failed) => false,
-    }
-}
-
-// Writes pieces one after the other, up to the first that fails.
-fn write_pieces<N: Sink>(notes: &mut N, pieces: &[&[u8]]) -> Result<(), Failed>
-    ensures ok { OnOk result (Gains (N.outlet notes.old) (N.outlet notes.new) (pieces_text pieces.now)) }
-    ensures holds { OnOk result (OutputHolds (N.outlet notes.old) (N.outlet notes.new)) }
-    ensures at { OnErr result (FailsAt (N.outlet notes.old) (N.outlet notes.new) (pieces_text pieces.now)) }
-{
-    gains_then();
-    'pieces: for piece in pieces {
-        if let Err(Failed) = write_all(notes, piece) {
-            return Err(Failed);
-        }
-    }
-    Ok(())
 }

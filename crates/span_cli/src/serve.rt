@@ -1,14 +1,15 @@
 //! The run of `serve`.
-ghost use Rattle.std.specs.Prelude.{◌≡◌, ◌↔◌, ◌≤◌, ◌++◌, codes, decimal, Err, IfOk, OnErr, IsTrue};
+ghost use Rattle.std.specs.Prelude.{◌≡◌, ◌↔◌, ◌≤◌, Err, IfOk, OnErr, IsTrue};
 ghost use Rattle.span_io.specs.Doors.{IsListening, refused};
 ghost use Rattle.span_io.specs.Outside.{Rose};
 ghost use Rattle.span_cli.specs.Servings.{ServesConnections, end_line, end_status, visit_line};
-ghost use Rattle.span_cli.specs.private.ServingSteps.{NotesMore, ServesAt, ServesEach, ServesNext};
+ghost use Rattle.span_cli.specs.private.ServingSteps.{ServesAt, ServesEach, ServesNext};
+ghost use Rattle.span_notes.specs.Notes.{NotesMore};
 
-use crate::note::note_more;
-use itoa::Buffer;
 use span_gateway::{Ended, ServeFault, serve_connection};
+use span_io::laws::gains_then;
 use span_io::{Door, Failed, Form, Limits, Sink};
+use span_notes::{note_more, note_numbered};
 use std::alloc::Global;
 
 /// How serving ends.
@@ -60,6 +61,7 @@ pub fn serve<N: Sink, D: Door>(
     ensures { ServesConnections address.now to count result
         (D.doorway door.old) (D.doorway door.new) (N.outlet notes.old) (N.outlet notes.new) }
 {
+    gains_then();
     let mut holds = true;
     let end = serve_at(alloc, address, to, count, notes, &mut holds, door);
     note_more(notes, holds, &[end.line()]);
@@ -67,7 +69,7 @@ pub fn serve<N: Sink, D: Door>(
 }
 
 // Listens, and serves.
-#[tactic(auto, using(crate::proofs::ServeLemmas::listen_failed))]
+#[tactic(auto, using(crate::proofs::ServeLemmas::listen_failed, crate::proofs::ServeLemmas::listen_served))]
 fn serve_at<N: Sink, D: Door>(
     alloc: Global,
     address: &str,
@@ -151,25 +153,12 @@ fn note_visit<N: Sink>(
 {
     match ended {
         Ok(_) => holds,
-        Err(ServeFault::Read) => note_fault(notes, holds, number, b": read failed\n"),
-        Err(ServeFault::Write) => note_fault(notes, holds, number, b": write failed\n"),
+        Err(ServeFault::Read) => {
+            note_numbered(notes, holds, b"connection ", number, b": read failed\n")
+        }
+        Err(ServeFault::Write) => {
+            note_numbered(notes, holds, b"connection ", number, b": write failed\n")
+        }
         Err(ServeFault::OutOfMemory) => holds,
     }
-}
-
-// The same of what was refused.
-fn note_fault<N: Sink>(notes: &mut N, holds: bool, number: u32, what: &[u8]) -> bool
-    ensures { NotesMore holds result (N.outlet notes.old) (N.outlet notes.new)
-        (codes "connection " ++ decimal number ++ what.now) }
-{
-    let mut digits = Buffer::new();
-    note_more(
-        notes,
-        holds,
-        &[
-            b"connection ".as_slice(),
-            digits.format(number).as_bytes(),
-            what,
-        ],
-    )
 }

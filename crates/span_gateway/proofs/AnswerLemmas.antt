@@ -8,9 +8,11 @@ use Rattle.span_io.specs.declared.refusal.Refusal.{Refusal}
 use Rattle.span_convert.specs.Verdicts.{Answers, IsVerdict, Verdict, good, refused, faulted, verdict_text}
 use Rattle.span_convert.specs.declared.bad.Bad.TheVariants as bads
 use Rattle.span_convert.specs.declared.target_fault.TargetFault.{TargetFault}
+use Rattle.http_conn.specs.MediaTypes.{type_of}
 use Rattle.http_conn.specs.Replies.{answer_text}
-use Rattle.span_gateway.specs.Answers.{AppendsFormAnswer, bare_answer, plain_text, type_of, verdict_answer}
-use Rattle.span_gateway.specs.NoteLines.{fault_line, refusal_line}
+use Rattle.span_answers.specs.Answers.{bare_answer, plain_text}
+use Rattle.span_answers.specs.NoteLines.{fault_line, refusal_line}
+use Rattle.span_gateway.specs.Answers.{AppendsFormAnswer, verdict_answer}
 
 is_above : (n l : ℕ) → n < l → nat_lt n l ≡ true
 is_above n l h = grind (arith, nat_tests)

@@ -1,27 +1,13 @@
 -- What a whole request is answered, whose body is converted to one form.
-use Rattle.std.specs.Prelude.{◌≡◌, ℕ, Bool, List, [], ◌++◌, drop, length, nat_lt, if◌then◌else◌, Option, Some, None, codes}
+use Rattle.std.specs.Prelude.{◌≡◌, ℕ, Bool, List, ◌++◌, drop, length, nat_lt, if◌then◌else◌, Option, Some, None}
 use Rattle.span_io.specs.declared.form.Form.{Form}
-use Rattle.span_io.specs.declared.form.Form.TheVariants.{OtlpProto, OtlpJson, JaegerBinary, JaegerCompact, ZipkinJson}
 use Rattle.span_io.specs.declared.limits.Limits.{Limits}
 use Rattle.span_convert.specs.Verdicts.{Verdict, IsVerdict, good, refused, faulted}
+use Rattle.http_conn.specs.MediaTypes.{type_of}
 use Rattle.http_conn.specs.Replies.{answer_text}
 use Rattle.http_conn.specs.declared.next.Request.{Request}
-use Rattle.span_gateway.specs.NoteLines.{fault_line, refusal_line}
-
--- the media type of a text in a form; that of Jaeger's compact protocol is this project's own
-abbrev pub type_of : Form → List ℕ
-type_of OtlpProto = codes "application/x-protobuf"
-type_of OtlpJson = codes "application/json"
-type_of JaegerBinary = codes "application/vnd.apache.thrift.binary"
-type_of JaegerCompact = codes "application/vnd.apache.thrift.compact"
-type_of ZipkinJson = codes "application/json"
-
-abbrev pub plain_text : List ℕ
-plain_text = codes "text/plain"
-
--- an answer without content
-abbrev pub bare_answer : ℕ → Bool → List ℕ
-bare_answer status close = answer_text status [] [] close
+use Rattle.span_answers.specs.Answers.{bare_answer, plain_text}
+use Rattle.span_answers.specs.NoteLines.{fault_line, refusal_line}
 
 -- by the verdict on the body: its text in the target form, where it isn't longer than an answer may be, or why it has none
 abbrev pub verdict_answer : Form → Limits → Bool → Verdict → List ℕ
@@ -34,17 +20,23 @@ verdict_answer to limits close (faulted found text) = answer_text 422 plain_text
 abbrev pub AnswersForm : Form → Limits → Request → List ℕ → Option Form → List ℕ → Type 0
 AnswersForm to limits request bytes None text = text ≡ bare_answer request.verdict request.close
 AnswersForm to limits request bytes (Some from) text =
-    (verdict : Verdict) × IsVerdict from to limits (drop request.body_at bytes) verdict × (text ≡ verdict_answer to limits request.close verdict)
+    (verdict : Verdict)
+    × IsVerdict from to limits (drop request.body_at bytes) verdict
+    × (text ≡ verdict_answer to limits request.close verdict)
 
 -- the answer to a request that these bytes are
 abbrev pub IsAnswer : Form → Limits → Request → List ℕ → List ℕ → Type 0
 IsAnswer to limits request bytes text = AnswersForm to limits request bytes request.form text
 
--- a list grew by that answer
-pub record AppendsAnswer (to : Form) (limits : Limits) (request : Request) (bytes old new : List ℕ) : Type 0 where
-  pub text : List ℕ
-  pub answers : IsAnswer to limits request bytes text
-  pub grows : new ≡ old ++ text
+-- the gateway as a service: its state is the form that it converts to, which stays
+abbrev pub Converts : Limits → Form → Request → List ℕ → List ℕ → Form → Type 0
+Converts limits to request bytes text now = IsAnswer to limits request bytes text × (now ≡ to)
+
+abbrev pub Halts : Limits → Form → Request → List ℕ → Form → Type 0
+Halts limits to request bytes now = now ≡ to
+
+abbrev pub Stays : Form → Form → Type 0
+Stays to now = now ≡ to
 
 -- a list grew by the answer to a request with this body
 pub record AppendsFormAnswer (from to : Form) (limits : Limits) (body : List ℕ) (close : Bool) (old new : List ℕ) : Type 0 where

@@ -1,6 +1,4 @@
 pub mod Answers
-pub mod NoteLines
 pub mod Serving
 pub mod StatedLaws
 pub mod Streams
-pub mod private

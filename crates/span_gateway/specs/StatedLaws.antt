@@ -4,7 +4,7 @@ use Rattle.span_io.specs.Limits.{AreLimits}
 use Rattle.span_io.specs.declared.form.Form.{Form}
 use Rattle.span_io.specs.declared.limits.Limits.{Limits}
 use Rattle.span_gateway.specs.Streams.{AllAnswered, IsReplies}
-use Rattle.span_gateway.specs.declared.ended.Ended.{Ended}
+use Rattle.conn_service.specs.declared.ended.Ended.{Ended}
 
 -- a stream has one text of replies, and ends in one way; and the answers to its whole requests have one text
 pub record OneReply : Type 0 where

@@ -1,14 +1,12 @@
 //! The answer to one request.
-ghost use Rattle.std.specs.Prelude.{◌≡◌, ◌≤◌, ◌++◌, IsTrue, MatchOption, OnOk, length};
+ghost use Rattle.std.specs.Prelude.{OnOk};
 ghost use Rattle.span_io.specs.Limits.{AreLimits};
-ghost use Rattle.http_conn.specs.Replies.{answer_text, is_status};
-ghost use Rattle.span_gateway.specs.Answers.{AppendsAnswer, AppendsFormAnswer, plain_text};
-ghost use Rattle.span_gateway.specs.Answers as told;
-ghost use Rattle.span_gateway.specs.NoteLines.{fault_line, refusal_line};
+ghost use Rattle.conn_service.specs.Services.{Appends, IsAsked};
+ghost use Rattle.span_gateway.specs.Answers.{AppendsFormAnswer, Converts};
 
-use crate::note_lines::{write_fault, write_refusal};
-use http_conn::{Request, answer};
-use span_convert::{Bad, Refusal, TargetFault, convert_all};
+use http_conn::{Request, answer, type_of};
+use span_answers::{answer_fault, answer_refusal};
+use span_convert::{Bad, convert_all};
 use span_io::{Blob, Form, Limits, OutOfMemory};
 use std::alloc::Global;
 
@@ -22,9 +20,8 @@ pub(crate) fn answer_request(
     limits: &Limits,
 ) -> Result<(), OutOfMemory>
     requires limits { AreLimits limits.now }
-    requires status { MatchOption request.now.form (IsTrue (is_status request.now.verdict)) (λ form. request.now.verdict ≡ 0) }
-    requires body { request.now.body_at ≤ length bytes.now }
-    ensures { OnOk result (AppendsAnswer to limits.now request.now bytes.now out.old out.new) }
+    requires asked { IsAsked request.now bytes.now }
+    ensures { OnOk result (Appends (Converts limits.now) to to request.now bytes.now out.old out.new) }
 {
     match request.form {
         None => answer(out, request.verdict, "", b"", request.close),
@@ -55,45 +52,4 @@ fn answer_body(
         Err(Bad::Faulted(found)) => answer_fault(alloc, out, &found, close),
         Err(Bad::OutOfMemory) => Err(OutOfMemory),
     }
-}
-
-// The media type of a text in a form.
-fn type_of(form: Form) -> &'static str
-    ensures { result.now ≡ told.type_of form }
-{
-    match form {
-        Form::OtlpProto => "application/x-protobuf",
-        Form::OtlpJson => "application/json",
-        Form::JaegerBinary => "application/vnd.apache.thrift.binary",
-        Form::JaegerCompact => "application/vnd.apache.thrift.compact",
-        Form::ZipkinJson => "application/json",
-    }
-}
-
-// Appends the answer to a body that has a cause.
-fn answer_refusal(
-    alloc: Global,
-    out: &mut Blob,
-    refusal: &Refusal,
-    close: bool,
-) -> Result<(), OutOfMemory>
-    ensures { OnOk result (out.new ≡ out.old ++ answer_text 400 plain_text (refusal_line refusal.now) close) }
-{
-    let mut line = Blob::new(alloc);
-    write_refusal(&mut line, refusal)?;
-    answer(out, 400, "text/plain", line.as_slice(), close)
-}
-
-// Appends the answer to a body that the target can't hold.
-fn answer_fault(
-    alloc: Global,
-    out: &mut Blob,
-    found: &TargetFault,
-    close: bool,
-) -> Result<(), OutOfMemory>
-    ensures { OnOk result (out.new ≡ out.old ++ answer_text 422 plain_text (fault_line found.now) close) }
-{
-    let mut line = Blob::new(alloc);
-    write_fault(alloc, &mut line, found)?;
-    answer(out, 422, "text/plain", line.as_slice(), close)
 }

@@ -2,14 +2,9 @@
 #![tactic(auto)]
 
 mod answering;
-mod ended;
+mod converting;
 pub mod laws;
-mod note_lines;
-mod pending;
-mod reading;
 mod serve;
-mod whole;
 
-pub use ended::{Ended, ServeFault};
-pub use note_lines::{append_pieces, key_of};
+pub use conn_service::{Ended, ServeFault};
 pub use serve::serve_connection;

@@ -1,21 +1,11 @@
 //! Serving one connection.
-ghost use Rattle.std.specs.Prelude.{◌<◌, length, vec_len, IfOk};
 ghost use Rattle.span_io.specs.Limits.{AreLimits};
 ghost use Rattle.span_gateway.specs.Serving.{KeepsMark, Serves};
-ghost use Rattle.span_gateway.specs.private.Steps.{EndsHere};
 
-use crate::ended::{Ended, ServeFault};
-use crate::pending::Pending;
-use crate::reading::read_more;
-use crate::whole::answer_whole;
-use http_conn::Known;
-use http_conn::laws::{known_stays, one_next_request, whole_requests};
-use span_io::laws::gains_then;
-use span_io::{Duplex, Form, Limits, OutOfMemory};
+use crate::converting::Converting;
+use conn_service::{Ended, ServeFault, serve};
+use span_io::{Duplex, Form, Limits};
 use std::alloc::Global;
-
-/// The most bytes that one read asks for.
-const PIECE: usize = 65_536;
 
 /// Serves one connection to its end: each whole request is answered before more is read. The bytes that it gives
 /// are read up to the limit of binary input, and count as ended there.
@@ -31,58 +21,6 @@ pub fn serve_connection<C: Duplex>(
     // Whole requests have their answers before more bytes come.
     ensures mark { KeepsMark to limits.now (C.link conn.old) (C.link conn.new) }
 {
-    gains_then();
-    let Ok(mut buffer) = room(alloc) else {
-        return Err(ServeFault::OutOfMemory);
-    };
-    serve_pieces(alloc, conn, buffer.as_mut_slice(), to, limits)
-}
-
-// Room for a piece.
-fn room(alloc: Global) -> Result<Vec<u8>, OutOfMemory>
-    ensures { IfOk result (λ buffer. 0 < vec_len buffer) }
-{
-    Ok(Vec::from_elem(alloc, 0u8, PIECE)?)
-}
-
-// The same with room for a piece.
-fn serve_pieces<C: Duplex>(
-    alloc: Global,
-    conn: &mut C,
-    buffer: &mut [u8],
-    to: Form,
-    limits: &Limits,
-) -> Result<Ended, ServeFault>
-    requires limits { AreLimits limits.now }
-    requires room { 0 < length buffer.old }
-    ensures serves { Serves to limits.now (C.link conn.old) (C.link conn.new) result }
-    ensures mark { KeepsMark to limits.now (C.link conn.old) (C.link conn.new) }
-{
-    gains_then();
-    one_next_request();
-    whole_requests();
-    known_stays();
-    let mut pending = Pending::new(alloc);
-    let mut known = Known::Searched(0);
-    let mut most = limits.binary;
-    'pieces: loop {
-        if let Some(ended) = answer_whole(alloc, conn, &mut pending, &mut known, to, limits)? {
-            return Ok(ended);
-        }
-        let given = read_more(conn, &mut pending, buffer, most)?;
-        if given == 0 {
-            return Ok(ended_by(pending.as_slice()));
-        }
-        most -= given as u64;
-    }
-}
-
-// How a stream ends that ends here.
-fn ended_by(rest: &[u8]) -> Ended
-    ensures { EndsHere rest.now result }
-{
-    match rest {
-        [] => Ended::Closed,
-        [_, ..] => Ended::Cut,
-    }
+    let mut converting = Converting::new(to);
+    serve(alloc, conn, &mut converting, limits)
 }

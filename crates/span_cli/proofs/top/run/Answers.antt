@@ -1,5 +1,5 @@
 use Rattle.std.proofs.Common.{◌≡◌, ◌≢◌, ℕ, ◌<◌, List, length, Option, Some, None, refl, sym, ap, subst, ◌∙◌, arith}
-use Rattle.std.specs.Prelude.{IfSome}
+use Rattle.std.specs.Prelude.{IfSome, codes}
 use Rattle.span_io.specs.Outside.{Takes}
 use Rattle.span_io.specs.declared.form.Form.{Form}
 use Rattle.span_cli.specs.declared.command.Command.{Command}
@@ -18,7 +18,7 @@ use Rattle.span_cli.proofs.LinesBack.{lines_back}
 use Rattle.span_cli.proofs.LossesTold.{losses_told}
 use Rattle.span_cli.proofs.SameRuns.{carried_out_agreeing, carried_out_same}
 use Rattle.span_cli.proofs.ServeLemmas.{served_in_vain, untouched_door_in_vain}
-use Rattle.span_cli.proofs.ServeWords.{seven_words, word_at}
+use Rattle.span_notes.specs.laws.WordLaws.{place_within, word_at}
 use Rattle.span_cli.proofs.TaskLemmas as task
 use Rattle.span_cli.proofs.TextsBack.{text_back}
 use Rattle.span_cli.proofs.top.run.Given.{Over}
@@ -217,20 +217,20 @@ returns-clause-serves_alone g c =
 spelled : (g : Over) (c : In-Serve g) → SpellsServe c.in-Serve.address c.in-Serve.to c.in-Serve.count (texts c.args.words.now)
 spelled g c = task.serve_spelled (texts c.args.words.now) c.in-Some.command c.in-Some.ensures c.task.result c.task.ensures c.in-Serve.address c.in-Serve.to c.in-Serve.count c.in-Serve.is
 
-few : (g : Over) (c : In-Serve g) → c.in-Serve.address < 7
-few g c = task.address_within (texts c.args.words.now) c.in-Some.command c.in-Some.ensures c.task.result c.task.ensures c.in-Serve.address c.in-Serve.to c.in-Serve.count c.in-Serve.is
+within : (g : Over) (c : In-Serve g) → c.in-Serve.address < length c.args.words.now
+within g c = place_within c.args.words.now 1 (codes "--listen") c.in-Serve.address (spelled g c).listen.0 (spelled g c).listen.1
 
 no_job : (g : Over) (c : In-Serve g) (command : Command) (job : Job) → task_of command ≡ Make job → Spells command (texts c.args.words.now) → ⊥
 no_job g c = task.no_other (texts c.args.words.now) c.in-Some.command c.in-Some.ensures c.task.result c.task.ensures c.in-Serve.address c.in-Serve.to c.in-Serve.count c.in-Serve.is
 
 pub offset_bounds-words-address : goal.offset_bounds-words-address
-offset_bounds-words-address g c = omega (arith, few g c)
+offset_bounds-words-address g c = omega (arith, within g c)
 
 pub bounds-words-address : goal.bounds-words-address
-bounds-words-address g c = omega (arith, few g c, seven_words c.args.words.now (spelled g c).number)
+bounds-words-address g c = within g c
 
 pub serve-requires : goal.serve-requires
-serve-requires g c = (spelled g (goal.at.serve-requires g c).In-Serve).some
+serve-requires g c = (spelled g (goal.at.serve-requires g c).In-Serve).connections.some
 
 pub returns-in-Serve-clause-there_and_back : goal.returns-in-Serve-clause-there_and_back
 returns-in-Serve-clause-there_and_back g c = λ from to convert. absurd (no_job g (goal.at.returns-in-Serve-clause-there_and_back g c).In-Serve (Convert from to) _ refl convert)
@@ -261,6 +261,6 @@ returns-in-Serve-clause-serves g c =
     (λ address to count. ServesConnections address to count c.serve.result (g.D.Door.doorway c.args.door.now) (g.D.Door.doorway c.serve.new.door)
     (g.N.Sink.outlet c.args.notes.now) (g.N.Sink.outlet c.serve.new.notes))
     c.as_str.result.now
-    (word_at c.args.words.now c.in-Serve.address c.index-words-address.result (omega (arith, few g served, seven_words c.args.words.now (spelled g served).number)) c.index-words-address.is
+    (word_at c.args.words.now c.in-Serve.address c.index-words-address.result (within g served) c.index-words-address.is
     ∙ ap (λ (w : List ℕ). Some w) (sym c.as_str.ensures.value))
     c.serve.ensures

@@ -1,0 +1,4 @@
+pub mod MarkLemmas
+pub mod ServeLemmas
+pub mod StreamLemmas
+pub mod WholeLemmas

@@ -1,0 +1,10 @@
+-- Words on answers that don't convert.
+use Rattle.std.specs.Prelude.{ℕ, Bool, List, [], codes}
+use Rattle.http_conn.specs.Replies.{answer_text}
+
+abbrev pub plain_text : List ℕ
+plain_text = codes "text/plain"
+
+-- an answer without content
+abbrev pub bare_answer : ℕ → Bool → List ℕ
+bare_answer status close = answer_text status [] [] close

@@ -1,6 +1,0 @@
-use Rattle.std.proofs.Common.{◌≡◌, ◌++◌, take}
-use Rattle.span_gateway.specs.NoteLines.{pieces_text}
-use Rattle.span_gateway.proofs.note_lines.append_pieces.Given as goal
-
-abbrev pub invariant-pieces : goal.invariant-pieces
-invariant-pieces l = l.out ≡ l.initial.out ++ pieces_text (take l.piece-index l.pieces)

@@ -1,0 +1,4 @@
+pub mod Notes
+pub mod Pairs
+pub mod Pieces
+pub mod laws
