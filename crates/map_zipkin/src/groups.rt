@@ -12,12 +12,12 @@ ghost use Rattle.map_zipkin.specs.private.ReadGroups.{groups_joined, last_alone,
 ghost use Rattle.map_zipkin.specs.Reading.{groups_of};
 ghost use Rattle.map_zipkin.specs.Regrouped as told;
 
-use crate::reading::triple_of_span;
+use crate::reading::triple_by;
 use crate::run::Run;
 use span_io::{Items, OutOfMemory, Text};
 use span_tags::{ReadSpan, Runs};
 use std::alloc::Global;
-use trace_model::{Attrs, Group, Place, Remark, Span, Value};
+use trace_model::{Attrs, EventReader, Group, Place, Remark, Span, Value};
 use zipkin_json::ZSpan;
 
 // ---- equal resources
@@ -258,8 +258,9 @@ fn gathered(
     ensures { IfOk result (λ groups. map noted_group groups ≡ noted_groups_of spans) }
 {
     let mut so_far = Groups::none(alloc);
+    let mut reader = EventReader::new();
     'spans: for span in spans.into_vec() {
-        let (run, read, remarks) = triple_of_span(alloc, span)?;
+        let (run, read, remarks) = triple_by(alloc, &mut reader, span)?;
         so_far = so_far.add(
             alloc,
             NotedSpan {

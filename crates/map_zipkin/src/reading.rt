@@ -20,7 +20,7 @@ use span_io::{Items, OutOfMemory, Text};
 use std::alloc::Global;
 use std::mem;
 use tags::pairs_of;
-use trace_model::{Kind, Remark, Span, find};
+use trace_model::{EventReader, Kind, Remark, Span, find};
 use zipkin_json::{ZKind, ZSpan};
 
 fn kind_of(kind: ZKind) -> Kind
@@ -42,6 +42,20 @@ pub fn triple_of_span(alloc: Global, span: ZSpan) -> Result<(Run, Span, Items<Re
     ensures remarks { IfOk result (λ parts. parts.2 ≡ zipkin_remarks span) }
     ensures sound { IfOk result (λ parts. AreSound parts.0.resource × IsSoundSpan parts.1) }
 {
+    let mut reader = EventReader::new();
+    triple_by(alloc, &mut reader, span)
+}
+
+/// The same, where the reader of its annotations is lent.
+pub(crate) fn triple_by(
+    alloc: Global,
+    reader: &mut EventReader,
+    span: ZSpan,
+) -> Result<(Run, Span, Items<Remark>), OutOfMemory>
+    ensures value { IfOk result (λ parts. (parts.0, parts.1) ≡ meant.run_span_of span) }
+    ensures remarks { IfOk result (λ parts. parts.2 ≡ zipkin_remarks span) }
+    ensures sound { IfOk result (λ parts. AreSound parts.0.resource × IsSoundSpan parts.1) }
+{
     trace_model::laws::event_texts_exact();
     trace_model::laws::event_texts_once();
     let mut span = span;
@@ -50,7 +64,7 @@ pub fn triple_of_span(alloc: Global, span: ZSpan) -> Result<(Run, Span, Items<Re
     let tags = pairs_of(alloc, own_tags)?;
     let remarks = remarks_of(alloc, &span.remote.service, &tags)?;
     let told = told_by(alloc, &tags)?;
-    let events = events_of(alloc, annotations)?;
+    let events = events_of(alloc, reader, annotations)?;
     let tag = find(&tags, "peer.service");
     let peer = mem::replace(&mut span.remote.service, Text::new(alloc));
     let service = mem::replace(&mut span.local.service, Text::new(alloc));

@@ -1,5 +1,5 @@
 -- What a JSON value holds of an event, as the reader comes to it; and how a member is written.
-use Rattle.std.proofs.Common.{◌≡◌, ◌≢◌, ℕ, ◌<◌, ◌≤◌, List, [], ◌∷◌, ◌++◌, length, All, Option, Some, None, Result, Ok, Err, string_bytes, refl, sym, ap, ◌∙◌, subst, arith, append_assoc}
+use Rattle.std.proofs.Common.{◌≡◌, ◌≢◌, ℕ, ◌<◌, ◌≤◌, List, [], ◌∷◌, ◌++◌, length, All, Option, Some, None, Result, Ok, Err, refl, sym, ap, ◌∙◌, subst, arith, append_assoc}
 use Rattle.std.specs.Prelude.{IfOk, IfNone}
 use Rattle.std.proofs.lemmas.List.Elements.{All-weaker}
 use Rattle.json.specs.Print.{print, print_from, quoted}
@@ -7,8 +7,8 @@ use Rattle.json.specs.Token.{Token, key}
 use Rattle.serde_json.specs.Data.{Data, null, boolean, number, string, array, object, Members, no_members, member}
 use Rattle.serde_json.specs.Find.{as_object}
 use Rattle.serde_json.specs.Read.{read}
-use Rattle.serde_json.specs.View.{view, members_view}
-use Rattle.serde_json.proofs.Views.{Entry}
+use Rattle.json_nodes.specs.Lents.{lent_view as view, named_members}
+use Rattle.trace_model.proofs.EventRows.{Entry}
 use Rattle.trace_model.specs.declared.value.Value.{Value, List as Several, Map as Named}
 use Rattle.trace_model.specs.EventReading.{IsRead, AreRead, pairs_within}
 use Rattle.trace_model.specs.EventTexts.{IsEventJson, IsEventText, in_braces}
@@ -45,12 +45,12 @@ of_object (string s) ms e = absurd (cc)
 of_object (array ds) ms e = absurd (cc)
 of_object (object os) ms e = cc
 
-module _ (json : Data) (entries : List Entry) (is_object : Some (members_view entries) ≡ as_object json) where
-  same_members : (name : List ℕ) (attributes : List (List ℕ × Value)) (is : IsEventJson json name attributes) → members_view entries ≡ member name (object is.members) no_members
+module _ (json : Data) (entries : List Entry) (is_object : Some (named_members entries) ≡ as_object json) where
+  same_members : (name : List ℕ) (attributes : List (List ℕ × Value)) (is : IsEventJson json name attributes) → named_members entries ≡ member name (object is.members) no_members
   same_members name attributes is =
-      let e : Some (members_view entries) ≡ Some (member name (object is.members) no_members) = is_object ∙ ap as_object is.one in cc
+      let e : Some (named_members entries) ≡ Some (member name (object is.members) no_members) = is_object ∙ ap as_object is.one in cc
 
-  alone : (es : List Entry) (k : List ℕ) (d : Data) → members_view es ≡ member k d no_members → length es ≡ 1
+  alone : (es : List Entry) (k : List ℕ) (d : Data) → named_members es ≡ member k d no_members → length es ≡ 1
   alone [] k d e = absurd (cc)
   alone (x ∷ []) k d e = omega arith
   alone (x ∷ y ∷ es) k d e = absurd (cc)
@@ -61,8 +61,8 @@ module _ (json : Data) (entries : List Entry) (is_object : Some (members_view en
   module _ (x : Entry) (more : List Entry) (split : entries ≡ x ∷ more) (inner : Members) (holds : Some inner ≡ as_object (view x.1)) where
     inner_is : (name : List ℕ) (attributes : List (List ℕ × Value)) (is : IsEventJson json name attributes) → inner ≡ is.members
     inner_is name attributes is =
-        let e : member (string_bytes x.0) (view x.1) (members_view more) ≡ member name (object is.members) no_members =
-        ap members_view (sym split) ∙ same_members name attributes is in
+        let e : member (x.0.now) (view x.1) (named_members more) ≡ member name (object is.members) no_members =
+        ap named_members (sym split) ∙ same_members name attributes is in
         let v : view x.1 ≡ object is.members = cc in
         let o : Some inner ≡ Some is.members = holds ∙ ap as_object v in
         cc
@@ -74,20 +74,29 @@ module _ (json : Data) (entries : List Entry) (is_object : Some (members_view en
         let e : None ≡ Some attributes = none ∙ read in
         cc
 
-    last_one : (es : List Entry) → 1 ≡ length (x ∷ es) → members_view es ≡ no_members
+    pub no_empty : (read : List (List ℕ × Value)) → Some read ≡ pairs_within most_levels inner → length read ≡ 0
+        → (name : List ℕ) (attributes : List (List ℕ × Value)) → IsEventJson json name attributes → ⊥
+    no_empty [] read empty name attributes is =
+        let e : Some [] ≡ Some attributes =
+        read ∙ ap (pairs_within most_levels) (inner_is name attributes is) ∙ pairs_complete most_levels is.members attributes is.values (shallow attributes is.sound) in
+        let none : attributes ≡ [] = cc in
+        is.some none
+    no_empty (pair ∷ pairs) read empty name attributes is = absurd (omega (arith, empty))
+
+    last_one : (es : List Entry) → 1 ≡ length (x ∷ es) → named_members es ≡ no_members
     last_one [] e = refl
     last_one (y ∷ es) e = absurd (omega arith)
 
-    pub is_event : 1 ≡ length entries → (attributes : List (List ℕ × Value)) → Some attributes ≡ pairs_within most_levels inner → AreRead attributes → attributes ≢ [] → IsEventJson json (string_bytes x.0) attributes
+    pub is_event : 1 ≡ length entries → (attributes : List (List ℕ × Value)) → Some attributes ≡ pairs_within most_levels inner → AreRead attributes → attributes ≢ [] → IsEventJson json (x.0.now) attributes
     is_event one attributes is r some =
         let s = pairs_sound most_levels inner attributes (sym is) in
-        let e : members_view entries ≡ member (string_bytes x.0) (object inner) no_members =
-        ap members_view split
-        ∙ ap (λ d. member (string_bytes x.0) d (members_view more)) (of_object (view x.1) inner holds)
-        ∙ ap (member (string_bytes x.0) (object inner)) (last_one more (one ∙ ap (λ (l : List Entry). length l) split)) in
+        let e : named_members entries ≡ member (x.0.now) (object inner) no_members =
+        ap named_members split
+        ∙ ap (λ d. member (x.0.now) d (named_members more)) (of_object (view x.1) inner holds)
+        ∙ ap (member (x.0.now) (object inner)) (last_one more (one ∙ ap (λ (l : List Entry). length l) split)) in
         record {
           members = inner;
-          one = of_object json (members_view entries) is_object ∙ ap object e;
+          one = of_object json (named_members entries) is_object ∙ ap object e;
           values = s.0;
           some = some;
           sound = sound_read attributes r s.1;

@@ -21,7 +21,7 @@ mod trace;
 mod value;
 
 pub use attributes::{attrs_of, keys_in_order};
-pub use event_reading::read_event_text;
+pub use event_reading::{EventReader, read_event_text};
 pub use event_texts::event_text;
 pub use fault::Fault;
 pub use json_values::value_json;

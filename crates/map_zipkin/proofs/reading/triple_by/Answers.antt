@@ -17,7 +17,7 @@ use Rattle.map_zipkin.proofs.EventFacts.{EventsRead}
 use Rattle.map_zipkin.proofs.OwnBehind.{own_pairs}
 use Rattle.map_zipkin.proofs.ReadHeld.{resource_sound, span_sound}
 use Rattle.map_zipkin.proofs.SpanJoined.{span_joined}
-use Rattle.map_zipkin.proofs.reading.triple_of_span.Goals as goal
+use Rattle.map_zipkin.proofs.reading.triple_by.Goals as goal
 
 -- the attributes of the span's own have a place of their own
 pub parted_by-requires : goal.parted_by-requires
