@@ -264,8 +264,10 @@ fn reads_groups(rt: HostRuntime) -> Result<(), Fail> {
     Ok(())
 }
 
-// Pairs without a key, and the value of each. Numbers below zero are in two's complement, and a double's least byte is first on
-// the wire; the map has a pair that has no value, and the last pair a member of another wire type.
+// Pairs, and the value of each. Numbers below zero are in two's complement, and a double's least byte is first on the wire. The
+// first pairs have no key; the map has a pair that has no value, and the eighth pair a member of another wire type. Then come
+// pairs of a key and a value with lengths of a byte each, and such as differ little from these: by a truth of 2, by a length or a
+// number with a byte more than it needs, by the order of their fields, and by one that isn't known.
 const VALUES: &str = r#"
 pair 1203 0a01 'v' => text v
 pair 1202 1007 => truth true
@@ -275,6 +277,23 @@ pair 1206 2a04 0a02 1000 => list [false]
 pair 1207 3205 0a03 0a01 'k' => map {"k":null}
 pair 1204 3a02 09ff => bytes Cf8=
 pair 1202 0801 => nothing
+pair 0a01 'k' 1203 0a01 'v' => text v
+pair 0a00 1202 0a00 => text
+pair 0a01 'k' 1202 1000 => truth false
+pair 0a01 'k' 1202 1001 => truth true
+pair 0a01 'k' 1202 1800 => number 0
+pair 0a01 'k' 120b 18feffffffffffffffff01 => number -2
+pair 0a01 'k' 1202 1002 => truth true
+pair 0a01 'k' 1203 108100 => truth true
+pair 0a8100 'k' 1203 0a01 'v' => text v
+pair 0a01 'k' 128300 0a01 'v' => text v
+pair 0a01 'k' 1204 0a8100 'v' => text v
+pair 0a01 'k' 1203 188100 => number 1
+pair 1203 0a01 'v' 0a01 'k' => text v
+pair 0a01 'k' 1205 0a01 'v' 4807 => text v
+pair 0a01 'k' 1204 1801 4807 => number 1
+pair 0a01 'k' 1203 0a01 'v' 4807 => text v
+pair 0a01 'k' 1200 => nothing
 "#;
 
 fn word_of(value: &Value) -> &'static str {
@@ -352,6 +371,17 @@ an event that ends inside a record: span 5a01 12 => Truncated
 the kind twice: span 3001 3001 => FieldTwice
 the code of a status twice: span 7a04 1801 1801 => FieldTwice
 the span's identifier twice: span 1208 0202020202020202 => FieldTwice
+a key that is no text before a value that is one: pair 0a01 ff 1203 0a01 'v' => NotText
+a value that is no text: pair 0a01 'k' 1203 0a01 ff => NotText
+neither is a text, and behind them a record ends inside, so the key counts: pair 0a01 ff 1204 0a01 ff 80 => NotText
+a value of two texts: pair 0a01 'k' 1206 0a01 'v' 0a01 'w' => FieldTwice
+a value of a number and a truth: pair 0a01 'k' 1204 1801 1001 => FieldTwice
+a text that is longer than its value: pair 0a01 'k' 1203 0a02 'v' => Truncated
+a value that is longer than its pair: pair 0a01 'k' 1204 0a01 'v' => Truncated
+a key that is longer than its pair: pair 0a02 'k' => Truncated
+a number that ends inside: pair 0a01 'k' 1202 1880 => Truncated
+a number of eleven bytes: pair 0a01 'k' 120c 18 ffffffffffffffffffff01 => BadVarint
+a second key behind the value: pair 0a01 'k' 1203 0a01 'v' 0a01 'k' => FieldTwice
 the value of a pair twice: span 4a08 1202 1001 1202 1001 => FieldTwice
 the key of a pair twice: span 4a06 0a01 'k' 0a01 'k' => FieldTwice
 a span with a trace alone: bare-span 0a10 01010101010101010101010101010102 => BadId

@@ -1,12 +1,16 @@
 -- Attributes of a message, pair by pair.
-use Rattle.std.proofs.Common.{◌≡◌, ℕ, List, [], ◌∷◌, ◌++◌, map, ◌⊎◌, inl, inr, ⊎_elim, sym, subst}
+use Rattle.std.proofs.Common.{◌≡◌, ℕ, List, [], ◌∷◌, ◌++◌, map, ◌⊎◌, inl, inr, ⊎_elim, sym, subst, ap, ◌∙◌}
 use Rattle.std.specs.Prelude.{◌↔◌, Contains}
 use Rattle.std.proofs.lemmas.List.Elements.{Contains-append_left, Contains-append_right, Contains-append_cases}
 use Rattle.trace_model.specs.Attributes.{AreAttributes, AreRepeated, Rise, StandsTwice}
 use Rattle.trace_model.specs.declared.value.Value.{Value}
 use Rattle.otlp_proto.specs.declared.reading.attributes.AttributeRows.{AttributeRows}
 use Rattle.trace_model.specs.declared.noted.KeyValue.{KeyValue}
-use Rattle.trace_model.specs.OtlpParts.{entry, keys_inside}
+use Rattle.trace_model.specs.OtlpParts.{entry, keys_inside, leaf, levels_below}
+use Rattle.otlp_proto.specs.declared.reading.plain.PlainPair.{PlainPair}
+use Rattle.otlp_proto.specs.PlainPairs.{value_of, IsPlainPair}
+use Rattle.otlp_proto.proofs.PlainLemmas.{pair_reading}
+use Rattle.std.proofs.lemmas.List.{append-nil}
 use Rattle.trace_model.specs.laws.ToldLaws.{pair_added}
 use Rattle.otlp_proto.specs.Attributes.{attribute_at, AttributesOf}
 use Rattle.otlp_proto.specs.AttributesSoFar.{GatheredAttributes}
@@ -19,6 +23,13 @@ attribute_push earlier held old new p pair pairs noted so_far = record {
   each = all_zip_push attribute_at earlier so_far.members held p so_far.each pair;
   told = pair_added so_far.members old.pairs new.pairs old.noted new.noted p pairs noted so_far.told;
 }
+
+-- one in whose value no key is noted
+pub plain_push : (earlier : List (List ℕ)) (held : List ℕ) (old new : AttributeRows) (pair : PlainPair) (made : List ℕ × Value) → IsPlainPair pair held → made.0 ≡ pair.key.now → made.1 ≡ value_of pair.value
+    → new.pairs ≡ old.pairs ++ made ∷ [] → new.noted ≡ old.noted → GatheredAttributes earlier old → GatheredAttributes (earlier ++ held ∷ []) new
+plain_push earlier held old new pair made is key value pairs noted so_far =
+    let p : KeyValue = record { key = made.0; value = leaf made.1 } in
+    attribute_push earlier held old new p (pair_reading levels_below pair held is p key (ap leaf value)) pairs (noted ∙ sym (append-nil old.noted)) so_far
 
 -- the attributes, and the keys that are noted: those inside the values, and those that stand more than once
 pub attributes_are : (texts : List (List ℕ)) (rows : AttributeRows) (attributes : List (List ℕ × Value)) (repeated noted keys : List (List ℕ)) → GatheredAttributes texts rows → AreAttributes attributes rows.pairs → AreRepeated repeated rows.pairs

@@ -17,6 +17,7 @@ pub mod MessageReading
 pub mod NextRecord
 pub mod NumberingLemmas
 pub mod PaddedValues
+pub mod PlainLemmas
 pub mod ProperLemmas
 pub mod Ranges
 pub mod ReadGroup

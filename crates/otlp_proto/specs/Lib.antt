@@ -10,6 +10,7 @@ pub mod Link
 pub mod LinkSoFar
 pub mod Numbering
 pub mod PaddedValues
+pub mod PlainPairs
 pub mod ReadParts
 pub mod Rows
 pub mod Scope

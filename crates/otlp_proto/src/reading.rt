@@ -5,6 +5,7 @@ mod group;
 mod instrumentation_scope;
 mod link;
 mod message;
+mod plain;
 mod resource;
 mod rows;
 mod scope;

@@ -7,7 +7,9 @@ ghost use Rattle.otlp_proto.specs.Attributes.{attribute_rules, AttributesOf};
 ghost use Rattle.otlp_proto.specs.AttributesSoFar.{GatheredAttributes};
 ghost use Rattle.span_io.specs.RowsSoFar.{Adds};
 
-use crate::reading::value::read_key_value;
+use crate::laws::reading_laws;
+use crate::reading::plain::plain_pair;
+use crate::reading::value::walk_key_value;
 use crate::reading::value_rows::{note_all, push_key_value};
 use span_io::{Cause, Halt, Items, OutOfMemory, Text};
 use std::alloc::Global;
@@ -37,7 +39,12 @@ impl AttributeRows {
         ensures ok { OnOk result (Adds GatheredAttributes held.now self.old self.new) }
         ensures judged { Judges result (Offence messages attribute_rules held.now) }
     {
-        let pair = read_key_value(alloc, MOST_LEVELS - 1, held)?;
+        reading_laws();
+        if let Some(plain) = plain_pair(held) {
+            self.pairs.push(plain.owned(alloc)?)?;
+            return Ok(());
+        }
+        let pair = walk_key_value(alloc, MOST_LEVELS - 1, held)?;
         push_key_value(&mut self.pairs, &mut self.noted, pair)?;
         Ok(())
     }

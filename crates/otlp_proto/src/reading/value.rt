@@ -9,8 +9,10 @@ ghost use Rattle.otlp_proto.specs.Values.{array_value, kvlist_value, IsListText,
 ghost use Rattle.otlp_proto.specs.ValuesSoFar.{GatheredList, GatheredMap, GatheredMembers, GatheredValue, GatheredKeyValue, JudgesMember};
 ghost use Rattle.span_io.specs.Gathering.{JudgesNext};
 
+use crate::laws::reading_laws;
+use crate::reading::plain::plain_pair;
 use crate::reading::value_rows::{
-    KeyValueRows, ListRows, MapRows, NotedValue, bytes_member, key_value_of, leaf_member,
+    KeyValueRows, ListRows, MapRows, NotedValue, bytes_member, key_value_of, leaf_member, leaf_of,
     text_member, value_of,
 };
 use proto_wire::laws::message_cuts;
@@ -217,6 +219,21 @@ fn read_map(alloc: Global, left: u8, bytes: &[u8]) -> Result<NotedValue, Halt<Ca
 /// Reads a `KeyValue` below whose value so many levels are left.
 #[cycle(values)]
 pub fn read_key_value(alloc: Global, left: u8, bytes: &[u8]) -> Result<KeyValue, Halt<Cause>>
+    ensures value { IfOk result (λ p. key_value_at left bytes.now p) }
+    ensures judged { Judges result (Offence messages (key_value_rules left) bytes.now) }
+{
+    reading_laws();
+    if let Some(plain) = plain_pair(bytes) {
+        let (key, value) = plain.owned(alloc)?;
+        let value = leaf_of(alloc, value);
+        return Ok(KeyValue { key, value });
+    }
+    walk_key_value(alloc, left, bytes)
+}
+
+/// Reads a `KeyValue` record by record.
+#[cycle(values)]
+pub fn walk_key_value(alloc: Global, left: u8, bytes: &[u8]) -> Result<KeyValue, Halt<Cause>>
     ensures value { IfOk result (λ p. key_value_at left bytes.now p) }
     ensures judged { Judges result (Offence messages (key_value_rules left) bytes.now) }
 {

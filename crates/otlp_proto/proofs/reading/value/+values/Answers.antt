@@ -1,4 +1,4 @@
-use Rattle.std.proofs.Common.{◌≡◌, Ok, Err, ◌⊎◌, rules, arith}
+use Rattle.std.proofs.Common.{◌≡◌, Ok, Err, ◌⊎◌, ap, ◌∙◌, rules, arith}
 use Rattle.std.proofs.lemmas.Result.{err_from_is_err_and}
 use Rattle.span_io.specs.Offences.{Offence}
 use Rattle.span_io.specs.laws.OffenceLaws.{judged_inside, none_in_item}
@@ -8,9 +8,10 @@ use Rattle.proto_wire.specs.Records.{bytes, plain_record}
 use Rattle.otlp_proto.proofs.Shapes.{value_laws, list_laws, map_laws, key_value_laws}
 use Rattle.otlp_proto.specs.Values.{value_in, key_value_in, value_offends, key_value_offends, many_table, table_of_key_value, list_rules, map_rules, value_rules}
 use Rattle.trace_model.specs.declared.noted.KeyValue.{KeyValue}
-use Rattle.trace_model.specs.OtlpParts.{NotedValue}
+use Rattle.trace_model.specs.OtlpParts.{NotedValue, leaf}
 use Rattle.span_io.specs.laws.GatheringLaws.{seen_start, seen_step, seen_unread, seen_item, judged_at, judged_inside_at}
 use Rattle.otlp_proto.proofs.MessageReading.{seen_to_end}
+use Rattle.otlp_proto.proofs.PlainLemmas.{pair_reading, pair_fine}
 use Rattle.otlp_proto.proofs.ValueLemmas.{no_member, no_field, judged_as, halted_inside_at, value_judged, key_value_judged, list_push, map_push}
 use Rattle.otlp_proto.proofs.reading.value.+values.Goals as goal
 
@@ -187,25 +188,34 @@ read_map-returns-in-Ok-None-clause-value t c =
     let all = seen_to_end c.message_cuts.ensures _ _ _ _ c.pairs.invariant (next.end.0 tt) in
     c.in_ok-finish-in-Ok-None.ensures c.args.left all.items c.args.bytes.now all.are all.gathered
 
-pub read_key_value-fields-init : goal.read_key_value-fields-init
-read_key_value-fields-init t c = rw c.new-cursor.ensures (seen_start messages c.message_cuts.ensures.laws _ _ _ (record { key = tt; value = tt }))
+pub walk_key_value-fields-init : goal.walk_key_value-fields-init
+walk_key_value-fields-init t c = rw c.new-cursor.ensures (seen_start messages c.message_cuts.ensures.laws _ _ _ (record { key = tt; value = tt }))
 
-pub read_key_value-fields-preserved : goal.read_key_value-fields-preserved
-read_key_value-fields-preserved t c =
+pub walk_key_value-fields-preserved : goal.walk_key_value-fields-preserved
+walk_key_value-fields-preserved t c =
     let next = rw c.in-Ok-Some.field-0-is at c.in-Ok-Some.ensures in
     seen_step messages c.message_cuts.ensures.laws _ _ _ _ _ _ _ c.fields.invariant next.found c.in_ok-add_field-in-Ok-Some.ensures.judged c.in_ok-add_field-in-Ok-Some.ensures.ok
 
-pub read_key_value-returns-in_err-add_field-in-Ok-Some-clause-judged : goal.read_key_value-returns-in_err-add_field-in-Ok-Some-clause-judged
-read_key_value-returns-in_err-add_field-in-Ok-Some-clause-judged t c =
+pub walk_key_value-returns-in_err-add_field-in-Ok-Some-clause-judged : goal.walk_key_value-returns-in_err-add_field-in-Ok-Some-clause-judged
+walk_key_value-returns-in_err-add_field-in-Ok-Some-clause-judged t c =
     let next = rw c.in-Ok-Some.field-0-is at c.in-Ok-Some.ensures in
     let p = err_from_is_err_and c.from_residual.result c.from_residual.ensures.1 in
     rw (p.1, p.2) (seen_item messages c.message_cuts.ensures.laws _ (key_value_laws c.message_cuts.ensures.laws c.args.left) _ _ _ _ _ c.fields.invariant next.found Unit KeyValue c.in_err-add_field-in-Ok-Some.field-0.0 c.in_err-add_field-in-Ok-Some.ensures.judged)
 
-pub read_key_value-returns-in-Err-clause-judged : goal.read_key_value-returns-in-Err-clause-judged
-read_key_value-returns-in-Err-clause-judged t c = seen_unread messages c.message_cuts.ensures.laws _ _ _ _ _ c.fields.invariant c.in-Err.ensures.unread
+pub walk_key_value-returns-in-Err-clause-judged : goal.walk_key_value-returns-in-Err-clause-judged
+walk_key_value-returns-in-Err-clause-judged t c = seen_unread messages c.message_cuts.ensures.laws _ _ _ _ _ c.fields.invariant c.in-Err.ensures.unread
 
-pub read_key_value-returns-in-Ok-None-clause-judged : goal.read_key_value-returns-in-Ok-None-clause-judged
-read_key_value-returns-in-Ok-None-clause-judged t c =
+pub walk_key_value-returns-in-Ok-None-clause-judged : goal.walk_key_value-returns-in-Ok-None-clause-judged
+walk_key_value-returns-in-Ok-None-clause-judged t c =
     let next = rw c.in-Ok-None.field-0-is at c.in-Ok-None.ensures in
     let all = seen_to_end c.message_cuts.ensures _ _ _ _ c.fields.invariant (next.end.0 tt) in
     all.fine (λ n h. h)
+
+-- ---- plain pairs
+
+pub read_key_value-returns-in-Some-clause-value : goal.read_key_value-returns-in-Some-clause-value
+read_key_value-returns-in-Some-clause-value t c =
+    pair_reading c.args.left c.in-Some.plain c.args.bytes.now c.in-Some.ensures _ c.in_ok-key.ensures.key (c.leaf_of-value.ensures ∙ ap leaf c.in_ok-key.ensures.value)
+
+pub read_key_value-returns-in-Some-clause-judged : goal.read_key_value-returns-in-Some-clause-judged
+read_key_value-returns-in-Some-clause-judged t c = pair_fine c.reading_laws.ensures c.args.left c.in-Some.plain c.args.bytes.now c.in-Some.ensures

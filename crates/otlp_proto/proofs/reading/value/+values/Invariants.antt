@@ -9,34 +9,37 @@ use Rattle.otlp_proto.proofs.reading.value.+values.Given as goal
 -- Each function is measured by the levels that are left, and within a level by how many calls stand at most between it and those
 -- that add a value to a list or a `KeyValue` to a map, which go one level down.
 abbrev pub decreases-read_key_value : goal.decreases-read_key_value
-decreases-read_key_value l = 7 * l.left + 6
+decreases-read_key_value l = 8 * l.left + 7
+
+abbrev pub decreases-walk_key_value : goal.decreases-walk_key_value
+decreases-walk_key_value l = 8 * l.left + 6
 
 abbrev pub decreases-add_field : goal.decreases-add_field
-decreases-add_field l = 7 * l.left + 5
+decreases-add_field l = 8 * l.left + 5
 
 abbrev pub decreases-read_value : goal.decreases-read_value
-decreases-read_value l = 7 * l.left + 4
+decreases-read_value l = 8 * l.left + 4
 
 abbrev pub decreases-add_member : goal.decreases-add_member
-decreases-add_member l = 7 * l.left + 3
+decreases-add_member l = 8 * l.left + 3
 
 abbrev pub decreases-list_member : goal.decreases-list_member
-decreases-list_member l = 7 * l.left + 2
+decreases-list_member l = 8 * l.left + 2
 
 abbrev pub decreases-map_member : goal.decreases-map_member
-decreases-map_member l = 7 * l.left + 2
+decreases-map_member l = 8 * l.left + 2
 
 abbrev pub decreases-read_map : goal.decreases-read_map
-decreases-read_map l = 7 * l.left + 1
+decreases-read_map l = 8 * l.left + 1
 
 abbrev pub decreases-read_list : goal.decreases-read_list
-decreases-read_list l = 7 * l.left + 1
+decreases-read_list l = 8 * l.left + 1
 
 abbrev pub decreases-add_key_value : goal.decreases-add_key_value
-decreases-add_key_value l = 7 * l.left
+decreases-add_key_value l = 8 * l.left
 
 abbrev pub decreases-add_value : goal.decreases-add_value
-decreases-add_value l = 7 * l.left
+decreases-add_value l = 8 * l.left
 
 abbrev pub invariant-read_value-members : goal.invariant-read_value-members
 invariant-read_value-members l = Seen messages (value_rules l.left) (λ (seen : List Record). GatheredValue l.left seen l.row) l.bytes l.cursor.rest
@@ -56,8 +59,8 @@ invariant-read_map-pairs l = Seen messages (map_rules l.left) (λ (seen : List R
 abbrev pub decreases-read_map-pairs : goal.decreases-read_map-pairs
 decreases-read_map-pairs l = length l.cursor.rest
 
-abbrev pub invariant-read_key_value-fields : goal.invariant-read_key_value-fields
-invariant-read_key_value-fields l = Seen messages (key_value_rules l.left) (λ (seen : List Record). GatheredKeyValue l.left seen l.rows) l.bytes l.cursor.rest
+abbrev pub invariant-walk_key_value-fields : goal.invariant-walk_key_value-fields
+invariant-walk_key_value-fields l = Seen messages (key_value_rules l.left) (λ (seen : List Record). GatheredKeyValue l.left seen l.rows) l.bytes l.cursor.rest
 
-abbrev pub decreases-read_key_value-fields : goal.decreases-read_key_value-fields
-decreases-read_key_value-fields l = length l.cursor.rest
+abbrev pub decreases-walk_key_value-fields : goal.decreases-walk_key_value-fields
+decreases-walk_key_value-fields l = length l.cursor.rest
