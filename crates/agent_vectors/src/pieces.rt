@@ -1,4 +1,7 @@
 //! The piece of a datagram in each form, or why it has none.
+ghost use Rattle.std.specs.Prelude.{◌≤◌, length};
+ghost use Rattle.span_agent.specs.Posts.{most_bytes};
+
 use crate::datagrams::datagram_of;
 use row_tables::{Row, rows, unescaped};
 use span_agent::{AgentBad, convert_datagram};
@@ -101,37 +104,61 @@ fn wanted(alloc: Global, row: &Row) -> Result<Vec<u8>, Fail> {
     }
 }
 
-// Looks at what speaks against a datagram.
-fn expect_bad(rt: &impl Abort, alloc: Global, row: &Row, bad: &AgentBad) -> Result<(), Fail> {
-    let told = match bad {
-        AgentBad::Message(cause) => format!(in alloc; "{} {}", cause.number(), cause.name())?,
-        AgentBad::Faulted(fault) => format!(in alloc; "{} {}", fault.number(), fault.name())?,
-    };
-    assert_eq!(rt;
-        told.as_str(),
-        row.text_if_any("bad")?.unwrap_or("none"),
-        "{}",
-        row.name()
-    );
+// Looks at the piece.
+fn expect_piece(rt: &impl Abort, alloc: Global, row: &Row, piece: &[u8]) -> Result<(), Fail> {
+    let wanted = wanted(alloc, row)?;
+    assert_eq!(rt; piece, wanted.as_slice(), "{}", row.name());
     Ok(())
 }
 
-// Holds the piece of a row's datagram against the row.
-fn converts(rt: &impl Abort, alloc: Global, row: &Row) -> Result<(), Fail> {
-    row.expect_keys(&KEYS)?;
-    let datagram = datagram_of(alloc, row.text("datagram")?)?;
-    let Some(to) = Form::of_word(row.text("to")?.as_bytes()) else {
-        return Err(row.fail("no form", row.text("to")?));
-    };
-    match convert_datagram(alloc, datagram.as_slice(), to, &Limits::shipped()) {
-        Ok(piece) => {
-            let wanted = wanted(alloc, row)?;
-            assert_eq!(rt; piece.as_slice(), wanted.as_slice(), "{}", row.name());
-            Ok(())
-        }
+// The number and the name of what speaks against a datagram.
+fn told_of(bad: &AgentBad) -> (u8, &'static str) {
+    match bad {
+        AgentBad::Message(cause) => (cause.number(), cause.name()),
+        AgentBad::Faulted(fault) => (fault.number(), fault.name()),
+    }
+}
+
+// Looks at what speaks against a datagram.
+fn expect_bad(rt: &impl Abort, alloc: Global, row: &Row, bad: &AgentBad) -> Result<(), Fail> {
+    let (number, name) = told_of(bad);
+    let told = format!(in alloc; "{number} {name}")?;
+    let wanted = row.text_if_any("bad")?.unwrap_or("none");
+    assert_eq!(rt; told.as_str(), wanted, "{}", row.name());
+    Ok(())
+}
+
+fn form_of(row: &Row) -> Result<Form, Fail> {
+    let word = row.text("to")?;
+    match Form::of_word(word.as_bytes()) {
+        Some(form) => Ok(form),
+        None => Err(row.fail("no form", word)),
+    }
+}
+
+// Holds the piece of a datagram in a form against a row.
+fn converts_to(
+    rt: &impl Abort,
+    alloc: Global,
+    row: &Row,
+    datagram: &[u8],
+    to: Form,
+) -> Result<(), Fail>
+    requires { length datagram.now ≤ most_bytes }
+{
+    match convert_datagram(alloc, datagram, to, &Limits::shipped()) {
+        Ok(piece) => expect_piece(rt, alloc, row, piece.as_slice()),
         Err(Halt::Why(bad)) => expect_bad(rt, alloc, row, &bad),
         Err(Halt::OutOfMemory) => Err(row.fail("no memory", "")),
     }
+}
+
+// The same of a row's own datagram and form.
+fn converts(rt: &impl Abort, alloc: Global, row: &Row) -> Result<(), Fail> {
+    row.expect_keys(&KEYS)?;
+    let to = form_of(row)?;
+    let datagram = datagram_of(alloc, row.text("datagram")?)?;
+    converts_to(rt, alloc, row, datagram.as_slice(), to)
 }
 
 #[test]

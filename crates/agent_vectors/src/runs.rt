@@ -395,38 +395,72 @@ fn datagrams_told(row: &Row) -> u64 {
 }
 
 // The status that a row wants, and how many datagrams are then left.
-fn ending_of(row: &Row) -> Result<(u64, u64), Fail> {
-    if row.text_if_any("usage")?.is_some() {
-        return Ok((2, datagrams_told(row)));
-    }
-    let status = row.number_if_any("status")?.unwrap_or(0);
-    Ok((status, row.number_if_any("left")?.unwrap_or(0)))
+#[derive(Clone, Copy, Debug, PartialEq, Eq)]
+struct Ending {
+    status: u64,
+    left: u64,
 }
 
-// Runs the agent as a row says, and looks at all that it did.
-fn expect_run(rt: &impl Abort, alloc: Global, row: &Row) -> Result<(), Fail> {
-    row.expect_keys(&KEYS)?;
-    let name = row.name();
-    let words = words_of(alloc, row)?;
+fn ending_of(row: &Row) -> Result<Ending, Fail> {
+    if row.text_if_any("usage")?.is_some() {
+        return Ok(Ending {
+            status: 2,
+            left: datagrams_told(row),
+        });
+    }
+    let status = row.number_if_any("status")?.unwrap_or(0);
+    let left = row.number_if_any("left")?.unwrap_or(0);
+    Ok(Ending { status, left })
+}
+
+fn expect_ending(rt: &impl Abort, row: &Row, found: Ending) -> Result<(), Fail> {
+    let wanted = ending_of(row)?;
+    assert_eq!(rt; found, wanted, "ending of {}", row.name());
+    Ok(())
+}
+
+fn expect_bytes(rt: &impl Abort, row: &Row, found: &[u8], wanted: &[u8]) {
+    assert_eq!(rt; found, wanted, "{}", row.name());
+}
+
+fn expect_output(rt: &impl Abort, alloc: Global, row: &Row, found: &[u8]) -> Result<(), Fail> {
+    let wanted = output_of(alloc, row)?;
+    expect_bytes(rt, row, found, wanted.as_slice());
+    Ok(())
+}
+
+fn expect_notes(rt: &impl Abort, alloc: Global, row: &Row, found: &[u8]) -> Result<(), Fail> {
+    let wanted = notes_of(alloc, row)?;
+    expect_bytes(rt, row, found, wanted.as_slice());
+    Ok(())
+}
+
+// Runs the agent of these words as a row says, and looks at all that it did.
+fn runs_as_told(
+    rt: &impl Abort,
+    alloc: Global,
+    row: &Row,
+    words: &[String],
+    cut: usize,
+) -> Result<(), Fail> {
     let mut post = post_of(rt, alloc, row)?;
-    let cut = row.number_if_any("cut")?.unwrap_or(4096) as usize;
     let mut output = sink_of(rt, alloc, row, "output-fails", cut)?;
     let mut notes = sink_of(rt, alloc, row, "notes-fail", 4096)?;
-    let status = agent_run(alloc, words.as_slice(), &mut post, &mut output, &mut notes);
-    let (wanted, left) = ending_of(row)?;
-    assert_eq!(rt; u64::from(status), wanted, "status of {name}");
-    assert_eq!(rt; post.left() as u64, left, "left of {name}");
-    assert_eq!(rt;
-        output.bytes(),
-        output_of(alloc, row)?.as_slice(),
-        "output of {name}"
-    );
-    assert_eq!(rt;
-        notes.bytes(),
-        notes_of(alloc, row)?.as_slice(),
-        "notes of {name}"
-    );
-    Ok(())
+    let status = agent_run(alloc, words, &mut post, &mut output, &mut notes);
+    let ending = Ending {
+        status: u64::from(status),
+        left: post.left() as u64,
+    };
+    expect_ending(rt, row, ending)?;
+    expect_output(rt, alloc, row, output.bytes())?;
+    expect_notes(rt, alloc, row, notes.bytes())
+}
+
+fn expect_run(rt: &impl Abort, alloc: Global, row: &Row) -> Result<(), Fail> {
+    row.expect_keys(&KEYS)?;
+    let cut = row.number_if_any("cut")?.unwrap_or(4096) as usize;
+    let words = words_of(alloc, row)?;
+    runs_as_told(rt, alloc, row, words.as_slice(), cut)
 }
 
 #[test]

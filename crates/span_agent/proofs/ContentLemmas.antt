@@ -1,12 +1,11 @@
 -- The batch of a message has no cause but those of its content: it is a whole struct, and the limits have room for it.
-use Rattle.std.proofs.Common.{◌≡◌, ◌≢◌, ◌≤◌, ◌<◌, ◌⊎◌, ◌&&◌, ◌++◌, ◌∷◌, inl, inr, ℕ, suc, ℤ, pos, Bool, true, false, Option, Some, None, List, [], length, take, if◌then◌else◌, Result, Ok, Err, refl, ap, sym, ◌∙◌, subst, arith}
+use Rattle.std.proofs.Common.{◌≡◌, ◌≤◌, ◌⊎◌, ◌&&◌, ◌++◌, ◌∷◌, inl, inr, ℕ, ℤ, pos, Bool, true, false, Option, List, [], length, take, if◌then◌else◌, Result, Ok, Err, refl, ap, sym, ◌∙◌, subst, arith}
 use Rattle.std.proofs.lemmas.List.{length-append, append-nil, take_all}
 use Rattle.span_io.specs.Causes.{cause_number}
 use Rattle.span_io.specs.declared.cause.Cause.{Cause}
-use Rattle.span_io.specs.declared.cause.Cause.TheVariants as reasons
 use Rattle.span_io.specs.declared.limits.Limits.{Limits}
 use Rattle.span_io.specs.declared.refusal.Refusal.{Refusal}
-use Rattle.span_io.specs.Frames.{Framing, BeginsFrame, NeedsMore, ItemsThen, GoesOn}
+use Rattle.span_io.specs.Frames.{Framing, BeginsFrame, NeedsMore, ItemsThen}
 use Rattle.span_io.specs.Framings.{OneFraming, OneStep}
 use Rattle.span_io.specs.Offences.{Least}
 use Rattle.span_io.specs.Steps.{NoFrame}
@@ -14,20 +13,22 @@ use Rattle.thrift_core.specs.declared.type_code.TypeCode.{TypeCode}
 use Rattle.thrift_core.specs.declared.type_code.TypeCode.TheVariants as kinds
 use Rattle.thrift_core.specs.FieldValues.{has_id}
 use Rattle.thrift_core.specs.laws.OneReading.{of_kind}
-use Rattle.thrift_core.specs.Parts.{Part, header, Spelling, Begins}
-use Rattle.thrift_core.specs.Trees.{Tree, kind_of, ValueThen, all_levels}
+use Rattle.thrift_core.specs.Parts.{Part, Spelling}
+use Rattle.thrift_core.specs.Trees.{Tree, ValueThen, all_levels}
 use Rattle.thrift_core.specs.Values.{BeginsValue}
 use Rattle.thrift_core.specs.Walks.{outer_struct, WholeOf}
 use Rattle.trace_model.specs.OtlpParts.{NotedGroup}
 use Rattle.jaeger_model.specs.StatedLaws.{BatchOffends}
-use Rattle.span_convert.specs.BatchFiles.{ProtocolWords, batches, RefusedBatch, HoldsBatches}
+use Rattle.span_convert.specs.BatchFiles.{ProtocolWords, batches, RefusedBatch}
 use Rattle.span_convert.specs.FramedForms.{UnitsRefused, UnitOffends, RestStops, RestCause}
+use Rattle.span_convert.specs.OneBatches.{IsOneBatch}
 use Rattle.span_convert.specs.Rests.{StopsRest}
 use Rattle.span_convert.specs.Units.{batch_form}
-use Rattle.span_agent.specs.Arguments.{Argument, ArgumentsThen, batch_of, batches_of, is_struct}
+use Rattle.span_agent.specs.Arguments.{Argument, ArgumentsThen, batches_of, is_struct}
 use Rattle.span_agent.specs.Headers.{HeaderThen, CompactHeader, BinaryHeader}
-use Rattle.span_agent.specs.Messages.{told_by, HasHeader, IsMessage, TellsBatch, TellsBatchIn}
+use Rattle.span_agent.specs.Messages.{told_by, IsMessage, TellsBatch, TellsBatchIn}
 use Rattle.span_agent.specs.Contents.{batch_words}
+use Rattle.span_agent.specs.Pieces as pieces
 use Rattle.span_agent.specs.declared.message.AgentCause.{AgentCause}
 use Rattle.span_agent.specs.declared.message.AgentCause.TheVariants as causes
 
@@ -237,3 +238,11 @@ pub content_of : (protocol : ProtocolWords) → KeepsFrames protocol → (limits
 content_of protocol keeps limits datagram batch noted refusal short unit binary stands h =
     content protocol keeps.one keeps.framing limits (omega (arith, unit)) batch (whole_batch protocol.spells stands.held batch stands.value)
     (omega (arith, stands.within, short, unit)) (omega (arith, stands.within, short, binary)) noted refusal h
+
+-- it is an input of its form that is one batch
+pub one_batch : (datagram : List ℕ) (compact : Bool) (batch : List ℕ) → IsMessage datagram compact batch → IsOneBatch (pieces.batch_form compact) batch
+one_batch datagram true batch h = (let there = message_stands datagram true batch h in whole_batch (batch_words true).spells there.held batch there.value)
+one_batch datagram false batch h = (let there = message_stands datagram false batch h in whole_batch (batch_words false).spells there.held batch there.value)
+
+pub batch_within : (datagram : List ℕ) (compact : Bool) (batch : List ℕ) → IsMessage datagram compact batch → length batch ≤ length datagram
+batch_within datagram compact batch h = (message_stands datagram compact batch h).within

@@ -1,45 +1,29 @@
 -- Datagrams that are received one after the other, and what was written and noted of them.
 use Rattle.std.proofs.Common.{◌≡◌, ℕ, ◌+◌, ◌<◌, ◌≤◌, Bool, true, false, List, [], ◌∷◌, ◌++◌, map, length, Option, Some, None, Result, Ok, Err, OnOk, OnErr, refl, sym, ap, subst, ◌∙◌, inl, inr, arith, append_assoc, append-nil}
+use Rattle.std.specs.Prelude.{option_map}
 use Rattle.std.proofs.lemmas.List.{length-append, map-append}
 use Rattle.span_io.specs.Doors.{Doorway}
 use Rattle.span_io.specs.Limits.{shipped_limits}
-use Rattle.span_io.specs.Outside.{Outlet, Rose, Gains, OutputHolds, FailsWithin}
+use Rattle.span_io.specs.Outside.{Outlet, Rose, Gains, GainLaws, OutputHolds, FailsAt, FailsWithin}
 use Rattle.span_io.specs.declared.form.Form.{Form}
 use Rattle.span_io.specs.declared.halt.Halt.{Halt}
 use Rattle.span_io.specs.declared.halt.Halt.TheVariants as halts
 use Rattle.span_io.specs.declared.limits.Limits.{Limits}
 use Rattle.span_io.specs.declared.source.Failed.{Failed}
 use Rattle.span_io.specs.laws.TableLaws.{flat_more}
-use Rattle.span_io.proofs.Gains.{gains_none, gains_both, fails_within, holds_none, holds_then}
-use Rattle.span_cli.specs.Lines.{Notes}
-use Rattle.span_cli.specs.private.ServingSteps.{NotesSo, NotesMore}
-use Rattle.span_cli.proofs.ServeLemmas.{notes_as}
-use Rattle.span_agent.specs.AgentRuns.{Parcel, IsParcel, AreParcels, LosesDatagrams, ListensAt, PostFaults, ReceivesAt, ReceivesDatagrams, end_line, end_status, parcel_line, parcel_lines, pieces, written}
+use Rattle.span_notes.specs.Notes.{NotesMore}
+use Rattle.span_notes.specs.laws.NoteLaws.{notes_all, notes_as, notes_both, notes_nothing}
+use Rattle.span_agent.specs.AgentRuns.{Parcel, IsParcel, AreParcels, EndsCourse, LosesDatagrams, ListensAt, PostFaults, ReceivesAt, ReceivesDatagrams, end_line, end_status, parcel_line, parcel_lines, pieces, written}
 use Rattle.span_agent.specs.Pieces.{IsPiece, SaysPiece}
-use Rattle.span_agent.specs.Posts.{IsPostAt, ListensNow, LosesDatagram, Mailbox, Receives, RefusesToListen, RefusesToReceive, as_door}
-use Rattle.span_agent.specs.private.AgentSteps.{HandsOn, HasReceived, ReceivedSoFar, ReceivesEach, WritesOne, line_noted}
+use Rattle.span_agent.specs.PostCourses.{listen_next, receive_next}
+use Rattle.span_agent.specs.Posts.{IsPostAt, ListensNow, LosesDatagram, Mailbox, NoPostCallInVain, Receives, RefusesToListen, RefusesToReceive, as_door}
+use Rattle.span_agent.specs.private.AgentSteps.{HandsOn, HasReceived, KeepsListening, ReceivedSoFar, ReceivesEach, WritesOne, end_course, line_noted}
+use Rattle.span_agent.specs.declared.course.PostCourse.{PostCourse}
+use Rattle.span_agent.specs.declared.course.PostCourse.TheVariants as courses
 use Rattle.span_agent.specs.declared.options.Options.{Options}
 use Rattle.span_agent.specs.declared.piece.AgentBad.{AgentBad}
 use Rattle.span_agent.specs.declared.run.AgentEnd.{AgentEnd}
 use Rattle.span_agent.specs.declared.run.AgentEnd.TheVariants as ends
-
--- ---- notes
-
--- nothing more was noted
-pub notes_nothing : (held : Bool) (now : Outlet) → NotesMore held held now now []
-notes_nothing held now = λ start text so. subst (λ (l : List ℕ). NotesSo held start now l) (sym (append-nil text)) so
-
-notes_both : (a b c : Bool) (x y z : Outlet) (first second : List ℕ) → NotesMore a b x y first → NotesMore b c y z second
-    → NotesMore a c x z (first ++ second)
-notes_both a b c x y z first second more then = λ start text so.
-    subst (λ (l : List ℕ). NotesSo c start z l) (append_assoc text first second) (then start (text ++ first) (more start text so))
-
-notes_all : (holds : Bool) (x y : Outlet) (text : List ℕ) → NotesMore true holds x y text → Notes x y text
-notes_all holds x y text more = by holds (more x [] (gains_none x, holds_none x))
-  where
-    by : (holds : Bool) → NotesSo holds x y text → Notes x y text
-    by true so = inl so
-    by false at = inr at
 
 -- ---- datagrams
 
@@ -87,7 +71,7 @@ lines_more number (p ∷ parcels) parcel =
 length_more : (parcels : List Parcel) (parcel : Parcel) → length (parcels ++ parcel ∷ []) ≡ length parcels + 1
 length_more parcels parcel = length-append parcels (parcel ∷ [])
 
-module _ (to : Form) where
+module _ (laws : GainLaws) (to : Form) where
   are_more : (parcels : List Parcel) (parcel : Parcel) → AreParcels to parcels → IsParcel to parcel → AreParcels to (parcels ++ parcel ∷ [])
   are_more [] parcel are is = (is, tt)
   are_more (p ∷ parcels) parcel are is = (are.0, are_more parcels parcel are.1 is)
@@ -113,7 +97,8 @@ module _ (to : Form) where
     has_received = none_received a;
     number = refl;
     faults = refl;
-    output = (gains_none x, holds_none x);
+    goes = λ listens. listens;
+    output = (laws.none x, laws.still x);
     notes = notes_nothing held p;
   }
 
@@ -128,7 +113,9 @@ module _ (to : Form) where
       has_received = so.has_received;
       reaches = so.number ∙ all;
       faults = so.faults;
+      course = so.goes;
       output = so.output;
+      in_turn = so.output.0;
       are_lines = refl;
       notes = so.notes;
     }
@@ -148,7 +135,9 @@ module _ (to : Form) where
       };
       reaches = omega (arith, so.number, more);
       faults = subst (λ n. Rose n c.faults) so.faults rose;
+      course = λ listens. refuses.course ∙ ap (option_map (receive_next false)) (so.goes listens);
       output = so.output;
+      in_turn = so.output.0;
       are_lines = refl;
       notes = so.notes;
     }
@@ -170,6 +159,9 @@ module _ (to : Form) where
       number_is : done + 1 ≡ 1 + length so.parcels
       number_is = omega (arith, so.number)
 
+      goes_on : KeepsListening a c
+      goes_on = λ listens. next.course ∙ ap (option_map (receive_next true)) (so.goes listens)
+
       -- with the line of this one
       lines_with : parcel_lines 1 so.parcels ++ parcel_line (done + 1) on.told ≡ parcel_lines 1 all
       lines_with = ap (λ (n : ℕ). parcel_lines 1 so.parcels ++ parcel_line n on.told) number_is ∙ sym (lines_more 1 so.parcels this)
@@ -187,9 +179,10 @@ module _ (to : Form) where
             has_received = has_all;
             number = length_more so.parcels this ∙ ap (λ (n : ℕ). n + 1) so.number;
             faults = no_fault;
+            goes = goes_on;
             output = (
-              subst (λ (l : List ℕ). Gains x z l) (sym (pieces_more so.parcels this)) (gains_both x y z (pieces so.parcels) (written on.told) so.output.0 output.0),
-              holds_then x y z so.output.1 output.1,
+              subst (λ (l : List ℕ). Gains x z l) (sym (pieces_more so.parcels this)) (laws.both x y z (pieces so.parcels) (written on.told) so.output.0 output.0),
+              laws.holding x y z so.output.1 output.1,
             );
             notes = noted_with (ap (λ (h : Result Unit (Halt Failed)). line_noted h (parcel_line (done + 1) on.told)) is);
           }
@@ -207,7 +200,9 @@ module _ (to : Form) where
             has_received = has_all;
             reaches = within_count count more;
             faults = no_fault;
-            output = subst (λ (l : List ℕ). FailsWithin x z l) (sym (pieces_more so.parcels this)) (fails_within x y z (pieces so.parcels) (written on.told) so.output.0 output);
+            course = goes_on;
+            output = subst (λ (l : List ℕ). FailsWithin x z l) (sym (pieces_more so.parcels this)) (laws.fails x y z (pieces so.parcels) (written on.told) so.output.0 output.0);
+            in_turn = record { firsts = so.parcels; last = this; are = refl; between = y; gains = so.output.0; holds = so.output.1; fails = output.1 };
             are_lines = refl;
             notes = noted_with (ap (λ (h : Result Unit (Halt Failed)). line_noted h (parcel_line (done + 1) on.told)) is);
           }
@@ -223,6 +218,13 @@ module _ (to : Form) where
             has_received = has_all;
             reaches = within_count count more;
             faults = no_fault;
+            course = goes_on;
+            in_turn = inr (record {
+              firsts = so.parcels;
+              last = this;
+              are = refl;
+              gains = subst (λ (l : List ℕ). Gains x z l) (append-nil (pieces so.parcels)) (laws.both x y z (pieces so.parcels) [] so.output.0 output.0);
+            });
             output = (
               record {
                 front = pieces so.parcels ++ [];
@@ -230,9 +232,9 @@ module _ (to : Form) where
                   written on.told,
                   pieces_more so.parcels this ∙ ap (λ (l : List ℕ). l ++ written on.told) (sym (append-nil (pieces so.parcels))),
                 );
-                gains = gains_both x y z (pieces so.parcels) [] so.output.0 output.0;
+                gains = laws.both x y z (pieces so.parcels) [] so.output.0 output.0;
               },
-              holds_then x y z so.output.1 output.1,
+              laws.holding x y z so.output.1 output.1,
             );
             are_lines = inr (record { firsts = so.parcels; last = this; are = refl; is_text = refl });
             notes = notes_as held then p r _ _ (append-nil (parcel_lines 1 so.parcels))
@@ -257,8 +259,10 @@ module _ (to : Form) where
         astray = inl refl;
         listening = inl refl;
         listens = λ none. absurd (omega (arith, none));
+        course = λ fresh. inl fresh;
       };
-      output = (record { front = []; is_front = ([], refl); gains = gains_none x }, holds_none x);
+      output = (record { front = []; is_front = ([], refl); gains = laws.none x }, laws.still x);
+      in_turn = inl (laws.none x);
       are_lines = inl refl;
     },
     notes_nothing held p,
@@ -280,8 +284,10 @@ module _ (to : Form) where
         astray = inr (ap (λ (d : Doorway). d.astray) refuses.door);
         listening = inl (ap (λ (d : Doorway). d.listening) refuses.door);
         listens = λ none. absurd (omega (arith, none));
+        course = λ fresh. refuses.course ∙ ap (option_map (listen_next false)) fresh;
       };
-      output = (gains_none x, holds_none x);
+      output = (laws.none x, laws.still x);
+      in_turn = laws.none x;
       are_lines = refl;
     },
     notes_nothing held p,
@@ -298,6 +304,12 @@ module _ (to : Form) where
     faults_from ends.OutputFailed now h = h ∙ ap (λ (d : Doorway). d.faults) listens.door
     faults_from ends.NoMemory now h = h ∙ ap (λ (d : Doorway). d.faults) listens.door
 
+    ends_course : (end : AgentEnd) (now : Option PostCourse) → now ≡ Some (end_course end) → EndsCourse end now
+    ends_course ends.AllReceived now is = is
+    ends_course ends.PostFailed now is = is
+    ends_course ends.OutputFailed now is = is
+    ends_course ends.NoMemory now is = inr is
+
     pub at_listening : (count : ℕ) (end : AgentEnd) (held holds : Bool) (c : Mailbox) (x y p q : Outlet) → ReceivesEach to count end held holds b c x y p q
         → (lines : List ℕ) × ReceivesAt asked to count end a c x y lines × NotesMore held holds p q lines
     at_listening count end held holds c x y p q each = (
@@ -313,8 +325,10 @@ module _ (to : Form) where
           astray = inr (each.has_received.astray ∙ ap (λ (d : Doorway). d.astray) listens.door);
           listening = inr (listens_at c each.has_received.listening);
           listens = λ some. listens_at c each.has_received.listening;
+          course = λ fresh. ends_course end c.course (each.course (listens.course ∙ ap (option_map (listen_next true)) fresh));
         };
         output = each.output;
+        in_turn = each.in_turn;
         are_lines = each.are_lines;
       },
       each.notes,
@@ -329,7 +343,7 @@ module _ (to : Form) where
     lines = at.0;
     is_status = is;
     received = at.1;
-    notes = notes_all then p r (at.0 ++ end_line end) (notes_both true holds then p q r at.0 (end_line end) at.2 noted);
+    notes = notes_all laws then p r (at.0 ++ end_line end) (notes_both true holds then p q r at.0 (end_line end) at.2 noted);
   }
 
 -- the same options and the same address
@@ -341,7 +355,7 @@ receives_as found options text word status a b x y p q same is received =
 
 -- ---- handing on
 
-module _ (to : Form) (number : ℕ) (datagram : List ℕ) (limits : Limits) (shipped : limits ≡ shipped_limits) (result : Result (List ℕ) (Halt AgentBad))
+module _ (laws : GainLaws) (to : Form) (number : ℕ) (datagram : List ℕ) (limits : Limits) (shipped : limits ≡ shipped_limits) (result : Result (List ℕ) (Halt AgentBad))
     (exists : (told : Result (List ℕ) AgentBad) × IsPiece to limits datagram told)
     (says : (told : Result (List ℕ) AgentBad) → IsPiece to limits datagram told → SaysPiece told result) where
   told_is : (told : Result (List ℕ) AgentBad) → exists.0 ≡ told → IsPiece to shipped_limits datagram told
@@ -361,12 +375,12 @@ module _ (to : Form) (number : ℕ) (datagram : List ℕ) (limits : Limits) (shi
   }
 
   -- the output failed in it
-  pub hands_front : (piece : List ℕ) → result ≡ Ok piece → (failed : Failed) (held : Bool) (x y p : Outlet) → FailsWithin x y piece
+  pub hands_front : (piece : List ℕ) → result ≡ Ok piece → (failed : Failed) (held : Bool) (x y p : Outlet) → FailsWithin x y piece → FailsAt x y piece
       → HandsOn to number datagram (Err (halts.Why failed)) held held x y p p
-  hands_front piece is failed held x y p fails = record {
+  hands_front piece is failed held x y p fails at = record {
     told = Ok piece;
     is_piece = told_is (Ok piece) (said (Ok piece) is);
-    output = fails;
+    output = (fails, at);
     notes = notes_nothing held p;
   }
 
@@ -377,7 +391,7 @@ module _ (to : Form) (number : ℕ) (datagram : List ℕ) (limits : Limits) (shi
   hands_bad bad is (Ok tt) held holds x outlet before now ok err = record {
     told = Err bad;
     is_piece = told_is (Err bad) (said (Err (halts.Why bad)) is);
-    output = (gains_none x, holds_none x);
+    output = (laws.none x, laws.still x);
     notes = ok;
   }
   hands_bad bad is (Err (halts.Why failed)) held holds x outlet before now ok err =
@@ -385,7 +399,7 @@ module _ (to : Form) (number : ℕ) (datagram : List ℕ) (limits : Limits) (shi
   hands_bad bad is (Err halts.OutOfMemory) held holds x outlet before now ok err = record {
     told = Err bad;
     is_piece = told_is (Err bad) (said (Err (halts.Why bad)) is);
-    output = (gains_none x, holds_none x);
+    output = (laws.none x, laws.still x);
     notes = subst (λ (b : Bool). NotesMore held b (outlet before) (outlet now) []) (sym err.1)
         (subst (λ (o : Outlet). NotesMore held held (outlet before) o []) (ap outlet (sym err.2)) (notes_nothing held (outlet before)));
   }
@@ -395,7 +409,7 @@ module _ (to : Form) (number : ℕ) (datagram : List ℕ) (limits : Limits) (shi
   hands_nothing held x p = record {
     told = exists.0;
     is_piece = told_is exists.0 refl;
-    output = (gains_none x, holds_none x);
+    output = (laws.none x, laws.still x);
     notes = notes_nothing held p;
   }
 
@@ -407,6 +421,21 @@ never_two ends.PostFailed e = absurd (omega (arith, e))
 never_two ends.OutputFailed e = absurd (omega (arith, e))
 never_two ends.NoMemory e = absurd (omega (arith, e))
 
--- words that are noted alone
-pub notes_alone : (holds : Bool) (x y : Outlet) (line text : List ℕ) → line ≡ text → NotesMore true holds x y (line ++ []) → Notes x y text
-notes_alone holds x y line text e noted = notes_all holds x y text (notes_as true holds x y _ _ (append-nil line ∙ e) noted)
+-- ---- calls in vain
+
+pub untouched_in_vain : (now : Mailbox) → NoPostCallInVain now now
+untouched_in_vain now fresh vain = let e : ◌≡◌ {A = Option PostCourse} (Some courses.Fresh) (Some courses.InVain) = sym fresh ∙ vain in absurd (cc)
+
+listening_or_vain : (now : Option PostCourse) → now ≡ Some courses.Listening → now ≡ Some courses.InVain → ⊥
+listening_or_vain now e vain = let h : ◌≡◌ {A = Option PostCourse} (Some courses.Listening) (Some courses.InVain) = sym e ∙ vain in absurd (cc)
+
+-- no end is in vain
+pub received_in_vain : (end : AgentEnd) (before now : Mailbox) → (before.course ≡ Some courses.Fresh → EndsCourse end now.course) → NoPostCallInVain before now
+received_in_vain ends.AllReceived before now at fresh vain = listening_or_vain now.course (at fresh) vain
+received_in_vain ends.PostFailed before now at fresh vain =
+    let e : ◌≡◌ {A = Option PostCourse} (Some courses.Stopped) (Some courses.InVain) = sym (at fresh) ∙ vain in absurd (cc)
+received_in_vain ends.OutputFailed before now at fresh vain = listening_or_vain now.course (at fresh) vain
+received_in_vain ends.NoMemory before now at fresh vain = elim (at fresh) as (λ w. ⊥) [
+  | inl e ↦ (let h : ◌≡◌ {A = Option PostCourse} (Some courses.Fresh) (Some courses.InVain) = sym e ∙ vain in absurd (cc))
+  | inr e ↦ listening_or_vain now.course e vain
+]

@@ -3,14 +3,16 @@ use Rattle.std.specs.Prelude.{◌≡◌, ◌⊎◌, ℕ, ◌+◌, ◌<◌, ◌�
 use Rattle.std.specs.List.{flat_map}
 use Rattle.span_io.specs.Doors.{astray_at}
 use Rattle.span_io.specs.Limits.{shipped_limits}
-use Rattle.span_io.specs.Outside.{Outlet, Rose, Gains, GainsFront, OutputHolds, FailsWithin}
+use Rattle.span_io.specs.Outside.{Outlet, Rose, Gains, GainsFront, OutputHolds, FailsAt, FailsWithin}
 use Rattle.span_io.specs.declared.form.Form.{Form}
 use Rattle.trace_model.specs.Faults.{fault_number, fault_name}
-use Rattle.span_gateway.specs.NoteLines.{key_part}
-use Rattle.span_cli.specs.Lines.{Notes}
+use Rattle.span_answers.specs.NoteLines.{key_part}
+use Rattle.span_notes.specs.Notes.{Notes}
 use Rattle.span_agent.specs.AgentCauses.{agent_cause_number, agent_cause_name}
 use Rattle.span_agent.specs.Pieces.{IsPiece}
 use Rattle.span_agent.specs.Posts.{IsPostAt, Mailbox}
+use Rattle.span_agent.specs.declared.course.PostCourse.{PostCourse}
+use Rattle.span_agent.specs.declared.course.PostCourse.TheVariants as courses
 use Rattle.span_agent.specs.declared.piece.AgentBad.{AgentBad}
 use Rattle.span_agent.specs.declared.piece.AgentBad.TheVariants as bads
 use Rattle.span_agent.specs.declared.run.AgentEnd.{AgentEnd}
@@ -92,6 +94,29 @@ WritesPieces ends.OutputFailed text before now = FailsWithin before now text
 WritesPieces ends.NoMemory text before now = GainsFront before now text × OutputHolds before now
 WritesPieces other text before now = Gains before now text × OutputHolds before now
 
+-- it gained the pieces of the first of these, and failed at a byte of the piece of the last one
+pub record FailsInLast (parcels : List Parcel) (before now : Outlet) : Type 0 where
+  pub firsts : List Parcel
+  pub last : Parcel
+  pub are : parcels ≡ firsts ++ last ∷ []
+  pub between : Outlet
+  pub gains : Gains before between (pieces firsts)
+  pub holds : OutputHolds before between
+  pub fails : FailsAt between now (written last.told)
+
+-- it gained the pieces of the first of these, and nothing of the last one
+pub record LacksLast (parcels : List Parcel) (before now : Outlet) : Type 0 where
+  pub firsts : List Parcel
+  pub last : Parcel
+  pub are : parcels ≡ firsts ++ last ∷ []
+  pub gains : Gains before now (pieces firsts)
+
+-- Only of the last datagram that was received the piece may lack: no other one was received behind a piece that wasn't written.
+abbrev pub WritesInTurn : AgentEnd → List Parcel → Outlet → Outlet → Type 0
+WritesInTurn ends.OutputFailed parcels before now = FailsInLast parcels before now
+WritesInTurn ends.NoMemory parcels before now = Gains before now (pieces parcels) ⊎ LacksLast parcels before now
+WritesInTurn other parcels before now = Gains before now (pieces parcels)
+
 -- what is noted: the lines of all, of which that of the last may be missing where memory was wanted, and the last line
 pub record WithoutLast (parcels : List Parcel) (text : List ℕ) : Type 0 where
   pub firsts : List Parcel
@@ -108,6 +133,12 @@ pub record ListensAt (asked : List ℕ) (before now : Mailbox) : Type 0 where
   pub right : IsPostAt before asked
   pub listening : now.listening ≡ option_map (λ _. true) before.listening
 
+-- how the post's calls went; where memory was wanted before, none came
+abbrev pub EndsCourse : AgentEnd → Option PostCourse → Type 0
+EndsCourse ends.PostFailed now = now ≡ Some courses.Stopped
+EndsCourse ends.NoMemory now = (now ≡ Some courses.Fresh) ⊎ (now ≡ Some courses.Listening)
+EndsCourse other now = now ≡ Some courses.Listening
+
 -- The post was asked to listen at this address, or memory was wanted before, and gave these datagrams.
 pub record LeavesPost (end : AgentEnd) (asked : List ℕ) (datagrams : List (List ℕ)) (before now : Mailbox) : Type 0 where
   pub left : LosesDatagrams before.left now.left datagrams
@@ -116,6 +147,7 @@ pub record LeavesPost (end : AgentEnd) (asked : List ℕ) (datagrams : List (Lis
   pub astray : (now.astray ≡ before.astray) ⊎ (now.astray ≡ astray_at before.address asked before.astray)
   pub listening : (now.listening ≡ before.listening) ⊎ ListensAt asked before now
   pub listens : 1 ≤ length datagrams → ListensAt asked before now
+  pub course : before.course ≡ Some courses.Fresh → EndsCourse end now.course
 
 -- the same without how it ended
 pub record ReceivesAt (address : List ℕ) (to : Form) (count : ℕ) (end : AgentEnd) (post_before post_now : Mailbox)
@@ -125,6 +157,7 @@ pub record ReceivesAt (address : List ℕ) (to : Form) (count : ℕ) (end : Agen
   pub reaches : Reaches end count (length parcels)
   pub post : LeavesPost end address (map (λ (parcel : Parcel). parcel.datagram) parcels) post_before post_now
   pub output : WritesPieces end (pieces parcels) output_before output_now
+  pub in_turn : WritesInTurn end parcels output_before output_now
   pub are_lines : AreLines end parcels lines
 
 -- The datagrams of the post were received one after the other, the output gained the pieces of the good ones, each before the next

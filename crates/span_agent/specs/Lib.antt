@@ -7,5 +7,6 @@ pub mod Datagrams
 pub mod Headers
 pub mod Messages
 pub mod Pieces
+pub mod PostCourses
 pub mod Posts
 pub mod private

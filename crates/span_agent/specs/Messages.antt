@@ -1,6 +1,6 @@
 -- The message in a datagram, or the first of the causes that hold: no header, another name, arguments that can't be read, two batches,
 -- bytes behind the arguments, no batch.
-use Rattle.std.specs.Prelude.{◌≡◌, ◌≢◌, ◌⊎◌, ℕ, pos, Bool, true, false, List, [], ◌∷◌, Result, Ok, Err}
+use Rattle.std.specs.Prelude.{◌≡◌, ◌≢◌, ◌⊎◌, ℕ, pos, Bool, true, false, List, [], ◌∷◌, Result, Ok, Err, IsOkAnd}
 use Rattle.span_io.specs.declared.cause.Cause.{Cause}
 use Rattle.span_io.specs.declared.cause.Cause.TheVariants as reasons
 use Rattle.thrift_core.specs.Parts.{Part, Spelling}
@@ -10,6 +10,7 @@ use Rattle.span_agent.specs.Arguments.{Argument, ArgumentsThen, argument_texts, 
 use Rattle.span_agent.specs.Headers.{HeaderThen, emit_batch}
 use Rattle.span_agent.specs.declared.message.AgentCause.{AgentCause}
 use Rattle.span_agent.specs.declared.message.AgentCause.TheVariants as causes
+use Rattle.span_agent.specs.declared.message.Message.{Message}
 
 -- what the batches among the arguments and the bytes behind them say
 abbrev pub told_by : List (List ℕ) → List ℕ → Result (List ℕ) AgentCause
@@ -62,3 +63,7 @@ IsMessage datagram compact batch = HasHeader datagram compact (Ok batch)
 
 abbrev pub HasCause : List ℕ → AgentCause → Type 0
 HasCause datagram cause = ((compact : Bool) × HasHeader datagram compact (Err cause)) ⊎ HasNoHeader datagram (Err cause)
+
+-- the message that was found is in this protocol, and this is its batch
+abbrev pub Finds : Result Message AgentCause → Bool → List ℕ → Type 0
+Finds result compact batch = IsOkAnd result (λ message. (message.compact ≡ compact) × (message.batch.now ≡ batch))

@@ -51,3 +51,8 @@ abbrev pub SaysPiece : Result (List ℕ) AgentBad → Result (List ℕ) (Halt Ag
 SaysPiece told (Ok piece) = told ≡ Ok piece
 SaysPiece told (Err (halts.Why bad)) = told ≡ Err bad
 SaysPiece told (Err halts.OutOfMemory) = Unit {0}
+
+-- the same of what the verdict on a batch says
+abbrev pub SaysVerdict : Form → Form → Limits → List ℕ → Result (List ℕ) (Halt AgentBad) → Type 0
+SaysVerdict from to limits batch answer =
+    (verdict : Verdict) → IsVerdict from to limits batch verdict → SaysPiece (by_verdict to verdict) answer

@@ -1,10 +1,9 @@
 //! The arguments of a message, and the batch among them.
 ghost use Rattle.std.specs.Prelude.{◌≡◌, ◌≤◌, ◌∷◌, ◌++◌, ◌↔◌, ℕ, pos, [], List, Result, length, IfOk, IsTrue};
 ghost use Rattle.thrift_core.specs.Trees.{all_levels};
-ghost use Rattle.thrift_core.specs.Values.{AnswersRefusals, BeginsValue, RefusesValue};
-ghost use Rattle.span_agent.specs.Arguments.{RefusedArguments, argument_texts};
+ghost use Rattle.thrift_core.specs.Values.{BeginsValue, RefusesValue};
 ghost use Rattle.span_agent.specs.Messages.{TellsBatch, told_by};
-ghost use Rattle.span_agent.specs.private.Arguments.{Adds, Gathers, GivesBatches, Held, SaysBatch};
+ghost use Rattle.span_agent.specs.private.Arguments.{Adds, AnswersArguments, Gathers, GivesBatches, Held, SaysBatch};
 ghost use Rattle.span_agent.specs.declared.message.AgentCause.{AgentCause};
 ghost use Rattle.thrift_core.specs.declared.type_code.TypeCode.TheVariants as kinds;
 
@@ -62,7 +61,7 @@ pub(crate) fn batch_in<P: Parts>(bytes: &[u8]) -> Result<&[u8], AgentCause>
 // The batches among the arguments that stand here, which are passed over.
 fn batches_in<'a, P: Parts>(c: &mut Cursor<'a>) -> Result<Batches<'a>, Cause>
     ensures stand { IfOk result (λ batches. GivesBatches P.spells batches c.old.rest c.new.rest) }
-    ensures refused { AnswersRefusals (argument_texts P.spells P.then_varint) (RefusedArguments P.spells P.refuses) result c.old.rest }
+    ensures refused { AnswersArguments P.spells P.then_varint P.refuses result c.old.rest }
 {
     let mut batches = Batches::Absent;
     let mut last: i16 = 0;

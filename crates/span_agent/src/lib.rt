@@ -3,6 +3,7 @@
 #![tactic(auto)]
 
 mod arguments;
+mod course;
 mod header;
 pub mod laws;
 mod lines;
@@ -14,6 +15,7 @@ mod post;
 mod run;
 mod socket_post;
 
+pub use course::PostCourse;
 pub use mem_post::MemPost;
 pub use message::{AgentCause, Message, read_message};
 pub use options::{Options, read_options};

@@ -4,8 +4,9 @@ ghost use Rattle.span_agent.specs.AgentRuns.{bad_text};
 
 use crate::piece::AgentBad;
 use itoa::Buffer;
-use span_gateway::{append_pieces, key_of};
+use span_answers::key_of;
 use span_io::{Blob, OutOfMemory};
+use span_notes::append_pieces;
 use std::alloc::Global;
 
 // The line of the datagram of this number.

@@ -3,8 +3,10 @@ ghost use Rattle.std.specs.Io.{ReadsAtMost};
 ghost use Rattle.span_io.specs.Memory.{CountsFault};
 ghost use Rattle.span_io.specs.Outside.{Rose, counted};
 ghost use Rattle.span_agent.specs.Datagrams.{AreDatagrams};
+ghost use Rattle.span_agent.specs.declared.course.PostCourse.TheVariants as courses;
 ghost use Rattle.span_agent.specs.Posts.{IsPostAt, ListensNow, PostListens, Receives, RefusesToListen, RefusesToReceive, mailbox_of, most_bytes};
 
+use crate::course::PostCourse;
 use crate::post::Post;
 use span_io::{Blob, Failed, Items, Text};
 use std::collections::VecDeque;
@@ -22,6 +24,7 @@ pub struct MemPost {
     faults: u64,
     listening: bool,
     astray: bool,
+    course: PostCourse,
 }
 
 impl Model for MemPost {
@@ -38,6 +41,7 @@ impl Model for MemPost {
       faults = p.faults;
       listening = p.listening;
       astray = p.astray;
+      course = p.course;
     } };
 
     ghost invariant = { λ p. AreDatagrams p.left.items };
@@ -55,6 +59,7 @@ impl MemPost {
           faults = 0;
           listening = false;
           astray = false;
+          course = courses.Fresh;
         } }
     {
         MemPost {
@@ -65,6 +70,7 @@ impl MemPost {
             faults: 0,
             listening: false,
             astray: false,
+            course: PostCourse::Fresh,
         }
     }
 
@@ -73,6 +79,13 @@ impl MemPost {
         ensures { result ≡ length self.now.left }
     {
         self.left.len()
+    }
+
+    /// How its calls went.
+    pub fn course(&self) -> PostCourse
+        ensures { result ≡ self.now.course }
+    {
+        self.course
     }
 }
 
@@ -101,8 +114,10 @@ impl Post for MemPost {
         self.calls = self.calls.saturating_add(1);
         if !own || self.fail.as_slice().contains(&self.calls) {
             self.faults = self.faults.saturating_add(1);
+            self.course = self.course.listen(false);
             return Err(Failed);
         }
+        self.course = self.course.listen(true);
         self.listening = true;
         Ok(())
     }
@@ -129,12 +144,15 @@ impl Post for MemPost {
         self.calls = self.calls.saturating_add(1);
         if self.fail.as_slice().contains(&self.calls) {
             self.faults = self.faults.saturating_add(1);
+            self.course = self.course.receive(false);
             return Err(Failed);
         }
         let Some(datagram) = self.left.pop_front() else {
             self.faults = self.faults.saturating_add(1);
+            self.course = self.course.receive(false);
             return Err(Failed);
         };
+        self.course = self.course.receive(true);
         let size = datagram.len();
         buf[..size].copy_from_slice(datagram.as_slice());
         Ok(size)

@@ -1,8 +1,8 @@
 //! The message in a datagram.
-ghost use Rattle.std.specs.Prelude.{◌≡◌, ◌↔◌, ℕ, Bool, List, Result, Err, IsOkAnd, IsTrue};
+ghost use Rattle.std.specs.Prelude.{◌≡◌, ◌↔◌, ℕ, Bool, List, Result, Err, IsTrue};
 ghost use Rattle.span_agent.specs.AgentCauses.{agent_cause_number, agent_cause_name};
 ghost use Rattle.span_agent.specs.Headers.{emit_batch};
-ghost use Rattle.span_agent.specs.Messages.{IsMessage, HasCause, TellsBatchIn};
+ghost use Rattle.span_agent.specs.Messages.{Finds, IsMessage, HasCause, TellsBatchIn};
 ghost use Rattle.span_agent.specs.private.Arguments.{SaysBatch};
 ghost use Rattle.span_agent.specs.declared.message.AgentCause.{AgentCause};
 
@@ -66,8 +66,7 @@ impl AgentCause {
 /// Reads the message of a datagram. It takes no memory.
 pub fn read_message(datagram: &[u8]) -> Result<Message<'_>, AgentCause>
     // The batch of the datagram is found, and no other.
-    ensures message { (compact : Bool) (batch : List ℕ)
-        → IsOkAnd result (λ message. (message.compact ≡ compact) × (message.batch.now ≡ batch)) ↔ IsMessage datagram.now compact batch }
+    ensures message { (compact : Bool) (batch : List ℕ) → Finds result compact batch ↔ IsMessage datagram.now compact batch }
     // A cause is answered exactly where it is the first that holds.
     ensures cause { (cause : AgentCause) → (result ≡ Err cause) ↔ HasCause datagram.now cause }
 {

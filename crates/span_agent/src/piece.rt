@@ -1,13 +1,14 @@
 //! The converted text of a datagram.
 ghost use Rattle.std.specs.Prelude.{◌≡◌, ◌≤◌, ◌++◌, ℕ, List, Result, length, IfOk, OnErr, Err};
 ghost use Rattle.span_io.specs.Limits.{AreLimits};
+ghost use Rattle.span_convert.specs.OneBatches.{IsOneBatch};
 ghost use Rattle.span_convert.specs.Verdicts.{Verdict, IsVerdict};
-ghost use Rattle.span_agent.specs.Pieces.{IsPiece, SaysPiece, batch_form, batch_halt, by_verdict, piece_end};
+ghost use Rattle.span_agent.specs.Pieces.{IsPiece, SaysPiece, SaysVerdict, batch_form, batch_halt, piece_end};
 ghost use Rattle.span_agent.specs.Posts.{most_bytes};
 ghost use Rattle.span_agent.specs.declared.piece.AgentBad.{AgentBad};
 
 use crate::message::{AgentCause, read_message};
-use span_convert::{Bad, convert_all};
+use span_convert::{Bad, convert_batch};
 use span_io::{Blob, Form, Halt, Limits, OutOfMemory};
 use std::alloc::Global;
 use trace_model::Fault;
@@ -63,10 +64,13 @@ fn piece_of(
     limits: &Limits,
 ) -> Result<Blob, Halt<AgentBad>>
     requires limits { AreLimits limits.now }
+    requires one { IsOneBatch from batch.now }
+    requires unit { length batch.now ≤ limits.now.unit }
+    requires binary { length batch.now ≤ limits.now.binary }
     ensures exists { (verdict : Verdict) × IsVerdict from to limits.now batch.now verdict }
-    ensures piece { (verdict : Verdict) → IsVerdict from to limits.now batch.now verdict → SaysPiece (by_verdict to verdict) result }
+    ensures piece { SaysVerdict from to limits.now batch.now result }
 {
-    match convert_all(alloc, from, to, batch, limits) {
+    match convert_batch(alloc, from, to, batch, limits) {
         Ok(text) => ended(text, to),
         Err(bad) => Err(halt_of(bad)),
     }

@@ -8,7 +8,7 @@ use span_io::Failed;
 
 /// Where datagrams come from. Contracts see a post as its `mailbox`: a count of its faults, which stays at the
 /// end of 64 bits, and, each where it is told, its address, whether it listens, whether it was asked to listen at
-/// another address, and the datagrams still to come.
+/// another address, the datagrams still to come, and how its calls went.
 pub trait Post {
     ghost mailbox: { Self → Mailbox };
 

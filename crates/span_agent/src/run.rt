@@ -1,20 +1,20 @@
 //! The run of the agent.
 ghost use Rattle.std.specs.Prelude.{ℕ, List, ◌≡◌, ◌↔◌, ◌≤◌, ◌++◌, length, codes, decimal, Err, IfOk, OnErr, OnOk};
-ghost use Rattle.span_cli.specs.Commands.{texts};
-ghost use Rattle.span_cli.specs.Lines.{Notes};
+ghost use Rattle.span_notes.specs.Notes.{Notes, NotesMore};
+ghost use Rattle.span_notes.specs.Pairs.{texts};
 ghost use Rattle.span_agent.specs.AgentRuns.{ReceivesAt, ReceivesDatagrams, bad_text, end_line, end_status, usage_line};
 ghost use Rattle.span_agent.specs.AgentWords.{OnOptions, SpellsOptions};
-ghost use Rattle.span_agent.specs.Posts.{PostListens, most_bytes};
+ghost use Rattle.span_agent.specs.Posts.{NoPostCallInVain, PostListens, most_bytes};
 ghost use Rattle.span_agent.specs.private.AgentSteps.{HandsOn, ReceivesEach};
-ghost use Rattle.span_cli.specs.private.ServingSteps.{NotesMore};
 ghost use Rattle.span_agent.specs.declared.options.Options.{Options};
 
 use crate::lines::bad_line;
 use crate::options::read_options;
 use crate::piece::{AgentBad, convert_datagram};
 use crate::post::Post;
-use span_cli::note_more;
+use span_io::laws::gains_then;
 use span_io::{Failed, Form, Halt, Limits, OutOfMemory, Sink, write_all};
+use span_notes::{note_line, note_more};
 use std::alloc::Global;
 
 /// How receiving ends.
@@ -76,6 +76,9 @@ pub fn agent_run<P: Post, K: Sink, N: Sink>(
     ensures receives { OnOptions (texts words.now) (λ address to count. ReceivesDatagrams address to count result
         (P.mailbox post.old) (P.mailbox post.new) (K.outlet output.old) (K.outlet output.new)
         (N.outlet notes.old) (N.outlet notes.new)) }
+
+    // No call of the post comes behind a failed one, and it is asked to listen once.
+    ensures post_in_vain { NoPostCallInVain (P.mailbox post.old) (P.mailbox post.new) }
 {
     match read_options(words) {
         Some(options) => receive(
@@ -88,7 +91,7 @@ pub fn agent_run<P: Post, K: Sink, N: Sink>(
             notes,
         ),
         None => {
-            note_more(notes, true, &[b"usage: spanx_agent OPTIONS\n".as_slice()]);
+            note_line(notes, b"usage: spanx_agent OPTIONS\n");
             2
         }
     }
@@ -108,6 +111,7 @@ fn receive<P: Post, K: Sink, N: Sink>(
     ensures { ReceivesDatagrams address.now to count result (P.mailbox post.old) (P.mailbox post.new)
         (K.outlet output.old) (K.outlet output.new) (N.outlet notes.old) (N.outlet notes.new) }
 {
+    gains_then();
     let mut holds = true;
     let end = receive_at(alloc, address, to, count, post, output, notes, &mut holds);
     note_more(notes, holds, &[end.line()]);
@@ -137,6 +141,7 @@ fn receive_at<P: Post, K: Sink, N: Sink>(
         (K.outlet output.old) (K.outlet output.new) lines
         × NotesMore holds.old holds.new (N.outlet notes.old) (N.outlet notes.new) lines }
 {
+    gains_then();
     let Ok(mut buf) = buffer(alloc) else {
         return AgentEnd::NoMemory;
     };
@@ -162,6 +167,7 @@ fn receive_each<P: Post, K: Sink, N: Sink>(
     ensures { ReceivesEach to count result holds.old holds.new (P.mailbox post.old) (P.mailbox post.new)
         (K.outlet output.old) (K.outlet output.new) (N.outlet notes.old) (N.outlet notes.new) }
 {
+    gains_then();
     'datagrams: for done in 0..count {
         let Ok(size) = post.receive(buf) else {
             return AgentEnd::PostFailed;
@@ -189,6 +195,7 @@ fn hand_on<K: Sink, N: Sink>(
     ensures { HandsOn to number datagram.now result holds.old holds.new (K.outlet output.old) (K.outlet output.new)
         (N.outlet notes.old) (N.outlet notes.new) }
 {
+    gains_then();
     match convert_datagram(alloc, datagram, to, &Limits::shipped()) {
         Ok(piece) => match write_all(output, piece.as_slice()) {
             Ok(()) => Ok(()),

@@ -1,4 +1,5 @@
-ghost use Rattle.std.specs.Prelude.{◌≡◌, ◌≤◌, length, IfSome, None};
+ghost use Rattle.std.specs.Prelude.{◌≡◌, ◌≤◌, length, IfSome};
+ghost use Rattle.span_agent.specs.Posts.{untold};
 
 use crate::post::Post;
 use span_io::Failed;
@@ -9,7 +10,7 @@ use std::net::{Net, UdpSocket};
 const MOST_BYTES: usize = 65_535;
 
 /// A post over a UDP socket of std. It counts each error of the socket, and tells neither its address nor its
-/// datagrams. It listens at exactly the address that it is asked for.
+/// datagrams nor its course. It listens at exactly the address that it is asked for.
 #[derive(Drop)]
 pub struct SocketPost<R: Net> {
     net: R,
@@ -20,7 +21,7 @@ pub struct SocketPost<R: Net> {
 impl<R: Net> SocketPost<R> {
     pub fn new(net: R) -> SocketPost<R>
         ensures { ⟦<SocketPost<R> as Post>⟧.mailbox result
-            ≡ record { faults = 0; address = None; listening = None; astray = None; left = None } }
+            ≡ untold 0 }
     {
         SocketPost {
             net,
@@ -47,7 +48,7 @@ impl<R: Net> SocketPost<R> {
 }
 
 impl<R: Net> Post for SocketPost<R> {
-    ghost mailbox = { λ p. record { faults = p.faults; address = None; listening = None; astray = None; left = None } };
+    ghost mailbox = { λ p. untold p.faults };
 
     ghost tells = { λ p. tt };
 

@@ -44,7 +44,7 @@ module _ (from : Form) (what : Written) (limits : Limits) (bytes : List ℕ)
     (once : (v w : Verdict) → IsVerdictAs from what limits bytes v → IsVerdictAs from what limits bytes w → v ≡ w)
     (lasts : (outlook : Verdict) → IsLasting outlook → IsOutlookAs from what limits bytes outlook → IsVerdictAs from what limits bytes outlook)
     (said : List ℕ) (before now : Outlet) (state : State) (v : Verdict) (is : IsVerdictAs from what limits bytes v) where
-  lasting_answers : (outlook : Verdict) → IsLasting outlook → IsOutlookAs from what limits bytes outlook → KeepsWhy outlook state → Answers v (Err (bad_in state))
+  pub lasting_answers : (outlook : Verdict) → IsLasting outlook → IsOutlookAs from what limits bytes outlook → KeepsWhy outlook state → Answers v (Err (bad_in state))
   lasting_answers outlook lasting foreseen keeps =
       subst (λ (x : Verdict). Answers x (Err (bad_in state))) (once outlook v (lasts outlook lasting foreseen) is) (kept_answers outlook state keeps)
 

@@ -30,6 +30,7 @@ pub mod LeftTexts
 pub mod LossTargets
 pub mod MoveLaws
 pub mod NoLosses
+pub mod OneBatchLemmas
 pub mod OpenInputs
 pub mod OutlookExamples
 pub mod OutlookLaws

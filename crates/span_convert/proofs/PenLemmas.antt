@@ -1,5 +1,5 @@
 -- What a writer of units adds, its pen adds.
-use Rattle.std.proofs.Common.{◌≡◌, ℕ, List}
+use Rattle.std.proofs.Common.{ℕ, List}
 use Rattle.trace_model.specs.OtlpParts.{NotedGroup}
 use Rattle.span_convert.specs.Targets.{Target}
 use Rattle.span_convert.specs.Walks.{WritesUnit}

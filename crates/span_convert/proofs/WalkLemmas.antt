@@ -486,7 +486,7 @@ module _ (what : Written) (units : List NotedGroup) (said : List ℕ) (before no
   whole_of : (written_target what).whole_text units ≡ (written_target what).partial_text units ++ (written_target what).closing_text units
   whole_of = subst (λ (x : Written). (written_target x).whole_text units ≡ (written_target x).partial_text units ++ (written_target x).closing_text units) w.done.pen (laws.closed units)
 
-  whole_parts : (written_target what).whole_text units ≡ said ++ (w.written ++ closed)
+  pub whole_parts : (written_target what).whole_text units ≡ said ++ (w.written ++ closed)
   whole_parts =
       let closing : List ℕ = (written_target what).closing_text units in
       whole_of

@@ -7,6 +7,7 @@ pub mod FramedForms
 pub mod GroupFiles
 pub mod Intakes
 pub mod Moves
+pub mod OneBatches
 pub mod Outlooks
 pub mod Pens
 pub mod Reports

@@ -1,5 +1,5 @@
 //! Conversion into memory.
-ghost use Rattle.std.specs.Prelude.{◌≡◌, [], All, IfOk, IfErr, Err};
+ghost use Rattle.std.specs.Prelude.{◌≡◌, ◌++◌, [], All, IfOk, IfErr, Err};
 ghost use Rattle.span_io.specs.Limits.{AreLimits};
 ghost use Rattle.span_convert.specs.Targets.{form_target};
 ghost use Rattle.span_convert.specs.Units.{input_form};
@@ -52,6 +52,18 @@ impl GrowingSink {
             text: Blob::new(alloc),
             faults: 0,
         }
+    }
+
+    /// What it took, and these bytes behind it.
+    pub(crate) fn with(self, rest: Blob) -> Result<Blob, OutOfMemory>
+        ensures { IfOk result (λ text. text ≡ self.text ++ rest) }
+    {
+        let mut text = self.text;
+        if text.len() == 0 {
+            return Ok(rest);
+        }
+        text.append(rest.as_slice())?;
+        Ok(text)
     }
 }
 

@@ -207,4 +207,21 @@ impl Progress {
             Err(Failed) => Err(WalkStop::Write),
         }
     }
+
+    /// What isn't written yet of the text of all units, and what closes it.
+    pub(crate) fn into_text(self) -> Result<Blob, OutOfMemory>
+        ensures { IfOk result (λ rest. (what : Written) (units : List NotedGroup) (said : List ℕ) (before now : Outlet)
+            → (w : Converted what units said before now self)
+            → (written_target what).whole_text units ≡ said ++ (w.written ++ rest)) }
+    {
+        self.pen.target_laws();
+        let Progress {
+            unwritten,
+            tally,
+            pen,
+        } = self;
+        let mut text = unwritten;
+        pen.close(&mut text, tally)?;
+        Ok(text)
+    }
 }

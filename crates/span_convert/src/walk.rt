@@ -25,6 +25,7 @@ use span_io::laws::gains_then;
 use span_io::{Blob, Cause, Failed, Halt, Items, Limits, OutOfMemory, Scan, Sink, Step};
 use std::alloc::Global;
 use trace_model::{Group, Remark};
+use zipkin_json::ZSpan;
 
 /// So many bytes of text, or more, are written at once.
 const FULL: usize = 65_536;
@@ -51,6 +52,22 @@ fn write_full<K: Sink>(progress: &mut Progress, out: &mut K) -> Result<(), WalkS
     }
 }
 
+/// Room for the text of a span, with which its growth begins.
+const SPAN_ROOM: usize = 1024;
+
+// An empty text, with that room where one of these spans is to be written, and where there is memory for it.
+fn span_room(alloc: Global, spans: &[ZSpan]) -> Blob
+    ensures { result ≡ [] }
+{
+    if spans.is_empty() {
+        return Blob::new(alloc);
+    }
+    match Blob::with_room(alloc, SPAN_ROOM) {
+        Ok(text) => text,
+        Err(OutOfMemory) => Blob::new(alloc),
+    }
+}
+
 // Writes the spans of a unit that are left, one at a time.
 fn write_spans<K: Sink>(
     progress: &mut Progress,
@@ -71,7 +88,7 @@ fn write_spans<K: Sink>(
 {
     gains_then();
     let mut behind = left.behind;
-    let mut text = Blob::new(alloc);
+    let mut text = span_room(alloc, left.spans.as_slice());
     'spans: for span in left.spans.as_slice() {
         if progress.add_span(&mut text, behind, span).is_err() {
             return Err(WalkStop::OutOfMemory);
@@ -112,8 +129,8 @@ pub(crate) fn convert_unit<K: Sink>(
     }
 }
 
-// Converts the unit in a whole frame, if it holds one.
-fn convert_frame<R: UnitReader, K: Sink>(
+/// Converts the unit in a whole frame, if it holds one.
+pub(crate) fn convert_frame<R: UnitReader, K: Sink>(
     progress: &mut Progress,
     alloc: Global,
     frame: &[u8],

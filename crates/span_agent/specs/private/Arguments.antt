@@ -1,12 +1,13 @@
 -- What the walk over the arguments knows so far.
 use Rattle.std.specs.Prelude.{◌≡◌, ℕ, ℤ, pos, List, [], ◌∷◌, ◌++◌, Result, Ok, Err}
 use Rattle.std.specs.Borrow.{Bor}
+use Rattle.span_io.specs.declared.cause.Cause.{Cause}
 use Rattle.thrift_core.specs.declared.field.Field.{Field}
-use Rattle.thrift_core.specs.Parts.{Spelling}
+use Rattle.thrift_core.specs.Parts.{Part, Spelling}
 use Rattle.thrift_core.specs.Trees.{all_levels}
-use Rattle.thrift_core.specs.Values.{BeginsValue}
+use Rattle.thrift_core.specs.Values.{AnswersRefusals, BeginsValue}
 use Rattle.thrift_core.specs.Walks.{in_struct, Passes}
-use Rattle.span_agent.specs.Arguments.{Argument, ArgumentsThen, arguments_open, batch_of, batches_of}
+use Rattle.span_agent.specs.Arguments.{Argument, ArgumentsThen, RefusedArguments, argument_texts, arguments_open, batch_of, batches_of}
 use Rattle.span_agent.specs.declared.message.AgentCause.{AgentCause}
 use Rattle.span_agent.specs.declared.arguments.Batches.{Batches}
 use Rattle.span_agent.specs.declared.arguments.Batches.TheVariants as kept
@@ -34,6 +35,11 @@ pub record GivesBatches (Spells : Spelling) (batches : Batches) (whole rest : Li
   pub arguments : List Argument
   pub stand : ArgumentsThen Spells (pos 0) arguments whole rest
   pub held : Held batches (batches_of arguments)
+
+-- they can't be read, for the cause that is answered
+abbrev pub AnswersArguments : Spelling → (Part → List ℕ → Type 0) → (Part → Cause → List ℕ → Type 0) → Result Batches Cause → List ℕ → Type 0
+AnswersArguments Spells ThenVarint Refuses result bytes =
+    AnswersRefusals (argument_texts Spells ThenVarint) (RefusedArguments Spells Refuses) result bytes
 
 -- behind the fields that were passed over, of which the last has this id
 pub record SoFar (Spells : Spelling) (batches : Batches) (last : ℤ) (whole rest : List ℕ) : Type 0 where

@@ -1,10 +1,30 @@
-use Rattle.std.proofs.Common.{refl, sym, subst}
+use Rattle.std.proofs.Common.{refl, sym, subst, arith}
 use Rattle.span_io.specs.declared.form.Form.{Form}
+use Rattle.span_convert.specs.OneBatches.{IsOneBatch}
 use Rattle.span_convert.specs.Verdicts.{IsVerdict}
 use Rattle.span_agent.specs.Messages.{IsMessage}
 use Rattle.span_agent.specs.Pieces.{of_batch, no_message, by_verdict}
+use Rattle.span_agent.proofs.ContentLemmas.{batch_within, one_batch}
 use Rattle.span_agent.proofs.PieceLemmas.{says_batch, says_cause}
 use Rattle.span_agent.proofs.piece.convert_datagram.Goals as goal
+
+pub piece_of-requires-clause-one : goal.piece_of-requires-clause-one
+piece_of-requires-clause-one c =
+    let found : IsMessage c.args.datagram.now c.in-Ok.message.compact c.in-Ok.message.batch.now =
+    (c.in-Ok.ensures.message c.in-Ok.message.compact c.in-Ok.message.batch.now).0 (refl, refl) in
+    subst (λ (f : Form). IsOneBatch f c.in-Ok.message.batch.now) (sym c.form_in.ensures) (one_batch c.args.datagram.now c.in-Ok.message.compact c.in-Ok.message.batch.now found)
+
+pub piece_of-requires-clause-unit : goal.piece_of-requires-clause-unit
+piece_of-requires-clause-unit c =
+    let found : IsMessage c.args.datagram.now c.in-Ok.message.compact c.in-Ok.message.batch.now =
+    (c.in-Ok.ensures.message c.in-Ok.message.compact c.in-Ok.message.batch.now).0 (refl, refl) in
+    omega (arith, batch_within c.args.datagram.now c.in-Ok.message.compact c.in-Ok.message.batch.now found, c.requires.small, c.requires.unit)
+
+pub piece_of-requires-clause-binary : goal.piece_of-requires-clause-binary
+piece_of-requires-clause-binary c =
+    let found : IsMessage c.args.datagram.now c.in-Ok.message.compact c.in-Ok.message.batch.now =
+    (c.in-Ok.ensures.message c.in-Ok.message.compact c.in-Ok.message.batch.now).0 (refl, refl) in
+    omega (arith, batch_within c.args.datagram.now c.in-Ok.message.compact c.in-Ok.message.batch.now found, c.requires.small, c.requires.binary)
 
 pub returns-in-Ok-clause-exists : goal.returns-in-Ok-clause-exists
 returns-in-Ok-clause-exists c =

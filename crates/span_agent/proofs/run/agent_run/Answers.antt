@@ -1,10 +1,10 @@
 use Rattle.std.proofs.Common.{◌≡◌, Option, Some, None, refl, sym, ◌∙◌, subst, arith}
 use Rattle.std.specs.Prelude.{slice_get}
-use Rattle.span_cli.specs.Commands.{texts}
-use Rattle.span_cli.proofs.ServeWords.{one_word, word_at}
+use Rattle.span_notes.specs.Pairs.{texts}
+use Rattle.span_notes.specs.laws.WordLaws.{one_word, word_at}
 use Rattle.span_agent.specs.declared.options.Options.{Options}
-use Rattle.span_agent.proofs.RunLemmas.{never_two, notes_alone, receives_as}
-use Rattle.span_agent.proofs.WordLemmas.{address_within, place_within}
+use Rattle.span_agent.proofs.RunLemmas.{never_two, received_in_vain, receives_as, untouched_in_vain}
+use Rattle.span_agent.proofs.WordLemmas.{address_within}
 use Rattle.span_agent.proofs.run.agent_run.Goals as goal
 
 never_none : (options : Options) → ◌≡◌ {A = Option Options} None (Some options) → ⊥
@@ -17,7 +17,14 @@ pub returns-in-None-clause-usage : goal.returns-in-None-clause-usage
 returns-in-None-clause-usage g c = (λ two options spelled. never_none options ((c.in-None.ensures options).1 spelled), λ none. refl)
 
 pub returns-in-None-clause-usage_noted : goal.returns-in-None-clause-usage_noted
-returns-in-None-clause-usage_noted g c = λ two. notes_alone c.note_more.result _ _ c.as_slice.result.now _ c.as_slice.ensures c.note_more.ensures
+returns-in-None-clause-usage_noted g c = λ two. c.note_line.ensures.line
+
+pub returns-in-None-clause-post_in_vain : goal.returns-in-None-clause-post_in_vain
+returns-in-None-clause-post_in_vain g c = untouched_in_vain (g.P.Post.mailbox c.args.post.now)
+
+pub returns-in-Some-clause-post_in_vain : goal.returns-in-Some-clause-post_in_vain
+returns-in-Some-clause-post_in_vain g c =
+    received_in_vain c.receive.ensures.end (g.P.Post.mailbox c.args.post.now) (g.P.Post.mailbox c.receive.new.post) c.receive.ensures.received.post.course
 
 pub returns-in-None-clause-receives : goal.returns-in-None-clause-receives
 returns-in-None-clause-receives g c = λ options spelled word at. absurd (never_none options ((c.in-None.ensures options).1 spelled))
@@ -36,13 +43,13 @@ returns-in-Some-clause-usage_noted g c = λ two. absurd (never_two c.receive.ens
 
 pub offset_bounds-words-options : goal.offset_bounds-words-options
 offset_bounds-words-options g c =
-    let place = place_within c.in-Some.options.address ((c.in-Some.ensures c.in-Some.options).0 refl).listen.1.is_place in omega (arith, place)
+    let place = address_within c.args.words.now c.in-Some.options ((c.in-Some.ensures c.in-Some.options).0 refl) in omega (arith, place)
 
 pub bounds-words-options : goal.bounds-words-options
 bounds-words-options g c = address_within c.args.words.now c.in-Some.options ((c.in-Some.ensures c.in-Some.options).0 refl)
 
 pub receive-requires : goal.receive-requires
-receive-requires g c = ((c.in-Some.ensures c.in-Some.options).0 refl).some
+receive-requires g c = ((c.in-Some.ensures c.in-Some.options).0 refl).datagrams.some
 
 pub returns-in-Some-clause-receives : goal.returns-in-Some-clause-receives
 returns-in-Some-clause-receives g c = λ options spelled word at.
