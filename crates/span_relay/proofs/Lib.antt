@@ -1,0 +1,9 @@
+pub mod AnswerLemmas
+pub mod ForwardLemmas
+pub mod OfferLemmas
+pub mod OneRelayLemmas
+pub mod RelayLemmas
+pub mod RunLemmas
+pub mod StreamLemmas
+pub mod TurnLemmas
+pub mod WordLemmas

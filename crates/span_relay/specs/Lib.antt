@@ -1,0 +1,9 @@
+pub mod Forwards
+pub mod MemPeers
+pub mod Peers
+pub mod RelayConnections
+pub mod RelayLaws
+pub mod RelayReplies
+pub mod RelayRuns
+pub mod RelayWords
+pub mod private

@@ -1,0 +1,4 @@
+pub mod ForwardSteps
+pub mod RelayPoints
+pub mod RelayRunSteps
+pub mod RelaySteps
