@@ -37,16 +37,16 @@ C = "in C"
 PORT = 43931
 
 
-def one_span():
-    """A datagram of a span as a client sends it for each call."""
+def batch_of_one():
+    """A batch of a span as a client sends it for each call."""
     texts = {"span.kind": "server", "http.method": "GET", "http.url": "http://shop/cart"}
     tags = [(key, ("text", text)) for key, text in texts.items()] + [("http.status_code", ("number", 200))]
     span = jaeger.Span(2**100 + 7, 2**60 + 3, 2**59 + 1, "GET /cart", [], 1, 1_700_000_000_000_000, 1_250, tags, [])
-    batch = jaeger.Batch("shop", [("hostname", ("text", "shop-1"))], [span])
-    return compact_message(jaeger.write_batch(batch, "jaeger-compact"))
+    return jaeger.Batch("shop", [("hostname", ("text", "shop-1"))], [span])
 
 
-DATAGRAMS = {"1 span": one_span(), "4 spans": example("checkout_datagram.bin")}
+ONE = compact_message(jaeger.write_batch(batch_of_one(), "jaeger-compact"))
+DATAGRAMS = {"1 span": ONE, "4 spans": example("checkout_datagram.bin")}
 
 
 def of_kernel(process, name, row):

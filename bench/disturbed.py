@@ -13,12 +13,14 @@ import sys
 import tempfile
 import time
 
+import agent
 import forms
 import otlp
 from forms import FORMS, JSON, OTLP, ZIPKIN
-from gateway import text_of
+from gateway import numbered, text_of
 from program import PROGRAM, TOP, command, losses_command, report_command
 from protocols import PROTOCOLS
+from relay import PATHS, RELAY, Peer, made, standard
 from there_and_back import samples
 from worked_texts import worked_texts
 
@@ -55,13 +57,18 @@ HEADERS = {
 }
 # Ports below those from which the kernel takes a client's own: a client that tries one too early is refused, and doesn't meet itself.
 PORTS = range(20_000, 32_000)
+SOCKETS = {"serve": socket.SOCK_STREAM, "agent": socket.SOCK_DGRAM, "relay": socket.SOCK_STREAM}
+PROGRAMS = {"agent": agent.AGENT, "relay": RELAY}
 SHARES = 40
 
-# A run: its kind, its name, the words behind the program's name, its input, or for `serve` what is sent, and its output where that
-# is known.
+# So many datagrams are sent to one agent, and so many bytes, that a socket holds them all.
+AT_ONCE, HELD = 8, 50_000
+
+# A run: its kind, its name, the words behind the program's name, its input, or for `serve` what is sent, for an agent the datagrams and
+# for a relay what is sent over each connection, and its output where that is known.
 Case = collections.namedtuple("Case", "kind name words text wanted")
-# How a run ended: its status, its output, or for `serve` what was answered, of several connections as a list, its notes, and a mark for
-# each call that the library saw.
+# How a run ended: its status, its output, or for `serve` what was answered, of several connections as a list, and for a relay behind that
+# each body that its peer got; its notes, and a mark for each call that the library saw.
 Came = collections.namedtuple("Came", "status output notes marks")
 
 
@@ -95,8 +102,56 @@ def serving(name, target, sent, wanted=None):
     return Case("serve", f"{name} to {target}", words, sent, wanted)
 
 
+def receiving(name, target, sent):
+    words = ["--listen", "127.0.0.1:PORT", "--to", target, "--count", str(len(sent))]
+    return Case("agent", f"{name} to {target}", words, tuple(sent), None)
+
+
+def relaying(name, target, *sent, wanted=None):
+    words = ["--listen", "127.0.0.1:PORT", "--to", target, "--peer", "127.0.0.1:PEER", "--count", str(len(sent))]
+    return Case("relay", f"{name} to {target}", words, sent, wanted)
+
+
+def relays(folders):
+    """Two connections with posts, one of them refused, and the samples, each to each form that a relay sends."""
+    for target in PATHS:
+        posts, refused = [post(ZIPKIN, numbered(number)) for number in range(1, 5)], text_of(400, "Bad Request", "text/plain", b"unit 0: cause 10 BadJson\n")
+        answered = [standard(ZIPKIN) + refused + standard(ZIPKIN), standard(ZIPKIN) * 2]
+        first = posts[0] + post(ZIPKIN, b"[") + posts[1]
+        yield relaying("two connections", target, first, posts[2] + posts[3], wanted=answered + made(range(1, 5), target))
+        for form, name, text in texts(folders):
+            if form in POSTED:
+                yield relaying(name, target, post(form, text))
+
+
+def together(datagrams):
+    """Datagrams, so many together as a socket holds."""
+    held = []
+    for text in datagrams:
+        if len(text) > HELD:
+            continue
+        if len(held) == AT_ONCE or sum(map(len, held)) + len(text) > HELD:
+            yield held
+            held = []
+        held.append(text)
+    if held:
+        yield held
+
+
+def agents(folders):
+    """Datagrams of the batches of the examples and of folders, and such with bad ones between, to each form."""
+    good = agent.DATAGRAM
+    mixed = [good, b"", good + b"\0", agent.compact_message(forms.write(KEYED, COMPACT)), good]
+    of_samples = list(together(agent.of_samples(folders)))
+    for target in FORMS:
+        yield receiving("good ones and bad ones", target, mixed)
+        for number, sent in enumerate(of_samples, 1):
+            yield receiving(f"datagrams {number}", target, sent)
+
+
 def cases(folders):
-    """The worked texts, a trace with keys of a target's own and the samples, by each command, headers, the gauge and served connections."""
+    """The worked texts, a trace with keys of a target's own and the samples, by each command, headers, the gauge, served connections,
+    datagrams to an agent and connections of a relay."""
     for form, name, becomes in WORKED:
         yield from commands(form, name, TEXTS[name], {target: TEXTS[text] for target, text in becomes.items()})
     for form in FORMS:
@@ -115,6 +170,8 @@ def cases(folders):
         if form in POSTED:
             for target in FORMS:
                 yield serving(name, target, post(form, text))
+    yield from agents(folders)
+    yield from relays(folders)
 
 
 def option(words, name, otherwise):
@@ -151,6 +208,19 @@ def answers(client):
     return came
 
 
+def sent_to(port, process, datagrams, seconds=20):
+    """Sends datagrams to an agent once it listens; none where it ends before."""
+    for _ in range(seconds * 2000):
+        if agent.listens(port):
+            break
+        if process.poll() is not None:
+            return
+        time.sleep(0.0005)
+    with socket.socket(socket.AF_INET, socket.SOCK_DGRAM) as client:
+        for text in datagrams:
+            client.sendto(text, ("127.0.0.1", port))
+
+
 def connected(port, process, seconds=20):
     """A connection to the program once it listens; none where it ends before."""
     for _ in range(seconds * 2000):
@@ -173,15 +243,15 @@ class Shim:
         subprocess.run(["cc", "-O2", "-Wall", "-shared", "-fPIC", "-o", self.path, source], check=True)
         self.process, self.ports = None, None
 
-    def free_port(self):
-        """The next port at which nothing is; each process that runs cases has ports of its own."""
+    def free_port(self, kind):
+        """The next port at which nothing is, of connections or of datagrams; each process that runs cases has ports of its own."""
         if self.process != os.getpid():
             self.process = os.getpid()
             first = PORTS.start + self.process % SHARES * (len(PORTS) // SHARES)
             self.ports = itertools.cycle(range(first, first + len(PORTS) // SHARES))
         while True:
             port = next(self.ports)
-            with socket.socket() as probe:
+            with socket.socket(type=kind) as probe:
                 probe.setsockopt(socket.SOL_SOCKET, socket.SO_REUSEADDR, 1)
                 try:
                     probe.bind(("127.0.0.1", port))
@@ -191,20 +261,28 @@ class Shim:
 
     def run(self, case, **settings):
         """A case with the library in front, set so; without settings it isn't there."""
-        output, notes, marks, text = file_of(), file_of(), file_of(), file_of(b"" if case.kind == "serve" else case.text)
+        output, notes, marks, text = file_of(), file_of(), file_of(), file_of(b"" if case.kind in SOCKETS else case.text)
         environment = {**os.environ, "SHIM_MARKS": str(marks), **{name: str(value) for name, value in settings.items()}}
         if settings:
             environment["LD_PRELOAD"] = self.path
-        port = self.free_port() if case.kind == "serve" else 0
-        words = [word.replace("PORT", str(port)) for word in case.words]
+        port = self.free_port(SOCKETS[case.kind]) if case.kind in SOCKETS else 0
+        peer = Peer() if case.kind == "relay" else None
+        words = [word.replace("PORT", str(port)).replace("PEER", str(peer and peer.port)) for word in case.words]
         streams = {"stdin": text, "stdout": output, "stderr": notes, "pass_fds": [marks]}
-        process = subprocess.Popen([PROGRAM, *words], **streams, env=environment)
+        process = subprocess.Popen([PROGRAMS.get(case.kind, PROGRAM), *words], **streams, env=environment)
+        if case.kind == "agent":
+            sent_to(port, process, case.text)
         if case.kind == "serve":
             answered = [self.answered(port, process, case.text) for _ in range(int(case.words[-1]))]
+        if case.kind == "relay":
+            answered = [self.answered(port, process, sent) for sent in case.text]
         status = process.wait()
         written = held(output)
         if case.kind == "serve":
             written = answered if len(answered) > 1 else answered[0] + written
+        if case.kind == "relay":
+            peer.stop()
+            written = answered + [sent.body for sent in peer.got]
         came = Came(status, written, held(notes).decode(), held(marks).decode())
         for file in [output, notes, marks, text]:
             os.close(file)

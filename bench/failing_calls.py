@@ -1,27 +1,34 @@
 #!/usr/bin/env python3
-"""Shows what the built program does when something outside fails: devices, each read, write, receive, send and accept in turn, and
-signals.
+"""Shows what the built program does when something outside fails: devices, each read, write, receive, send, accept and connect in turn,
+and signals.
 
 bench/shims/fail.c stands in front of the C library's calls, and lets the first read fail, the second one, and so on up to the
 first run that makes no more, with each of the errors below; or give one byte, or none; likewise writes, and the calls of a
 connection. Pieces are small, so that there are several. Run are the worked texts and the samples, each to each form by `convert` and
-`losses` and by `show` and `check`, `headers` and `gauge`; and two connections of `serve`, one after the other, with each sample posted.
+`losses` and by `show` and `check`, `headers` and `gauge`; two connections of `serve`, one after the other, with each sample posted;
+an agent that is sent datagrams with the batches of the samples; and a relay with two connections, and one with each sample.
 
 An interrupted call, and one that gives or takes one byte, must change nothing. Behind a failed read of the input the status is 5, the
 note `input failed`, and the output what the units in the bytes before have; behind one that gives none it is that of the input
 that ends there. Behind a failed write the status is 6, the note `output failed`, and the output what the undisturbed one begins with;
 behind one of the notes only they are shorter. A failed receive or send has the line of its connection, whose answers are those of the
 requests before, and the other is answered in full; a receive that gives none is a connection that the client ended. Where no
-connection can be accepted, or none set up, the status is 5 and the note `door failed`.
+connection can be accepted, or none set up, the status is 5 and the note `door failed`. A failed receive of an agent has the status 5,
+the note `post failed`, and the pieces and lines of the datagrams before; one that gives one byte of a datagram or none is such a
+datagram. Behind a failed write of its output the lines of bad datagrams before stand on the notes. A call of a relay that fails is one
+line, of its connection or of the peer; what its clients have is what the undisturbed answers begin with, and its peer gets the bodies
+that were kept, in order: one may come twice, and where bodies are left at the end, the status is 8 and their number noted.
 
-Run it at the top as bench/failing_calls.py FOLDER.., after ./spanx has built the program. A folder of samples is laid out as for
-bench/there_and_back.py; where none is given the samples are those of examples/. --jobs=N runs so many at once, or else two, and
+Run it at the top as bench/failing_calls.py FOLDER.., after ./spanx, ./spanx_agent and ./spanx_relay have built the programs. A folder of
+samples is laid out as for bench/there_and_back.py; where none is given the samples are those of examples/. --jobs=N runs so many at once, or else two, and
 --only=WORD what has the word in its name. It needs a C compiler as `cc`. It ends with 0 where all is so, and prints how often each
 came.
 """
 import collections
 import errno
+import itertools
 import os
+import re
 import signal
 import socket
 import subprocess
@@ -30,10 +37,12 @@ import time
 
 import disturbed
 import forms
+from agent import AGENT
 from disturbed import BINARY, COMPACT, Case
 from forms import OTLP, ZIPKIN
 from gateway import Gateway, converted, example, post
 from program import BUILD, PROGRAM, TOP, command, report_command
+from relay import RELAY
 
 ERRORS = {name: getattr(errno, name) for name in ["EIO", "ENOSPC", "EPIPE", "EAGAIN", "ECONNRESET"]}
 ONE, NONE = -1, -2
@@ -45,6 +54,8 @@ PIECES = 6
 # What comes of a failed write, by the descriptor: of the output and of the notes.
 WRITTEN = {"1": "status 6", "2": "shorter notes"}
 DOOR = ["accept4", "setsockopt", "listen", "bind", "socket"]
+POST = ["bind", "socket"]
+FAILED = "output failed\n"
 
 
 def settings(call, first, answer, every=0, most=0):
@@ -74,13 +85,30 @@ def wrong_read(case, came, answer, size):
     return "not status 5 with the units before"
 
 
-def wrong_write(whole, came, failed):
+def ends_as_failed(case, whole, came):
+    """Whether the last note is that the output failed, and those before, of an agent alone, are what the undisturbed ones begin with."""
+    before = came.notes.removesuffix(FAILED)
+    return came.notes.endswith(FAILED) and (case.kind == "agent" or not before) and whole.notes.startswith(before)
+
+
+def wrong_write(case, whole, came, failed):
     """What is wrong behind a write that failed, of the output or of the notes."""
     if failed == "1":
-        good = came.status == 6 and came.notes == "output failed\n" and whole.output.startswith(came.output)
+        good = came.status == 6 and ends_as_failed(case, whole, came) and whole.output.startswith(came.output)
     else:
         good = came[:2] == whole[:2] and whole.notes.startswith(came.notes)
     return "" if good else "a failed write of " + {"1": "the output", "2": "the notes"}[failed]
+
+
+def wrong_from_there(case, whole, came, failed):
+    """The same where each write behind it failed as well: a failed output has no line on the notes, and an agent whose notes failed goes
+    on to an output that fails."""
+    if failed == "2" and came.status == 6:
+        good = case.kind == "agent" and whole.output.startswith(came.output) and whole.notes.startswith(came.notes)
+        return "" if good else "another status than of failed notes"
+    if failed == "1" and not came.notes.endswith(FAILED):
+        came = came._replace(notes=came.notes + FAILED)
+    return wrong_write(case, whole, came, failed)
 
 
 class Tries:
@@ -125,16 +153,19 @@ def tried(case):
             size = min((first - 1) * most, len(case.text))
             came_of = "as an input that ends there" if answer == NONE else "status 5"
             tries.add("read", came_of, wrong_read(case, came, answer, size), words, came)
+    written(case, whole, tries)
+    return tries.differences, tries.counts
+
+
+def written(case, whole, tries):
+    """The same of its writes alone."""
     most = max(len(whole.output), len(whole.notes)) // PIECES + 1
     tries.harmless("write", whole, most)
     for answer in [*ERRORS.values(), NONE]:
         for _, words, came, failed in tries.runs("write", answer, 0, most):
-            tries.add("write", WRITTEN[failed], wrong_write(whole, came, failed), words, came)
-    # Each write fails from one on: where that is of the output, its line isn't written either.
+            tries.add("write", WRITTEN[failed], wrong_write(case, whole, came, failed), words, came)
     for _, words, came, failed in tries.runs("write", errno.EIO, 1, most):
-        said = came._replace(notes="output failed\n") if failed == "1" and came.notes == "" else came
-        tries.add("write", WRITTEN[failed], wrong_write(whole, said, failed), words, came)
-    return tries.differences, tries.counts
+        tries.add("write", WRITTEN[failed], wrong_from_there(case, whole, came, failed), words, came)
 
 
 def wrong_connection(whole, came, number, note, answers):
@@ -177,8 +208,112 @@ def served(case):
     return tries.differences, tries.counts
 
 
+def of_datagrams(case, sent):
+    """An undisturbed agent that is sent these, and is asked for as many; one that is asked for none is none."""
+    if not sent:
+        return disturbed.Came(0, b"", "", "")
+    return SHIM.run(case._replace(text=sent, words=[*case.words[:-1], str(len(sent))]))
+
+
+def instead(case, answer, first):
+    """The datagrams that an agent has of a receive that gives one byte, or none."""
+    before, at, behind = case.text[: first - 1], case.text[first - 1], case.text[first:]
+    return (*before, b"", at, *behind)[: len(case.text)] if answer == NONE else (*before, at[:1], *behind)
+
+
+def wrong_receive(case, came, answer, first):
+    """What is wrong where the receive of this number failed, or gave one byte or none."""
+    if answer in [ONE, NONE]:
+        good = came[:3] == of_datagrams(case, instead(case, answer, first))[:3]
+        return "" if good else "not as such a datagram"
+    before = of_datagrams(case, case.text[: first - 1])
+    good = came[:3] == (5, before.output, before.notes + "post failed\n")
+    return "" if good else "not status 5 with the datagrams before"
+
+
+def received(case):
+    """The same of an agent."""
+    whole = SHIM.run(case)
+    tries = Tries(case)
+    if whole.status:
+        tries.differences.append(f"undisturbed: {disturbed.described(case, {}, whole)}")
+    tries.harmless("recvfrom", whole, 0, [(errno.EINTR, 0), (errno.EINTR, 2)])
+    for answer in [*ERRORS.values(), NONE, ONE]:
+        came_of = "as another datagram" if answer in [ONE, NONE] else "status 5"
+        for first, words, came, _ in tries.runs("recvfrom", answer, 0, 0):
+            tries.add("recvfrom", came_of, wrong_receive(case, came, answer, first), words, came)
+    for call in POST:
+        for answer in ERRORS.values():
+            for _, words, came, _ in tries.runs(call, answer, 0, 0):
+                good = came[:3] == (5, b"", "post failed\n")
+                tries.add(call, "status 5", "" if good else "not status 5 at once", words, came)
+    written(case, whole, tries)
+    return tries.differences, tries.counts
+
+
+def once_each(bodies):
+    """Bodies of which one that comes several times in a row stands once."""
+    return [body for body, _ in itertools.groupby(bodies)]
+
+
+def kept_by(connections, answers):
+    """What a relay may have kept: of each connection as many bodies as were answered as kept, or more of them."""
+    least = [answer.count(b"HTTP/1.1 20") for answer in answers]
+    for counts in itertools.product(*(range(few, len(bodies) + 1) for few, bodies in zip(least, connections))):
+        yield [body for count, bodies in zip(counts, connections) for body in bodies[:count]]
+
+
+def wrong_relay(case, whole, came):
+    """What is wrong with a run of a relay of which one call failed."""
+    count, lines, left = len(case.text), came.notes.splitlines(), 0
+    answers, undisturbed, sent = came.output[:count], whole.output[:count], came.output[count:]
+    if came.status == 8 and lines and re.fullmatch(r"left \d+", lines[-1]):
+        left = int(lines.pop().split()[1])
+    elif came.status == 5 and lines and lines[-1] == "door failed":
+        lines.pop()
+    elif came.status:
+        return "another status"
+    if len(lines) > 1 or not all(re.fullmatch(r"connection \d+: (read|write|peer) failed", line) for line in lines):
+        return "other lines"
+    if not all(one.startswith(other) for one, other in zip(undisturbed, answers)):
+        return "other answers"
+    told = [one == other for one, other in zip(undisturbed, answers)]
+    if came.status != 5 and sum(told) < count - 1:
+        return "more than one connection isn't answered in full"
+    if len(sent) > len(once_each(sent)) + 1:
+        return "more than one body twice"
+    bodies, connections = whole.output[count:], []
+    for answer in undisturbed:
+        connections.append([bodies.pop(0) for _ in range(answer.count(b"HTTP/1.1 20"))])
+    for kept in kept_by(connections, answers):
+        if once_each(sent) in [kept[: len(kept) - left], kept[: len(kept) - left + 1]]:
+            return ""
+    return "the peer got other bodies than were kept"
+
+
+def relayed(case):
+    """The same of a relay and its peer."""
+    whole = SHIM.run(case)
+    tries = Tries(case)
+    if whole.status or whole.notes or case.wanted is not None and whole.output != case.wanted:
+        tries.differences.append(f"undisturbed: {disturbed.described(case, {}, whole)}")
+    most = max(map(len, case.text)) // 3 + 1
+    for call in ["recv", "send"]:
+        tries.harmless(call, whole, most)
+    tries.harmless("accept4", whole, 0, [(errno.EINTR, 0)])
+    for call in ["recv", "send", "connect", *DOOR]:
+        for answer in [*ERRORS.values(), NONE] if call in ["recv", "send"] else ERRORS.values():
+            for _, words, came, _ in tries.runs(call, answer, 0, most if call in ["recv", "send"] else 0):
+                tries.add(call, f"status {came.status}", wrong_relay(case, whole, came), words, came)
+    return tries.differences, tries.counts
+
+
 def each(case):
     """What a case does wrong, of `serve` with two connections, and how its runs ended."""
+    if case.kind == "relay":
+        return relayed(case)
+    if case.kind == "agent":
+        return received(case)
     if case.kind == "serve":
         return served(case._replace(words=case.words[:-1] + ["2"]))
     return tried(case)
@@ -345,7 +480,7 @@ def main(words):
     disturbed.told(words, each, disturbed.chosen(words), len(bad))
 
 
-if not os.path.exists(PROGRAM):
+if not all(map(os.path.exists, [PROGRAM, AGENT, RELAY])):
     sys.exit(BUILD)
 SHIM = disturbed.Shim("fail")
 

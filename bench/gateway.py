@@ -76,10 +76,13 @@ class Gateway:
 
     def __init__(self, target, count, **more):
         self.port = free_port()
-        words = [PROGRAM, "serve", "--listen", f"127.0.0.1:{self.port}", "--to", target, "--count", str(count)]
-        self.process = subprocess.Popen(words, stdin=subprocess.DEVNULL, stdout=subprocess.PIPE, stderr=subprocess.PIPE, **more)
+        streams = {"stdin": subprocess.DEVNULL, "stdout": subprocess.PIPE, "stderr": subprocess.PIPE, **more}
+        self.process = subprocess.Popen(self.words(target, count), **streams)
         while not listens(self.port) and self.process.poll() is None:
             time.sleep(0.01)
+
+    def words(self, target, count):
+        return [PROGRAM, "serve", "--listen", f"127.0.0.1:{self.port}", "--to", target, "--count", str(count)]
 
     def __enter__(self):
         return self
@@ -123,6 +126,11 @@ def text_of(status, words, kind, body, closes=False):
 
 def post(body=SPANS):
     return HEAD % len(body) + body
+
+
+def numbered(number):
+    """A body of Zipkin's that is another for each number, and longer for each."""
+    return b'[{"traceId":"1","id":"%x","name":"%s"}]' % (number, b"a" * number)
 
 
 def converted(target, body=SPANS):
@@ -265,10 +273,10 @@ def does_not_read(client):
 SILENT = [(says_nothing, "read", 29, 45), (stops_in_a_body, "read", 29, 45), (sends_one_byte_more, "read", 49, 65), (does_not_read, "write", 29, 120)]
 
 
-def late(does, noted, least, most):
+def late(does, noted, least, most, program=lambda: Gateway(forms.OTLP, 2), wanted=converted):
     """What differs where a client does so, and another posts beside it."""
-    name, wanted = does.__name__.replace("_", " "), converted(forms.OTLP)
-    with Gateway(forms.OTLP, 2) as gateway, socket.socket() as client:
+    name, wanted = does.__name__.replace("_", " "), wanted(forms.OTLP)
+    with program() as gateway, socket.socket() as client:
         client.setsockopt(socket.SOL_SOCKET, socket.SO_RCVBUF, 4096)
         client.connect(("127.0.0.1", gateway.port))
         does(client)
@@ -292,7 +300,7 @@ def silent():
             yield from found
 
 
-class Relay:
+class Passing:
     """Passes one connection on to a port, and keeps what went both ways."""
 
     def __init__(self, port):
@@ -364,23 +372,23 @@ def exporters():
     for name, (post, path, source) in EXPORTERS.items():
         for target in forms.FORMS:
             with Gateway(target, 1) as gateway:
-                relay = Relay(gateway.port)
+                passing = Passing(gateway.port)
                 try:
-                    post(f"http://127.0.0.1:{relay.port}{path}")
+                    post(f"http://127.0.0.1:{passing.port}{path}")
                 except (ImportError, FileNotFoundError, subprocess.CalledProcessError) as why:
                     print(f"left out: {name}: {why}")
                     gateway.connect().close()
-                    relay.listener.close()
+                    passing.listener.close()
                     break
-                relay.thread.join(10)
-                status, kind, text = expected(body_of(relay.sent)[1], source, target)
-                head, came = body_of(relay.came)
+                passing.thread.join(10)
+                status, kind, text = expected(body_of(passing.sent)[1], source, target)
+                head, came = body_of(passing.came)
                 if not head.startswith(f"HTTP/1.1 {status} ".encode()) or f"Content-Type: {kind}".encode() not in head or came != text:
-                    yield f"{name} to {target}: {relay.sent[:300]} was answered {relay.came[:300]}"
+                    yield f"{name} to {target}: {passing.sent[:300]} was answered {passing.came[:300]}"
                 if gateway.end() != (0, b"", ""):
                     yield f"{name} to {target}: didn't end with 0"
         else:
-            print(f"{name}: {len(relay.sent)} bytes, answered {status}")
+            print(f"{name}: {len(passing.sent)} bytes, answered {status}")
 
 
 def proxied():

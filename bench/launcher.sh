@@ -1,7 +1,7 @@
 #!/bin/bash
-# Shows what ./spanx and ./spanx_agent do before they run the program, on a copy with a stand-in for rt: it is found through symbolic links,
-# builds where it must and only there, never removes a program, and runs the old one where there is no rt. It ends with 0
-# where each case goes as it must.
+# Shows what ./spanx, ./spanx_agent and ./spanx_relay do before they run the program, on a copy with a stand-in for rt: it is found
+# through symbolic links, builds where it must and only there, never removes a program, and runs the old one where there is no rt.
+# It ends with 0 where each case goes as it must.
 top=$(cd "$(dirname "$0")/.." && pwd) || exit 2
 room=$(mktemp -d) || exit 2
 trap 'rm -rf "$room"' EXIT
@@ -34,8 +34,8 @@ case \$(cat "$room/does") in
         printf '#!$shell\necho "program %s: \$# words: \$*; \$(/bin/cat)"\necho "\${GLIBC_TUNABLES-none}" >"$room/settings"\nexit 9\n' \$number >out/new
         chmod +x out/new
         mv out/new "out/\${PWD##*/}"
-        # A built agent that has no words tells its usage.
-        case \$PWD in *_agent) echo "usage: spanx_agent OPTIONS" >&2; exit 2 ;; esac ;;
+        # A built agent or relay that has no words tells its usage.
+        case \$PWD in *_agent | *_relay) echo "usage: \${PWD##*/} OPTIONS" >&2; exit 2 ;; esac ;;
     nothing) ;;
     fail) echo "rt: a goal stays open"; exit 1 ;;
     die) kill -KILL \$\$ ;;
@@ -143,25 +143,27 @@ run with "$copy/spanx" a
 expect "a newer source: the program is built anew" 9 "program 6: 1 words: a; input" "$building" 1
 holds "the old program stood there until then" grep -qF "program there: yes" <(tail -n 1 "$room/calls")
 
-# The agent: the same launcher by another name, with a crate of its own.
-mkdir -p "$copy/crates/spanx_agent/src"
-ln -s spanx "$copy/spanx_agent"
-run without "$copy/spanx_agent" --listen
-expect "no agent and no rt" 70 "" "spanx_agent: the program isn't built yet, and there is no rt to build it" 0
-echo fail >"$room/does"
-run with "$copy/spanx_agent" --listen
-expect "no agent, and it can't be built" 70 "" "spanx_agent: proving and building the program, in $minutes the first time
+# The agent and the relay: the same launcher by another name, with a crate of its own.
+for name in spanx_agent spanx_relay; do
+    mkdir -p "$copy/crates/$name/src"
+    ln -s spanx "$copy/$name"
+    building="$name: proving and building the program, in $minutes the first time"
+    run without "$copy/$name" --listen
+    expect "no $name and no rt" 70 "" "$name: the program isn't built yet, and there is no rt to build it" 0
+    echo fail >"$room/does"
+    run with "$copy/$name" --listen
+    expect "no $name, and it can't be built" 70 "" "$building
 rt: a goal stays open
-spanx_agent: the program could not be built" 1
-echo build >"$room/does"
-run with "$copy/spanx_agent" --listen a
-number=$(wc -l <"$room/calls")
-expect "no agent: it is built, and gets the words and the input" 9 "program $number: 2 words: --listen a; input" \
-    "spanx_agent: proving and building the program, in $minutes the first time" 1
-holds "rt runs in the crate of the agent, without words" grep -qF "run -- in $copy/crates/spanx_agent, program there: no" "$room/calls"
-ln -s "$copy/spanx_agent" "$room/links/spanx_agent"
-run with "$room/links/spanx_agent" a
-expect "a symbolic link to the agent" 9 "program $number: 1 words: a; input" "" 0
-run with "$copy/spanx" a
-expect "the other program stays what it was" 9 "program 6: 1 words: a; input" "" 0
+$name: the program could not be built" 1
+    echo build >"$room/does"
+    run with "$copy/$name" --listen a
+    number=$(wc -l <"$room/calls")
+    expect "no $name: it is built, and gets the words and the input" 9 "program $number: 2 words: --listen a; input" "$building" 1
+    holds "rt runs in the crate of $name, without words" grep -qF "run -- in $copy/crates/$name, program there: no" "$room/calls"
+    ln -s "$copy/$name" "$room/links/$name"
+    run with "$room/links/$name" a
+    expect "a symbolic link to $name" 9 "program $number: 1 words: a; input" "" 0
+    run with "$copy/spanx" a
+    expect "the first program stays what it was" 9 "program 6: 1 words: a; input" "" 0
+done
 exit $wrong

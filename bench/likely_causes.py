@@ -4,7 +4,7 @@ gives all spans, where that is a command.
 
 Each case stands beside the beginning of the cell that tells the kind. A row without a case, a case without a row, and a script of
 examples/ in a row that no case runs is a difference. It needs both built programs, Debian's xxd and zstd, and is run as
-bench/likely_causes.py after ./spanx and ./spanx_agent have built them. It ends with 1 on a difference.
+bench/likely_causes.py after ./spanx, ./spanx_agent and ./spanx_relay have built them. It ends with 1 on a difference.
 """
 import base64
 import gzip
@@ -22,6 +22,7 @@ import otlp
 from agent import AGENT, Agent, binary_head, compact_head
 from program import BUILD, PROGRAM, TOP, convert
 from protocols import varint
+from relay import RELAY, Peer, Relay, post_over, said
 from tried_rows import BINARY, COMPACT, HALF, NESTED, batch, field, group, request
 
 PAGE = os.path.join(TOP, "docs", "CAUSES.md")
@@ -382,6 +383,23 @@ def held_back():
     resource.setrlimit(resource.RLIMIT_AS, (60_000_000, 60_000_000))
 
 
+def of_relay():
+    """The rows of the relay among these."""
+    right = ["--listen", "127.0.0.1:0", "--to", PROTO, "--peer", "127.0.0.1:1", "--count", "1"]
+    changed = [(3, "jaeger-compact"), (3, "otlp"), (5, ""), (5, "a b:1"), (7, "0"), (7, "1000001")]
+    for words in [*([*right[:at], word, *right[at + 1 :]] for at, word in changed), right[:6], right + right[:2]]:
+        yield "usage: spanx_relay", 2, ended(words, RELAY)
+    with socket.create_server(("127.0.0.1", 0)) as taken:
+        for address in [f"127.0.0.1:{taken.getsockname()[1]}", "192.0.2.1:4330"]:
+            yield "door failed", 5, ended(["--listen", address, *right[2:]], RELAY)
+    with Peer(lambda *_: said(400)) as peer:
+        for address in [peer.address, "127.0.0.1:1"]:
+            with Relay(PROTO, address, 1) as relay:
+                post_over(relay, b"[]")
+                status, _, notes = relay.end()
+                yield "left", 8, (status, notes.strip())
+
+
 def statuses():
     """Of each row of the other statuses its note, its status and what the program does."""
     usages = [
@@ -522,7 +540,7 @@ def out_of_memory():
 
 
 def main():
-    if not os.access(PROGRAM, os.X_OK) or not os.access(AGENT, os.X_OK):
+    if not all(os.access(program, os.X_OK) for program in [PROGRAM, AGENT, RELAY]):
         sys.exit(BUILD)
     with open(PAGE, encoding="utf-8") as page:
         lines = page.read().split("\n")
@@ -543,10 +561,10 @@ def main():
     if why := large_documents():
         wrong.append(f"a document of more than 64 MiB: {why}")
     others, tried = {row[0].strip("`"): row[1] for row in rows["## The other statuses"]}, set()
-    for note, status, (ends, said) in statuses():
+    for note, status, (ends, told) in [*statuses(), *of_relay()]:
         tried.add(note)
-        if others.get(note) != str(status) or ends != status or note not in said:
-            wrong.append(f"{note}: status {ends}, {said}; the page says {others.get(note)}")
+        if others.get(note) != str(status) or ends != status or note not in told:
+            wrong.append(f"{note}: status {ends}, {told}; the page says {others.get(note)}")
     wrong += [f"not tried: {note}" for note in others.keys() - tried]
     told_rows, asked = {row[0] for row in rows["## What `serve` answers"]}, set()
     for cell, why in answers():

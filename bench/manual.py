@@ -1,7 +1,7 @@
 #!/usr/bin/env python3
-"""Checks that the man pages docs/spanx.1 and docs/spanx_agent.1 and the pages say what the specification files say: the numbers and names of causes and
-faults, the statuses, the lines on standard error, the words, those of reports and the rows of losses too, and the limits. It checks
-the man pages' own form by `mandoc`, too.
+"""Checks that the man pages docs/spanx.1, docs/spanx_agent.1 and docs/spanx_relay.1 and the pages say what the specification files say:
+the numbers and names of causes and faults, the statuses, the lines on standard error, the words, those of reports and the rows of
+losses too, and the limits. It checks the man pages' own form by `mandoc`, too.
 
 The words are looked up by their names in all files under crates/*/specs, whichever file they stand in. It ends with 0 where
 all agree. Another folder of crates can be named: bench/manual.py FOLDER. It needs Debian's `mandoc`.
@@ -17,6 +17,7 @@ import json_text
 TOP = os.path.dirname(os.path.dirname(os.path.abspath(__file__)))
 MANUAL = os.path.join(TOP, "docs", "spanx.1")
 AGENT = os.path.join(TOP, "docs", "spanx_agent.1")
+RELAY = os.path.join(TOP, "docs", "spanx_relay.1")
 PAGES = [os.path.join(TOP, "README.md"), *sorted(glob.glob(os.path.join(TOP, "docs", "*.md")))]
 
 
@@ -97,6 +98,25 @@ def agent_checks(lines, agent_lines, manual):
         yield "forms of the agent", set(texts(lines, "form_word").values()), set(re.findall(r"^\.Cm ([a-z]+-[a-z]+)", page.read(), re.MULTILINE))
 
 
+def relay_checks(lines, relay_lines, manual):
+    """The same of the man page of the relay."""
+    ends = {int(status) for status in equations(relay_lines, "end_status").values()} | {2}
+    yield "statuses of the relay", ends, {int(item) for item in manual.items["EXIT STATUS"]}
+    with open(RELAY, encoding="utf-8") as page:
+        text = page.read()
+    said = set(re.findall(r"(?m)^\.Li ([^\n]*?)(?: \.)?$", text.split("\n.Sh EXIT STATUS\n")[1].split("\n.Sh ")[0]))
+    left = {f"{word} 7" for line in relay_lines for word in re.findall(r'end_line .* = codes "(\w+) " \+\+ decimal', line)}
+    yield "lines of the end of the relay", whole_lines(relay_lines) | left, said
+    ends_of_lines = {re.sub(r' " \+\+ decimal status \+\+ codes "\\n', " 503", end) for line in relay_lines for end in re.findall(r'_line number .* line_of number \(codes "(.*?)"\)', line)}
+    wanted = {f"connection 1{end}".removesuffix("\\n") for end in ends_of_lines}
+    yield "lines of connections of the relay", wanted, {item.removeprefix("Li ") for item in manual.items["DIAGNOSTICS"]}
+    forms = set(texts(lines, "form_word").values()) - {"jaeger-compact"}
+    yield "forms of the relay", forms, set(re.findall(r"^\.Cm ([a-z]+-[a-z]+)", text, re.MULTILINE))
+    most = {int(number) for line in relay_lines for number in re.findall(r"pub most : count ≤ (\d+)", line)}
+    most |= {int(number) for line in relay_lines for number in re.findall(r"^most_sent = (\d+)", line)}
+    yield "numbers of the relay", most, {int(number.replace(",", "")) for number in re.findall(r"(?:at most|from 1 to) ([\d,]+)", text)}
+
+
 def checks(lines, manual):
     """Pairs of what the specification says and what the man page says, each with a name."""
     causes, header_causes, faults = (numbered(lines, word) for word in ["cause", "header_cause", "fault"])
@@ -122,9 +142,9 @@ def checks(lines, manual):
         said -= {f'unit 1: fault {number} {name} "jaeger.flags"'}
     # The lines of connections that are served begin with their number.
     said -= {f"connection 1{end}" for line in lines for end in re.findall(r'"connection " .* codes "([^"]*)\\n"', line)}
-    # Those of the agent stand in the other man page.
-    agent_lines = {"usage: spanx_agent OPTIONS", "post failed"}
-    yield "lines on standard error", fixed - agent_lines, said
+    # Those of the agent and of the relay stand in the other man pages.
+    others = {"usage: spanx_agent OPTIONS", "post failed", "usage: spanx_relay OPTIONS"}
+    yield "lines on standard error", fixed - others, said
 
     yield "forms", set(texts(lines, "form_word").values()), manual.words("Forms")
     yield "forms of headers", set(texts(lines, "header_form_word").values()), manual.words("Headers")
@@ -152,11 +172,13 @@ if __name__ == "__main__":
     folder = sys.argv[1] if len(sys.argv) > 1 else os.path.join(TOP, "crates")
     wrong = 0
     held = specifications(folder)
-    for name, wanted, found in [*checks(held, Manual(MANUAL)), *agent_checks(held, specifications(folder, "span_agent"), Manual(AGENT))]:
+    of_agent = agent_checks(held, specifications(folder, "span_agent"), Manual(AGENT))
+    of_relay = relay_checks(held, specifications(folder, "span_relay"), Manual(RELAY))
+    for name, wanted, found in [*checks(held, Manual(MANUAL)), *of_agent, *of_relay]:
         print(f"ok: {name}" if wanted == found else f"WRONG: {name}: specified {wanted}, on the page {found}")
         wrong += wanted != found
-    # The agent's page names that of spanx, which needn't be installed.
-    lint = subprocess.run(["mandoc", "-Tlint", MANUAL, AGENT], capture_output=True, text=True).stdout
+    # The other pages name that of spanx, which needn't be installed.
+    lint = subprocess.run(["mandoc", "-Tlint", MANUAL, AGENT, RELAY], capture_output=True, text=True).stdout
     lint = [line for line in lint.splitlines() if line and "referenced manual not found: Xr spanx" not in line]
     print(f"WRONG: mandoc -Tlint: {lint}" if lint else "ok: mandoc -Tlint is silent")
     sys.exit(1 if wrong or lint else 0)

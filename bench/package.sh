@@ -1,7 +1,8 @@
 #!/bin/bash
 # Makes the packages twice, which must give the same bytes, and runs their programs in a root that holds the C library and nothing
 # else: from each form to each that of the archive must write what ./spanx writes here, byte by byte, and its agent what that makes
-# of the batch in a datagram. The pages in both must link what lies beside them, and name no script of bench/. Debian's package is
+# of the batch in a datagram, and its relay sends on what that makes of a post. The pages in both must link what lies beside them,
+# and name no script of bench/. Debian's package is
 # installed in that root by dpkg and removed, and lintian, where it is there, finds no error in it. It ends with 0 where all holds.
 # By bench/package.sh --debian URL the root is Debian's smallest system instead, which `debootstrap` makes. Who isn't root needs
 # `unshare`, which not every machine allows, and leaves the installing out.
@@ -49,9 +50,12 @@ same_pages() {
 odd "$unpacked/share/doc/spanx"
 holds "its pages link what is there, and name nothing that isn't" [ -z "$(odd "$unpacked/share/doc/spanx")" ]
 holds "its pages are all of those of the checkout, line by line" same_pages
-holds "the unit is in it" cmp -s examples/spanx@.service "$unpacked/share/doc/spanx/examples/spanx@.service"
-holds "its man page is that of the checkout" cmp -s docs/spanx.1 "$unpacked/share/man/man1/spanx.1"
-holds "so is that of the agent" cmp -s docs/spanx_agent.1 "$unpacked/share/man/man1/spanx_agent.1"
+for unit in examples/*.service; do
+    holds "the unit ${unit##*/} is in it" cmp -s "$unit" "$unpacked/share/doc/spanx/$unit"
+done
+for name in spanx spanx_agent spanx_relay; do
+    holds "the man page of $name is that of the checkout" cmp -s "docs/$name.1" "$unpacked/share/man/man1/$name.1"
+done
 
 # The root.
 root=$room/root
@@ -64,7 +68,7 @@ else
         cp -L "$name" "$root$name" || exit 2
     done
 fi
-cp "$unpacked/bin/spanx" "$unpacked/bin/spanx_agent" "$root/"
+cp "$unpacked/bin/"* "$root/"
 cp "$deb" "$root/spanx.deb"
 inside=(chroot "$root")
 [ "$(id -u)" = 0 ] || inside=(unshare -r chroot "$root")
@@ -110,6 +114,37 @@ agent_at() {
 }
 holds "its agent, of a datagram" agent_at /spanx_agent
 
+# The relays, to which one request is posted and whose peer is a server in Python: relay_at PROGRAM.
+./spanx convert --from otlp-proto --to zipkin-json <examples/checkout.bin >"$room/of_post"
+relay_at() {
+    rm -f "$room/sent"
+    python3 - "$room/sent" <<'PEER' &
+import http.server, sys
+class Handler(http.server.BaseHTTPRequestHandler):
+    def log_message(self, *words):
+        pass
+    def do_POST(self):
+        with open(sys.argv[1], "wb") as file:
+            file.write(self.rfile.read(int(self.headers["Content-Length"])))
+        self.send_response(202)
+        self.end_headers()
+http.server.HTTPServer(("127.0.0.1", 16832), Handler).handle_request()
+PEER
+    # 16831 and 16832 in hexadecimal are 41BF and 41C0.
+    listens 41C0
+    "${inside[@]}" "$1" --listen 127.0.0.1:16831 --to zipkin-json --peer 127.0.0.1:16832 --count 1 &
+    local relay=$!
+    listens 41BF
+    curl -s --data-binary @examples/checkout.bin -H 'Content-Type: application/x-protobuf' http://127.0.0.1:16831/v1/traces
+    wait $relay && cmp "$room/of_post" "$room/sent"
+}
+# Waits until something takes connections at a port in hexadecimal.
+listens() {
+    local tries=0
+    until grep -q ":$1 00000000:0000 0A" /proc/net/tcp || [ $((tries += 1)) = 50 ]; do sleep 0.1; done
+}
+holds "its relay, of a post" relay_at /spanx_relay
+
 # Debian's package.
 if command -v lintian >/dev/null; then
     lintian --fail-on error "$deb" >"$room/said" 2>/dev/null
@@ -138,12 +173,16 @@ if [ "$(id -u)" = 0 ]; then
         holds "its program, from $from" cmp "$room/here" "$room/there"
     done
     holds "its agent, of a datagram" agent_at /usr/bin/spanx_agent
+    holds "its relay, of a post" relay_at /usr/bin/spanx_relay
     dpkg-deb --fsys-tarfile "$deb" | tar -t | sed 's/^/    /'
     doc=$root/usr/share/doc/spanx
     holds "its pages link what is there, and name nothing that isn't" [ -z "$(odd "$doc")" ]
-    holds "its man page is that of the checkout" cmp -s docs/spanx.1 <(gzip -dc "$root/usr/share/man/man1/spanx.1.gz")
-    holds "so is that of the agent" cmp -s docs/spanx_agent.1 <(gzip -dc "$root/usr/share/man/man1/spanx_agent.1.gz")
-    holds "its unit is that of the checkout" cmp -s examples/spanx@.service "$root/lib/systemd/system/spanx@.service"
+    for name in spanx spanx_agent spanx_relay; do
+        holds "the man page of $name is that of the checkout" cmp -s "docs/$name.1" <(gzip -dc "$root/usr/share/man/man1/$name.1.gz")
+    done
+    for unit in examples/*.service; do
+        holds "the unit ${unit##*/} is that of the checkout" cmp -s "$unit" "$root/lib/systemd/system/${unit##*/}"
+    done
     holds "dpkg removes it" "${dpkg[@]}" --purge spanx >"$room/log" 2>&1
     cat "$room/log"
     holds "nothing of it is left" [ -z "$(find "$root/usr/bin" "$doc" "$root/lib/systemd/system" -name '*spanx*' 2>/dev/null)" ]

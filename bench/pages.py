@@ -9,7 +9,7 @@ What they post goes to servers of Python's on this machine that take what a Coll
 (stand_ins.py). Then the rows of pages are tried that say what is lost and refused (tried_rows.py), and under which keys attributes
 stand (tried_keys.py).
 
-It needs both built programs and Debian's curl, jq, protobuf-compiler, thrift-compiler and python3-thrift, and is run as
+It needs the three built programs and Debian's curl, jq, protobuf-compiler, thrift-compiler and python3-thrift, and is run as
 bench/pages.py [--update]; with --update it writes what was printed into the pages. It ends with 1 on a difference.
 """
 import glob
@@ -25,6 +25,7 @@ import tried_keys
 import tried_rows
 from agent import AGENT
 from program import BUILD, PROGRAM, TOP
+from relay import RELAY
 
 MANUAL = os.path.join(TOP, "docs", "spanx.1")
 PAGES = [os.path.join(TOP, "README.md"), *sorted(glob.glob(os.path.join(TOP, "docs", "*.md")))]
@@ -86,21 +87,22 @@ def odd_inside(text, texts_of_commands):
         first = inside.split()[0]
         if first == "rt" or first.startswith(("bench/", "examples/")) and os.path.exists(os.path.join(TOP, first)):
             continue
-        if first in ["./spanx", "./spanx_agent", "./package"] and (inside == first or not run(inside, TOP)):
+        if first in ["./spanx", "./spanx_agent", "./spanx_relay", "./package"] and (inside == first or not run(inside, TOP)):
             continue
         odd.append(f"`{inside}` is no command that was run")
     return odd
 
 
 def try_page(path, update, texts_of_commands):
-    """Runs the commands of a page, and answers how many there are and what differs."""
+    """Runs the commands of a page, before backends that have kept nothing, and answers how many there are and what differs."""
+    stand_ins.KEPT.clear()
     with open(path, encoding="utf-8") as page:
         lines = page.read().split("\n")
     found, unmarked = commands(lines)
     wrong = odd_inside("\n".join(lines), texts_of_commands)
     wrong += [f"line {number} looks like a command and isn't marked: {lines[number - 1].strip()}" for number in unmarked]
     with tempfile.TemporaryDirectory() as folder:
-        for name in ["spanx", "spanx_agent", "examples", "docs"]:
+        for name in ["spanx", "spanx_agent", "spanx_relay", "examples", "docs"]:
             os.symlink(os.path.join(TOP, name), os.path.join(folder, name))
         for command in found:
             command.now = run(command.text, folder)
@@ -135,7 +137,7 @@ def beyond_first_screen():
 
 
 def main():
-    if not os.access(PROGRAM, os.X_OK) or not os.access(AGENT, os.X_OK):
+    if not all(os.access(program, os.X_OK) for program in [PROGRAM, AGENT, RELAY]):
         sys.exit(BUILD)
     for needed in ["curl", "jq", "protoc"]:
         if not shutil.which(needed):

@@ -62,6 +62,7 @@ TAKEN = {
     (4318, "/v1/traces", "application/x-protobuf"): ("otlp-proto", 200, 1000),
     (4318, "/v1/traces", "application/json"): ("otlp-json", 200, 1000),
     (14268, "/api/traces", "application/x-thrift"): ("jaeger-binary", 202, 1),
+    (14268, "/api/traces", "application/vnd.apache.thrift.binary"): ("jaeger-binary", 202, 1),
     (9411, "/api/v2/spans", "application/json"): ("zipkin-json", 202, 1000),
 }
 

@@ -1,9 +1,10 @@
 /*
  * Stands in front of the C library's calls to the system and lets one of them fail, as the environment says:
- *   FAIL_CALL    the call: read, write, recv, send, accept4, setsockopt, listen, bind or socket
+ *   FAIL_CALL    the call: read, write, recv, recvfrom, send, accept4, connect, setsockopt, listen, bind or socket
  *   FAIL_FIRST   the first of these that is disturbed, from 1; 0 disturbs none
  *   FAIL_EVERY   0: no other; 1: each one behind it as well; 2: every second one behind it
- *   FAIL_WITH    the number of the error; -1: one byte is given or taken instead; -2: none is
+ *   FAIL_WITH    the number of the error; -1: one byte is given or taken instead; -2: none is; of a recvfrom -1 is one byte of the
+ *                datagram, whose others are lost, and -2 an empty one before it
  *   FAIL_MOST    how many bytes any read, write, recv or send gives or takes at most, and a recv waits for; 0: as many as it does
  *   SHIM_MARKS   the descriptor to which a byte is written for each FAIL_CALL: '.' where it wasn't disturbed, else the call's
  *                descriptor as a digit, or 's' for 3 and above
@@ -11,6 +12,7 @@
  */
 #define _GNU_SOURCE
 #include <errno.h>
+#include <netinet/in.h>
 #include <stddef.h>
 #include <stdlib.h>
 #include <string.h>
@@ -92,6 +94,29 @@ ssize_t recv(int file, void *into, size_t size, int flags)
     return room <= 0 ? room : syscall(SYS_recvfrom, file, into, room, flags | (most ? MSG_WAITALL : 0), NULL, NULL);
 }
 
+/* An empty datagram of a client of this machine. */
+static ssize_t empty(struct sockaddr *from, socklen_t *length)
+{
+    struct sockaddr_in client = {.sin_family = AF_INET};
+    if (from && length) {
+        memcpy(from, &client, *length < sizeof client ? *length : sizeof client);
+        *length = sizeof client;
+    }
+    return 0;
+}
+
+ssize_t recvfrom(int file, void *into, size_t size, int flags, struct sockaddr *from, socklen_t *length)
+{
+    if (!disturbed("recvfrom", file))
+        return syscall(SYS_recvfrom, file, into, size, flags, from, length);
+    if (with == -1)
+        return syscall(SYS_recvfrom, file, into, size > 0, flags, from, length);
+    if (with == -2)
+        return empty(from, length);
+    errno = (int)with;
+    return -1;
+}
+
 ssize_t send(int file, const void *from, size_t size, int flags)
 {
     ssize_t room = at_most("send", file, size);
@@ -101,6 +126,11 @@ ssize_t send(int file, const void *from, size_t size, int flags)
 int accept4(int file, struct sockaddr *address, socklen_t *size, int flags)
 {
     return fails("accept4", file) ? -1 : (int)syscall(SYS_accept4, file, address, size, flags);
+}
+
+int connect(int file, const struct sockaddr *address, socklen_t size)
+{
+    return fails("connect", file) ? -1 : (int)syscall(SYS_connect, file, address, size);
 }
 
 int setsockopt(int file, int level, int option, const void *value, socklen_t size)
