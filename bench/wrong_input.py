@@ -100,6 +100,7 @@ SCRIPTS = {
 # These read no file, or are no commands; the others are tried by week.py.
 NONE = {"protobuf_fields.py", "written_json.py", "forward.py"}
 NONE |= {"doubles_to_texts.py", "faults_by_service.py", "mend_faults.py", "move.sh", "texts_of_tags.py"}
+NONE |= {"relay_empty.sh"}
 
 
 def difference(words, name, text):
