@@ -17,7 +17,7 @@ from thrift.transport.TTransport import TMemoryBuffer
 from thrift.TSerialization import serialize
 
 HERE = os.path.dirname(os.path.abspath(__file__))
-SCHEMA = os.path.join(HERE, "..", "bench", "jaeger.thrift")
+SCHEMA = os.path.join(HERE, "..", "bench", "comparisons", "jaeger.thrift")
 TRACE_HIGH, TRACE_LOW = struct.unpack(">qq", bytes.fromhex("5b8efff798038103d269b633813fc60c"))
 BEGIN = 1_700_000_000_000_000
 SAMPLED, DEBUG = 1, 2
