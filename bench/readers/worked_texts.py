@@ -1,4 +1,4 @@
-"""The worked texts of spans, each of which stands once: in crates/span_vectors/src/texts.rt, which the program's tests name as well."""
+"""The worked texts of spans, each of which stands once: in crates/row_tables/src/texts.rt, which the program's tests name as well."""
 import os
 import re
 import sys
@@ -6,7 +6,7 @@ import sys
 sys.path.insert(1, os.path.dirname(os.path.dirname(os.path.realpath(__file__))))
 import rooms
 
-PATH = os.path.join(rooms.TOP, "crates", "span_vectors", "src", "texts.rt")
+PATH = os.path.join(rooms.TOP, "crates", "row_tables", "src", "texts.rt")
 TEXT = re.compile(r'^pub const (\w+): &str =\s*(?:r#"(.*?)"#|"((?:[0-9a-f]|\\\n *)*)");$', re.MULTILINE | re.DOTALL)
 
 

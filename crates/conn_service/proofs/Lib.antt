@@ -1,3 +1,4 @@
+pub mod DoorLaws
 pub mod MarkLemmas
 pub mod ServeLemmas
 pub mod StreamLemmas

@@ -2,5 +2,4 @@ pub mod DoorRuns
 pub mod Services
 pub mod Serving
 pub mod Streams
-pub mod laws
 pub mod private

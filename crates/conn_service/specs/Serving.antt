@@ -44,6 +44,7 @@ module _ {S : Type 0} (answers : S → Request → List ℕ → List ℕ → S �
   MarksAnswers first last before now (Some left) (Some held) =
       now.inlet.left ≢ Some left → AnsweredAtMark first last now left held
 
+  -- the same, with what the connection told before it was served
   abbrev pub KeepsMark : S → S → Link → Link → Type 0
   KeepsMark first last before now = MarksAnswers first last before now before.inlet.left before.outlet.held
 
@@ -102,6 +103,7 @@ module _ {S : Type 0} (answers : S → Request → List ℕ → List ℕ → S �
     pub quiet : now.inlet.faults ≡ before.inlet.faults
     pub holds : OutputHolds before.outlet now.outlet
 
+  -- how serving a connection came out: it was served to its end, a read or a write failed, or memory was wanted
   abbrev pub Serves : S → S → Link → Link → Result Ended ServeFault → Type 0
   Serves first last before now (Ok ended) = IsServed first last before now ended
   Serves first last before now (Err faults.Read) = FailsToRead first last before now

@@ -1,3 +1,4 @@
+//! The bytes of a connection that have no answer yet.
 ghost use Rattle.std.specs.Prelude.{◌≡◌, ◌≤◌, ◌++◌, [], drop, length, OnOk};
 
 use span_io::{Blob, OutOfMemory};

@@ -32,7 +32,8 @@ pub trait Service {
     ) -> Result<(), OutOfMemory>
         requires limits { AreLimits limits.now }
         requires asked { IsAsked request.now bytes.now }
-        ensures ok { OnOk result (Appends (answers limits.now) self.old self.new request.now bytes.now out.old out.new) }
+        ensures ok { OnOk result
+            (Appends (answers limits.now) self.old self.new request.now bytes.now out.old out.new) }
         ensures err { OnErr result (halts limits.now self.old request.now bytes.now self.new) }
         ensures leads { leads self.old self.new };
 

@@ -27,7 +27,8 @@ pub fn serve<C: Duplex, S: Service>(
     limits: &Limits,
 ) -> Result<Ended, ServeFault>
     requires { AreLimits limits.now }
-    ensures serves { Serves (S.answers limits.now) (S.halts limits.now) limits.now service.old service.new
+    ensures serves { Serves (S.answers limits.now)
+        (S.halts limits.now) limits.now service.old service.new
         (C.link conn.old) (C.link conn.new) result }
 
     // Whole requests have their answers before more bytes come.
@@ -59,7 +60,8 @@ fn serve_pieces<C: Duplex, S: Service>(
 ) -> Result<Ended, ServeFault>
     requires limits { AreLimits limits.now }
     requires room { 0 < length buffer.old }
-    ensures serves { Serves (S.answers limits.now) (S.halts limits.now) limits.now service.old service.new
+    ensures serves { Serves (S.answers limits.now)
+        (S.halts limits.now) limits.now service.old service.new
         (C.link conn.old) (C.link conn.new) result }
     ensures mark { KeepsMark (S.answers limits.now) S.leads limits.now service.old service.new
         (C.link conn.old) (C.link conn.new) }

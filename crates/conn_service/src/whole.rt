@@ -27,7 +27,8 @@ pub(crate) fn answer_whole<C: Duplex, S: Service>(
 ) -> Result<Option<Ended>, ServeFault>
     requires limits { AreLimits limits.now }
     requires known { Knows limits.now pending.old known.old }
-    ensures answers { AnswersWhole (S.answers limits.now) (S.halts limits.now) limits.now service.old service.new
+    ensures answers { AnswersWhole (S.answers limits.now)
+        (S.halts limits.now) limits.now service.old service.new
         (C.link conn.old) (C.link conn.new) pending.old pending.new result }
     ensures leads { S.leads service.old service.new }
     ensures known { result ≡ Ok None → Knows limits.now pending.new known.new }
@@ -70,7 +71,8 @@ fn reply<C: Duplex, S: Service>(
 ) -> Result<(), ServeFault>
     requires limits { AreLimits limits.now }
     requires asked { IsAsked request.now bytes.now }
-    ensures replies { Replies (S.answers limits.now) (S.halts limits.now) limits.now service.old service.new
+    ensures replies { Replies (S.answers limits.now)
+        (S.halts limits.now) limits.now service.old service.new
         (C.link conn.old) (C.link conn.new) request.now bytes.now result }
     ensures leads { S.leads service.old service.new }
 {

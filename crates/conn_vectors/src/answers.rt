@@ -3,8 +3,8 @@ ghost use Rattle.std.specs.Prelude.{◌≡◌, IsTrue};
 ghost use Rattle.http_conn.specs.Replies as told;
 
 use http_conn::answer;
+use row_tables::texts::ANSWERED;
 use span_io::Blob;
-use span_vectors::texts::ANSWERED;
 use std::alloc::Global;
 
 // Statuses, and their status lines (RFC 9110, section 15; of 431 RFC 6585, section 5).

@@ -5,9 +5,9 @@ use crate::requests::Told;
 use crate::texts::{after_word, append_often, joined};
 use http_conn::laws::known_stays;
 use http_conn::{Known, Next, next_request, next_request_from};
+use row_tables::texts::POSTED;
 use row_tables::{Field, Row, rows};
 use span_io::{Blob, Form, Limits, OutOfMemory};
-use span_vectors::texts::POSTED;
 use std::alloc::Global;
 use std::test::Fail;
 

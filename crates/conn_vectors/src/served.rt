@@ -5,10 +5,10 @@ mod failing;
 
 use crate::doors::{Course, connection};
 use crate::texts::{append_often, form_of, joined};
+use row_tables::texts::{ANSWERED, POSTED};
 use row_tables::{Row, rows};
 use span_gateway::{Ended, ServeFault, serve_connection};
 use span_io::{Blob, Form, Limits, OutOfMemory};
-use span_vectors::texts::{ANSWERED, POSTED};
 use std::alloc::Global;
 use std::test::Fail;
 

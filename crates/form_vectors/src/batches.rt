@@ -1,8 +1,8 @@
 //! Worked texts of batches in the binary protocol, with what an independent reader of jaeger.thrift says of them.
 ghost use Rattle.std.specs.Prelude.{ℕ, List, IfOk};
-ghost use Rattle.jaeger_model.specs.Batches.{IsBatchText};
+ghost use Rattle.jaeger_model.specs.Batch.{IsBatchText};
 ghost use Rattle.jaeger_model.specs.Counted.{IsCountedBatch};
-ghost use Rattle.thrift_binary.specs.Spelling.{binary_spells};
+ghost use Rattle.thrift_spellings.specs.BinarySpelling.{binary_spells};
 
 use jaeger_model::laws::reads_times;
 use jaeger_model::{Batch, JSpan, Log, SpanRef, TagValue, proper_sizes, read_batch, write_batch};

@@ -1,8 +1,8 @@
 //! Groups in OTLP/JSON: what is written of those that are read, and how many remarks there are.
 use otlp_json::{read_text, write_group};
+use row_tables::texts::{BARE_GROUP, FULL_GROUP, LINKED, SDK_GROUPS, VALUES_GROUP};
 use row_tables::{Row, rows};
 use span_io::{Blob, Items};
-use span_vectors::texts::{BARE_GROUP, FULL_GROUP, LINKED, SDK_GROUPS, VALUES_GROUP};
 use std::alloc::Global;
 use std::test::Fail;
 use trace_model::{Group, Remark};

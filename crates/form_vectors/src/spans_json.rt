@@ -1,7 +1,7 @@
 //! Spans of Zipkin: what is written of those that are read.
+use row_tables::texts::SHARED_SPANS;
 use row_tables::{Row, rows};
 use span_io::{Blob, OutOfMemory};
-use span_vectors::texts::SHARED_SPANS;
 use std::alloc::Global;
 use std::test::Fail;
 use zipkin_json::{ZSpan, read_text, write_span};

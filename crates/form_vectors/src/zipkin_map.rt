@@ -1,6 +1,6 @@
 //! Remarks on spans of Zipkin that are read as spans of OpenTelemetry.
 use map_zipkin::triple_of_span;
-use span_vectors::texts::MARKED_SPANS;
+use row_tables::texts::MARKED_SPANS;
 use std::alloc::Global;
 use std::test::Fail;
 use trace_model::{Remark, RemarkKind};

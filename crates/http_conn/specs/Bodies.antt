@@ -10,10 +10,12 @@ use Rattle.http_conn.specs.Fields.{Line, is_named, values, content_length, trans
 abbrev pub is_length : List ℕ → Bool
 is_length value = nat_le 1 (length value) && nat_le (length value) 18 && list_all is_ascii_digit value
 
+-- the length that a value says, in bytes, or a status: 400 where it is no length, 413 where it is above the limit
 abbrev pub length_in : ℕ → List ℕ → Result ℕ ℕ
 length_in most value =
     if is_length value then (if nat_le (digits_value 10 value) most then Ok (digits_value 10 value) else Err 413) else Err 400
 
+-- the method POST (RFC 9110, section 9.3.3)
 abbrev pub post : List ℕ
 post = codes "POST"
 

@@ -9,6 +9,7 @@ use Rattle.httparse.specs.Spans.{name_and_value}
 abbrev pub Line : Type 0
 Line = List ℕ × List ℕ
 
+-- the field lines of the head of a request, in their order
 abbrev pub lines_of : RequestHead → List Line
 lines_of h = map name_and_value h.fields
 
@@ -20,18 +21,23 @@ is_named name line = str_eq_ignore_ascii_case line.0 name
 abbrev pub values : List ℕ → List Line → List (List ℕ)
 values name lines = map (λ line. line.1) (filter (is_named name) lines)
 
+-- the field of options for this connection alone (RFC 9110, section 7.6.1)
 abbrev pub connection : List ℕ
 connection = codes "Connection"
 
+-- the field of the codings that were applied to the content (RFC 9110, section 8.4)
 abbrev pub content_encoding : List ℕ
 content_encoding = codes "Content-Encoding"
 
+-- the field of the content's length in bytes (RFC 9110, section 8.6)
 abbrev pub content_length : List ℕ
 content_length = codes "Content-Length"
 
+-- the field of the content's media type (RFC 9110, section 8.3)
 abbrev pub content_type : List ℕ
 content_type = codes "Content-Type"
 
+-- the field of the codings of the body as it is sent (RFC 9112, section 6.1)
 abbrev pub transfer_encoding : List ℕ
 transfer_encoding = codes "Transfer-Encoding"
 
@@ -39,6 +45,6 @@ transfer_encoding = codes "Transfer-Encoding"
 abbrev pub before : ℕ → List ℕ → List ℕ
 before mark text = take (position_or_len (λ b. b == mark) text) text
 
--- whether a connection ends with the answer: in HTTP/1.0, and by the connection option "close" (RFC 9112, section 9.3)
+-- whether a connection ends with the answer: in HTTP/1.0, and by a field `Connection` of the value "close" alone (RFC 9112, section 9.3)
 abbrev pub closes : ℕ → List Line → Bool
 closes minor lines = minor == 0 || list_any (λ v. str_eq_ignore_ascii_case v (codes "close")) (values connection lines)

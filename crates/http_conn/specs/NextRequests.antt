@@ -20,6 +20,7 @@ abbrev pub verdict_of : Result Form ℕ → ℕ
 verdict_of (Ok form) = 0
 verdict_of (Err status) = status
 
+-- the form of the body, none where there is a status instead
 abbrev pub form_of : Result Form ℕ → Option Form
 form_of (Ok form) = Some form
 form_of (Err status) = None
@@ -31,6 +32,7 @@ with_body h at (Ok n) =
     let verdict = judged h.method h.target (lines_of h) in
     Ok (record { verdict = verdict_of verdict; form = form_of verdict; body_at = at; length = at + n; close = closes h.minor (lines_of h) })
 
+-- the request of a head, whose body begins at this place, or the status by which it is refused for its body
 abbrev pub request_of : Limits → RequestHead → ℕ → Result Request ℕ
 request_of limits h at = with_body h at (body_length limits.body h.method (lines_of h))
 
@@ -63,6 +65,7 @@ pub record HasHead (limits : Limits) (bytes : List ℕ) (next : Next) : Type 0 w
   pub tells : Tells limits (take (place + 4) bytes) told
   pub next_is : next ≡ next_by (length bytes) told
 
+-- no head ends in as many of the bytes as a head may have: more are needed, or it is too long
 pub record HasNoHead (limits : Limits) (bytes : List ℕ) (next : Next) : Type 0 where
   pub nowhere : EndsNowhere (take limits.head bytes)
   pub next_is : next ≡ unended limits.head (length bytes)

@@ -20,9 +20,11 @@ path_for JaegerBinary = codes "/api/traces"
 path_for JaegerCompact = codes "/api/traces"
 path_for ZipkinJson = codes "/api/v2/spans"
 
+-- the request line: the method, the path of the form, and the version HTTP/1.1 (RFC 9112, section 3)
 abbrev pub post_line : Form → List ℕ
 post_line form = codes "POST " ++ (path_for form ++ codes " HTTP/1.1\r\n")
 
+-- the field line "Host", with the address to which the request goes (RFC 9110, section 7.2)
 abbrev pub host_line : List ℕ → List ℕ
 host_line address = codes "Host: " ++ (address ++ crlf_bytes)
 

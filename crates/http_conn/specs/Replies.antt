@@ -7,6 +7,7 @@ use Rattle.httparse.specs.Ascii.{space, crlf_bytes}
 abbrev pub statuses : List ℕ
 statuses = 200 ∷ 202 ∷ 400 ∷ 404 ∷ 405 ∷ 411 ∷ 413 ∷ 415 ∷ 422 ∷ 431 ∷ 501 ∷ 503 ∷ []
 
+-- a status is one of those
 abbrev pub is_status : ℕ → Bool
 is_status status = list_any (λ s. s == status) statuses
 
@@ -26,6 +27,7 @@ reason status =
     else (if status == 501 then codes "Not Implemented"
     else (if status == 503 then codes "Service Unavailable" else [])))))))))))
 
+-- the version HTTP/1.1, the status and its reason phrase (RFC 9112, section 4)
 abbrev pub status_line : ℕ → List ℕ
 status_line status = codes "HTTP/1.1 " ++ (decimal status ++ (space ∷ [] ++ (reason status ++ crlf_bytes)))
 
@@ -34,9 +36,11 @@ unfoldable pub type_line : List ℕ → List ℕ
 type_line [] = []
 type_line (c ∷ rest) = codes "Content-Type: " ++ (c ∷ rest ++ crlf_bytes)
 
+-- the field line "Content-Length": how many bytes the content has (RFC 9110, section 8.6)
 abbrev pub length_line : ℕ → List ℕ
 length_line count = codes "Content-Length: " ++ (decimal count ++ crlf_bytes)
 
+-- the field line "Connection: close" where the connection ends behind the answer, else nothing (RFC 9112, section 9.6)
 unfoldable pub close_line : Bool → List ℕ
 close_line close = cond close (codes "Connection: close\r\n") []
 

@@ -24,6 +24,7 @@ MarksRequest now request None held = ⊤
 MarksRequest now request (Some left) None = ⊤
 MarksRequest now request (Some left) (Some held) = now.inlet.left ≢ Some left → AskedAtMark now left held request
 
+-- the same, with what the connection told before the request was sent
 abbrev pub KeepsMark : Link → Link → List ℕ → Type 0
 KeepsMark before now request = MarksRequest now request before.inlet.left before.outlet.held
 

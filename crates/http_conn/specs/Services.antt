@@ -19,6 +19,7 @@ question_mark = 63
 abbrev pub path_of : List ℕ → List ℕ
 path_of target = before question_mark target
 
+-- the service of a path, byte for byte, none where the path is another
 abbrev pub service_at : List ℕ → Option Service
 service_at path =
     if bytes_eq path (codes "/v1/traces") then Some Otlp
@@ -47,6 +48,7 @@ form_taken Jaeger value =
     else (if is_type (codes "application/vnd.apache.thrift.binary") value then Some JaegerBinary else None)
 form_taken Zipkin value = if is_type (codes "application/json") value then Some ZipkinJson else None
 
+-- the form, or the status 415 where the media type is none that is taken
 abbrev pub or_unsupported : Option Form → Result Form ℕ
 or_unsupported None = Err 415
 or_unsupported (Some form) = Ok form
@@ -57,6 +59,7 @@ form_by service [] = Err 415
 form_by service (value ∷ []) = or_unsupported (form_taken service value)
 form_by service (value ∷ other ∷ others) = Err 415
 
+-- 404 where there is no service; 405 where the method isn't POST; 415 where the content is encoded, or for its media type
 abbrev pub form_at : Option Service → List ℕ → List Line → Result Form ℕ
 form_at None method lines = Err 404
 form_at (Some service) method lines =

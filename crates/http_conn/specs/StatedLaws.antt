@@ -18,7 +18,8 @@ pub record OneNextRequest : Type 0 where
 -- nothing is known of bytes at first, and what is known stays known, whatever bytes come
 pub record KnownStays : Type 0 where
   pub first : (limits : Limits) (bytes : List ℕ) → Knows limits bytes (Searched 0)
-  pub stays : (limits : Limits) (bytes more : List ℕ) (known : Known) → Knows limits bytes known → Knows limits (bytes ++ more) known
+  pub stays : (limits : Limits) (bytes more : List ℕ) (known : Known) → Knows limits bytes known
+      → Knows limits (bytes ++ more) known
 
 -- A request without a form has the status of its answer, and a refusal has its own.
 abbrev pub HasStatus : Next → Type 0
@@ -28,6 +29,7 @@ HasStatus (Refuse status) = IsTrue (is_status status)
 
 -- a whole request lies in its bytes, each status is one that is written, and more is needed than nothing
 pub record WholeRequests : Type 0 where
-  pub within : (limits : Limits) (bytes : List ℕ) (next : Next) → IsNext limits bytes next → IfWhole next (IsWithin (length bytes))
+  pub within : (limits : Limits) (bytes : List ℕ) (next : Next) → IsNext limits bytes next
+      → IfWhole next (IsWithin (length bytes))
   pub status : (limits : Limits) (bytes : List ℕ) (next : Next) → IsNext limits bytes next → HasStatus next
   pub none : (limits : Limits) → AreLimits limits → IsNext limits [] Need

@@ -14,7 +14,8 @@ use span_io::Limits;
 /// (RFC 9112, section 4).
 pub fn answer_status(bytes: &[u8], limits: &Limits) -> Option<u16>
     ensures some { IfSome result (TellsStatus limits.now.head bytes.now) }
-    ensures only { (status : ℕ) → TellsStatus limits.now.head bytes.now status → result ≡ Some status }
+    ensures only { (status : ℕ) → TellsStatus limits.now.head bytes.now status
+        → result ≡ Some status }
 {
     let place = find_end(front(bytes, limits.head), 0)?;
     read_status(front(bytes, place + 4))
@@ -38,7 +39,8 @@ fn parse(bytes: &[u8], spans: &mut [HeaderSpan]) -> Option<ResponseSpans>
     ensures within { IfSome result (IsResponseWithin bytes.now spans.new) }
     ensures head { IfSome result (IsResponseOf bytes.now spans.new) }
     ensures found { (h : ResponseHead) (rest : List ℕ) → ReadsResponse bytes.now h rest
-        → length h.fields ≤ length spans.old → IsSomeAnd result (λ parts. IsResponseAt bytes.now spans.new parts h) }
+        → length h.fields ≤ length spans.old
+        → IsSomeAnd result (λ parts. IsResponseAt bytes.now spans.new parts h) }
 {
     match parse_response(bytes, spans) {
         Ok(Status::Complete(parts)) => Some(parts),

@@ -18,7 +18,8 @@ use span_io::Form;
 
 // The length of the body, of at most so many bytes, or the status of a refusal.
 pub(crate) fn body_length(head: &Head<'_>, most: usize) -> Result<usize, u16>
-    ensures told { (h : RequestHead) → IsHead head.now h → result ≡ told.body_length most h.method (lines_of h) }
+    ensures told { (h : RequestHead) → IsHead head.now h
+        → result ≡ told.body_length most h.method (lines_of h) }
     ensures fits { IfOk result (λ length. length ≤ most) }
 {
     if head.fields.transfer {
@@ -93,7 +94,8 @@ fn number(digits: &[u8]) -> usize
 
 // The form of the body, or the status of the verdict.
 pub(crate) fn judge(head: &Head<'_>) -> Result<Form, u16>
-    ensures { (h : RequestHead) → IsHead head.now h → result ≡ judged h.method h.target (lines_of h) }
+    ensures { (h : RequestHead) → IsHead head.now h
+        → result ≡ judged h.method h.target (lines_of h) }
 {
     let Some(service) = Service::at(text_before(head.target, b'?')) else {
         return Err(status::NOT_FOUND);

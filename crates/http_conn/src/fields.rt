@@ -16,7 +16,8 @@ pub(crate) enum Once<'a> {
 impl<'a> Once<'a> {
     // With one value more.
     fn and(self, value: &'a [u8]) -> Once<'a>
-        ensures { (values : List (List ℕ)) → HoldsOnce self.entry values → HoldsOnce result (values ++ value.now ∷ []) }
+        ensures { (values : List (List ℕ)) → HoldsOnce self.entry values
+            → HoldsOnce result (values ++ value.now ∷ []) }
     {
         match self {
             Once::Missing => Once::At(value),
@@ -67,7 +68,8 @@ impl<'a> Fields<'a> {
 
     // With one line more.
     pub(crate) fn with(self, name: &[u8], value: &'a [u8]) -> Fields<'a>
-        ensures { (lines : List Line) → FoundIn self.entry lines → FoundIn result (lines ++ (name.now, value.now) ∷ []) }
+        ensures { (lines : List Line) → FoundIn self.entry lines
+            → FoundIn result (lines ++ (name.now, value.now) ∷ []) }
     {
         Fields {
             close: self.close || is_close(name, value),

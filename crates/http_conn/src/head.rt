@@ -23,7 +23,8 @@ pub(crate) struct Head<'a> {
 // The head that the bytes are, if they are one.
 pub(crate) fn read_head(bytes: &[u8]) -> Option<Head<'_>>
     requires { has_too_many_lines bytes.now ≡ false }
-    ensures some { IfSome result (λ read. (h : RequestHead) × ReadsRequest bytes.now h [] × IsHead read h) }
+    ensures some { IfSome result
+        (λ read. (h : RequestHead) × ReadsRequest bytes.now h [] × IsHead read h) }
     ensures none { IfNone result ((h : RequestHead) → ¬ (ReadsRequest bytes.now h [])) }
 {
     let mut spans = [EMPTY_HEADER_SPAN; MOST_LINES];
@@ -73,7 +74,8 @@ fn find_fields<'a>(bytes: &'a [u8], spans: &[HeaderSpan]) -> Fields<'a>
 
 fn with_line<'a>(found: Fields<'a>, bytes: &'a [u8], span: &HeaderSpan) -> Fields<'a>
     requires { IsHeaderWithin (length bytes.now) span.now }
-    ensures { (lines : List Line) → FoundIn found.entry lines → FoundIn result (lines ++ header_bytes bytes.now span.now ∷ []) }
+    ensures { (lines : List Line) → FoundIn found.entry lines
+        → FoundIn result (lines ++ header_bytes bytes.now span.now ∷ []) }
 {
     let name = span.name.of(bytes);
     let value = span.value.of(bytes);

@@ -1,3 +1,4 @@
+//! What stands next in the bytes of a connection.
 use span_io::Form;
 
 /// What stands at the front of the bytes that have no answer yet.

@@ -20,7 +20,8 @@ pub fn answer(
 ) -> Result<(), OutOfMemory>
     requires { IsTrue (is_status status) }
     ensures ok { OnOk result (out.new ≡ out.old ++ answer_text status kind.now body.now close) }
-    ensures err { OnErr result (GrowsFront out.old out.new (answer_text status kind.now body.now close)) }
+    ensures err { OnErr result
+        (GrowsFront out.old out.new (answer_text status kind.now body.now close)) }
 {
     write_status(out, status)?;
     write_type(out, kind.as_bytes())?;
@@ -55,8 +56,10 @@ pub(crate) fn write_type(out: &mut Blob, kind: &[u8]) -> Result<(), OutOfMemory>
 
 #[tactic(auto, using(crate::proofs::Growth::in_pieces))]
 fn write_kind(out: &mut Blob, kind: &[u8]) -> Result<(), OutOfMemory>
-    ensures ok { OnOk result (out.new ≡ out.old ++ (codes "Content-Type: " ++ (kind.now ++ crlf_bytes))) }
-    ensures err { OnErr result (GrowsFront out.old out.new (codes "Content-Type: " ++ (kind.now ++ crlf_bytes))) }
+    ensures ok { OnOk result
+        (out.new ≡ out.old ++ (codes "Content-Type: " ++ (kind.now ++ crlf_bytes))) }
+    ensures err { OnErr result
+        (GrowsFront out.old out.new (codes "Content-Type: " ++ (kind.now ++ crlf_bytes))) }
 {
     out.append(b"Content-Type: ")?;
     out.append_both(kind, b"\r\n")

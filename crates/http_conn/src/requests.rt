@@ -100,7 +100,8 @@ fn request_in(head: &[u8], limits: &Limits) -> Result<Request, u16>
     requires limits { AreLimits limits.now }
     requires short { length head.now ≤ limits.now.head }
     ensures tells { Tells limits.now head.now result }
-    ensures within { IfOk result (λ request. (request.body_at ≡ length head.now) × (length head.now ≤ request.length)) }
+    ensures within { IfOk result
+        (λ request. (request.body_at ≡ length head.now) × (length head.now ≤ request.length)) }
 {
     if has_lone_feed(head) {
         return Err(status::BAD_REQUEST);
@@ -118,8 +119,10 @@ fn request_in(head: &[u8], limits: &Limits) -> Result<Request, u16>
 fn request_of(head: &Head<'_>, body_at: usize, limits: &Limits) -> Result<Request, u16>
     requires limits { AreLimits limits.now }
     requires short { body_at ≤ limits.now.head }
-    ensures told { (h : RequestHead) → IsHead head.now h → result ≡ request_of limits.now h body_at }
-    ensures within { IfOk result (λ request. (request.body_at ≡ body_at) × (body_at ≤ request.length)) }
+    ensures told { (h : RequestHead) → IsHead head.now h
+        → result ≡ request_of limits.now h body_at }
+    ensures within { IfOk result
+        (λ request. (request.body_at ≡ body_at) × (body_at ≤ request.length)) }
 {
     let length = body_length(head, limits.body)?;
     let (verdict, form) = parts_of(judge(head));

@@ -38,10 +38,12 @@ pub fn send_over<C: Duplex>(
     limits: &Limits,
 ) -> Result<u16, SendFault>
     requires { IsTrue (is_address address.now) }
-    ensures sends { SendsOver limits.now.head (C.link conn.old) (C.link conn.new) (post_text address.now form body.now) result }
+    ensures sends { SendsOver limits.now.head (C.link conn.old) (C.link conn.new)
+        (post_text address.now form body.now) result }
 
     // The request was written before the first read, and no read came behind the end of a head.
-    ensures mark { KeepsMark (C.link conn.old) (C.link conn.new) (post_text address.now form body.now) }
+    ensures mark { KeepsMark (C.link conn.old) (C.link conn.new)
+        (post_text address.now form body.now) }
 {
     let (front, rest) = body.split_at(joined(body.len()));
     let Ok(piece) = first_piece(alloc, address, form, body.len(), front) else {
@@ -77,7 +79,8 @@ fn exchange<C: Duplex>(
     second: &[u8],
     buffer: &mut [u8],
 ) -> Result<u16, SendFault>
-    ensures sends { SendsOver (length buffer.old) (C.link conn.old) (C.link conn.new) (first.now ++ second.now) result }
+    ensures sends { SendsOver (length buffer.old) (C.link conn.old) (C.link conn.new)
+        (first.now ++ second.now) result }
     ensures mark { KeepsMark (C.link conn.old) (C.link conn.new) (first.now ++ second.now) }
 {
     gains_then();

@@ -8,28 +8,29 @@ use Rattle.span_io.specs.declared.cause.Cause.{Cause}
 use Rattle.span_io.specs.declared.halt.Halt.{Halt}
 use Rattle.span_io.specs.declared.halt.Halt.TheVariants as halts
 use Rattle.span_io.specs.Offences.{OnHalt, Judges}
-use Rattle.span_io.specs.laws.OffenceLaws.{FormatLaws, RulesLaws}
+use Rattle.span_io.specs.Offences.{FormatLaws, RulesLaws}
 use Rattle.span_io.specs.RowsSoFar.{Gave}
 use Rattle.span_io.specs.Tables.{IsFree}
-use Rattle.span_io.specs.laws.TableLaws.{TableShape, table_rules}
+use Rattle.span_io.proofs.TableLaws.{TableShape, table_rules}
 use Rattle.thrift_core.specs.declared.field.Field.{Field}
 use Rattle.thrift_core.specs.declared.type_code.TypeCode.{TypeCode}
 use Rattle.thrift_core.specs.declared.type_code.TypeCode.TheVariants as kinds
 use Rattle.thrift_core.specs.FieldValues.{values_of, i64_in, struct_in, list_in}
-use Rattle.thrift_core.specs.Messages.{FieldItem, FieldStands, structs, fields_of}
+use Rattle.thrift_core.specs.Messages.{FieldItem, structs, fields_of}
+use Rattle.thrift_core.specs.private.StandingFields.{FieldStands}
 use Rattle.thrift_core.specs.Parts.{Spelling}
 use Rattle.thrift_core.specs.Trees.{truth_value, i8, i16, i32, i64, double, Tree, leaf, binary, structure, map_of, set_of, list_of, Fields, Trees, kind_of, ValueThen}
 use Rattle.jaeger_model.proofs.FieldLemmas.{Unknown, given_none, i64_none, values_given}
 use Rattle.jaeger_model.proofs.LogLemmas.{list_none, none_given, process_laws}
 use Rattle.jaeger_model.proofs.RowShapes.{given_few, struct_few, plain_shape, long_shape, structure_shape, structures_shape}
 use Rattle.jaeger_model.proofs.SpanTable.{span_laws}
-use Rattle.jaeger_model.specs.Batches.{AtMostOne, batch_table, batch_ends, batch_rules}
+use Rattle.jaeger_model.specs.Batch.{AtMostOne, batch_table, batch_ends, batch_rules}
 use Rattle.jaeger_model.specs.InnerRows.{with_text}
-use Rattle.jaeger_model.specs.ListsSoFar.{MeansOne}
+use Rattle.jaeger_model.specs.private.ListsSoFar.{MeansOne}
 use Rattle.jaeger_model.specs.Meanings.{Required}
-use Rattle.jaeger_model.specs.Processes.{process_rules}
+use Rattle.jaeger_model.specs.Process.{process_rules}
 use Rattle.jaeger_model.specs.Rows.{given_to}
-use Rattle.jaeger_model.specs.Spans.{jspan_rules}
+use Rattle.jaeger_model.specs.Span.{jspan_rules}
 
 module _ (Spells : Spelling) (laws : (m : ℕ) → FormatLaws (structs Spells m)) (left : ℕ) where
   pub batch_shape : TableShape (structs Spells left) (batch_table Spells left) 0

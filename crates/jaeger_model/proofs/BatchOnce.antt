@@ -2,11 +2,11 @@
 use Rattle.std.proofs.Common.{◌≡◌, ◌∷◌, ℕ, ◌+◌, zero, suc, ℤ, pos, Bool, true, false, Option, Some, None, List, [], is_none, inl, inr, refl, sym, ap, subst, ◌∙◌, arith}
 use Rattle.std.specs.List.{flat_map, count_by}
 use Rattle.span_ids.specs.Times.{nanos}
-use Rattle.span_io.specs.laws.RowLaws.{singular_once}
+use Rattle.span_io.proofs.RowLaws.{singular_once}
 use Rattle.span_io.specs.Tables.{Singular, MeansText}
 use Rattle.thrift_core.specs.FieldValues.{values_of, truth_in, i32_in, i64_in, double_in, binary_in, struct_in, list_in, IsStructOf, EachStruct}
 use Rattle.thrift_core.specs.Trees.{Tree, leaf, binary, structure, map_of, set_of, list_of, Fields, Trees, no_trees, tree_then}
-use Rattle.jaeger_model.specs.Batches.{MeansSpans, IsBatch}
+use Rattle.jaeger_model.specs.Batch.{MeansSpans, IsBatch}
 use Rattle.jaeger_model.specs.declared.batch.Batch.{Batch}
 use Rattle.jaeger_model.specs.declared.process.Process.{Process}
 use Rattle.jaeger_model.specs.declared.span.JSpan.{JSpan}
@@ -16,12 +16,12 @@ use Rattle.jaeger_model.specs.declared.tag.Tag.{Tag}
 use Rattle.jaeger_model.specs.declared.tag.TagValue.{TagValue}
 use Rattle.jaeger_model.specs.declared.tag.TagValue.TheVariants as values
 use Rattle.jaeger_model.specs.Identifiers.{span_id_of, trace_id_of}
-use Rattle.jaeger_model.specs.Logs.{MeansTags, IsLog}
+use Rattle.jaeger_model.specs.Log.{MeansTags, IsLog}
 use Rattle.jaeger_model.specs.Meanings.{Required, Means, MeansTime, MeansEnum}
-use Rattle.jaeger_model.specs.Processes.{IsProcess, MeansProcess}
-use Rattle.jaeger_model.specs.References.{reference_number, IsPointed, IsSpanRef}
-use Rattle.jaeger_model.specs.Spans.{kept_reference, MeansReferences, MeansLogs, IsJSpan}
-use Rattle.jaeger_model.specs.Tags.{type_of, no_double, HeldByTag, IsNamed, IsTag}
+use Rattle.jaeger_model.specs.Process.{IsProcess, MeansProcess}
+use Rattle.jaeger_model.specs.Reference.{reference_number, IsPointed, IsSpanRef}
+use Rattle.jaeger_model.specs.Span.{kept_reference, MeansReferences, MeansLogs, IsJSpan}
+use Rattle.jaeger_model.specs.Tag.{type_of, no_double, HeldByTag, IsNamed, IsTag}
 
 -- ---- what a field means
 

@@ -6,16 +6,16 @@ use Rattle.span_io.specs.declared.cause.Cause.{Cause}
 use Rattle.span_io.specs.declared.cause.Cause.TheVariants as causes
 use Rattle.span_io.specs.declared.halt.Halt.{Halt}
 use Rattle.span_io.specs.declared.halt.Halt.TheVariants as halts
-use Rattle.span_io.specs.laws.OffenceLaws.{FormatLaws}
+use Rattle.span_io.specs.Offences.{FormatLaws}
 use Rattle.span_io.specs.Offences.{Least, Judges, OnlyReads}
 use Rattle.span_io.specs.Tables.{Singular, Values, Mean, givens, nothing_inside}
 use Rattle.thrift_core.specs.FieldValues.{values_of, i64_in, struct_in, list_in}
 use Rattle.thrift_core.specs.Messages.{FieldItem, structs, fields_of}
-use Rattle.thrift_core.specs.laws.OneReading.{one_fields}
+use Rattle.thrift_core.proofs.OneReading.{one_fields}
 use Rattle.thrift_core.specs.Parts.{Part, Spelling}
 use Rattle.thrift_core.specs.Protocols.{ReadsExactly, PartLaws}
 use Rattle.thrift_core.specs.Reading.{ReadingOf}
-use Rattle.thrift_core.specs.laws.StructLaws.{struct_laws}
+use Rattle.thrift_core.proofs.StructLaws.{struct_laws}
 use Rattle.thrift_core.specs.Trees.{Tree, Fields, outer_levels}
 use Rattle.jaeger_model.proofs.BatchLemmas.{batch_laws}
 use Rattle.jaeger_model.proofs.BatchOnce.{batch_once}
@@ -26,14 +26,14 @@ use Rattle.jaeger_model.proofs.RowShapes.{given_few, struct_few}
 use Rattle.jaeger_model.proofs.SpanProofs.{span_struct}
 use Rattle.jaeger_model.proofs.StructProofs.{long_proof, structures_proof, structure_proof, struct_proof, given_back, given_on, inner_back, inner_on, given_nothing, inner_nothing}
 use Rattle.jaeger_model.proofs.StructRows.{TableProof, TableFound, AtEnd}
-use Rattle.jaeger_model.specs.Batches.{MeansSpans, MeansNothing, AtMostOne, IsBatch, IsBatchText, batch_table, batch_ends, batch_rules}
+use Rattle.jaeger_model.specs.Batch.{MeansSpans, MeansNothing, AtMostOne, IsBatch, IsBatchText, batch_table, batch_ends, batch_rules}
 use Rattle.jaeger_model.specs.declared.batch.Batch.{Batch}
 use Rattle.jaeger_model.specs.declared.process.Process.{Process}
 use Rattle.jaeger_model.specs.StatedLaws.{BatchOffends, OneBatch, SomeBatch}
 use Rattle.jaeger_model.specs.Meanings.{Means}
-use Rattle.jaeger_model.specs.Processes.{IsProcess, MeansProcess, process_rules}
+use Rattle.jaeger_model.specs.Process.{IsProcess, MeansProcess, process_rules}
 use Rattle.jaeger_model.specs.Rows.{nothing_wrong, given_to, required, or_else}
-use Rattle.jaeger_model.specs.Spans.{IsJSpan, jspan_rules}
+use Rattle.jaeger_model.specs.Span.{IsJSpan, jspan_rules}
 
 -- ---- fields that mean nothing
 

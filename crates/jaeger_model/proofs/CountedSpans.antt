@@ -3,11 +3,11 @@ use Rattle.std.proofs.Common.{List, [], ◌∷◌, All, Option, Some, Result, Ok
 use Rattle.span_io.specs.RowsSoFar.{Gave}
 use Rattle.thrift_core.specs.FieldValues.{IsStructOf, EachStruct}
 use Rattle.thrift_core.specs.Trees.{structure, Tree, Trees, no_trees, tree_then, Fields}
-use Rattle.jaeger_model.specs.Batches.{MeansSpans}
+use Rattle.jaeger_model.specs.Batch.{MeansSpans}
 use Rattle.jaeger_model.specs.Counted.{IsCountedSpan}
 use Rattle.jaeger_model.specs.Meanings.{Required}
-use Rattle.jaeger_model.specs.Spans.{IsJSpan}
-use Rattle.jaeger_model.specs.SpanSoFar.{IsReadJSpan}
+use Rattle.jaeger_model.specs.Span.{IsJSpan}
+use Rattle.jaeger_model.specs.private.SpanSoFar.{IsReadJSpan}
 use Rattle.jaeger_model.specs.declared.span.JSpan.{JSpan}
 use Rattle.jaeger_model.proofs.ReadTimes.{of_trees}
 

@@ -3,7 +3,7 @@ use Rattle.std.proofs.Common.{ap, subst}
 use Rattle.thrift_core.specs.Parts.{Spelling}
 use Rattle.thrift_core.specs.Protocols.{WritingOf}
 use Rattle.thrift_core.specs.Written.{Keeping}
-use Rattle.jaeger_model.specs.Batches.{IsBatchText}
+use Rattle.jaeger_model.specs.Batch.{IsBatchText}
 use Rattle.jaeger_model.specs.Canonical.{batch_text}
 use Rattle.jaeger_model.specs.StatedLaws.{OneBatch}
 use Rattle.jaeger_model.specs.WrittenAgain.{WrittenAgain, EqualBatchTexts}

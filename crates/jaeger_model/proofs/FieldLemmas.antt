@@ -4,18 +4,19 @@ use Rattle.std.proofs.lemmas.Bool.{eqb-true, eq-eqb}
 use Rattle.std.specs.List.{flat_map}
 use Rattle.std.proofs.lemmas.List.Concat.{flat_map-cons}
 use Rattle.std.specs.Option.{unwrap_or}
-use Rattle.span_io.specs.laws.OffenceLaws.{none_in_item}
-use Rattle.span_io.specs.laws.RowLaws.{singular_or}
+use Rattle.span_io.proofs.OffenceLaws.{none_in_item}
+use Rattle.span_io.proofs.RowLaws.{singular_or}
 use Rattle.span_io.specs.RowsSoFar.{Gave}
 use Rattle.span_io.specs.Offences.{Format, HereOrInside}
-use Rattle.span_io.specs.laws.TableLaws.{TableShape, givens_more, free_here, free_inside, free_with}
+use Rattle.span_io.proofs.TableLaws.{TableShape, givens_more, free_here, free_inside, free_with}
 use Rattle.span_io.specs.Tables.{Row, Singular, Givens, givens, givens_with, IsFree, table_here, table_inside}
 use Rattle.thrift_core.specs.declared.field.Field.{Field}
 use Rattle.thrift_core.specs.declared.type_code.TypeCode.{TypeCode}
 use Rattle.thrift_core.specs.declared.type_code.TypeCode.TheVariants as kinds
 use Rattle.thrift_core.specs.FieldValues.{of_id, values_of, truth_in, i32_in, i64_in, double_in, binary_in}
-use Rattle.thrift_core.specs.Messages.{FieldItem, FieldStands, fields_of}
-use Rattle.thrift_core.specs.laws.OneReading.{Content, tree_of, of_kind, own_text}
+use Rattle.thrift_core.specs.Messages.{FieldItem, fields_of}
+use Rattle.thrift_core.specs.private.StandingFields.{FieldStands}
+use Rattle.thrift_core.proofs.OneReading.{Content, tree_of, of_kind, own_text}
 use Rattle.thrift_core.specs.Parts.{Spelling, Begins, truth, int, long, eight}
 use Rattle.thrift_core.specs.Trees.{truth_value, i8, i16, i32, i64, double, Tree, leaf, binary, structure, map_of, set_of, list_of, kind_of, BinaryThen, ValueThen}
 use Rattle.thrift_core.specs.Values.{BeginsValue}

@@ -7,14 +7,14 @@ use Rattle.span_io.specs.declared.cause.Cause.{Cause}
 use Rattle.span_io.specs.Tables.{Row, Singular, MeansText, IsFree}
 use Rattle.thrift_core.specs.FieldValues.{values_of, truth_in, i32_in, i64_in, double_in, binary_in, struct_in, list_in}
 use Rattle.thrift_core.specs.Messages.{FieldItem, fields_of}
-use Rattle.thrift_core.specs.laws.OneReading.{one_fields}
+use Rattle.thrift_core.proofs.OneReading.{one_fields}
 use Rattle.thrift_core.specs.Parts.{Part, Spelling}
 use Rattle.thrift_core.specs.Protocols.{ReadsExactly, PartLaws}
 use Rattle.thrift_core.specs.Reading.{ReadingOf}
 use Rattle.thrift_core.specs.Trees.{Tree, Fields, StructText, outer_levels}
 use Rattle.jaeger_model.proofs.FieldLemmas.{values_given}
 use Rattle.jaeger_model.proofs.StructProofs.{pairs_given}
-use Rattle.jaeger_model.specs.Batches.{MeansSpans, AtMostOne, IsBatch, IsBatchText, batch_table}
+use Rattle.jaeger_model.specs.Batch.{MeansSpans, AtMostOne, IsBatch, IsBatchText, batch_table}
 use Rattle.jaeger_model.specs.declared.batch.Batch.{Batch}
 use Rattle.jaeger_model.specs.declared.process.Process.{Process}
 use Rattle.jaeger_model.specs.declared.span.JSpan.{JSpan}
@@ -24,13 +24,13 @@ use Rattle.jaeger_model.specs.declared.tag.Tag.{Tag}
 use Rattle.jaeger_model.specs.Identifiers.{span_id_of}
 use Rattle.jaeger_model.specs.InnerRows.{with_text}
 use Rattle.jaeger_model.specs.StatedLaws.{SameButFree, no_more, on_both, on_this, on_that, PassesFreeFields, FreeFields}
-use Rattle.jaeger_model.specs.Logs.{MeansTags, IsLog, log_table}
+use Rattle.jaeger_model.specs.Log.{MeansTags, IsLog, log_table}
 use Rattle.jaeger_model.specs.Meanings.{Means, MeansTime, MeansEnum}
-use Rattle.jaeger_model.specs.Processes.{IsProcess, MeansProcess, process_table}
-use Rattle.jaeger_model.specs.References.{reference_number, IsSpanRef, reference_table}
+use Rattle.jaeger_model.specs.Process.{IsProcess, MeansProcess, process_table}
+use Rattle.jaeger_model.specs.Reference.{reference_number, IsSpanRef, reference_table}
 use Rattle.jaeger_model.specs.Rows.{given_to, required, or_else}
-use Rattle.jaeger_model.specs.Spans.{MeansReferences, MeansLogs, IsJSpan, or_empty, jspan_table}
-use Rattle.jaeger_model.specs.Tags.{no_double, IsTag, tag_table}
+use Rattle.jaeger_model.specs.Span.{MeansReferences, MeansLogs, IsJSpan, or_empty, jspan_table}
+use Rattle.jaeger_model.specs.Tag.{no_double, IsTag, tag_table}
 
 -- ---- what is given to a row
 

@@ -3,14 +3,14 @@ use Rattle.std.proofs.Common.{◌≡◌, ◌++◌, ◌∷◌, ◌==◌, if◌the
 use Rattle.std.specs.Prelude.{◌↔◌}
 use Rattle.std.specs.List.{AllZip}
 use Rattle.std.proofs.lemmas.Slice.Zip.{AllZip-long}
-use Rattle.span_io.specs.laws.RowLaws.{all_zip_append, all_zip_equal, all_zip_self, singular_moves}
+use Rattle.span_io.proofs.RowLaws.{all_zip_append, all_zip_equal, all_zip_self, singular_moves}
 use Rattle.span_io.specs.Tables.{Row, IsFree}
 use Rattle.thrift_core.specs.FieldValues.{of_id, values_of, truth_in, i32_in, i64_in, double_in, binary_in, struct_in, list_in, EachStruct}
 use Rattle.thrift_core.specs.Messages.{FieldItem}
 use Rattle.thrift_core.specs.Trees.{Tree, structure, list_of, Fields, no_fields, field_then, Trees, outer_levels}
 use Rattle.jaeger_model.proofs.FreeFields.{Holds, Moves, tag_moved, reference_moved, log_moved, process_moved, span_moved, batch_moved}
 use Rattle.jaeger_model.proofs.RowPairKinds.{ListAlike}
-use Rattle.jaeger_model.specs.Batches.{MeansSpans, IsBatch, batch_table}
+use Rattle.jaeger_model.specs.Batch.{MeansSpans, IsBatch, batch_table}
 use Rattle.jaeger_model.specs.declared.batch.Batch.{Batch}
 use Rattle.jaeger_model.specs.declared.process.Process.{Process}
 use Rattle.jaeger_model.specs.declared.span.JSpan.{JSpan}
@@ -19,12 +19,12 @@ use Rattle.jaeger_model.specs.declared.span.SpanRef.{SpanRef}
 use Rattle.jaeger_model.specs.declared.tag.Tag.{Tag}
 use Rattle.jaeger_model.specs.FreeAtAnyDepth.{FieldsPadded, no_more, on_both, inside, on_this, on_that, EachPadded, no_structs, struct_then, no_protocol, NothingInside, TagPadded, ReferencePadded, InTagged, its_tags, LogPadded, ProcessPadded, InSpan, references, tags, logs, JSpanPadded, InBatch, process, spans, stats}
 use Rattle.jaeger_model.specs.InnerRows.{with_text}
-use Rattle.jaeger_model.specs.Logs.{MeansTags, IsLog, log_table}
-use Rattle.jaeger_model.specs.Processes.{IsProcess, MeansProcess, process_table}
-use Rattle.jaeger_model.specs.References.{IsSpanRef, reference_table}
+use Rattle.jaeger_model.specs.Log.{MeansTags, IsLog, log_table}
+use Rattle.jaeger_model.specs.Process.{IsProcess, MeansProcess, process_table}
+use Rattle.jaeger_model.specs.Reference.{IsSpanRef, reference_table}
 use Rattle.jaeger_model.specs.Rows.{given_to, required, or_else}
-use Rattle.jaeger_model.specs.Spans.{MeansReferences, MeansLogs, IsJSpan, or_empty, jspan_table}
-use Rattle.jaeger_model.specs.Tags.{IsTag, tag_table}
+use Rattle.jaeger_model.specs.Span.{MeansReferences, MeansLogs, IsJSpan, or_empty, jspan_table}
+use Rattle.jaeger_model.specs.Tag.{IsTag, tag_table}
 
 -- nothing is held where nothing is held with its bytes
 pub bare_none : {X : Type 0} (text : List ℕ) (xs : List X) → with_text text xs ≡ [] → xs ≡ []

@@ -6,8 +6,9 @@ use Rattle.span_io.specs.Outside.{GrowsFront}
 use Rattle.thrift_core.specs.Parts.{header}
 use Rattle.thrift_core.specs.Protocols.{WritingOf, field_head}
 use Rattle.thrift_core.specs.Trees.{Tree, kind_of}
-use Rattle.thrift_core.specs.Written.{Keeping, given, value_written, fields_written, FieldRow, fields_of_rows, field_written, rows_written, last_id}
-use Rattle.thrift_core.specs.laws.WrittenLaws.{struct_written}
+use Rattle.thrift_core.specs.Written.{Keeping, given, value_written, fields_written, FieldRow, fields_of_rows, last_id}
+use Rattle.thrift_core.specs.private.WrittenParts.{field_written, rows_written}
+use Rattle.thrift_core.proofs.WrittenLaws.{struct_written}
 use Rattle.jaeger_model.specs.private.Growing.{GrowsBy}
 
 -- one piece, and then a front of the rest

@@ -2,7 +2,7 @@
 use Rattle.std.proofs.Common.{◌≡◌, ◌≤◌, ◌∷◌, ℕ, zero, suc, ℤ, pos, Bool, true, false, Option, Some, None, List, [], inl, inr, refl, sym, ap, ◌∙◌, arith}
 use Rattle.std.specs.List.{flat_map}
 use Rattle.span_io.specs.declared.cause.Cause.TheVariants as causes
-use Rattle.span_io.specs.laws.OffenceLaws.{FormatLaws}
+use Rattle.span_io.specs.Offences.{FormatLaws}
 use Rattle.span_io.specs.Tables.{MeansText, NotText, Values, Mean, givens}
 use Rattle.thrift_core.specs.FieldValues.{values_of, truth_in, i32_in, i64_in, double_in, binary_in}
 use Rattle.thrift_core.specs.Messages.{FieldItem, structs, fields_of}
@@ -16,13 +16,13 @@ use Rattle.jaeger_model.specs.declared.span.SpanRef.{SpanRef}
 use Rattle.jaeger_model.specs.declared.tag.Tag.{Tag}
 use Rattle.jaeger_model.specs.declared.tag.TagValue.{TagValue}
 use Rattle.jaeger_model.specs.declared.tag.TagValue.TheVariants as values
-use Rattle.jaeger_model.specs.declared.reading.tag_rows.TagType.{TagType}
-use Rattle.jaeger_model.specs.declared.reading.tag_rows.TagType.TheVariants as types
+use Rattle.jaeger_model.specs.declared.reading.tag.TagType.{TagType}
+use Rattle.jaeger_model.specs.declared.reading.tag.TagType.TheVariants as types
 use Rattle.jaeger_model.specs.Identifiers.{span_id_of, trace_id_of}
 use Rattle.jaeger_model.specs.Meanings.{Required, Means, MeansEnum}
-use Rattle.jaeger_model.specs.References.{reference_number, IsPointed, IsSpanRef, reference_table, reference_ends, reference_rules}
+use Rattle.jaeger_model.specs.Reference.{reference_number, IsPointed, IsSpanRef, reference_table, reference_ends, reference_rules}
 use Rattle.jaeger_model.specs.Rows.{nothing_wrong, BadEnum, SomeMissing, given_to, required, or_else}
-use Rattle.jaeger_model.specs.Tags.{type_of, no_double, HeldByTag, IsNamed, IsTag, tag_type_number, tag_required, tag_table, tag_ends, tag_rules}
+use Rattle.jaeger_model.specs.Tag.{type_of, no_double, HeldByTag, IsNamed, IsTag, tag_type_number, tag_required, tag_table, tag_ends, tag_rules}
 
 -- ---- tags
 

@@ -32,6 +32,7 @@ pub mod StructRows
 pub mod TagLemmas
 pub mod TreePairs
 pub mod TwoTexts
+pub mod WritableLaws
 pub mod WrittenLists
 pub mod WrittenMeanings
 pub mod WrittenTexts

@@ -5,7 +5,8 @@ use Rattle.span_io.specs.Causes.{cause_number}
 use Rattle.span_io.specs.declared.cause.Cause.{Cause}
 use Rattle.span_io.specs.declared.halt.Halt.{Halt}
 use Rattle.span_io.specs.declared.halt.Halt.TheVariants as halts
-use Rattle.span_io.specs.laws.OffenceLaws.{FormatLaws, RulesLaws, offence_within, least_here, least_inside, none_in_item}
+use Rattle.span_io.specs.Offences.{FormatLaws, RulesLaws}
+use Rattle.span_io.proofs.OffenceLaws.{offence_within, least_here, least_inside, none_in_item}
 use Rattle.span_io.specs.Offences.{Rules, Cut, Offence, unread, here, inside, at_end, Least, HereOrInside, Judges}
 use Rattle.span_io.specs.RowsSoFar.{Gave, Sets}
 use Rattle.span_io.specs.Tables.{Twice}
@@ -14,14 +15,14 @@ use Rattle.thrift_core.specs.declared.type_code.TypeCode.{TypeCode}
 use Rattle.thrift_core.specs.declared.type_code.TypeCode.TheVariants as kinds
 use Rattle.thrift_core.specs.FieldValues.{EachStruct}
 use Rattle.thrift_core.specs.Messages.{FieldItem, StructRest, structs, whole_struct}
-use Rattle.thrift_core.specs.laws.OneReading.{of_kind, value_front, own_text, one_part, one_value}
+use Rattle.thrift_core.proofs.OneReading.{of_kind, value_front, own_text, one_part, one_value}
 use Rattle.thrift_core.specs.Parts.{Part, list_head, Spelling, Begins}
 use Rattle.thrift_core.specs.Protocols.{ReadsExactly, PartLaws}
 use Rattle.thrift_core.specs.Reading.{ReadingOf}
-use Rattle.thrift_core.specs.laws.StructLaws.{struct_laws}
+use Rattle.thrift_core.proofs.StructLaws.{struct_laws}
 use Rattle.thrift_core.specs.Trees.{Tree, structure, list_of, Fields, Trees, no_trees, tree_then, tree_count, kind_of, ValueThen, ElementsThen, StructText}
 use Rattle.jaeger_model.specs.InnerRows.{IsOfOthers, BadElement, ElementsOffend, ListOffends}
-use Rattle.jaeger_model.specs.ListsSoFar.{AreElements}
+use Rattle.jaeger_model.specs.private.ListsSoFar.{AreElements}
 
 pub least_same : (A B : ℕ → ℕ → Type 0) → ((p n : ℕ) → A p n → B p n) → ((p n : ℕ) → B p n → A p n) → (n : ℕ) → Least A n → Least B n
 least_same A B to from n h = record { place = h.place; offence = to h.place n h.offence; least = λ p m o. h.least p m (from p m o) }

@@ -2,15 +2,16 @@
 use Rattle.std.proofs.Common.{◌≡◌, ◌-◌, ◌∷◌, ◌⊎◌, inl, inr, [], ℕ, zero, suc, Bool, List, Option, Some, None, of_z, w16, refl, sym, ap, subst, ◌∙◌, arith}
 use Rattle.std.specs.Prelude.{map}
 use Rattle.std.specs.List.{flat_map}
-use Rattle.span_io.specs.laws.OffenceLaws.{FormatLaws, RulesLaws}
+use Rattle.span_io.specs.Offences.{FormatLaws, RulesLaws}
 use Rattle.span_io.specs.RowsSoFar.{Gave}
 use Rattle.span_io.specs.Tables.{IsFree}
-use Rattle.span_io.specs.laws.TableLaws.{TableShape, table_rules}
+use Rattle.span_io.proofs.TableLaws.{TableShape, table_rules}
 use Rattle.thrift_core.specs.declared.field.Field.{Field}
 use Rattle.thrift_core.specs.declared.type_code.TypeCode.{TypeCode}
 use Rattle.thrift_core.specs.declared.type_code.TypeCode.TheVariants as kinds
 use Rattle.thrift_core.specs.FieldValues.{values_of, i64_in, binary_in, list_in, EachStruct}
-use Rattle.thrift_core.specs.Messages.{FieldItem, FieldStands, structs, fields_of}
+use Rattle.thrift_core.specs.Messages.{FieldItem, structs, fields_of}
+use Rattle.thrift_core.specs.private.StandingFields.{FieldStands}
 use Rattle.thrift_core.specs.Parts.{Spelling}
 use Rattle.thrift_core.specs.Trees.{truth_value, i8, i16, i32, i64, double, Tree, leaf, binary, structure, map_of, set_of, list_of, Fields, Trees, kind_of, ValueThen}
 use Rattle.jaeger_model.proofs.FieldLemmas.{Unknown, given_none, i64_none, binary_none, values_given}
@@ -18,12 +19,12 @@ use Rattle.jaeger_model.proofs.RowShapes.{long_shape, binary_shape, structures_s
 use Rattle.jaeger_model.proofs.SpanLemmas.{lists_given}
 use Rattle.jaeger_model.proofs.TagLemmas.{tag_laws}
 use Rattle.jaeger_model.specs.InnerRows.{with_text}
-use Rattle.jaeger_model.specs.ListsSoFar.{MeansEach}
-use Rattle.jaeger_model.specs.Logs.{log_table, log_ends, log_rules}
+use Rattle.jaeger_model.specs.private.ListsSoFar.{MeansEach}
+use Rattle.jaeger_model.specs.Log.{log_table, log_ends, log_rules}
 use Rattle.jaeger_model.specs.Meanings.{Required}
-use Rattle.jaeger_model.specs.Processes.{process_table, process_ends, process_rules}
+use Rattle.jaeger_model.specs.Process.{process_table, process_ends, process_rules}
 use Rattle.jaeger_model.specs.Rows.{given_to}
-use Rattle.jaeger_model.specs.Tags.{tag_rules}
+use Rattle.jaeger_model.specs.Tag.{tag_rules}
 
 module _ (Spells : Spelling) (laws : (m : ℕ) → FormatLaws (structs Spells m)) (left : ℕ) where
   pub log_shape : TableShape (structs Spells left) (log_table Spells left) 0

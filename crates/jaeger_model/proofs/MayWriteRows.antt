@@ -13,7 +13,7 @@ use Rattle.thrift_core.specs.Parts.{header, HasLevel}
 use Rattle.thrift_core.specs.Protocols.{MayWrite, IsGiven, field_head, last_size}
 use Rattle.thrift_core.specs.Trees.{truth_value, i8, i16, i32, i64, double, Tree, leaf, binary, structure, map_of, set_of, list_of, kind_of, outer_levels}
 use Rattle.thrift_core.specs.Written.{Keeping, given, FieldRow, fields_of_rows, struct_trees, MayWriteValue, MayWriteFields, MayWriteElements}
-use Rattle.thrift_core.specs.laws.WrittenLaws.{struct_count, struct_type}
+use Rattle.thrift_core.proofs.WrittenLaws.{struct_count, struct_type}
 use Rattle.thrift_core.specs.declared.type_code.TypeCode.TheVariants as kinds
 use Rattle.jaeger_model.specs.declared.batch.Batch.{Batch}
 use Rattle.jaeger_model.specs.declared.span.JSpan.{JSpan}
@@ -23,8 +23,8 @@ use Rattle.jaeger_model.specs.declared.tag.Tag.{Tag}
 use Rattle.jaeger_model.specs.declared.tag.TagValue.{TagValue}
 use Rattle.jaeger_model.specs.declared.tag.TagValue.TheVariants as values
 use Rattle.jaeger_model.specs.Canonical.{number_tree, id_tree, micros_tree, parent_tree, enum_tree, low_tree, high_tree, list_tree, filled_list, value_row, tag_rows, log_rows, reference_rows, reference_and_flag_rows, time_rows, tag_and_log_rows, jspan_rows, process_rows, batch_fields}
-use Rattle.jaeger_model.specs.References.{reference_number}
-use Rattle.jaeger_model.specs.Tags.{type_of}
+use Rattle.jaeger_model.specs.Reference.{reference_number}
+use Rattle.jaeger_model.specs.Tag.{type_of}
 use Rattle.span_ids.specs.Proper.{IsProperParent}
 use Rattle.jaeger_model.specs.Proper.{IsProperTagValue, IsProperTag, IsProperLog, IsProperReference, IsProperJSpan, IsProperBatch}
 use Rattle.span_io.specs.Sizes.{IsShort}

@@ -1,21 +1,23 @@
 -- A walk over the fields of a struct that is known to stand at the cursor.
 use Rattle.std.proofs.Common.{◌≡◌, ◌≤◌, ◌<◌, ◌++◌, ◌∷◌, ℕ, ℤ, pos, Bool, List, [], length, Result, Ok, Err, Option, Some, None, refl, sym, ap, subst, ◌∙◌, arith}
 use Rattle.std.proofs.lemmas.List.{append_assoc, append-nil, length-append}
-use Rattle.span_io.specs.laws.Cuts.{some_length}
+use Rattle.span_io.proofs.Cuts.{some_length}
 use Rattle.span_io.specs.declared.cause.Cause.{Cause}
 use Rattle.span_io.specs.declared.halt.Halt.{Halt}
-use Rattle.span_io.specs.Gathering.{GatheredAll}
-use Rattle.span_io.specs.laws.GatheringLaws.{Seen, seen_halt}
-use Rattle.span_io.specs.laws.OffenceLaws.{FormatLaws, RulesLaws, walked_start, walked_step, none_at_end, least_end}
+use Rattle.span_io.specs.private.Gathering.{GatheredAll}
+use Rattle.span_io.proofs.GatheringLaws.{Seen, seen_halt}
+use Rattle.span_io.specs.Offences.{FormatLaws, RulesLaws}
+use Rattle.span_io.proofs.OffenceLaws.{walked_start, walked_step, none_at_end, least_end}
 use Rattle.span_io.specs.Offences.{Rules, Offence, ItemOffends, Judges, OnHalt}
-use Rattle.span_io.specs.laws.TableLaws.{cut_whole}
+use Rattle.span_io.proofs.TableLaws.{cut_whole}
 use Rattle.thrift_core.specs.declared.field.Field.{Field}
-use Rattle.thrift_core.specs.Messages.{FieldItem, StructRest, BeginsField, structs, whole_struct, FieldStands, fields_of, AreFields}
-use Rattle.thrift_core.specs.laws.OneReading.{Front, value_front}
+use Rattle.thrift_core.specs.Messages.{FieldItem, StructRest, BeginsField, structs, whole_struct, fields_of}
+use Rattle.thrift_core.specs.private.StandingFields.{FieldStands, AreFields}
+use Rattle.thrift_core.proofs.OneReading.{Front, value_front}
 use Rattle.thrift_core.specs.Parts.{Part, WordOf, header, Spelling, Begins}
 use Rattle.thrift_core.specs.Protocols.{ReadsExactly, PartLaws}
 use Rattle.thrift_core.specs.Reading.{ReadingOf}
-use Rattle.thrift_core.specs.laws.StructLaws.{struct_laws}
+use Rattle.thrift_core.proofs.StructLaws.{struct_laws}
 use Rattle.thrift_core.specs.Trees.{Tree, Fields, no_fields, field_then, kind_of, ValueThen, FieldsThen, StructText}
 
 -- these fields, and then others

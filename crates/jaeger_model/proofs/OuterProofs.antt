@@ -3,14 +3,14 @@ use Rattle.std.proofs.Common.{◌-◌, ℕ, List, [], inl, inr, refl, arith}
 use Rattle.std.specs.List.{flat_map}
 use Rattle.span_io.specs.declared.cause.Cause.{Cause}
 use Rattle.span_io.specs.declared.cause.Cause.TheVariants as causes
-use Rattle.span_io.specs.laws.OffenceLaws.{FormatLaws}
+use Rattle.span_io.specs.Offences.{FormatLaws}
 use Rattle.span_io.specs.Tables.{MeansText, NotText, Values, Mean, givens}
 use Rattle.thrift_core.specs.FieldValues.{values_of, i64_in, binary_in, list_in}
 use Rattle.thrift_core.specs.Messages.{FieldItem, structs, fields_of}
 use Rattle.thrift_core.specs.Parts.{Part, Spelling}
 use Rattle.thrift_core.specs.Protocols.{ReadsExactly, PartLaws}
 use Rattle.thrift_core.specs.Reading.{ReadingOf}
-use Rattle.thrift_core.specs.laws.StructLaws.{struct_laws}
+use Rattle.thrift_core.proofs.StructLaws.{struct_laws}
 use Rattle.thrift_core.specs.Trees.{Trees}
 use Rattle.jaeger_model.proofs.LeafProofs.{tag_struct}
 use Rattle.jaeger_model.proofs.LogLemmas.{log_laws, process_laws, both_held}
@@ -20,11 +20,11 @@ use Rattle.jaeger_model.proofs.StructRows.{TableProof, TableFound, AtEnd}
 use Rattle.jaeger_model.specs.declared.process.Process.{Process}
 use Rattle.jaeger_model.specs.declared.span.Log.{Log}
 use Rattle.jaeger_model.specs.InnerRows.{with_text}
-use Rattle.jaeger_model.specs.Logs.{MeansTags, IsLog, log_table, log_ends, log_rules}
+use Rattle.jaeger_model.specs.Log.{MeansTags, IsLog, log_table, log_ends, log_rules}
 use Rattle.jaeger_model.specs.Meanings.{MeansTime}
-use Rattle.jaeger_model.specs.Processes.{IsProcess, process_table, process_ends, process_rules}
+use Rattle.jaeger_model.specs.Process.{IsProcess, process_table, process_ends, process_rules}
 use Rattle.jaeger_model.specs.Rows.{BadTime, given_to, required, or_else}
-use Rattle.jaeger_model.specs.Tags.{IsTag, tag_rules}
+use Rattle.jaeger_model.specs.Tag.{IsTag, tag_rules}
 
 module _ (Spells : Spelling) (reads : ReadingOf) (ThenVarint : Part → List ℕ → Type 0) (Refuses : Part → Cause → List ℕ → Type 0) (R : ReadsExactly Spells reads ThenVarint Refuses) (P : PartLaws Spells ThenVarint Refuses) where
   laws : (m : ℕ) → FormatLaws (structs Spells m)

@@ -13,16 +13,16 @@ use Rattle.thrift_core.specs.Parts.{Part, header, truth, byte, short, int, long,
 use Rattle.thrift_core.specs.Protocols.{IsProperLong, SpellsProper}
 use Rattle.thrift_core.specs.Trees.{Leaf, truth_value, i8, i16, i32, i64, double, Tree, leaf, binary, structure, map_of, set_of, list_of, Fields, no_fields, field_then, Trees, no_trees, tree_then, Pairs, no_pairs, pair_then, LeafThen, ValueThen, FieldsThen, ElementsThen, PairsThen, outer_levels}
 use Rattle.thrift_core.specs.declared.type_code.TypeCode.{TypeCode}
-use Rattle.jaeger_model.specs.Batches.{IsBatch, IsBatchText}
+use Rattle.jaeger_model.specs.Batch.{IsBatch, IsBatchText}
 use Rattle.jaeger_model.specs.Identifiers.{some_id, span_id_of, trace_id_of}
-use Rattle.jaeger_model.specs.Logs.{IsLog}
+use Rattle.jaeger_model.specs.Log.{IsLog}
 use Rattle.jaeger_model.specs.Meanings.{Required, Means, MeansTime}
-use Rattle.jaeger_model.specs.Processes.{IsProcess, MeansProcess}
+use Rattle.jaeger_model.specs.Process.{IsProcess, MeansProcess}
 use Rattle.span_ids.specs.Proper.{IsProperTraceId, IsProperSpanId, IsProperParent}
 use Rattle.jaeger_model.specs.Proper.{IsProperTagValue, IsProperTag, IsProperLog, IsProperReference, IsProperJSpan, IsProperBatch}
-use Rattle.jaeger_model.specs.References.{IsSpanRef}
-use Rattle.jaeger_model.specs.Spans.{IsJSpan, kept_reference}
-use Rattle.jaeger_model.specs.Tags.{IsTag, IsNamed, no_double}
+use Rattle.jaeger_model.specs.Reference.{IsSpanRef}
+use Rattle.jaeger_model.specs.Span.{IsJSpan, kept_reference}
+use Rattle.jaeger_model.specs.Tag.{IsTag, IsNamed, no_double}
 use Rattle.jaeger_model.specs.WrittenAgain.{all_kept, all_counted}
 use Rattle.jaeger_model.specs.declared.batch.Batch.{Batch}
 use Rattle.jaeger_model.specs.declared.process.Process.{Process}

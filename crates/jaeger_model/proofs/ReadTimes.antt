@@ -4,10 +4,10 @@ use Rattle.std.proofs.lemmas.List.Elements.{All-nil, All-cons}
 use Rattle.thrift_core.specs.FieldValues.{IsStructOf, EachStruct}
 use Rattle.thrift_core.specs.Trees.{structure, Tree, Trees, no_trees, tree_then, Fields}
 use Rattle.span_io.specs.Tables.{Singular}
-use Rattle.jaeger_model.specs.Batches.{IsBatch, MeansSpans}
-use Rattle.jaeger_model.specs.Logs.{IsLog}
+use Rattle.jaeger_model.specs.Batch.{IsBatch, MeansSpans}
+use Rattle.jaeger_model.specs.Log.{IsLog}
 use Rattle.jaeger_model.specs.Meanings.{Required, MeansTime}
-use Rattle.jaeger_model.specs.Spans.{IsJSpan, MeansLogs, HasTimes}
+use Rattle.jaeger_model.specs.Span.{IsJSpan, MeansLogs, HasTimes}
 use Rattle.span_ids.specs.Times.{IsWhole}
 use Rattle.jaeger_model.specs.Writable.{IsTimed}
 use Rattle.jaeger_model.specs.declared.batch.Batch.{Batch}

@@ -1,8 +1,8 @@
 -- The table of a reference.
 use Rattle.std.proofs.Common.{◌≡◌, ◌∷◌, [], ℕ, List, of_z, w16, sym, ap, ◌∙◌, arith}
-use Rattle.span_io.specs.laws.OffenceLaws.{FormatLaws, RulesLaws}
+use Rattle.span_io.specs.Offences.{FormatLaws, RulesLaws}
 use Rattle.span_io.specs.Tables.{IsFree}
-use Rattle.span_io.specs.laws.TableLaws.{TableShape, table_rules}
+use Rattle.span_io.proofs.TableLaws.{TableShape, table_rules}
 use Rattle.thrift_core.specs.declared.field.Field.{Field}
 use Rattle.thrift_core.specs.declared.type_code.TypeCode.{TypeCode}
 use Rattle.thrift_core.specs.declared.type_code.TypeCode.TheVariants as kinds
@@ -12,7 +12,7 @@ use Rattle.thrift_core.specs.Parts.{Spelling}
 use Rattle.thrift_core.specs.Trees.{kind_of}
 use Rattle.jaeger_model.proofs.FieldLemmas.{Unknown, given_none, i32_none, i64_none}
 use Rattle.jaeger_model.proofs.RowShapes.{int_shape, long_shape}
-use Rattle.jaeger_model.specs.References.{reference_table, reference_ends, reference_rules}
+use Rattle.jaeger_model.specs.Reference.{reference_table, reference_ends, reference_rules}
 
 module _ (Spells : Spelling) (left : ℕ) where
   pub reference_shape : TableShape (structs Spells left) reference_table 0

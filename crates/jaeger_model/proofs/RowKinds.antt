@@ -7,17 +7,17 @@ use Rattle.span_io.specs.Causes.{cause_number}
 use Rattle.span_io.specs.declared.cause.Cause.{Cause}
 use Rattle.span_io.specs.declared.cause.Cause.TheVariants as causes
 use Rattle.span_io.specs.declared.halt.Halt.TheVariants as halts
-use Rattle.span_io.specs.laws.OffenceLaws.{RulesLaws}
+use Rattle.span_io.specs.Offences.{RulesLaws}
 use Rattle.span_io.specs.Offences.{Rules, Offence, Least, HereOrInside}
-use Rattle.span_io.specs.laws.RowLaws.{singular_split, twice_or, one_number, not_text, some_text}
-use Rattle.span_io.specs.laws.TableDecisions.{Decided, DecidedHere}
-use Rattle.span_io.specs.laws.TableLaws.{IsFew}
+use Rattle.span_io.proofs.RowLaws.{singular_split, twice_or, one_number, not_text, some_text}
+use Rattle.span_io.proofs.TableDecisions.{Decided, DecidedHere}
+use Rattle.span_io.proofs.TableLaws.{IsFew}
 use Rattle.span_io.specs.Tables.{Singular, Twice, MeansText, NotText, nothing_inside}
 use Rattle.thrift_core.specs.declared.type_code.TypeCode.{TypeCode}
 use Rattle.thrift_core.specs.declared.type_code.TypeCode.TheVariants as kinds
 use Rattle.thrift_core.specs.FieldValues.{has_id, of_id, struct_in, list_in, IsStructOf, EachStruct}
 use Rattle.thrift_core.specs.Messages.{FieldItem, structs, whole_struct}
-use Rattle.thrift_core.specs.laws.OneReading.{of_kind, value_front}
+use Rattle.thrift_core.proofs.OneReading.{of_kind, value_front}
 use Rattle.thrift_core.specs.Parts.{Part, Spelling}
 use Rattle.thrift_core.specs.Protocols.{ReadsExactly, PartLaws}
 use Rattle.thrift_core.specs.Reading.{ReadingOf}
@@ -25,7 +25,7 @@ use Rattle.thrift_core.specs.Trees.{truth_value, i8, i16, i32, i64, double, Tree
 use Rattle.jaeger_model.proofs.ListLemmas.{least_same, later_to, later_from, this_least, ListThere, list_there, are_elements, list_judged, inner_within, struct_there}
 use Rattle.jaeger_model.proofs.StructRows.{Comes, CleanAt, RowProof}
 use Rattle.jaeger_model.specs.InnerRows.{with_text, IsOfOthers, BadElement, ElementsOffend, ListOffends}
-use Rattle.jaeger_model.specs.ListsSoFar.{AreElements}
+use Rattle.jaeger_model.specs.private.ListsSoFar.{AreElements}
 use Rattle.jaeger_model.specs.Meanings.{Means, MeansTime, MeansEnum}
 use Rattle.jaeger_model.specs.Rows.{given_to, nothing_wrong, IsOutside, BadEnum, BadTime, singular}
 

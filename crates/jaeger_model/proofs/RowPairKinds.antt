@@ -6,10 +6,11 @@ use Rattle.std.proofs.lemmas.Bool.{cases_lt}
 use Rattle.std.proofs.lemmas.List.{length-append}
 use Rattle.span_io.specs.Causes.{cause_number}
 use Rattle.span_io.specs.declared.halt.Halt.TheVariants as halts
-use Rattle.span_io.specs.FreeItems.{SameOffence}
-use Rattle.span_io.specs.laws.OffenceLaws.{RulesLaws, least_here, least_inside, none_in_item}
+use Rattle.span_io.proofs.FreeItemLaws.{SameOffence}
+use Rattle.span_io.specs.Offences.{RulesLaws}
+use Rattle.span_io.proofs.OffenceLaws.{least_here, least_inside, none_in_item}
 use Rattle.span_io.specs.Offences.{Rules, Offence, HereOrInside}
-use Rattle.span_io.specs.laws.RowLaws.{all_zip_self}
+use Rattle.span_io.proofs.RowLaws.{all_zip_self}
 use Rattle.span_io.specs.Tables.{Row, Twice, nothing_inside, IsFree}
 use Rattle.thrift_core.specs.declared.type_code.TypeCode.{TypeCode}
 use Rattle.thrift_core.specs.declared.type_code.TypeCode.TheVariants as kinds

@@ -6,18 +6,19 @@ use Rattle.std.specs.List.{AllZip, flat_map}
 use Rattle.std.proofs.lemmas.List.Concat.{flat_map-cons}
 use Rattle.span_io.specs.Causes.{cause_number}
 use Rattle.span_io.specs.declared.cause.Cause.{Cause}
-use Rattle.span_io.specs.FreeItems.{SameOffence}
-use Rattle.span_io.specs.laws.OffenceLaws.{FormatLaws, none_in_item}
+use Rattle.span_io.proofs.FreeItemLaws.{SameOffence}
+use Rattle.span_io.specs.Offences.{FormatLaws}
+use Rattle.span_io.proofs.OffenceLaws.{none_in_item}
 use Rattle.span_io.specs.Offences.{Rules, Offence, Least, HereOrInside}
-use Rattle.span_io.specs.laws.RowLaws.{all_zip_append, all_zip_self}
-use Rattle.span_io.specs.laws.TableLaws.{Whole}
+use Rattle.span_io.proofs.RowLaws.{all_zip_append, all_zip_self}
+use Rattle.span_io.specs.Tables.{Whole}
 use Rattle.span_io.specs.Tables.{Row, OfFirst, table_here, table_inside, rules_by, IsFree}
 use Rattle.thrift_core.specs.FieldValues.{of_id, values_of}
 use Rattle.thrift_core.specs.Messages.{FieldItem, StructRest, structs, whole_struct, fields_of}
 use Rattle.thrift_core.specs.Parts.{Part, Spelling}
 use Rattle.thrift_core.specs.Protocols.{ReadsExactly, PartLaws}
 use Rattle.thrift_core.specs.Reading.{ReadingOf}
-use Rattle.thrift_core.specs.laws.StructLaws.{struct_laws}
+use Rattle.thrift_core.proofs.StructLaws.{struct_laws}
 use Rattle.thrift_core.specs.Trees.{Tree, Fields, no_fields, field_then, StructText}
 use Rattle.jaeger_model.proofs.FieldLemmas.{free_fine, values_given}
 use Rattle.jaeger_model.proofs.ListLemmas.{least_same}

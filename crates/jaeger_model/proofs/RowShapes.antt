@@ -1,9 +1,10 @@
 -- What a row keeps, of each kind of row.
 use Rattle.std.proofs.Common.{◌≡◌, ◌∷◌, ℕ, ℤ, Bool, true, false, List, [], length, if◌then◌else◌, inl, inr, refl, sym, ap, arith}
 use Rattle.std.proofs.lemmas.List.{length-append}
-use Rattle.span_io.specs.laws.OffenceLaws.{FormatLaws, RulesLaws, offence_within}
+use Rattle.span_io.specs.Offences.{FormatLaws, RulesLaws}
+use Rattle.span_io.proofs.OffenceLaws.{offence_within}
 use Rattle.span_io.specs.Offences.{Rules}
-use Rattle.span_io.specs.laws.TableLaws.{IsFew, HasBareEnd, RowShape}
+use Rattle.span_io.proofs.TableLaws.{IsFew, HasBareEnd, RowShape}
 use Rattle.thrift_core.specs.FieldValues.{has_id, truth_in, i32_in, i64_in, double_in, binary_in, struct_in, list_in}
 use Rattle.thrift_core.specs.Messages.{FieldItem, structs, whole_struct}
 use Rattle.thrift_core.specs.Parts.{Spelling}

@@ -15,16 +15,16 @@ use Rattle.thrift_core.specs.Trees.{Fields, Tree, Trees}
 use Rattle.jaeger_model.proofs.FieldLemmas.{values_given}
 use Rattle.jaeger_model.specs.declared.reading.references.References.{References}
 use Rattle.jaeger_model.specs.declared.span.SpanRef.{SpanRef}
-use Rattle.jaeger_model.specs.declared.reading.span_rows.SpanParts.{SpanParts}
+use Rattle.jaeger_model.specs.declared.reading.span.SpanParts.{SpanParts}
 use Rattle.jaeger_model.specs.Counted.{IsCounted}
 use Rattle.jaeger_model.specs.Identifiers.{span_id_of, trace_id_of}
 use Rattle.jaeger_model.specs.InnerRows.{with_text}
-use Rattle.jaeger_model.specs.ListsSoFar.{MeansEach}
+use Rattle.jaeger_model.specs.private.ListsSoFar.{MeansEach}
 use Rattle.jaeger_model.specs.Meanings.{Required, Means, MeansTime}
-use Rattle.jaeger_model.specs.ReferenceSoFar.{KeepsOf, KeepsReferences}
+use Rattle.jaeger_model.specs.private.ReferenceSoFar.{KeepsOf, KeepsReferences}
 use Rattle.jaeger_model.specs.Rows.{SomeMissing, given_to}
-use Rattle.jaeger_model.specs.Spans.{HasReferences, MeansReferences, NoTrace, NoId, EndsLate, jspan_ends, span_required}
-use Rattle.jaeger_model.specs.SpanSoFar.{HasParts}
+use Rattle.jaeger_model.specs.Span.{HasReferences, MeansReferences, NoTrace, NoId, EndsLate, jspan_ends, span_required}
+use Rattle.jaeger_model.specs.private.SpanSoFar.{HasParts}
 
 -- ---- a required field means one value
 

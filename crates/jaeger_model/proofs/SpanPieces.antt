@@ -2,8 +2,9 @@
 use Rattle.std.proofs.Common.{◌≡◌, ℕ, pos, List, [], ◌∷◌, ◌++◌, refl, ap, ◌∙◌}
 use Rattle.thrift_core.specs.Protocols.{WritingOf}
 use Rattle.thrift_core.specs.Trees.{Tree, i32, leaf}
-use Rattle.thrift_core.specs.Written.{Keeping, rows_written, last_id}
-use Rattle.thrift_core.specs.laws.WrittenLaws.{rows_behind}
+use Rattle.thrift_core.specs.Written.{Keeping, last_id}
+use Rattle.thrift_core.specs.private.WrittenParts.{rows_written}
+use Rattle.thrift_core.proofs.WrittenLaws.{rows_behind}
 use Rattle.jaeger_model.specs.declared.span.JSpan.{JSpan}
 use Rattle.jaeger_model.specs.declared.span.SpanRef.{SpanRef}
 use Rattle.jaeger_model.specs.Canonical.{filled_list, reference_rows, identity_rows, reference_and_flag_rows, time_rows, tag_and_log_rows, jspan_rows}

@@ -5,14 +5,14 @@ use Rattle.std.proofs.lemmas.Bool.{cases_lt}
 use Rattle.span_ids.specs.Times.{nanos, last_micros}
 use Rattle.span_io.specs.declared.cause.Cause.{Cause}
 use Rattle.span_io.specs.declared.cause.Cause.TheVariants as causes
-use Rattle.span_io.specs.laws.OffenceLaws.{FormatLaws}
+use Rattle.span_io.specs.Offences.{FormatLaws}
 use Rattle.span_io.specs.Tables.{MeansText, NotText, Values, Mean, givens}
 use Rattle.thrift_core.specs.FieldValues.{values_of, i32_in, i64_in, binary_in, list_in}
 use Rattle.thrift_core.specs.Messages.{FieldItem, structs, fields_of}
 use Rattle.thrift_core.specs.Parts.{Part, Spelling}
 use Rattle.thrift_core.specs.Protocols.{ReadsExactly, PartLaws}
 use Rattle.thrift_core.specs.Reading.{ReadingOf}
-use Rattle.thrift_core.specs.laws.StructLaws.{struct_laws}
+use Rattle.thrift_core.proofs.StructLaws.{struct_laws}
 use Rattle.thrift_core.specs.Trees.{Fields, Trees}
 use Rattle.jaeger_model.proofs.LeafProofs.{tag_struct, reference_struct}
 use Rattle.jaeger_model.proofs.OuterProofs.{log_struct}
@@ -22,16 +22,16 @@ use Rattle.jaeger_model.proofs.SpanTable.{span_laws}
 use Rattle.jaeger_model.proofs.StructProofs.{binary_proof, int_proof, long_proof, structures_proof, struct_proof, given_back, given_on, inner_back, inner_on, found_or, held_value, value_held}
 use Rattle.jaeger_model.proofs.StructRows.{TableProof, TableFound, AtEnd}
 use Rattle.jaeger_model.specs.declared.span.JSpan.{JSpan}
-use Rattle.jaeger_model.specs.declared.reading.span_rows.SpanParts.{SpanParts}
+use Rattle.jaeger_model.specs.declared.reading.span.SpanParts.{SpanParts}
 use Rattle.jaeger_model.specs.Identifiers.{span_id_of, trace_id_of}
 use Rattle.jaeger_model.specs.InnerRows.{with_text}
-use Rattle.jaeger_model.specs.Logs.{MeansTags, IsLog, log_rules}
+use Rattle.jaeger_model.specs.Log.{MeansTags, IsLog, log_rules}
 use Rattle.jaeger_model.specs.Meanings.{Means, MeansTime}
-use Rattle.jaeger_model.specs.References.{IsSpanRef, reference_rules}
+use Rattle.jaeger_model.specs.Reference.{IsSpanRef, reference_rules}
 use Rattle.jaeger_model.specs.Rows.{nothing_wrong, BadTime, SomeMissing, given_to, required}
-use Rattle.jaeger_model.specs.Spans.{kept_reference, MeansReferences, MeansLogs, IsJSpan, or_empty, span_required, jspan_table, jspan_ends, jspan_rules}
-use Rattle.jaeger_model.specs.SpanSoFar.{HasParts}
-use Rattle.jaeger_model.specs.Tags.{IsTag, tag_rules}
+use Rattle.jaeger_model.specs.Span.{kept_reference, MeansReferences, MeansLogs, IsJSpan, or_empty, span_required, jspan_table, jspan_ends, jspan_rules}
+use Rattle.jaeger_model.specs.private.SpanSoFar.{HasParts}
+use Rattle.jaeger_model.specs.Tag.{IsTag, tag_rules}
 
 -- ---- the parts of a span
 

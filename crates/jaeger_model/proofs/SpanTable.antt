@@ -1,8 +1,8 @@
 -- The table of a span.
 use Rattle.std.proofs.Common.{◌≡◌, ◌-◌, ◌∷◌, [], ℕ, List, of_z, w16, sym, ap, ◌∙◌, arith}
-use Rattle.span_io.specs.laws.OffenceLaws.{FormatLaws, RulesLaws}
+use Rattle.span_io.specs.Offences.{FormatLaws, RulesLaws}
 use Rattle.span_io.specs.Tables.{IsFree}
-use Rattle.span_io.specs.laws.TableLaws.{TableShape, table_rules}
+use Rattle.span_io.proofs.TableLaws.{TableShape, table_rules}
 use Rattle.thrift_core.specs.declared.field.Field.{Field}
 use Rattle.thrift_core.specs.declared.type_code.TypeCode.{TypeCode}
 use Rattle.thrift_core.specs.declared.type_code.TypeCode.TheVariants as kinds
@@ -16,11 +16,11 @@ use Rattle.jaeger_model.proofs.ReferenceLemmas.{reference_laws}
 use Rattle.jaeger_model.proofs.RowShapes.{binary_shape, int_shape, long_shape, structures_shape}
 use Rattle.jaeger_model.proofs.TagLemmas.{tag_laws}
 use Rattle.jaeger_model.specs.InnerRows.{with_text}
-use Rattle.jaeger_model.specs.Logs.{log_rules}
-use Rattle.jaeger_model.specs.References.{reference_rules}
+use Rattle.jaeger_model.specs.Log.{log_rules}
+use Rattle.jaeger_model.specs.Reference.{reference_rules}
 use Rattle.jaeger_model.specs.Rows.{given_to}
-use Rattle.jaeger_model.specs.Spans.{jspan_table, jspan_ends, jspan_rules}
-use Rattle.jaeger_model.specs.Tags.{tag_rules}
+use Rattle.jaeger_model.specs.Span.{jspan_table, jspan_ends, jspan_rules}
+use Rattle.jaeger_model.specs.Tag.{tag_rules}
 
 module _ (Spells : Spelling) (laws : (m : ℕ) → FormatLaws (structs Spells m)) (left : ℕ) where
   pub span_shape : TableShape (structs Spells left) (jspan_table Spells left) 0

@@ -6,7 +6,7 @@ use Rattle.std.proofs.lemmas.List.{map-append}
 use Rattle.std.proofs.lemmas.List.Concat.{flat_map-cons}
 use Rattle.span_io.specs.Causes.{cause_number}
 use Rattle.span_io.specs.declared.cause.Cause.{Cause}
-use Rattle.span_io.specs.laws.OffenceLaws.{FormatLaws, RulesLaws}
+use Rattle.span_io.specs.Offences.{FormatLaws, RulesLaws}
 use Rattle.span_io.specs.Offences.{Rules, Offence, Least}
 use Rattle.span_io.specs.Tables.{Row, rules_by, Singular, givens, Values, Mean, nothing_inside}
 use Rattle.thrift_core.specs.FieldValues.{values_of, truth_in, i32_in, i64_in, double_in, binary_in, struct_in, list_in, EachStruct}
@@ -14,7 +14,7 @@ use Rattle.thrift_core.specs.Messages.{FieldItem, structs, whole_struct, fields_
 use Rattle.thrift_core.specs.Parts.{Part, Spelling}
 use Rattle.thrift_core.specs.Protocols.{ReadsExactly, PartLaws}
 use Rattle.thrift_core.specs.Reading.{ReadingOf}
-use Rattle.thrift_core.specs.laws.StructLaws.{struct_laws}
+use Rattle.thrift_core.proofs.StructLaws.{struct_laws}
 use Rattle.thrift_core.specs.Trees.{Tree, Fields, Trees, StructText}
 use Rattle.jaeger_model.proofs.FieldLemmas.{values_given}
 use Rattle.jaeger_model.proofs.RowKinds.{Kind, row_proof, given_is, given_apart, with_is, StructProof, structures_kind, structure_kind}

@@ -6,15 +6,17 @@ use Rattle.std.proofs.lemmas.List.{append-nil, append_assoc}
 use Rattle.std.proofs.lemmas.List.Concat.{flat_map-append, flat_map-cons}
 use Rattle.span_io.specs.Causes.{cause_number}
 use Rattle.span_io.specs.declared.cause.Cause.{Cause}
-use Rattle.span_io.specs.laws.OffenceLaws.{FormatLaws, RulesLaws, Walked, walked_start, walked_step, least_here, least_inside, none_in_item, least_end, least_item}
+use Rattle.span_io.specs.Offences.{FormatLaws, RulesLaws}
+use Rattle.span_io.proofs.OffenceLaws.{Walked, walked_start, walked_step, least_here, least_inside, none_in_item, least_end, least_item}
 use Rattle.span_io.specs.Offences.{Offence, Least, HereOrInside}
-use Rattle.span_io.specs.laws.TableDecisions.{Decided, DecidedHere}
-use Rattle.span_io.specs.laws.TableLaws.{IsFew, Whole, none_offends, flat_more}
+use Rattle.span_io.proofs.TableDecisions.{Decided, DecidedHere}
+use Rattle.span_io.proofs.TableLaws.{IsFew, none_offends, flat_more}
+use Rattle.span_io.specs.Tables.{Whole}
 use Rattle.span_io.specs.Tables.{Row, OfFirst, table_here, table_inside, rules_by, IsFree, givens, Values, Mean}
 use Rattle.thrift_core.specs.declared.field.Field.{Field}
 use Rattle.thrift_core.specs.FieldValues.{has_id}
 use Rattle.thrift_core.specs.Messages.{FieldItem, StructRest, BeginsField, structs, fields_of}
-use Rattle.thrift_core.specs.laws.OneReading.{Front, value_front}
+use Rattle.thrift_core.proofs.OneReading.{Front, value_front}
 use Rattle.thrift_core.specs.Parts.{Spelling, header, Begins}
 use Rattle.thrift_core.specs.Trees.{Fields, no_fields, field_then, kind_of, ValueThen, FieldsThen}
 

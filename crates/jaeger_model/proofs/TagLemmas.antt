@@ -1,8 +1,8 @@
 -- The table of a tag.
 use Rattle.std.proofs.Common.{◌≡◌, ◌∷◌, [], ℕ, List, of_z, w16, sym, ap, ◌∙◌, arith}
-use Rattle.span_io.specs.laws.OffenceLaws.{FormatLaws, RulesLaws}
+use Rattle.span_io.specs.Offences.{FormatLaws, RulesLaws}
 use Rattle.span_io.specs.Tables.{IsFree}
-use Rattle.span_io.specs.laws.TableLaws.{TableShape, table_rules}
+use Rattle.span_io.proofs.TableLaws.{TableShape, table_rules}
 use Rattle.thrift_core.specs.declared.field.Field.{Field}
 use Rattle.thrift_core.specs.declared.type_code.TypeCode.{TypeCode}
 use Rattle.thrift_core.specs.declared.type_code.TypeCode.TheVariants as kinds
@@ -12,7 +12,7 @@ use Rattle.thrift_core.specs.Parts.{Spelling}
 use Rattle.thrift_core.specs.Trees.{kind_of}
 use Rattle.jaeger_model.proofs.FieldLemmas.{Unknown, given_none, truth_none, i32_none, i64_none, double_none, binary_none}
 use Rattle.jaeger_model.proofs.RowShapes.{binary_shape, int_shape, long_shape, truth_shape, eight_shape}
-use Rattle.jaeger_model.specs.Tags.{tag_table, tag_ends, tag_rules}
+use Rattle.jaeger_model.specs.Tag.{tag_table, tag_ends, tag_rules}
 
 module _ (Spells : Spelling) (left : ℕ) where
   pub tag_shape : TableShape (structs Spells left) tag_table 0

@@ -5,13 +5,13 @@ use Rattle.std.specs.Prelude.{◌↔◌}
 use Rattle.std.specs.List.{AllZip}
 use Rattle.span_io.specs.Causes.{cause_number}
 use Rattle.span_io.specs.declared.cause.Cause.{Cause}
-use Rattle.span_io.specs.laws.OffenceLaws.{one_cause}
+use Rattle.span_io.proofs.OffenceLaws.{one_cause}
 use Rattle.span_io.specs.Offences.{Least}
-use Rattle.span_io.specs.laws.RowLaws.{all_zip_equal}
+use Rattle.span_io.proofs.RowLaws.{all_zip_equal}
 use Rattle.span_io.specs.Tables.{Row, MeansText, NotText, IsFree}
 use Rattle.thrift_core.specs.FieldValues.{of_id, truth_in, i32_in, i64_in, double_in, binary_in, struct_in, list_in}
 use Rattle.thrift_core.specs.Messages.{FieldItem, fields_of}
-use Rattle.thrift_core.specs.laws.OneReading.{one_fields}
+use Rattle.thrift_core.proofs.OneReading.{one_fields}
 use Rattle.thrift_core.specs.Parts.{Spelling}
 use Rattle.thrift_core.specs.Trees.{Tree, Fields, StructText, outer_levels}
 use Rattle.jaeger_model.proofs.BatchProofs.{batch_struct}
@@ -23,7 +23,7 @@ use Rattle.jaeger_model.proofs.RowKinds.{StructProof}
 use Rattle.jaeger_model.proofs.RowPairKinds.{ListAlike, alike_pair, plain_pair, structure_pair, structures_pair}
 use Rattle.jaeger_model.proofs.RowPairs.{Keeps, format_laws, SameCause, StructPair, Both, both_hold, RowPair, TablePair, no_rows, row_then, none_too, missing_too, struct_pair}
 use Rattle.jaeger_model.proofs.SpanProofs.{span_struct}
-use Rattle.jaeger_model.specs.Batches.{MeansSpans, MeansNothing, IsBatch, IsBatchText, batch_table, batch_ends, batch_rules}
+use Rattle.jaeger_model.specs.Batch.{MeansSpans, MeansNothing, IsBatch, IsBatchText, batch_table, batch_ends, batch_rules}
 use Rattle.jaeger_model.specs.declared.batch.Batch.{Batch}
 use Rattle.jaeger_model.specs.declared.span.Log.{Log}
 use Rattle.jaeger_model.specs.declared.span.SpanRef.{SpanRef}
@@ -31,13 +31,13 @@ use Rattle.jaeger_model.specs.declared.tag.Tag.{Tag}
 use Rattle.jaeger_model.specs.FreeAtAnyDepth.{FieldsPadded, NothingInside, TagPadded, ReferencePadded, InTagged, LogPadded, ProcessPadded, InSpan, JSpanPadded, InBatch, FreeAtAnyDepth}
 use Rattle.jaeger_model.specs.InnerRows.{with_text, structures}
 use Rattle.jaeger_model.specs.StatedLaws.{BatchOffends, OneTree}
-use Rattle.jaeger_model.specs.Logs.{MeansTags, IsLog, log_table, log_ends, log_rules}
+use Rattle.jaeger_model.specs.Log.{MeansTags, IsLog, log_table, log_ends, log_rules}
 use Rattle.jaeger_model.specs.Meanings.{Means, MeansTime, MeansEnum}
-use Rattle.jaeger_model.specs.Processes.{IsProcess, MeansProcess, process_table, process_ends, process_rules}
-use Rattle.jaeger_model.specs.References.{reference_number, IsSpanRef, reference_table, reference_ends, reference_rules}
+use Rattle.jaeger_model.specs.Process.{IsProcess, MeansProcess, process_table, process_ends, process_rules}
+use Rattle.jaeger_model.specs.Reference.{reference_number, IsSpanRef, reference_table, reference_ends, reference_rules}
 use Rattle.jaeger_model.specs.Rows.{given_to, nothing_wrong, BadEnum, BadTime, text_of_id, bytes, number, time_of_id, int, enum_of_id, truth, double, required, or_else, Missing}
-use Rattle.jaeger_model.specs.Spans.{MeansReferences, MeansLogs, IsJSpan, or_empty, span_required, jspan_table, BadIds, BadEnd, jspan_ends, jspan_rules}
-use Rattle.jaeger_model.specs.Tags.{no_double, IsTag, tag_type_number, tag_required, tag_table, tag_ends, tag_rules}
+use Rattle.jaeger_model.specs.Span.{MeansReferences, MeansLogs, IsJSpan, or_empty, span_required, jspan_table, BadIds, BadEnd, jspan_ends, jspan_rules}
+use Rattle.jaeger_model.specs.Tag.{no_double, IsTag, tag_type_number, tag_required, tag_table, tag_ends, tag_rules}
 
 -- ---- rows in which no struct stands
 

@@ -4,10 +4,11 @@ use Rattle.std.proofs.Common.{◌≡◌, ℕ, zero, suc, ◌<◌, ◌≤◌, ◌
 use Rattle.std.specs.Prelude.{◌↔◌}
 use Rattle.std.proofs.lemmas.List.{append-nil}
 use Rattle.std.proofs.lemmas.Bool.{cases_lt}
-use Rattle.span_io.specs.FreeItems.{SameOffence}
-use Rattle.span_io.specs.laws.OffenceLaws.{FormatLaws, RulesLaws, Walked, Stands, not_read, in_next, ends_here, behind_next, ends_behind, stands, walked_start, walked_step, least_item, one_cause}
+use Rattle.span_io.proofs.FreeItemLaws.{SameOffence}
+use Rattle.span_io.specs.Offences.{FormatLaws, RulesLaws}
+use Rattle.span_io.proofs.OffenceLaws.{Walked, Stands, not_read, in_next, ends_here, behind_next, ends_behind, stands, walked_start, walked_step, least_item, one_cause}
 use Rattle.span_io.specs.Offences.{Format, Rules, Offence, at_end, Least, ItemOffends}
-use Rattle.span_io.specs.laws.TableLaws.{Whole}
+use Rattle.span_io.specs.Tables.{Whole}
 
 -- ---- what can't be otherwise
 

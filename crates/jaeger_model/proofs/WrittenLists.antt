@@ -9,8 +9,9 @@ use Rattle.thrift_core.specs.declared.type_code.TypeCode.TheVariants as kinds
 use Rattle.thrift_core.specs.Parts.{list_head}
 use Rattle.thrift_core.specs.Protocols.{WritingOf, list_of_type}
 use Rattle.thrift_core.specs.Trees.{structure, tree_count}
-use Rattle.thrift_core.specs.Written.{Keeping, FieldRow, fields_of_rows, fields_written, value_written, elements_written, rows_written, field_written, struct_trees}
-use Rattle.thrift_core.specs.laws.WrittenLaws.{struct_count, struct_type}
+use Rattle.thrift_core.specs.Written.{Keeping, FieldRow, fields_of_rows, fields_written, value_written, elements_written, struct_trees}
+use Rattle.thrift_core.specs.private.WrittenParts.{rows_written, field_written}
+use Rattle.thrift_core.proofs.WrittenLaws.{struct_count, struct_type}
 use Rattle.jaeger_model.specs.Canonical.{list_tree, filled_list}
 use Rattle.jaeger_model.specs.private.Growing.{GrowsBy}
 use Rattle.jaeger_model.proofs.Growth.{front_behind, stop, seq, ended}

@@ -19,17 +19,17 @@ use Rattle.jaeger_model.specs.declared.span.SpanRef.{SpanRef}
 use Rattle.jaeger_model.specs.declared.tag.Tag.{Tag}
 use Rattle.jaeger_model.specs.declared.tag.TagValue.{TagValue}
 use Rattle.jaeger_model.specs.declared.tag.TagValue.TheVariants as values
-use Rattle.jaeger_model.specs.Batches.{IsBatch}
+use Rattle.jaeger_model.specs.Batch.{IsBatch}
 use Rattle.jaeger_model.specs.Canonical.{number_tree, id_tree, parent_tree, low_tree, high_tree, filled_list, tag_rows, log_rows, reference_rows, reference_and_flag_rows, time_rows, tag_and_log_rows, jspan_rows, process_rows, batch_fields}
 use Rattle.jaeger_model.specs.Identifiers.{some_id, span_id_of, trace_id_of}
-use Rattle.jaeger_model.specs.Logs.{IsLog, MeansTags}
+use Rattle.jaeger_model.specs.Log.{IsLog, MeansTags}
 use Rattle.jaeger_model.specs.Meanings.{Required, MeansTime}
-use Rattle.jaeger_model.specs.Processes.{IsProcess}
+use Rattle.jaeger_model.specs.Process.{IsProcess}
 use Rattle.span_ids.specs.Proper.{IsProperParent, IsProperSpanId, IsProperTraceId}
 use Rattle.jaeger_model.specs.Proper.{IsProperTagValue, IsProperTag, IsProperLog, IsProperReference, IsProperJSpan, IsProperBatch}
-use Rattle.jaeger_model.specs.References.{IsSpanRef}
-use Rattle.jaeger_model.specs.Spans.{IsJSpan, MeansLogs, MeansReferences, kept_reference}
-use Rattle.jaeger_model.specs.Tags.{IsTag, HeldByTag, no_double}
+use Rattle.jaeger_model.specs.Reference.{IsSpanRef}
+use Rattle.jaeger_model.specs.Span.{IsJSpan, MeansLogs, MeansReferences, kept_reference}
+use Rattle.jaeger_model.specs.Tag.{IsTag, HeldByTag, no_double}
 use Rattle.jaeger_model.specs.Writable.{IsWritableLog, IsWritableSpan, IsWritable}
 use Rattle.jaeger_model.specs.WrittenAgain.{all_kept, all_counted, HasAllKept}
 

@@ -4,9 +4,9 @@ use Rattle.thrift_core.specs.Parts.{Spelling}
 use Rattle.thrift_core.specs.Protocols.{WritingOf, WritesShortest}
 use Rattle.thrift_core.specs.Trees.{outer_levels}
 use Rattle.thrift_core.specs.Written.{Keeping}
-use Rattle.thrift_core.specs.laws.WrittenLaws.{written_structs}
+use Rattle.thrift_core.proofs.WrittenLaws.{written_structs}
 use Rattle.jaeger_model.specs.declared.batch.Batch.{Batch}
-use Rattle.jaeger_model.specs.Batches.{IsBatchText}
+use Rattle.jaeger_model.specs.Batch.{IsBatchText}
 use Rattle.jaeger_model.specs.Canonical.{batch_fields, batch_text}
 use Rattle.jaeger_model.specs.Proper.{IsProperBatch}
 use Rattle.jaeger_model.specs.Writable.{IsWritable}

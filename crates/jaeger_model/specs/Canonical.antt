@@ -15,11 +15,12 @@ use Rattle.jaeger_model.specs.declared.span.SpanRef.{SpanRef}
 use Rattle.jaeger_model.specs.declared.tag.Tag.{Tag}
 use Rattle.jaeger_model.specs.declared.tag.TagValue.{TagValue}
 use Rattle.jaeger_model.specs.declared.tag.TagValue.TheVariants as values
-use Rattle.jaeger_model.specs.References.{reference_number}
-use Rattle.jaeger_model.specs.Tags.{type_of}
+use Rattle.jaeger_model.specs.Reference.{reference_number}
+use Rattle.jaeger_model.specs.Tag.{type_of}
 
 -- ---- what fields hold
 
+-- a number as an i64
 abbrev pub number_tree : ℤ → Tree
 number_tree number = leaf (i64 number)
 
@@ -31,16 +32,20 @@ id_tree id = number_tree (cast_signed w64 id)
 abbrev pub low_tree : ℕ → Tree
 low_tree trace = id_tree (trace % 2 ^ 64)
 
+-- the upper 64 bits (`traceIdHigh`)
 abbrev pub high_tree : ℕ → Tree
 high_tree trace = id_tree (trace / 2 ^ 64)
 
+-- the parent's identifier (`parentSpanId`), which is 0 where there is no parent
 abbrev pub parent_tree : Option ℕ → Tree
 parent_tree None = number_tree (pos 0)
 parent_tree (Some id) = id_tree id
 
+-- a time or duration in microseconds, as an i64
 abbrev pub micros_tree : ℕ → Tree
 micros_tree count = number_tree (pos count)
 
+-- the number of an enum's value, which Thrift holds as an i32
 abbrev pub enum_tree : ℕ → Tree
 enum_tree number = leaf (i32 (pos number))
 
@@ -63,12 +68,15 @@ value_row (values.Truth truth) = (pos 5, leaf (truth_value truth))
 value_row (values.Number number) = (pos 6, number_tree number)
 value_row (values.Bytes bytes) = (pos 7, binary bytes)
 
+-- `Tag`: key 1, vType 2, and the one field that vType names
 abbrev pub tag_rows : Tag → List FieldRow
 tag_rows tag = (pos 1, binary tag.key) ∷ (pos 2, enum_tree (type_of tag.value)) ∷ value_row tag.value ∷ []
 
+-- `Log`: timestamp 1, in microseconds, and fields 2, its tags, also where there are none
 abbrev pub log_rows : Log → List FieldRow
 log_rows log = (pos 1, micros_tree (micros log.time)) ∷ (pos 2, list_tree tag_rows log.fields) ∷ []
 
+-- `SpanRef`: refType 1, traceIdLow 2, traceIdHigh 3 and spanId 4
 abbrev pub reference_rows : SpanRef → List FieldRow
 reference_rows reference =
     (pos 1, enum_tree (reference_number reference.child_of))
@@ -99,6 +107,7 @@ time_rows span = (pos 8, micros_tree (micros span.start)) ∷ (pos 9, micros_tre
 abbrev pub tag_and_log_rows : JSpan → List FieldRow
 tag_and_log_rows span = filled_list (pos 10) tag_rows span.tags ++ filled_list (pos 11) log_rows span.logs
 
+-- `Span`: its fields 1 to 11 by rising id, without references, tags and logs where they are empty
 abbrev pub jspan_rows : JSpan → List FieldRow
 jspan_rows span = identity_rows span ++ (reference_and_flag_rows span ++ (time_rows span ++ tag_and_log_rows span))
 
@@ -106,29 +115,37 @@ jspan_rows span = identity_rows span ++ (reference_and_flag_rows span ++ (time_r
 abbrev pub process_rows : List ℕ → List Tag → List FieldRow
 process_rows service tags = (pos 1, binary service) ∷ filled_list (pos 2) tag_rows tags
 
+-- `Process` as the value of a field
 abbrev pub process_tree : List ℕ → List Tag → Tree
 process_tree service tags = structure (fields_of_rows (process_rows service tags))
 
+-- `Batch`: process 1 and spans 2, also where there are no spans
 abbrev pub batch_rows : Batch → List FieldRow
 batch_rows batch = (pos 1, process_tree batch.service batch.tags) ∷ (pos 2, list_tree jspan_rows batch.spans) ∷ []
 
 -- ---- and their structs
 
+-- the struct `Tag` that is written of a tag
 abbrev pub tag_fields : Tag → Fields
 tag_fields tag = fields_of_rows (tag_rows tag)
 
+-- the struct `Log` that is written of a log
 abbrev pub log_fields : Log → Fields
 log_fields log = fields_of_rows (log_rows log)
 
+-- the struct `SpanRef` that is written of a reference
 abbrev pub reference_fields : SpanRef → Fields
 reference_fields reference = fields_of_rows (reference_rows reference)
 
+-- the struct `Span` that is written of a span
 abbrev pub span_fields : JSpan → Fields
 span_fields span = fields_of_rows (jspan_rows span)
 
+-- the struct `Process` that is written of a service's name and its tags
 abbrev pub process_fields : List ℕ → List Tag → Fields
 process_fields service tags = fields_of_rows (process_rows service tags)
 
+-- the struct `Batch` that is written of a batch
 abbrev pub batch_fields : Batch → Fields
 batch_fields batch = fields_of_rows (batch_rows batch)
 

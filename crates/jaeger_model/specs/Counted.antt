@@ -7,10 +7,12 @@ use Rattle.jaeger_model.specs.declared.span.JSpan.{JSpan}
 abbrev pub IsCounted : {A : Type 0} → List A → Type 0
 IsCounted members = length members < 2 ^ 32
 
+-- the logs of a span, and its references, are so few
 pub record IsCountedSpan (span : JSpan) : Type 0 where
   pub logs : IsCounted span.logs
   pub references : IsCounted span.references
 
+-- the spans of a batch are so few, and so are the logs and the references of each
 pub record IsCountedBatch (batch : Batch) : Type 0 where
   pub spans : IsCounted batch.spans
   pub each : All IsCountedSpan batch.spans

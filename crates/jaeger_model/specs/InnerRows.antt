@@ -15,11 +15,12 @@ abbrev pub with_text : {A : Type 0} → List ℕ → List A → List (A × List 
 with_text text [] = []
 with_text text (held ∷ more) = (held, text) ∷ with_text text more
 
--- BadElement: a list that isn't empty, of another type than structs
+-- a list that isn't empty, of another type than structs, as its first element shows: what BadElement is said of
 abbrev pub IsOfOthers : Trees → Type 0
 IsOfOthers no_trees = ⊥
 IsOfOthers (tree_then tree more) = kind_of tree ≢ kinds.Struct
 
+-- such a list, whatever its bytes, has the cause 14
 abbrev pub BadElement : Trees × List ℕ → ℕ → Type 0
 BadElement held number = (number ≡ 14) × IsOfOthers held.0
 
@@ -38,11 +39,14 @@ ListOffends Spells left rules held place number =
 
 -- ---- rows, by the levels that are left in the struct that they hold
 
+-- the field of this id holds a struct and stands once at most. `Means` says what the struct means, `IsAbsent` which value stands
+-- where there is none, and what offends in the struct by these rules offends in the field
 abbrev pub structure : Spelling → ℕ → Rules FieldItem → ℕ → (B : Type 0) → (Fields → B → Type 0) → (B → Type 0) → Row FieldItem
 structure Spells left rules id B Means IsAbsent =
     singular (λ item. with_text item.text (given_to struct_in id item)) B (λ held value. Means held.0 value) IsAbsent nothing_wrong
     (λ held place number. Offence (structs Spells left) rules (whole_struct held.1) place number)
 
+-- the same of a list of structs, each of which has these rules. A list of anything else offends, unless it is empty
 abbrev pub structures : Spelling → ℕ → Rules FieldItem → ℕ → (B : Type 0) → (Trees → B → Type 0) → (B → Type 0) → Row FieldItem
 structures Spells left rules id B Means IsAbsent =
     singular (λ item. with_text item.text (given_to list_in id item)) B (λ held value. Means held.0 value) IsAbsent BadElement

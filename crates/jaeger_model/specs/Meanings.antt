@@ -15,6 +15,6 @@ Means held value = value ≡ held
 abbrev pub MeansTime : ℤ → ℕ → Type 0
 MeansTime held nanoseconds = (micros : ℕ) × (held ≡ pos micros) × (micros ≤ last_micros) × (nanoseconds ≡ nanos micros)
 
--- an enum of 0 to `last`, by the number of each of its values
+-- an enum, by the number of each of its values
 abbrev pub MeansEnum : {E : Type 0} → (E → ℕ) → ℤ → E → Type 0
 MeansEnum number_of held value = held ≡ pos (number_of value)

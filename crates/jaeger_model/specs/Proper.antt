@@ -18,18 +18,23 @@ IsProperTagValue (values.Truth truth) = ⊤
 IsProperTagValue (values.Number number) = FitsSigned w64 number
 IsProperTagValue (values.Bytes bytes) = All (λ b. b < 256) bytes
 
+-- `Tag`: the key is UTF-8, and the value is proper
 pub record IsProperTag (tag : Tag) : Type 0 where
   pub key : IsUtf8 tag.key
   pub value : IsProperTagValue tag.value
 
+-- `Log`: its time, here in nanoseconds, has 64 bits, and its tags are proper
 pub record IsProperLog (log : Log) : Type 0 where
   pub time : log.time < 2 ^ 64
   pub fields : All IsProperTag log.fields
 
+-- `SpanRef`: a trace identifier of 128 bits and a span identifier of 64, neither of which is zero
 pub record IsProperReference (reference : SpanRef) : Type 0 where
   pub trace : IsProperTraceId reference.trace
   pub span : IsProperSpanId reference.span
 
+-- `Span`: identifiers of 128 and 64 bits that aren't zero, a parent's too where there is one, start and end in nanoseconds of
+-- 64 bits, flags a signed number of 32 bits, and fewer than 2 ^ 32 references to no span. The end may be before the start
 pub record IsProperJSpan (span : JSpan) : Type 0 where
   pub trace : IsProperTraceId span.trace
   pub id : IsProperSpanId span.id
@@ -43,6 +48,7 @@ pub record IsProperJSpan (span : JSpan) : Type 0 where
   pub tags : All IsProperTag span.tags
   pub logs : All IsProperLog span.logs
 
+-- `Batch`: the service's name is UTF-8, and the process's tags and all spans are proper
 pub record IsProperBatch (batch : Batch) : Type 0 where
   pub service : IsUtf8 batch.service
   pub tags : All IsProperTag batch.tags

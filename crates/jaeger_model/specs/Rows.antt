@@ -15,6 +15,7 @@ given_to take id item = of_id take id item.id item.tree
 
 -- ---- how a field offends by what it holds
 
+-- what the field holds doesn't offend, whatever it is
 abbrev pub nothing_wrong : {A : Type 0} → A → ℕ → Type 0
 nothing_wrong held number = ⊥
 
@@ -42,7 +43,8 @@ abbrev pub or_else : {B : Type 0} → B → B → Type 0
 or_else absent value = value ≡ absent
 
 -- a field that stands once at most
-abbrev pub singular : {A : Type 0} → (FieldItem → List A) → (B : Type 0) → (A → B → Type 0) → (B → Type 0) → (A → ℕ → Type 0) → (A → ℕ → ℕ → Type 0) → Row FieldItem
+abbrev pub singular : {A : Type 0} → (FieldItem → List A) → (B : Type 0) → (A → B → Type 0) → (B → Type 0) → (A → ℕ → Type 0)
+    → (A → ℕ → ℕ → Type 0) → Row FieldItem
 singular {A} give B Means IsAbsent Wrong Inside = record {
   Given = A;
   given = λ item. give item;
@@ -74,7 +76,8 @@ int id IsAbsent = singular (λ item. given_to i32_in id item) ℤ Means IsAbsent
 
 -- an enum of 0 to `last`, by the number of each of its values
 abbrev pub enum_of_id : ℕ → ℕ → (E : Type 0) → (E → ℕ) → (E → Type 0) → Row FieldItem
-enum_of_id id last E number_of IsAbsent = singular (λ item. given_to i32_in id item) E (MeansEnum number_of) IsAbsent (BadEnum last) nothing_inside
+enum_of_id id last E number_of IsAbsent =
+    singular (λ item. given_to i32_in id item) E (MeansEnum number_of) IsAbsent (BadEnum last) nothing_inside
 
 -- bool
 abbrev pub truth : ℕ → (Bool → Type 0) → Row FieldItem
@@ -86,6 +89,7 @@ double id IsAbsent = singular (λ item. given_to double_in id item) (List ℕ) M
 
 -- ---- at the end
 
+-- one at least of these rows has no field among those that were seen
 abbrev pub SomeMissing : List (Row FieldItem) → List FieldItem → Type 0
 SomeMissing [] seen = ⊥
 SomeMissing (row ∷ rows) seen = (flat_map row.given seen ≡ []) ⊎ SomeMissing rows seen

@@ -10,6 +10,7 @@ use Rattle.jaeger_model.specs.declared.tag.Tag.{Tag}
 use Rattle.jaeger_model.specs.declared.tag.TagValue.{TagValue}
 use Rattle.jaeger_model.specs.declared.tag.TagValue.TheVariants as values
 
+-- a text, or bytes, of 2147483647 bytes at most; each other value can be written
 abbrev pub IsShortValue : TagValue → Type 0
 IsShortValue (values.Text text) = IsShort text
 IsShortValue (values.Eight bytes) = ⊤
@@ -17,6 +18,7 @@ IsShortValue (values.Truth truth) = ⊤
 IsShortValue (values.Number number) = ⊤
 IsShortValue (values.Bytes bytes) = IsShort bytes
 
+-- neither the key nor the value of a tag is too long
 pub record IsWritableTag (tag : Tag) : Type 0 where
   pub key : IsShort tag.key
   pub value : IsShortValue tag.value
@@ -26,10 +28,12 @@ pub record AreWritable {A : Type 0} (IsWritable : A → Type 0) (list : List A) 
   pub sized : IsShort list
   pub each : All IsWritable list
 
+-- a log's time is whole microseconds, and its tags can be written
 pub record IsWritableLog (log : Log) : Type 0 where
   pub time : IsWhole log.time
   pub fields : AreWritable IsWritableTag log.fields
 
+-- a span's name and lists aren't too long, its times are whole microseconds, and it doesn't end before its start
 pub record IsWritableSpan (span : JSpan) : Type 0 where
   pub name : IsShort span.name
   pub references : IsShort span.references
@@ -39,6 +43,7 @@ pub record IsWritableSpan (span : JSpan) : Type 0 where
   pub tags : AreWritable IsWritableTag span.tags
   pub logs : AreWritable IsWritableLog span.logs
 
+-- a batch that can be written: its service's name, its process's tags and all its spans can be
 pub record IsWritable (batch : Batch) : Type 0 where
   pub service : IsShort batch.service
   pub tags : AreWritable IsWritableTag batch.tags
@@ -46,9 +51,11 @@ pub record IsWritable (batch : Batch) : Type 0 where
 
 -- ---- its parts: sizes, and times
 
+-- the sizes in a log can be written, whatever its time is
 abbrev pub HasLogSizes : Log → Type 0
 HasLogSizes log = AreWritable IsWritableTag log.fields
 
+-- the sizes in a span and in its logs can be written, whatever its times are
 pub record HasSpanSizes (span : JSpan) : Type 0 where
   pub name : IsShort span.name
   pub references : IsShort span.references

@@ -1,1 +1,9 @@
+pub mod BatchSoFar
 pub mod Growing
+pub mod ListsSoFar
+pub mod LogSoFar
+pub mod ProcessSoFar
+pub mod ReferenceSoFar
+pub mod RowsSoFar
+pub mod SpanSoFar
+pub mod TagSoFar

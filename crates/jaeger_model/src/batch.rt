@@ -1,3 +1,4 @@
+//! A batch of Jaeger.
 use crate::span::JSpan;
 use crate::tag::Tag;
 use span_io::{Items, Text};

@@ -1,3 +1,4 @@
+//! The process of a batch.
 use crate::tag::Tag;
 use span_io::{Items, Text};
 

@@ -1,15 +1,15 @@
 //! Reading batches of Jaeger over any Thrift protocol, with the cause of the first offence.
-mod batch_rows;
+mod batch;
 mod identifiers;
 mod leaves;
 mod lists;
-mod log_rows;
+mod log;
 mod message;
-mod process_rows;
-mod reference_rows;
+mod process;
+mod reference;
 mod references;
 mod rows;
-mod span_rows;
-mod tag_rows;
+mod span;
+mod tag;
 
-pub use batch_rows::read_batch;
+pub use batch::read_batch;

@@ -1,3 +1,4 @@
+//! A span of Jaeger, with its references and logs.
 use crate::tag::Tag;
 use span_ids::{Nanos, SpanId, TraceId};
 use span_io::{Items, Text};

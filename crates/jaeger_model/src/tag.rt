@@ -1,3 +1,4 @@
+//! A tag of Jaeger, and its value.
 use span_io::{Bytes, Text};
 
 /// What a tag holds, by its `vType` (jaeger.thrift `TagType`). A double is kept as its eight bytes, the most significant

@@ -6,9 +6,11 @@ use Rattle.serde_json.specs.Data.{Data}
 use Rattle.serde_json.specs.Find.{as_array, as_object}
 use Rattle.json_members.specs.Members.{member, elements}
 
+-- when two values of JSON count as the same
 abbrev pub Agreement : Type 1
 Agreement = Data → Data → Type 0
 
+-- values that are equal in all
 abbrev pub same : Agreement
 same v w = v ≡ w
 
@@ -23,6 +25,7 @@ both_or_neither Agree (Some x) (Some y) = Agree x y
 abbrev pub KnownMember : Type 1
 KnownMember = List ℕ × Agreement
 
+-- each known member stands in neither value, or in both with values that agree
 abbrev pub members_agree : List KnownMember → Agreement
 members_agree [] v w = Unit {0}
 members_agree ((name, Agree) ∷ known) v w = both_or_neither Agree (member name v) (member name w) × members_agree known v w

@@ -7,14 +7,17 @@ use Rattle.serde_json.specs.Data.{Data, boolean, number, string, object, unsigne
 
 -- ---- members that are left out where they hold their default
 
+-- a string, whose default is the empty one
 abbrev pub text_data : List ℕ → Option Data
 text_data [] = None
 text_data (x ∷ more) = Some (string (x ∷ more))
 
+-- a whole number that isn't negative, whose default is 0
 abbrev pub count_data : ℕ → Option Data
 count_data zero = None
 count_data (suc n) = Some (number (unsigned (suc n)))
 
+-- true or false, whose default is false
 abbrev pub truth_data : Bool → Option Data
 truth_data false = None
 truth_data true = Some (boolean true)
@@ -36,8 +39,10 @@ unless_empty (member name d more) = Some (object (member name d more))
 
 -- ---- identifiers
 
+-- the id of a trace: 16 bytes, the most significant first, as 32 hexadecimal digits
 abbrev pub trace_id_text : ℕ → List ℕ
 trace_id_text id = encode_lower (to_be_bytes w128 id)
 
+-- the id of a span: 8 bytes, the most significant first, as 16 hexadecimal digits
 abbrev pub span_id_text : ℕ → List ℕ
 span_id_text id = encode_lower (to_be_bytes w64 id)

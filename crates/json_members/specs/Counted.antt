@@ -19,5 +19,6 @@ abbrev mutual
   values_in_members no_members = 0
   values_in_members (has key d ms) = values_in d + values_in_members ms
 
+-- fewer than 4,294,967,296 values stand in it
 abbrev pub IsCountedValue : Data → Type 0
 IsCountedValue d = values_in d < 2 ^ 32

@@ -5,4 +5,4 @@ pub mod Members
 pub mod Parts
 pub mod Texts
 pub mod Writing
-pub mod laws
+pub mod private

@@ -21,11 +21,13 @@ pub record BadJson (bytes path : List ℕ) (number : ℕ) : Type 0 where
   pub bad : number ≡ 10
   pub none : (d : Data) → ¬ IsJsonText d bytes
 
+-- the bytes are a text of a value, in which this offends
 pub record InValue (Offends : Data → Offences) (bytes path : List ℕ) (number : ℕ) : Type 0 where
   pub value : Data
   pub is_text : IsJsonText value bytes
   pub offends : Offends value path number
 
+-- what offends in the bytes of a whole text: BadJson, or what offends in its value
 abbrev pub document_offends : (Data → Offences) → List ℕ → Offences
 document_offends Offends bytes path number = BadJson bytes path number ⊎ InValue Offends bytes path number
 

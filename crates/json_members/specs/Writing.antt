@@ -1,11 +1,10 @@
 -- What the writers of parts append, as tokens of JSON.
 use Rattle.std.specs.Prelude.{◌≡◌, ℕ, List, [], ◌∷◌, ◌++◌, Option, Some, None, Result, OnOk, OnErr}
-use Rattle.json.specs.Token.{Token, end_object, key}
+use Rattle.json.specs.Token.{Token, key}
 use Rattle.json.specs.Tree.{json_tokens}
 use Rattle.json.specs.Written.{Written, WritesFront}
 use Rattle.serde_json.specs.Data.{Data}
 use Rattle.serde_json.specs.Written.{outline}
-use Rattle.json_members.specs.Canonical.{MemberRow}
 
 -- these tokens are appended, and after want of memory a front of them
 pub record Appends {E : Type 0} (result : Result (Unit {0}) E) (old new : Written) (tokens : List Token) : Type 0 where
@@ -20,6 +19,7 @@ pub record GrewFront (old new text : List ℕ) : Type 0 where
   pub whole : text ≡ front ++ rest
   pub grew : new ≡ old ++ front
 
+-- the tokens of a value
 abbrev pub data_tokens : Data → List Token
 data_tokens d = json_tokens (outline d)
 
@@ -27,13 +27,3 @@ data_tokens d = json_tokens (outline d)
 abbrev pub given_tokens : List ℕ → Option Data → List Token
 given_tokens name None = []
 given_tokens name (Some d) = key name ∷ data_tokens d
-
--- the rest of an object
-abbrev pub rows_tokens : List MemberRow → List Token
-rows_tokens [] = end_object ∷ []
-rows_tokens (row ∷ rows) = given_tokens row.0 row.1 ++ rows_tokens rows
-
--- the pieces of a list's elements, one behind the other
-abbrev pub pieces : {A : Type 0} → (A → List Token) → List A → List Token
-pieces piece [] = []
-pieces piece (x ∷ more) = piece x ++ pieces piece more

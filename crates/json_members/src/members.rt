@@ -13,7 +13,7 @@ use std::alloc::Global;
 
 // A value that was found, unless it is null.
 #[inline(always)]
-#[tactic(auto, using(crate::specs::laws::MemberLaws::nulls))]
+#[tactic(auto, using(crate::proofs::MemberLaws::nulls))]
 fn other_than_null<'v, 'a>(found: Option<Lent<'v, 'a>>) -> Option<Lent<'v, 'a>>
     ensures { option_map view result ≡ unless_null (option_map view found.entry) }
 {
@@ -36,7 +36,8 @@ pub fn member_of<'v, 'a>(v: &Lent<'v, 'a>, name: &str) -> Option<Lent<'v, 'a>>
 /// The members of these names, each put at the place of its name, by one walk over all of them.
 pub fn members_of<'v, 'a>(v: &Lent<'v, 'a>, names: &[&str], found: &mut [Option<Lent<'v, 'a>>])
     requires { found.old ≡ map (λ name. None) names.now }
-    ensures { AllZip (λ name o. option_map view o ≡ member name.now (view v.now)) names.now found.new }
+    ensures { AllZip
+        (λ name o. option_map view o ≡ member name.now (view v.now)) names.now found.new }
 {
     v.get_each(names, found);
     'places: for place in found.iter_mut() {
@@ -59,7 +60,8 @@ pub fn text_of(alloc: Global, v: &Lent<'_, '_>) -> Result<Text, Halt<Cause>>
 
 /// The text of a member that was found, or the empty one without it.
 pub fn text_found(alloc: Global, found: Option<Lent<'_, '_>>) -> Result<Text, Halt<Cause>>
-    ensures value { IfOk result (λ text. Given IsText (λ t. t ≡ []) text (option_map view found.entry)) }
+    ensures value { IfOk result
+        (λ text. Given IsText (λ t. t ≡ []) text (option_map view found.entry)) }
     ensures judged { JudgesValue result (optional text_offends (option_map view found.entry)) }
     ensures wants { result ≡ Err halts.OutOfMemory
         → is_some (option_and_then as_str (option_map view found.entry)) ≡ true }

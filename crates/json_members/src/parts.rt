@@ -18,10 +18,11 @@ pub trait Table {
 
 /// That the value is an object, of which nothing is read yet.
 #[inline(always)]
-#[tactic(auto, using(crate::specs::laws::PartLaws::reading))]
+#[tactic(auto, using(crate::proofs::PartLaws::reading))]
 pub fn object<T: Table>(v: &Lent<'_, '_>) -> Result<(), Cause>
     ensures begins { IfOk result (λ x. IsReading T.parts (view v.now) 0) }
-    ensures stops { IfErr result (λ cause. Counts (object_offends T.parts (view v.now)) (cause_number cause)) }
+    ensures stops { IfErr result
+        (λ cause. Counts (object_offends T.parts (view v.now)) (cause_number cause)) }
 {
     if v.is_object() {
         Ok(())
@@ -33,7 +34,7 @@ pub fn object<T: Table>(v: &Lent<'_, '_>) -> Result<(), Cause>
 /// What was read of the object's member of this number in its table, counted from 0. Those before it
 /// were read.
 #[inline(always)]
-#[tactic(auto, using(crate::specs::laws::PartLaws::reading))]
+#[tactic(auto, using(crate::proofs::PartLaws::reading))]
 pub fn member<T: Table, X>(
     v: &Lent<'_, '_>,
     number: u32,
@@ -52,7 +53,7 @@ pub fn member<T: Table, X>(
 
 /// The same of a member that takes no memory.
 #[inline(always)]
-#[tactic(auto, using(crate::specs::laws::PartLaws::reading))]
+#[tactic(auto, using(crate::proofs::PartLaws::reading))]
 pub fn bare_member<T: Table, X>(
     v: &Lent<'_, '_>,
     number: u32,

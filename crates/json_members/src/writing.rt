@@ -59,7 +59,7 @@ pub fn whole_text_member(out: &mut Writer, name: &str, text: &str) -> Result<(),
 }
 
 /// Appends a member that is a text, unless it is empty.
-#[tactic(auto, using(crate::specs::laws::WritingLaws::written))]
+#[tactic(auto, using(crate::proofs::WritingLaws::written))]
 pub fn text_member(out: &mut Writer, name: &str, text: &str) -> Result<(), OutOfMemory>
     ensures { Appends result out.old out.new (given_tokens name.now (text_data text.now)) }
 {
@@ -85,7 +85,8 @@ pub fn given_text_member(out: &mut Writer, name: &str, text: &Text) -> Result<()
 
 /// Appends a member that is a number, whatever it is.
 pub fn whole_count_member(out: &mut Writer, name: &str, count: u64) -> Result<(), OutOfMemory>
-    ensures { Appends result out.old out.new (given_tokens name.now (Some (number (unsigned count)))) }
+    ensures { Appends result out.old out.new
+        (given_tokens name.now (Some (number (unsigned count)))) }
 {
     out.key(name)?;
     out.u64(count)?;
@@ -93,7 +94,7 @@ pub fn whole_count_member(out: &mut Writer, name: &str, count: u64) -> Result<()
 }
 
 /// Appends a member that is a number, unless it is 0.
-#[tactic(auto, using(crate::specs::laws::WritingLaws::written))]
+#[tactic(auto, using(crate::proofs::WritingLaws::written))]
 pub fn count_member(out: &mut Writer, name: &str, count: u64) -> Result<(), OutOfMemory>
     ensures { Appends result out.old out.new (given_tokens name.now (count_data count)) }
 {
@@ -125,7 +126,8 @@ pub fn truth_member(out: &mut Writer, name: &str, truth: bool) -> Result<(), Out
 
 /// Appends a member that is a span's identifier.
 pub fn id_member(out: &mut Writer, name: &str, id: SpanId) -> Result<(), OutOfMemory>
-    ensures { Appends result out.old out.new (given_tokens name.now (Some (string (span_id_text id)))) }
+    ensures { Appends result out.old out.new
+        (given_tokens name.now (Some (string (span_id_text id)))) }
 {
     let mut digits = [0; 16];
     id.write_hex(&mut digits);

@@ -5,7 +5,8 @@ use Rattle.std.specs.Str.{bytes_eq}
 use Rattle.serde_json.specs.Data.{Data, null, boolean, number, string, array, object, no_members}
 use Rattle.serde_json.specs.Find.{get, as_object}
 use Rattle.json_nodes.specs.Lents.{lent_view}
-use Rattle.json_nodes.specs.Nodes.{later_or, last_value, put_all}
+use Rattle.json_nodes.specs.private.Parts.{later_or, last_value}
+use Rattle.json_nodes.specs.Nodes.{put_all}
 use Rattle.json_nodes.specs.declared.lent.Lent.{Lent}
 use Rattle.json_nodes.specs.private.Asked.{put_where}
 use Rattle.json_nodes.proofs.MemberLemmas.{seen_more, last_counts, get_of}

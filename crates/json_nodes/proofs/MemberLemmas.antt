@@ -10,7 +10,8 @@ use Rattle.std.specs.Cmp.Lexicographic.{slice_cmp}
 use Rattle.std.specs.Ordering.{match_ordering}
 use Rattle.json_nodes.specs.Lents.{lent_view, named_members}
 use Rattle.json_nodes.specs.declared.lent.Lent.{Lent}
-use Rattle.json_nodes.specs.Nodes.{later_or, last_value, put_all}
+use Rattle.json_nodes.specs.private.Parts.{later_or, last_value}
+use Rattle.json_nodes.specs.Nodes.{put_all}
 
 put_at : (same : Bool) (name k : List ℕ) (d : Data) (found : Members) → bytes_eq k name ≡ same → get_member name (put k d found) ≡ later_or (cond same (Some d) None) (get_member name found)
 put_at true name k d found e = let is : k ≡ name = (bytes_eq-Decides k name).0 e in subst (λ (n : List ℕ). get_member n (put k d found) ≡ Some d) is (get_member-put k d found)

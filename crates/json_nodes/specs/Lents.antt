@@ -7,9 +7,11 @@ use Rattle.json_nodes.specs.declared.lent.Lent.{Lent}
 use Rattle.json_nodes.specs.declared.elements.Elements.{Elements}
 use Rattle.json_nodes.specs.declared.members.Members.{Members}
 
+-- the value with which its nodes begin, or null if none does
 abbrev pub lent_view : Lent → Data
 lent_view v = value_at v.nodes.now
 
+-- the elements that are left, in the order of the text
 abbrev pub elements_left : Elements → List Data
 elements_left es = values_of (spelled es.nodes.now)
 

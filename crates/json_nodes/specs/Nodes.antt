@@ -1,7 +1,6 @@
 -- What a list of nodes stands for. A text, a number and the like are one node each. Behind the node of an array or an object stand the nodes
 -- inside it, as many as it says; in an object a key stands before the value of each member. Nodes beyond the end of a list aren't there.
-use Rattle.std.specs.Prelude.{ℕ, zero, suc, min, List, [], ◌∷◌, length, cond, Option, Some, None}
-use Rattle.std.specs.Str.{bytes_eq}
+use Rattle.std.specs.Prelude.{ℕ, zero, suc, min, List, [], ◌∷◌, length, Option, Some, None}
 use Rattle.serde_json.specs.Data.{Num, unsigned, negative, float, Data, null, boolean, number, string, array, object, Members, no_members, put}
 use Rattle.serde_json.specs.View.{items_of}
 use Rattle.json_nodes.specs.declared.node.Node.{Node}
@@ -9,6 +8,7 @@ use Rattle.json_nodes.specs.declared.node.Node.TheVariants as nodes
 use Rattle.json_nodes.specs.declared.number.Number.{Number}
 use Rattle.json_nodes.specs.declared.number.Number.TheVariants as numbers
 
+-- a number of JSON: a whole one that isn't negative, a negative whole one, or a double
 abbrev pub num_of : Number → Num
 num_of (numbers.Unsigned n) = unsigned n
 num_of (numbers.Negative z) = negative z
@@ -39,15 +39,6 @@ pairs_of (key k ∷ []) = []
 pairs_of (key k ∷ key l ∷ es) = []
 pairs_of (key k ∷ value d ∷ es) = (k, d) ∷ pairs_of es
 
-abbrev pub later_or : Option Data → Option Data → Option Data
-later_or None earlier = earlier
-later_or (Some d) earlier = Some d
-
--- the last value of this key
-abbrev pub last_value : List ℕ → List (List ℕ × Data) → Option Data
-last_value k [] = None
-last_value k (m ∷ more) = later_or (last_value k more) (cond (bytes_eq m.0 k) (Some m.1) None)
-
 -- members put in one after another, so that the last value of a key stays
 abbrev pub put_all : List (List ℕ × Data) → Members → Members
 put_all [] found = found
@@ -63,13 +54,16 @@ entries zero (suc end) (nodes.Truth b ∷ ns) = value (boolean b) ∷ entries ze
 entries zero (suc end) (nodes.Number n ∷ ns) = value (number (num_of n)) ∷ entries zero end ns
 entries zero (suc end) (nodes.Text s ∷ ns) = value (string s.now) ∷ entries zero end ns
 entries zero (suc end) (nodes.Key k ∷ ns) = key k.now ∷ entries zero end ns
-entries zero (suc end) (nodes.Array count ∷ ns) = value (array (items_of (values_of (entries zero (min count end) ns)))) ∷ entries count end ns
-entries zero (suc end) (nodes.Object count ∷ ns) = value (object (put_all (pairs_of (entries zero (min count end) ns)) no_members)) ∷ entries count end ns
+entries zero (suc end) (nodes.Array count ∷ ns) =
+    value (array (items_of (values_of (entries zero (min count end) ns)))) ∷ entries count end ns
+entries zero (suc end) (nodes.Object count ∷ ns) =
+    value (object (put_all (pairs_of (entries zero (min count end) ns)) no_members)) ∷ entries count end ns
 
 -- what all of them spell
 abbrev pub spelled : List Node → List Entry
 spelled ns = entries 0 (length ns) ns
 
+-- the value that was found first, or null if there is none
 abbrev pub value_or_null : Option (Data × List Entry) → Data
 value_or_null None = null
 value_or_null (Some p) = p.0

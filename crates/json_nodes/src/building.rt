@@ -30,7 +30,8 @@ fn patch<T: Copy>(nodes: &mut Vec<T>, at: usize, node: T)
 #[inline(always)]
 pub(crate) fn close_array(nodes: &mut Vec<Node<'_>>, at: usize)
     requires { at < length nodes.old.items }
-    ensures { nodes.new.items ≡ slice_set nodes.old.items at (nodes_of.Array (length nodes.old.items - (at + 1))) }
+    ensures { nodes.new.items
+        ≡ slice_set nodes.old.items at (nodes_of.Array (length nodes.old.items - (at + 1))) }
 {
     let count = nodes.len() - (at + 1);
     patch(nodes, at, Node::Array(count));
@@ -40,7 +41,8 @@ pub(crate) fn close_array(nodes: &mut Vec<Node<'_>>, at: usize)
 #[inline(always)]
 pub(crate) fn close_object(nodes: &mut Vec<Node<'_>>, at: usize)
     requires { at < length nodes.old.items }
-    ensures { nodes.new.items ≡ slice_set nodes.old.items at (nodes_of.Object (length nodes.old.items - (at + 1))) }
+    ensures { nodes.new.items
+        ≡ slice_set nodes.old.items at (nodes_of.Object (length nodes.old.items - (at + 1))) }
 {
     let count = nodes.len() - (at + 1);
     patch(nodes, at, Node::Object(count));

@@ -1,3 +1,4 @@
+//! The elements of an array.
 ghost use Rattle.std.specs.Prelude.{◌≡◌, ◌∷◌, [], MatchOption};
 
 use crate::lent::Lent;

@@ -1,3 +1,4 @@
+//! Values of JSON over nodes that are lent.
 ghost use Rattle.std.specs.Prelude.{◌≡◌, map, is_some, option_map, option_and_then};
 ghost use Rattle.std.specs.List.{AllZip};
 ghost use Rattle.serde_json.specs.Data.{no_members};
@@ -113,7 +114,8 @@ impl<'v, 'a> Lent<'v, 'a> {
 
     /// The members, of an object.
     pub fn members(&self) -> Option<Members<'v, 'a>>
-        ensures { option_map (λ ms. put_all (members_left ms) no_members) result ≡ as_object (view self.now) }
+        ensures { option_map (λ ms. put_all (members_left ms) no_members) result
+            ≡ as_object (view self.now) }
     {
         let Some((first, rest)) = self.nodes.split_first() else {
             return None;
@@ -139,7 +141,8 @@ impl<'v, 'a> Lent<'v, 'a> {
     /// The members of these names, each put at the place of its name, by one walk over all of them.
     pub fn get_each(&self, names: &[&str], found: &mut [Option<Lent<'v, 'a>>])
         requires { found.old ≡ map (λ name. None) names.now }
-        ensures { AllZip (λ name o. option_map view o ≡ get name.now (view self.now)) names.now found.new }
+        ensures { AllZip
+            (λ name o. option_map view o ≡ get name.now (view self.now)) names.now found.new }
     {
         if let Some(members) = self.members() {
             members.last_of_each(names, found);

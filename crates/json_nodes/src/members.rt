@@ -1,3 +1,4 @@
+//! The members of an object.
 ghost use Rattle.std.specs.Prelude.{◌≡◌, ◌≤◌, ◌∷◌, [], length, map, MatchOption, IfOk, option_map};
 ghost use Rattle.std.specs.List.{AllZip};
 ghost use Rattle.json_nodes.specs.private.Asked.{put_where};
@@ -34,7 +35,8 @@ fn put_named<'v, 'a>(
 
 impl<'v, 'a> Members<'v, 'a> {
     ghost use Rattle.json_nodes.specs.Lents.{lent_view, members_left, named_members};
-    ghost use Rattle.json_nodes.specs.Nodes.{last_value, put_all};
+    ghost use Rattle.json_nodes.specs.private.Parts.{last_value};
+    ghost use Rattle.json_nodes.specs.Nodes.{put_all};
 
     /// The next of them, by its name.
     #[inline(always)]
@@ -72,7 +74,9 @@ impl<'v, 'a> Members<'v, 'a> {
     // The last value of each of these names.
     pub(crate) fn last_of_each(self, names: &[&str], found: &mut [Option<Lent<'v, 'a>>])
         requires { found.old ≡ map (λ name. None) names.now }
-        ensures { AllZip (λ name o. option_map lent_view o ≡ last_value name.now (members_left self.entry)) names.now found.new }
+        ensures { AllZip
+            (λ name o. option_map lent_view o
+            ≡ last_value name.now (members_left self.entry)) names.now found.new }
     {
         let mut left = self;
         'members: while let Some((name, value)) = left.next() {
@@ -82,7 +86,8 @@ impl<'v, 'a> Members<'v, 'a> {
 
     /// All of them by their names, each once, in the order of the names' bytes.
     pub fn by_name(self, alloc: Global) -> Result<BTreeMap<&'a str, Lent<'v, 'a>>, OutOfMemory>
-        ensures { IfOk result (λ named. named_members named.entries ≡ put_all (members_left self.entry) no_members) }
+        ensures { IfOk result
+            (λ named. named_members named.entries ≡ put_all (members_left self.entry) no_members) }
     {
         let mut left = self;
         let mut named = BTreeMap::new(alloc);

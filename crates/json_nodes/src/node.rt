@@ -128,7 +128,8 @@ fn past<'v, 'a>(nodes: &'v [Node<'a>], count: usize) -> &'v [Node<'a>]
 // The nodes behind the value that comes first, if one does.
 #[inline(always)]
 pub(crate) fn behind_value<'v, 'a>(nodes: &'v [Node<'a>]) -> Option<&'v [Node<'a>]>
-    ensures { option_map (λ rest. (value_at nodes.now, spelled rest.now)) result ≡ next_value (spelled nodes.now) }
+    ensures { option_map (λ rest. (value_at nodes.now, spelled rest.now)) result
+        ≡ next_value (spelled nodes.now) }
 {
     let Some((first, rest)) = nodes.split_first() else {
         return None;

@@ -76,7 +76,8 @@ fn add_object<'v>(
 
 #[cycle(add)]
 fn add_elements<'v>(nodes: &mut Vec<Node<'v>>, elements: &'v Vec<Value>) -> Result<(), AllocError>
-    ensures { OnOk result (Adds nodes.old.items nodes.new.items (map (λ v. held (view v)) elements.now.items)) }
+    ensures { OnOk result
+        (Adds nodes.old.items nodes.new.items (map (λ v. held (view v)) elements.now.items)) }
 {
     'elements: for element in elements {
         add_value(nodes, element)?;

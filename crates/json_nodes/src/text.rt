@@ -22,7 +22,8 @@ pub fn bytes_nodes<'a>(
     bytes: &'a [u8],
     scratch: &'a mut Scratch,
 ) -> Result<Vec<Node<'a>>, Unread>
-    ensures ok { IfOk result (λ nodes. IsUtf8 bytes.now × (read_text bytes.now ≡ Some (value_at nodes.items))) }
+    ensures ok { IfOk result
+        (λ nodes. IsUtf8 bytes.now × (read_text bytes.now ≡ Some (value_at nodes.items))) }
     ensures bad { result ≡ Err Unread.BadJson → IsUtf8 bytes.now → read_text bytes.now ≡ None }
     // No memory is wanted for bytes that are no text.
     ensures wants { result ≡ Err Unread.OutOfMemory → IsUtf8 bytes.now }
@@ -103,7 +104,8 @@ fn read_array<'a>(
     depth: usize,
 ) -> Result<(), Unread>
     ensures ok { OnOk result (AddsValue nodes.old.items nodes.new.items
-        (parse_map array (converted of_items (items (value depth) (length reader.old) reader.old))) reader.new) }
+        (parse_map array
+        (converted of_items (items (value depth) (length reader.old) reader.old))) reader.new) }
     ensures shorter { OnOk result (length reader.new < length reader.old) }
     ensures bad { result ≡ Err Unread.BadJson
         → converted of_items (items (value depth) (length reader.old) reader.old) ≡ None }
@@ -143,11 +145,14 @@ fn read_object<'a>(
     depth: usize,
 ) -> Result<(), Unread>
     ensures ok { OnOk result (AddsValue nodes.old.items nodes.new.items
-        (parse_map object (converted (λ ms. of_members ms no_members) (members (value depth) (length reader.old) reader.old)))
+        (parse_map object
+        (converted (λ ms. of_members ms no_members)
+        (members (value depth) (length reader.old) reader.old)))
         reader.new) }
     ensures shorter { OnOk result (length reader.new < length reader.old) }
     ensures bad { result ≡ Err Unread.BadJson
-        → converted (λ ms. of_members ms no_members) (members (value depth) (length reader.old) reader.old) ≡ None }
+        → converted (λ ms. of_members ms no_members)
+        (members (value depth) (length reader.old) reader.old) ≡ None }
 {
     let at = nodes.len();
     push(nodes, Node::Object(0))?;
@@ -164,10 +169,12 @@ fn read_members<'a>(
     depth: usize,
 ) -> Result<(), Unread>
     ensures ok { OnOk result (AddsMembers nodes.old.items nodes.new.items
-        (converted (λ ms. of_members ms no_members) (members (value depth) (length reader.old) reader.old)) reader.new) }
+        (converted (λ ms. of_members ms no_members)
+        (members (value depth) (length reader.old) reader.old)) reader.new) }
     ensures shorter { OnOk result (length reader.new < length reader.old) }
     ensures bad { result ≡ Err Unread.BadJson
-        → converted (λ ms. of_members ms no_members) (members (value depth) (length reader.old) reader.old) ≡ None }
+        → converted (λ ms. of_members ms no_members)
+        (members (value depth) (length reader.old) reader.old) ≡ None }
 {
     'members: while let Some(name) = reader.next_key()? {
         push(nodes, Node::Key(name))?;

@@ -1,3 +1,4 @@
+//! Why bytes are no JSON, or were not read.
 use json::Invalid;
 use std::alloc::AllocError;
 

@@ -55,6 +55,7 @@ loss_count_text losses = codes "losses " ++ decimal losses ++ codes "\n"
 
 -- ---- remarks
 
+-- what a remark says: which key stood more than once, that a link was left out, or the tag of which key was left out
 abbrev pub remarked : RemarkKind → List ℕ → List ℕ
 remarked remarks.EqualKey key = codes "equal key " ++ quoted_text key
 remarked remarks.LinkDropped key = codes "link dropped"
@@ -80,11 +81,13 @@ kind_word kinds.Client = codes "CLIENT"
 kind_word kinds.Producer = codes "PRODUCER"
 kind_word kinds.Consumer = codes "CONSUMER"
 
+-- the names of status codes in OTLP (trace.proto, `Status.StatusCode`), without `STATUS_CODE_`
 abbrev pub code_word : Code → List ℕ
 code_word statuses.Unset = codes "UNSET"
 code_word statuses.Okay = codes "OK"
 code_word statuses.Fail = codes "ERROR"
 
+-- the identifier of the parent in 16 hexadecimal digits, or a dash where there is no parent
 abbrev pub parent_word : Option ℕ → List ℕ
 parent_word None = codes "-"
 parent_word (Some parent) = span_id_text parent

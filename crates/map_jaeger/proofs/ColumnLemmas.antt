@@ -3,9 +3,9 @@ use Rattle.std.proofs.Common.{◌≡◌, ℕ, true, false, List, ◌++◌, lengt
 use Rattle.std.specs.Option.{option_or}
 use Rattle.trace_model.specs.Attributes.{Rise, keys, attrs, at}
 use Rattle.trace_model.specs.declared.value.Value.{Value}
-use Rattle.span_tags.specs.laws.AttributeLaws.{last_at, at_attrs-append, on_values, at_map}
-use Rattle.span_tags.specs.laws.ColumnLaws.{is_key_of, of_length, key_by_length as keys_by_length}
-use Rattle.span_tags.specs.laws.RowLaws.{Told, last_told, last_at-rows, told_none, on_rows}
+use Rattle.span_tags.proofs.AttributeLaws.{last_at, at_attrs-append, on_values, at_map}
+use Rattle.span_tags.proofs.ColumnLaws.{is_key_of, of_length, key_by_length as keys_by_length}
+use Rattle.span_tags.proofs.RowLaws.{Told, last_told, last_at-rows, told_none, on_rows}
 use Rattle.map_jaeger.specs.Columns.{Columns, all_columns, row_of, rows, looked, has_column}
 use Rattle.map_jaeger.specs.TagValues.{normal_value}
 use Rattle.map_jaeger.specs.declared.columns.Column.{Column}

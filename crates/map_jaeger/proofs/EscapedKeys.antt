@@ -6,7 +6,8 @@ use Rattle.std.proofs.lemmas.Str.Ascii.{IsAscii-from_all}
 use Rattle.trace_model.specs.Proper.{IsProperPair, AreProper}
 use Rattle.trace_model.specs.declared.value.Value.{Value}
 use Rattle.span_tags.specs.Escapes.{front, escaped, unescaped}
-use Rattle.span_tags.specs.laws.EscapeLaws.{IsApart, esc_holds, unesc_holds, escaped_all, unescaped_all}
+use Rattle.span_tags.specs.Escapes.{IsApart}
+use Rattle.span_tags.proofs.EscapeLaws.{esc_holds, unesc_holds, escaped_all, unescaped_all}
 use Rattle.map_jaeger.specs.Columns.{is_reserved}
 use Rattle.map_jaeger.specs.Keys.{is_event_reserved}
 use Rattle.map_jaeger.proofs.GroupProper.{ascii}

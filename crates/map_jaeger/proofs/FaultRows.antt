@@ -15,9 +15,10 @@ use Rattle.span_tags.specs.Doubles.{double_at}
 use Rattle.span_tags.specs.PlacedFaults.{KeyAtMost}
 use Rattle.span_tags.specs.TagKeys.{service_key}
 use Rattle.span_tags.specs.TagWords.{Pairs}
-use Rattle.span_tags.specs.laws.AttributeLaws.{key_of_some, some_of_key}
-use Rattle.span_tags.specs.laws.FaultLaws.{FindsRows, FindsFaults, doubles_decide, span_doubles}
-use Rattle.span_tags.specs.laws.LeastRows.{least_same, least_if, not_above_itself, any_decides, itself, never}
+use Rattle.span_tags.proofs.AttributeLaws.{key_of_some, some_of_key}
+use Rattle.span_tags.specs.FoundFaults.{FindsRows, FindsFaults}
+use Rattle.span_tags.proofs.FaultLaws.{doubles_decide, span_doubles}
+use Rattle.span_tags.proofs.LeastRows.{least_same, least_if, not_above_itself, any_decides, itself, never}
 use Rattle.map_jaeger.specs.ColumnWords.{flags_in}
 use Rattle.map_jaeger.specs.Faults.{HasOwn, IsOwnParent, HasDoubleInside, HasDoubleAt, IsSpanFault, IsResourceFault}
 use Rattle.map_jaeger.specs.Keys.{flags_key, reference_key}

@@ -7,7 +7,7 @@ use Rattle.std.proofs.lemmas.Bool.{eqb-false}
 use Rattle.std.proofs.lemmas.Fmt.{decimal_is_IsNumeral_wide}
 use Rattle.std.proofs.lemmas.Int.{of_z-to_z}
 use Rattle.trace_model.specs.declared.value.Value.{Value, Text, Truth, Number, Eight, Bytes, List', Map', Nothing}
-use Rattle.span_tags.specs.laws.AttributeLaws.{same_key, key_itself}
+use Rattle.span_tags.proofs.AttributeLaws.{same_key, key_itself}
 use Rattle.span_tags.specs.TagWords.{decimal_in, at_most, count_in, is_idle}
 use Rattle.map_jaeger.specs.ColumnWords.{count_given, are_high_flags, flags_in}
 use Rattle.map_jaeger.specs.Reading.{flag_bits, high_flags, high_flags_of}

@@ -10,8 +10,8 @@ use Rattle.trace_model.specs.Attributes.{AreRepeated}
 use Rattle.trace_model.specs.Remarks.{tags_dropped, numbered}
 use Rattle.trace_model.specs.declared.place.Place.TheVariants as places
 use Rattle.trace_model.specs.declared.span.Span.{Span}
-use Rattle.trace_model.specs.declared.trace.Group.{Group}
-use Rattle.span_tags.specs.laws.RunLaws.{scoped_runs}
+use Rattle.trace_model.specs.declared.group.Group.{Group}
+use Rattle.span_tags.proofs.RunLaws.{scoped_runs}
 use Rattle.span_tags.specs.Runs.{Scoped, scoped, runs}
 use Rattle.span_tags.specs.TagKeys.{service_key}
 use Rattle.span_tags.specs.TagWords.{without, if_left}

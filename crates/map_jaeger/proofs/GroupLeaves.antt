@@ -10,7 +10,7 @@ use Rattle.trace_model.specs.Attributes.{Rise, keys, attrs}
 use Rattle.trace_model.specs.Values.{IsSound}
 use Rattle.trace_model.specs.declared.value.Value.{Value, Text, List', Map', Nothing}
 use Rattle.span_tags.specs.TagWords.{without}
-use Rattle.span_tags.specs.laws.AttributeLaws.{attrs_itself, map_rise}
+use Rattle.span_tags.proofs.AttributeLaws.{attrs_itself, map_rise}
 use Rattle.map_jaeger.specs.Faults.{HasDoubleInside, HasDouble}
 use Rattle.map_jaeger.specs.Normal.{normal_attributes}
 use Rattle.map_jaeger.specs.Reading.{attributes_of}

@@ -10,7 +10,7 @@ use Rattle.trace_model.specs.Values.{IsSound, AreSound}
 use Rattle.trace_model.specs.declared.fault.Fault.{Fault}
 use Rattle.trace_model.specs.declared.fault.Fault.TheVariants.{DoubleInText}
 use Rattle.trace_model.specs.declared.value.Value.{Value, Text}
-use Rattle.span_tags.specs.laws.AttributeLaws.{same_key, key_itself, option_or-none, last_at, attrs_rise, at_attrs-append, all_attrs, same_pairs, at_filter, filter_rise, at_map, map_rise}
+use Rattle.span_tags.proofs.AttributeLaws.{same_key, key_itself, option_or-none, last_at, attrs_rise, at_attrs-append, all_attrs, same_pairs, at_filter, filter_rise, at_map, map_rise}
 use Rattle.span_tags.specs.TagKeys.{service_key}
 use Rattle.span_tags.specs.TagWords.{row, text_given, without, text_or_none}
 use Rattle.map_jaeger.specs.Faults.{HasDoubleAt, IsResourceFault, HasDouble}

@@ -8,12 +8,13 @@ use Rattle.trace_model.specs.Soundness.{IsSoundSpan, IsSoundScope}
 use Rattle.trace_model.specs.Values.{IsSound, AreSound}
 use Rattle.trace_model.specs.declared.fault.Fault.{Fault}
 use Rattle.trace_model.specs.declared.span.Span.{Span}
-use Rattle.trace_model.specs.declared.trace.Group.{Group}
-use Rattle.trace_model.specs.declared.trace.Scope.{Scope}
+use Rattle.trace_model.specs.declared.group.Group.{Group}
+use Rattle.trace_model.specs.declared.group.Scope.{Scope}
 use Rattle.trace_model.specs.declared.value.Value.{Value}
-use Rattle.span_tags.specs.laws.AttributeLaws.{attrs_rise}
-use Rattle.span_tags.specs.laws.FaultLaws.{sound_spans, none_plain, plain_spans, none_counts}
-use Rattle.span_tags.specs.laws.RunLaws.{IsPlain, scoped_all, scoped_runs, runs_each}
+use Rattle.span_tags.proofs.AttributeLaws.{attrs_rise}
+use Rattle.span_tags.proofs.FaultLaws.{sound_spans, none_plain, plain_spans, none_counts}
+use Rattle.span_tags.specs.Runs.{IsPlain}
+use Rattle.span_tags.proofs.RunLaws.{scoped_all, scoped_runs, runs_each}
 use Rattle.span_tags.specs.Runs.{Scoped, spans_of, scoped, runs}
 use Rattle.map_jaeger.specs.Faults.{IsSpanFault, IsResourceFault, HasNoFault}
 use Rattle.map_jaeger.specs.StatedLaws.{IsHeld}

@@ -20,18 +20,18 @@ use Rattle.trace_model.specs.declared.span.Kind.{Kind}
 use Rattle.trace_model.specs.declared.span.Kind.TheVariants as kinds
 use Rattle.trace_model.specs.declared.span.Link.{Link}
 use Rattle.trace_model.specs.declared.span.Span.{Span}
-use Rattle.trace_model.specs.declared.trace.Group.{Group}
-use Rattle.trace_model.specs.declared.trace.Scope.{Scope}
+use Rattle.trace_model.specs.declared.group.Group.{Group}
+use Rattle.trace_model.specs.declared.group.Scope.{Scope}
 use Rattle.trace_model.specs.declared.value.Value.{Value}
 use Rattle.span_tags.specs.LossMeanings.{StaysOther, Goes, OfResource, OfSpan, OfEvent, OfLink, InPlace, IsLinkLoss, spans_in, Begins}
 use Rattle.span_tags.specs.Losses.{is_empty, is_text, is_unspecified, differ, lost, lost_key, lost_keys, losses_of, joins, scopes_losses}
 use Rattle.span_tags.specs.Runs.{scoped, runs}
 use Rattle.span_tags.specs.TagKeys.{service_key}
 use Rattle.span_tags.specs.TagWords.{text_given}
-use Rattle.span_tags.specs.laws.AttributeLaws.{same_key, key_itself}
-use Rattle.span_tags.specs.laws.BeginLaws.{joins_meant, runs_spans}
-use Rattle.span_tags.specs.laws.MeaningLaws.{Told, ToldAt, told_not, told_parts, told_both, told_as, IsRow, told_row, IsOne, told_one, told_differ, told_given, Becomes, told_other, becomes, told_made, made_stays, text_goes, text_becomes, Among, told_list, member_of, among_member, in_place_of, placed_of, told_scopes, number_map, scope_same, AmongScopes, IsScope, scope_of, among_scope, names_after}
-use Rattle.span_tags.specs.laws.QuietLaws.{given_not}
+use Rattle.span_tags.proofs.AttributeLaws.{same_key, key_itself}
+use Rattle.span_tags.proofs.BeginLaws.{joins_meant, runs_spans}
+use Rattle.span_tags.proofs.MeaningLaws.{Told, ToldAt, told_not, told_parts, told_both, told_as, IsRow, told_row, IsOne, told_one, told_differ, told_given, Becomes, told_other, becomes, told_made, made_stays, text_goes, text_becomes, Among, told_list, member_of, among_member, in_place_of, placed_of, told_scopes, number_map, scope_same, AmongScopes, IsScope, scope_of, among_scope, names_after}
+use Rattle.span_tags.proofs.QuietLaws.{given_not}
 use Rattle.map_jaeger.specs.LossMeaning.{MeansLoss}
 use Rattle.map_jaeger.specs.Losses.{is_told_as_text, becomes_text, event_losses, are_kept, link_losses, message_goes, own_losses, span_losses, service_goes, changes, resource_losses, group_losses}
 use Rattle.map_jaeger.specs.Normal.{normal_status, normal_event, normal_link, normal_span, normal_scoped, normal_resource, normal_group}

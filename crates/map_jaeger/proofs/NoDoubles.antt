@@ -12,11 +12,11 @@ use Rattle.trace_model.specs.Attributes.{by_order, placed, attrs}
 use Rattle.trace_model.specs.declared.fault.Fault.{Fault}
 use Rattle.trace_model.specs.declared.fault.Fault.TheVariants.{DoubleInText}
 use Rattle.trace_model.specs.declared.span.Span.{Span}
-use Rattle.trace_model.specs.declared.trace.Group.{Group}
+use Rattle.trace_model.specs.declared.group.Group.{Group}
 use Rattle.trace_model.specs.declared.value.Value.{Value, List', Map'}
 use Rattle.span_tags.specs.Columns.{rows_by}
 use Rattle.span_tags.specs.Escapes.{rekeyed, esc, escaped}
-use Rattle.span_tags.specs.laws.FaultLaws.{span_doubles, plain_resource, plain_spans, none_scoped}
+use Rattle.span_tags.proofs.FaultLaws.{span_doubles, plain_resource, plain_spans, none_scoped}
 use Rattle.span_tags.specs.Runs.{Scoped, scoped}
 use Rattle.span_tags.specs.TagWords.{Pairs, row, text_given, without}
 use Rattle.map_jaeger.specs.Columns.{all_columns, row_of, columns_of, rows, is_reserved}

@@ -18,12 +18,12 @@ use Rattle.trace_model.specs.declared.span.Kind.{Kind}
 use Rattle.trace_model.specs.declared.span.Kind.TheVariants as kinds
 use Rattle.trace_model.specs.declared.span.Link.{Link}
 use Rattle.trace_model.specs.declared.span.Span.{Span}
-use Rattle.trace_model.specs.declared.trace.Group.{Group}
+use Rattle.trace_model.specs.declared.group.Group.{Group}
 use Rattle.trace_model.specs.declared.value.Value.{Value, Text, List', Map', Nothing}
-use Rattle.span_tags.specs.laws.AttributeLaws.{same_key, key_itself, other_way, option_or-none, at_below, at_attrs-append, same_pairs, at_filter, at_map}
+use Rattle.span_tags.proofs.AttributeLaws.{same_key, key_itself, other_way, option_or-none, at_below, at_attrs-append, same_pairs, at_filter, at_map}
 use Rattle.span_tags.specs.Losses.{is_empty, differ, is_text, is_unspecified, lost, lost_key, lost_keys, losses_of, scopes_losses}
-use Rattle.span_tags.specs.laws.QuietLaws.{Quiet, both, quiet_as, row_quiet, differ_not, given_not, same_test, same_parts, keys_quiet, mapped_quiet, list_quiet, scopes_quiet}
-use Rattle.span_tags.specs.laws.RowLaws.{last_at-row}
+use Rattle.span_tags.proofs.QuietLaws.{Quiet, both, quiet_as, row_quiet, differ_not, given_not, same_test, same_parts, keys_quiet, mapped_quiet, list_quiet, scopes_quiet}
+use Rattle.span_tags.proofs.RowLaws.{last_at-row}
 use Rattle.span_tags.specs.TagKeys.{service_key}
 use Rattle.span_tags.specs.TagWords.{row, text_given, without, text_or_none}
 use Rattle.map_jaeger.specs.Keys.{reference_key, child_of_word}

@@ -1,7 +1,7 @@
 -- Rows are put in their places among attributes, one before the other.
 use Rattle.std.proofs.Common.{◌≡◌, List, ◌++◌, sym, ◌∙◌}
 use Rattle.trace_model.specs.Attributes.{Rise, keys, attrs}
-use Rattle.span_tags.specs.laws.AttributeLaws.{attrs_itself}
+use Rattle.span_tags.proofs.AttributeLaws.{attrs_itself}
 use Rattle.span_tags.specs.TagWords.{Pairs}
 use Rattle.span_tags.specs.Columns.{rows_by}
 use Rattle.map_jaeger.specs.Columns.{Columns, row_of}

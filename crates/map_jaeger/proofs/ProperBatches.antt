@@ -21,14 +21,14 @@ use Rattle.trace_model.specs.declared.span.Kind.{Kind}
 use Rattle.trace_model.specs.declared.span.Kind.TheVariants as kinds
 use Rattle.trace_model.specs.declared.span.Link.{Link}
 use Rattle.trace_model.specs.declared.span.Span.{Span}
-use Rattle.trace_model.specs.declared.trace.Group.{Group}
-use Rattle.trace_model.specs.declared.trace.Scope.{Scope}
+use Rattle.trace_model.specs.declared.group.Group.{Group}
+use Rattle.trace_model.specs.declared.group.Scope.{Scope}
 use Rattle.trace_model.specs.declared.value.Value.{Value, Text, Number, Eight, Bytes, Truth, List', Map', Nothing}
 use Rattle.jaeger_model.specs.Proper as written
 use Rattle.span_tags.specs.Escapes.{escaped}
-use Rattle.span_tags.specs.laws.AttributeLaws.{all_attrs}
-use Rattle.span_tags.specs.laws.RunLaws.{scoped_all}
-use Rattle.span_tags.specs.laws.ColumnLaws.{all_rows}
+use Rattle.span_tags.proofs.AttributeLaws.{all_attrs}
+use Rattle.span_tags.proofs.RunLaws.{scoped_all}
+use Rattle.span_tags.proofs.ColumnLaws.{all_rows}
 use Rattle.span_tags.specs.Runs.{Scoped, scoped, spans_of}
 use Rattle.span_tags.specs.TagKeys.{service_key}
 use Rattle.span_tags.specs.TagWords.{row, text_given, without, code_given}

@@ -13,7 +13,7 @@ use Rattle.trace_model.specs.Proper.{IsProperValue, IsProperPair, AreProper, IsP
 use Rattle.trace_model.specs.declared.span.Code.{Code}
 use Rattle.trace_model.specs.declared.span.Code.TheVariants as statuses
 use Rattle.trace_model.specs.declared.span.Span.{Span}
-use Rattle.trace_model.specs.declared.trace.Scope.{Scope}
+use Rattle.trace_model.specs.declared.group.Scope.{Scope}
 use Rattle.trace_model.specs.declared.value.Value.{Value, Text, Number, Eight, Bytes, Truth, List', Map', Nothing}
 use Rattle.jaeger_model.specs.Proper as written
 use Rattle.jaeger_model.specs.declared.batch.Batch.{Batch}
@@ -24,7 +24,7 @@ use Rattle.jaeger_model.specs.declared.tag.Tag.{Tag}
 use Rattle.jaeger_model.specs.declared.tag.TagValue.{TagValue}
 use Rattle.jaeger_model.specs.declared.tag.TagValue.TheVariants as tags
 use Rattle.span_tags.specs.Escapes.{unescaped}
-use Rattle.span_tags.specs.laws.AttributeLaws.{all_attrs}
+use Rattle.span_tags.proofs.AttributeLaws.{all_attrs}
 use Rattle.span_tags.specs.Runs.{Scoped, in_front, is_of, plain_scope, runs}
 use Rattle.span_tags.specs.TagKeys.{service_key}
 use Rattle.span_tags.specs.TagWords.{row, text_in, at_most, decimal_in, count_in, text_given, without, name_in}

@@ -8,7 +8,7 @@ use Rattle.jaeger_model.specs.declared.span.Log.{Log}
 use Rattle.trace_model.specs.declared.noted.Noted.{Noted}
 use Rattle.trace_model.specs.declared.remark.Remark.{Remark}
 use Rattle.trace_model.specs.declared.span.Event.{Event}
-use Rattle.trace_model.specs.declared.trace.Scope.{Scope}
+use Rattle.trace_model.specs.declared.group.Scope.{Scope}
 use Rattle.span_tags.specs.ReadRuns.{one_of, with_behind}
 use Rattle.span_tags.specs.Runs.{in_front, runs}
 use Rattle.span_tags.specs.declared.runs.ReadSpan.{ReadSpan}

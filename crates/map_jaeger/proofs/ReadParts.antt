@@ -6,7 +6,7 @@ use Rattle.trace_model.specs.declared.span.Event.{Event}
 use Rattle.trace_model.specs.declared.span.Span.{Span}
 use Rattle.trace_model.specs.declared.value.Value.{Value}
 use Rattle.span_tags.specs.Escapes.{unescaped}
-use Rattle.span_tags.specs.laws.AttributeLaws.{attrs_itself, attrs_rise, at_filter, filter_rise}
+use Rattle.span_tags.proofs.AttributeLaws.{attrs_itself, attrs_rise, at_filter, filter_rise}
 use Rattle.span_tags.specs.Runs.{Scoped}
 use Rattle.span_tags.specs.TagWords.{Pairs, row}
 use Rattle.map_jaeger.specs.Columns.{Columns, row_of, looked, left_out, is_free, is_reserved}

@@ -13,11 +13,11 @@ use Rattle.trace_model.specs.Attributes.{attrs}
 use Rattle.trace_model.specs.Soundness.{IsSoundEvent, IsSoundLink, IsSoundSpan, IsSoundScope}
 use Rattle.trace_model.specs.Values.{IsSound, AreSound}
 use Rattle.trace_model.specs.declared.span.Span.{Span}
-use Rattle.trace_model.specs.declared.trace.Scope.{Scope}
+use Rattle.trace_model.specs.declared.group.Scope.{Scope}
 use Rattle.trace_model.specs.declared.value.Value.{Value, Text}
 use Rattle.span_tags.specs.Escapes.{unescaped}
-use Rattle.span_tags.specs.laws.AttributeLaws.{attrs_rise, all_attrs}
-use Rattle.span_tags.specs.laws.EscapeLaws.{unescaped_all, unescaped_rise}
+use Rattle.span_tags.proofs.AttributeLaws.{attrs_rise, all_attrs}
+use Rattle.span_tags.proofs.EscapeLaws.{unescaped_all, unescaped_rise}
 use Rattle.span_tags.specs.Runs.{Scoped, in_front, is_of, plain_scope, runs}
 use Rattle.span_tags.specs.TagKeys.{service_key}
 use Rattle.span_tags.specs.TagWords.{row, text_given, without}

@@ -16,10 +16,10 @@ use Rattle.trace_model.specs.declared.span.Event.{Event}
 use Rattle.trace_model.specs.declared.span.Span.{Span}
 use Rattle.trace_model.specs.declared.value.Value.{Value, Text}
 use Rattle.span_tags.specs.Escapes.{escaped, unescaped}
-use Rattle.span_tags.specs.laws.AttributeLaws.{same_key, key_itself, other_way, option_or-none, key_of_some, attrs_rise, at_attrs-append, same_pairs, at_filter, filter_rise, at_map, map_rise}
-use Rattle.span_tags.specs.laws.RowLaws.{last_at-row}
-use Rattle.span_tags.specs.laws.ColumnLaws.{none_left}
-use Rattle.span_tags.specs.laws.EscapeLaws.{at_reserved, at_untouched, escaped_rise, escaped_values, unescaped_escaped}
+use Rattle.span_tags.proofs.AttributeLaws.{same_key, key_itself, other_way, option_or-none, key_of_some, attrs_rise, at_attrs-append, same_pairs, at_filter, filter_rise, at_map, map_rise}
+use Rattle.span_tags.proofs.RowLaws.{last_at-row}
+use Rattle.span_tags.proofs.ColumnLaws.{none_left}
+use Rattle.span_tags.proofs.EscapeLaws.{at_reserved, at_untouched, escaped_rise, escaped_values, unescaped_escaped}
 use Rattle.span_tags.specs.Runs.{Scoped}
 use Rattle.span_tags.specs.TagWords.{row, text_in, without, is_idle, if_left}
 use Rattle.map_jaeger.specs.ColumnWords.{flags_in}

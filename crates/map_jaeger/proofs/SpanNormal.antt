@@ -24,8 +24,8 @@ use Rattle.trace_model.specs.declared.span.Link.{Link}
 use Rattle.trace_model.specs.declared.span.Span.{Span}
 use Rattle.trace_model.specs.declared.value.Value.{Value, Text}
 use Rattle.span_tags.specs.Escapes.{escaped}
-use Rattle.span_tags.specs.laws.AttributeLaws.{attrs_rise, at_map, keys_map, map_rise, map_attrs}
-use Rattle.span_tags.specs.laws.EscapeLaws.{escaped_values}
+use Rattle.span_tags.proofs.AttributeLaws.{attrs_rise, at_map, keys_map, map_rise, map_attrs}
+use Rattle.span_tags.proofs.EscapeLaws.{escaped_values}
 use Rattle.span_tags.specs.Runs.{Scoped}
 use Rattle.span_tags.specs.TagWords.{row, text_given, without}
 use Rattle.map_jaeger.specs.ColumnWords.{flags_in, kind_given, description_given}

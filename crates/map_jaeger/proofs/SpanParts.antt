@@ -16,9 +16,9 @@ use Rattle.trace_model.specs.declared.span.Link.{Link}
 use Rattle.trace_model.specs.declared.span.Span.{Span}
 use Rattle.trace_model.specs.declared.value.Value.{Value, Number}
 use Rattle.span_tags.specs.Escapes.{escaped, unescaped}
-use Rattle.span_tags.specs.laws.AttributeLaws.{same_key, other_way, option_or-none, attrs_rise, at_attrs-append, same_pairs, at_filter, filter_rise, at_map, map_rise}
-use Rattle.span_tags.specs.laws.EscapeLaws.{at_reserved, escaped_rise, escaped_values, unescaped_escaped}
-use Rattle.span_tags.specs.laws.RowLaws.{last_at-row}
+use Rattle.span_tags.proofs.AttributeLaws.{same_key, other_way, option_or-none, attrs_rise, at_attrs-append, same_pairs, at_filter, filter_rise, at_map, map_rise}
+use Rattle.span_tags.proofs.EscapeLaws.{at_reserved, escaped_rise, escaped_values, unescaped_escaped}
+use Rattle.span_tags.proofs.RowLaws.{last_at-row}
 use Rattle.span_tags.specs.Runs.{Scoped}
 use Rattle.span_tags.specs.TagWords.{row, text_in, text_given, without, code_in, name_in, is_idle, if_left, code_given}
 use Rattle.map_jaeger.specs.ColumnWords.{count_given, kind_in, kind_given, error_in, error_given, is_idle_error, message_by, description_given, is_idle_description}

@@ -16,9 +16,9 @@ use Rattle.trace_model.specs.declared.span.Code.TheVariants as statuses
 use Rattle.trace_model.specs.declared.span.Kind.TheVariants as kinds
 use Rattle.trace_model.specs.declared.value.Value.{Value, Text}
 use Rattle.span_tags.specs.Escapes.{unescaped}
-use Rattle.span_tags.specs.laws.AttributeLaws.{some_of_key, attrs_rise, at_attrs-append, all_attrs, at_filter, filter_rise}
-use Rattle.span_tags.specs.laws.EscapeLaws.{at_unescaped, unescaped_all, unescaped_rise}
-use Rattle.span_tags.specs.laws.RowLaws.{last_at-row}
+use Rattle.span_tags.proofs.AttributeLaws.{some_of_key, attrs_rise, at_attrs-append, all_attrs, at_filter, filter_rise}
+use Rattle.span_tags.proofs.EscapeLaws.{at_unescaped, unescaped_all, unescaped_rise}
+use Rattle.span_tags.proofs.RowLaws.{last_at-row}
 use Rattle.span_tags.specs.TagWords.{row, text_in, without}
 use Rattle.map_jaeger.specs.ColumnWords.{flags_in, kind_named, kind_in, message_by}
 use Rattle.map_jaeger.specs.Columns.{looked, status_of_columns, has_column, is_free, is_reserved}

@@ -6,8 +6,8 @@ use Rattle.span_ids.specs.Times.{floor}
 use Rattle.trace_model.specs.declared.fault.Fault.TheVariants.{EndBeforeStart}
 use Rattle.trace_model.specs.declared.span.Event.{Event}
 use Rattle.trace_model.specs.declared.span.Span.{Span}
-use Rattle.trace_model.specs.declared.trace.Group.{Group}
-use Rattle.span_tags.specs.laws.FaultLaws.{plain_spans}
+use Rattle.trace_model.specs.declared.group.Group.{Group}
+use Rattle.span_tags.proofs.FaultLaws.{plain_spans}
 use Rattle.span_tags.specs.Runs.{Scoped, scoped}
 use Rattle.map_jaeger.specs.Faults.{IsResourceFault, IsSpanFault, HasNoFault}
 use Rattle.map_jaeger.specs.StatedLaws.{IsTimely}

@@ -16,31 +16,41 @@ use Rattle.map_jaeger.specs.declared.columns.Column.TheVariants as columns
 
 -- by rising keys
 abbrev pub all_columns : List Column
-all_columns = columns.Error ∷ columns.Flags ∷ columns.DroppedAttributes ∷ columns.DroppedEvents ∷ columns.DroppedLinks ∷ columns.LibraryName ∷ columns.LibraryVersion
+all_columns =
+    columns.Error ∷ columns.Flags ∷ columns.DroppedAttributes ∷ columns.DroppedEvents ∷ columns.DroppedLinks ∷ columns.LibraryName
+    ∷ columns.LibraryVersion
     ∷ columns.ScopeName ∷ columns.ScopeVersion ∷ columns.Code ∷ columns.Description ∷ columns.Kind ∷ columns.State ∷ []
 
+-- what stands in each column of the table: the value of its tag, or none
 abbrev pub Columns : Type 0
 Columns = ColumnsOf Column
 
 -- ---- rows
 
+-- a row of the table, which is filled from a span with the name and version of its scope
 abbrev pub TagRow : Type 0
 TagRow = Row Column (Scoped Span)
 
+-- a row of a text, which isn't written where it is empty; a tag of it that is no text says nothing
 abbrev pub text_row : List ℕ → (Scoped Span → List ℕ) → TagRow
 text_row key text = record { key = key; given = λ one. text_given (text one); is_idle = λ value c. is_idle value (text_in value) }
 
+-- a row of one of the span's counts, which isn't written where it is 0; a tag of it that is no count of 32 bits says nothing
 abbrev pub count_row : List ℕ → (Span → ℕ) → TagRow
-count_row key count = record { key = key; given = λ one. count_given (count one.span); is_idle = λ value c. is_idle value (count_in value) }
+count_row key count =
+    record { key = key; given = λ one. count_given (count one.span); is_idle = λ value c. is_idle value (count_in value) }
 
 -- of an older key, which is read where the newer is absent, and never written
 abbrev pub older_row : List ℕ → Column → TagRow
-older_row key newer = record { key = key; given = λ one. None; is_idle = λ value c. is_idle_library value (text_in value) (text_in (c newer)) }
+older_row key newer =
+    record { key = key; given = λ one. None; is_idle = λ value c. is_idle_library value (text_in value) (text_in (c newer)) }
 
 -- `error` decides where there is no code
 abbrev pub status_of_columns : Columns → Code
-status_of_columns c = unwrap_or (code_in (c columns.Code)) (if unwrap_or (error_in (c columns.Error)) false then statuses.Fail else statuses.Unset)
+status_of_columns c =
+    unwrap_or (code_in (c columns.Code)) (if unwrap_or (error_in (c columns.Error)) false then statuses.Fail else statuses.Unset)
 
+-- the row of each column: the key of its tag, what a span gives it, and when a tag that is read there says nothing
 abbrev pub row_of : Column → TagRow
 row_of columns.Error = record {
   key = codes "error";
@@ -97,6 +107,7 @@ left_out c = left_out_by row_of all_columns c
 
 -- ---- keys
 
+-- a tag of the table stands under the key
 abbrev pub has_column : List ℕ → Bool
 has_column key = is_key row_of all_columns key
 

@@ -18,5 +18,6 @@ is_event_reserved key = bytes_eq event_key key
 abbrev pub reference_key : List ℕ
 reference_key = codes "opentracing.ref_type"
 
+-- the text that `opentracing.ref_type` has where the reference is CHILD_OF (jaeger.thrift, `SpanRefType`)
 abbrev pub child_of_word : List ℕ
 child_of_word = codes "child_of"

@@ -5,9 +5,11 @@ use Rattle.std.specs.Prelude.{ℕ, List}
 use Rattle.trace_model.specs.declared.loss.LossRow.{LossRow}
 use Rattle.trace_model.specs.declared.place.Place.{Place}
 use Rattle.trace_model.specs.declared.place.Place.TheVariants as places
-use Rattle.trace_model.specs.declared.trace.Group.{Group}
+use Rattle.trace_model.specs.declared.group.Group.{Group}
 use Rattle.span_tags.specs.LossMeanings.{OfResource, InScope, InSpan, InEvent, InLink, spans_in}
 
+-- of a group and its normal form: at the place they differ as the row says, in the attribute of the key where the row is one of
+-- attributes, else with the empty key. No loss stands at the place of the whole group.
 abbrev pub MeansLoss : Group → Group → Place → LossRow → List ℕ → Type 0
 MeansLoss group normal places.Whole row key = ⊥
 MeansLoss group normal places.Resource row key = OfResource group normal.resource row key

@@ -11,7 +11,7 @@ use Rattle.trace_model.specs.declared.span.Code.TheVariants as statuses
 use Rattle.trace_model.specs.declared.span.Event.{Event}
 use Rattle.trace_model.specs.declared.span.Link.{Link}
 use Rattle.trace_model.specs.declared.span.Span.{Span}
-use Rattle.trace_model.specs.declared.trace.Group.{Group}
+use Rattle.trace_model.specs.declared.group.Group.{Group}
 use Rattle.trace_model.specs.declared.value.Value.{Value, List', Map', Nothing}
 use Rattle.span_tags.specs.Losses.{is_empty, differ, is_text, is_unspecified, lost, lost_key, lost_keys, losses_of, scopes_losses}
 use Rattle.span_tags.specs.TagKeys.{service_key}
@@ -29,17 +29,21 @@ is_told_as_text (Map' shape members) = true
 is_told_as_text Nothing = true
 is_told_as_text other = false
 
+-- the attribute's value becomes a text
 abbrev pub becomes_text : List ℕ × Value → Bool
 becomes_text pair = is_told_as_text pair.1
 
 -- ---- events and links
 
+-- what is lost of an event, by the number of its span and its own: values that become texts, its dropped count, and what its
+-- time has below the microsecond
 abbrev pub event_losses : ℕ → ℕ → Event → List Loss
 event_losses span n event =
     lost_keys (places.Event span n) rows.Value becomes_text event.attributes
     ++ (lost (places.Event span n) rows.DroppedCount (differ event.dropped 0)
     ++ lost (places.Event span n) rows.Time (differ event.time (normal_event event).time))
 
+-- the attribute is the mark of CHILD_OF: `opentracing.ref_type` with the text `child_of`
 abbrev pub is_mark : List ℕ × Value → Bool
 is_mark pair = bytes_eq reference_key pair.0 && is_child_of (Some pair.1)
 
@@ -49,6 +53,8 @@ are_kept [] = true
 are_kept (pair ∷ []) = is_mark pair
 are_kept (pair ∷ next ∷ more) = false
 
+-- what is lost of a link, by the number of its span and its own: its dropped count, attributes but the mark of CHILD_OF, flags
+-- and trace state
 abbrev pub link_losses : ℕ → ℕ → Link → List Loss
 link_losses span n link =
     lost (places.Link span n) rows.DroppedCount (differ link.dropped 0)
@@ -63,6 +69,8 @@ abbrev pub message_goes : Code → List ℕ → Bool
 message_goes statuses.Unset message = not (is_empty message)
 message_goes code message = false
 
+-- what is lost of a span itself, by its number: values that become texts, what its times have below the microsecond, that its
+-- kind isn't given, a message without a code, and flags above the first bit
 abbrev pub own_losses : ℕ → Span → List Loss
 own_losses n span =
     lost_keys (places.Span n) rows.Value becomes_text span.attributes
@@ -87,6 +95,7 @@ service_goes (Some value) = is_empty (value_text value)
 abbrev pub changes : Bool → List ℕ × Value → Bool
 changes goes pair = if bytes_eq service_key pair.0 then not goes && not (is_text pair.1) else becomes_text pair
 
+-- what is lost of the resource: values that become texts, its dropped count and schema URL, and a `service.name` of empty text
 abbrev pub resource_losses : Group → List Loss
 resource_losses group =
     let goes = service_goes (at service_key group.resource) in
@@ -97,5 +106,6 @@ resource_losses group =
 
 -- ---- the group
 
+-- what is lost of the group: of its resource, then of each scope and its spans; scopes and spans are counted from 1
 abbrev pub group_losses : Group → List Loss
 group_losses group = resource_losses group ++ scopes_losses span_losses 1 1 None group.scopes

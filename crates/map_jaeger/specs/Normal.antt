@@ -10,7 +10,7 @@ use Rattle.trace_model.specs.declared.span.Kind.TheVariants as kinds
 use Rattle.trace_model.specs.declared.span.Link.{Link}
 use Rattle.trace_model.specs.declared.span.Span.{Span}
 use Rattle.trace_model.specs.declared.span.Status.{Status}
-use Rattle.trace_model.specs.declared.trace.Group.{Group}
+use Rattle.trace_model.specs.declared.group.Group.{Group}
 use Rattle.trace_model.specs.declared.value.Value.{Value, Text}
 use Rattle.span_tags.specs.Runs.{Scoped, scoped, runs}
 use Rattle.span_tags.specs.TagKeys.{service_key}
@@ -23,6 +23,7 @@ use Rattle.map_jaeger.specs.Writing.{is_child_of}
 abbrev pub normal_attributes : List (List ℕ × Value) → List (List ℕ × Value)
 normal_attributes attributes = map normal_attribute attributes
 
+-- a kind that isn't given becomes INTERNAL, as a span without the tag `span.kind` is read
 abbrev pub normal_kind : Kind → Kind
 normal_kind kinds.Unspecified = kinds.Internal
 normal_kind kind = kind
@@ -35,8 +36,10 @@ normal_status status = record { code = status.code; message = message_by status.
     message_by statuses.Unset message = []
     message_by code message = message
 
+-- an event keeps its time to the microsecond, its name and its attributes, and no dropped count
 abbrev pub normal_event : Event → Event
-normal_event event = record { time = floor event.time; name = event.name; attributes = normal_attributes event.attributes; dropped = 0 }
+normal_event event =
+    record { time = floor event.time; name = event.name; attributes = normal_attributes event.attributes; dropped = 0 }
 
 -- a link keeps its identifiers, and the mark of CHILD_OF
 abbrev pub normal_link : Link → Link
@@ -62,6 +65,7 @@ normal_span span = record span {
   flags = span.flags % 2;
 }
 
+-- the normal form of a span under its scope, of which the name and version stay
 abbrev pub normal_scoped : Scoped Span → Scoped Span
 normal_scoped one = record { name = one.name; version = one.version; span = normal_span one.span }
 

@@ -14,7 +14,7 @@ use Rattle.trace_model.specs.declared.span.Event.{Event}
 use Rattle.trace_model.specs.declared.span.Kind.TheVariants as kinds
 use Rattle.trace_model.specs.declared.span.Link.{Link}
 use Rattle.trace_model.specs.declared.span.Span.{Span}
-use Rattle.trace_model.specs.declared.trace.Group.{Group}
+use Rattle.trace_model.specs.declared.group.Group.{Group}
 use Rattle.trace_model.specs.declared.value.Value.{Value, Text}
 use Rattle.span_tags.specs.Escapes.{unescaped}
 use Rattle.span_tags.specs.Runs.{Scoped, runs}
@@ -36,17 +36,24 @@ attributes_of tags = attrs (map attribute_of tags)
 abbrev pub flag_bits : ℤ → ℕ
 flag_bits flags = cast_unsigned w32 flags % 2 ^ 32
 
+-- flags as the attribute `jaeger.flags`: the text of their decimal, or none where they are 0
 abbrev pub high_flags : ℕ → Option Value
 high_flags n = if n == 0 then None else Some (Text (decimal n))
 
+-- that attribute of a span's `flags` (jaeger.thrift, struct Span, field 7): their 32 bits but the first
 abbrev pub high_flags_of : ℤ → Option Value
 high_flags_of flags = high_flags (flag_bits flags - flag_bits flags % 2)
 
 -- ---- attributes, events and links
 
+-- a span's attributes, by its `flags` and its tags: `jaeger.flags`, and the tags that the table has no row for, without the
+-- `otel.attr.` of an escaped key
 abbrev pub span_attributes : ℤ → List (List ℕ × Value) → List (List ℕ × Value)
-span_attributes flags tags = attrs (row flags_key (high_flags_of flags) ++ unescaped is_reserved (filter (λ tag. is_free tag.0) tags))
+span_attributes flags tags =
+    attrs (row flags_key (high_flags_of flags) ++ unescaped is_reserved (filter (λ tag. is_free tag.0) tags))
 
+-- a log as an event (jaeger.thrift, struct Log): the field `event` is the name where it is a text, the fields of other keys are
+-- attributes, and the time is in nanoseconds
 abbrev pub event_of : Log → Event
 event_of log = record {
   time = log.time;
@@ -55,6 +62,7 @@ event_of log = record {
   dropped = 0;
 }
 
+-- a reference as a link (jaeger.thrift, struct SpanRef): its identifiers, and the mark of CHILD_OF where it is one
 abbrev pub link_of_reference : SpanRef → Link
 link_of_reference reference = record {
   trace = reference.trace;
@@ -71,21 +79,27 @@ is_own_parent trace reference = reference.child_of && (reference.trace == trace)
 
 -- the parent, or where there is none the span of the first such reference
 abbrev pub parent_of : JSpan → Option ℕ
-parent_of span = option_or span.parent (option_map (λ reference. reference.span) (find (is_own_parent span.trace) span.references))
+parent_of span =
+    option_or span.parent (option_map (λ reference. reference.span) (find (is_own_parent span.trace) span.references))
 
+-- there is a parent, and this is its identifier
 abbrev pub names : Option ℕ → ℕ → Bool
 names None id = false
 names (Some parent) id = parent == id
 
--- every reference but those that name the parent
+-- every reference but those of CHILD_OF in this trace that name the parent
 abbrev pub links_but : ℕ → Option ℕ → List SpanRef → List Link
-links_but trace parent references = map link_of_reference (filter (λ reference. not (is_own_parent trace reference && names parent reference.span)) references)
+links_but trace parent references =
+    map link_of_reference (filter (λ reference. not (is_own_parent trace reference && names parent reference.span)) references)
 
+-- a span's links: its references but those of CHILD_OF in its own trace that name its parent
 abbrev pub links_of : JSpan → List Link
 links_of span = links_but span.trace (parent_of span) span.references
 
 -- ---- the span, by its columns and its tags
 
+-- the span that a span of a batch means (jaeger.thrift, struct Span), by what stands in the columns of the table and by all its
+-- tags; times are in nanoseconds
 abbrev pub span_by : JSpan → Columns → List (List ℕ × Value) → Span
 span_by span c tags = record {
   trace = span.trace;
@@ -106,6 +120,7 @@ span_by span c tags = record {
   flags = flag_bits span.flags % 2;
 }
 
+-- the same, with the name and version of its scope: the older library keys count where the newer are absent or no texts
 abbrev pub scoped_by : JSpan → Columns → List (List ℕ × Value) → Scoped Span
 scoped_by span c tags = record {
   name = name_in (c columns.ScopeName) (c columns.LibraryName);
@@ -113,17 +128,22 @@ scoped_by span c tags = record {
   span = span_by span c tags;
 }
 
+-- the same, with the columns that its own tags fill
 abbrev pub scoped_of : JSpan → Scoped Span
 scoped_of span = scoped_by span (looked (attributes_of span.tags)) (attributes_of span.tags)
 
 -- ---- the batch
 
+-- the attributes of a process: its service's name as `service.name`, unless empty, and its tags but one of that key
 abbrev pub process_attributes : List ℕ → List (List ℕ × Value) → List (List ℕ × Value)
 process_attributes service tags = attrs (row service_key (text_given service) ++ without service_key tags)
 
+-- the resource that the process of a batch is (jaeger.thrift, struct Process)
 abbrev pub resource_of : Batch → List (List ℕ × Value)
 resource_of batch = process_attributes batch.service (attributes_of batch.tags)
 
+-- the group that a batch means (jaeger.thrift, struct Batch); spans one behind the other whose scopes have equal names and
+-- versions share a scope
 abbrev pub group_of : Batch → Group
 group_of batch = record {
   resource = resource_of batch;

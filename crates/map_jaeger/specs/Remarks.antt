@@ -22,13 +22,19 @@ use Rattle.map_jaeger.specs.TagValues.{attribute_of}
 abbrev pub is_idle_event : Log → Bool
 is_idle_event log = is_idle (at event_key (attributes_of log.fields)) (text_in (at event_key (attributes_of log.fields)))
 
+-- the remarks on a log, by the number of its span and its own: keys that stand more than once, and a field `event` that isn't
+-- a text
 abbrev pub log_remarks : ℕ → ℕ → Log × Keys → List Remark
-log_remarks span n log = equal_keys (places.Event span n) log.1 ++ tags_dropped (places.Event span n) (if_left event_key (is_idle_event log.0))
+log_remarks span n log =
+    equal_keys (places.Event span n) log.1 ++ tags_dropped (places.Event span n) (if_left event_key (is_idle_event log.0))
 
+-- the keys that stand more than once: those among a span's tags, and those in each of its logs
 pub record SpanKeys : Type 0 where
   pub span : Keys
   pub logs : List Keys
 
+-- the remarks on a span, by its number: keys that stand more than once, that references to no span were left out, tags of the
+-- table that say nothing, and then the remarks on each of its logs, counted from 1
 abbrev pub jspan_remarks : ℕ → JSpan × SpanKeys → List Remark
 jspan_remarks n noted =
     equal_keys (places.Span n) noted.1.span
@@ -36,13 +42,17 @@ jspan_remarks n noted =
     ++ (tags_dropped (places.Span n) (left_out (looked (attributes_of noted.0.tags)))
     ++ numbered (log_remarks n) 1 (zip noted.0.logs noted.1.logs)))
 
+-- these are the keys that stand more than once in the log
 abbrev pub RepeatsOf : Log → Keys → Type 0
 RepeatsOf log repeated = AreRepeated repeated (map attribute_of log.fields)
 
+-- the same of a span, in its tags and in each of its logs
 pub record RepeatsOfSpan (span : JSpan) (repeated : SpanKeys) : Type 0 where
   pub tags : AreRepeated repeated.span (map attribute_of span.tags)
   pub logs : AllZip RepeatsOf span.logs repeated.logs
 
+-- these are the remarks on the batch, in their order: those on its process, of which a tag `service.name` is left out, and then
+-- those on each span, counted from 1
 pub record AreRemarks (batch : Batch) (remarks : List Remark) : Type 0 where
   pub process : Keys
   pub its_process : AreRepeated process (map attribute_of batch.tags)

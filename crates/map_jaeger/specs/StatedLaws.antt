@@ -8,7 +8,7 @@ use Rattle.trace_model.specs.Proper.{IsProperGroup}
 use Rattle.trace_model.specs.Soundness.{IsSoundGroup}
 use Rattle.trace_model.specs.declared.fault.Fault.{Fault}
 use Rattle.trace_model.specs.declared.loss.Loss.{Loss}
-use Rattle.trace_model.specs.declared.trace.Group.{Group}
+use Rattle.trace_model.specs.declared.group.Group.{Group}
 use Rattle.map_jaeger.specs.Faults.{HasNoFault, IsFaultOf}
 use Rattle.map_jaeger.specs.LossMeaning.{MeansLoss}
 use Rattle.map_jaeger.specs.Losses.{group_losses}

@@ -13,7 +13,7 @@ use Rattle.trace_model.specs.Attributes.{attrs, at}
 use Rattle.trace_model.specs.declared.span.Event.{Event}
 use Rattle.trace_model.specs.declared.span.Link.{Link}
 use Rattle.trace_model.specs.declared.span.Span.{Span}
-use Rattle.trace_model.specs.declared.trace.Group.{Group}
+use Rattle.trace_model.specs.declared.group.Group.{Group}
 use Rattle.trace_model.specs.declared.value.Value.{Value, Text}
 use Rattle.span_tags.specs.Escapes.{escaped}
 use Rattle.span_tags.specs.Runs.{Scoped, scoped}
@@ -26,14 +26,19 @@ use Rattle.map_jaeger.specs.TagValues.{tag_of}
 
 -- ---- flags: the first bit of the span's, and those under the key of their own
 
+-- a span's `flags`, as a signed number of 32 bits (jaeger.thrift, struct Span, field 7): bit 0 of its own, and the others as
+-- `jaeger.flags` tells them
 abbrev pub flags_of : Span → ℤ
 flags_of span = cast_signed w32 (span.flags % 2 + unwrap_or (flags_in (at flags_key span.attributes)) 0)
 
 -- ---- tags, logs and references
 
+-- a span's tags: those of the table, and its attributes but `jaeger.flags`, under escaped keys where they are reserved
 abbrev pub tags_of : Scoped Span → List Tag
 tags_of one = map tag_of (attrs (rows (columns_of one) ++ escaped is_reserved (without flags_key one.span.attributes)))
 
+-- an event as a log (jaeger.thrift, struct Log): its time down to a whole microsecond, in nanoseconds still, its name as the
+-- field `event`, unless empty, and its attributes
 abbrev pub log_of : Event → Log
 log_of event = record {
   time = floor event.time;
@@ -45,9 +50,11 @@ abbrev pub is_child_of : Option Value → Bool
 is_child_of (Some (Text text)) = bytes_eq text child_of_word
 is_child_of other = false
 
+-- a link as a reference (jaeger.thrift, struct SpanRef): CHILD_OF where it has that mark, else FOLLOWS_FROM
 abbrev pub reference_of : Link → SpanRef
 reference_of link = record { child_of = is_child_of (at reference_key link.attributes); trace = link.trace; span = link.span }
 
+-- a span as a span of a batch (jaeger.thrift, struct Span): its times are down to a whole microsecond, in nanoseconds still
 abbrev pub jaeger_span : Scoped Span → JSpan
 jaeger_span one = record {
   trace = one.span.trace;

@@ -81,7 +81,8 @@ pub(crate) fn attributes_but(key: &str, attributes: Attrs) -> Attrs
 #[tactic(auto, using(crate::proofs::GroupResource::without_rise))]
 fn others_of_span(alloc: Global, attributes: Attrs) -> Result<Attrs, OutOfMemory>
     requires { Rise (keys_of attributes) }
-    ensures { IfOk result (λ others. others ≡ escapes.escaped is_reserved (without flags_key attributes)) }
+    ensures { IfOk result
+        (λ others. others ≡ escapes.escaped is_reserved (without flags_key attributes)) }
 {
     escaped::<Spans>(alloc, attributes_but("jaeger.flags", attributes))
 }
@@ -96,7 +97,8 @@ fn tags_of_span(
 ) -> Result<Items<Tag>, OutOfMemory>
     requires plain { least.doubles_inside attributes ≡ false }
     requires rising { Rise (keys_of attributes) }
-    ensures { IfOk result (λ tags. tags ≡ tags_with (under name.now version.now span.now) attributes) }
+    ensures { IfOk result
+        (λ tags. tags ≡ tags_with (under name.now version.now span.now) attributes) }
 {
     let others = others_of_span(alloc, attributes)?;
     let mut pairs = others.into_vec();
@@ -178,7 +180,8 @@ fn references_of(alloc: Global, links: &Items<Link>) -> Result<Items<SpanRef>, O
 fn span_of(alloc: Global, name: &Text, version: &Text, span: Span) -> Result<JSpan, OutOfMemory>
     requires plain { least.span_has_double span ≡ false }
     requires sound { IsSoundSpan span }
-    ensures { IfOk result (λ written. written ≡ told.jaeger_span (under name.now version.now span)) }
+    ensures { IfOk result
+        (λ written. written ≡ told.jaeger_span (under name.now version.now span)) }
 {
     let flags = flags_of(&span);
     let references = references_of(alloc, &span.links)?;
@@ -210,7 +213,8 @@ fn push_spans(
 ) -> Result<(), OutOfMemory>
     requires plain { list_any least.span_has_double own ≡ false }
     requires sound { All IsSoundSpan own }
-    ensures { OnOk result (spans.new ≡ spans.old ++ map told.jaeger_span (map (under name.now version.now) own)) }
+    ensures { OnOk result
+        (spans.new ≡ spans.old ++ map told.jaeger_span (map (under name.now version.now) own)) }
 {
     'spans: for span in own.into_vec() {
         spans.push(span_of(alloc, name, version, span)?)?;

@@ -6,9 +6,9 @@ use Rattle.std.specs.Str.{bytes_eq}
 use Rattle.trace_model.specs.Attributes.{attrs, at}
 use Rattle.trace_model.specs.ValueTexts.{value_text}
 use Rattle.trace_model.specs.declared.value.Value.{Value, Text}
-use Rattle.span_tags.specs.laws.AttributeLaws.{last_at, last_at-append, at_attrs, on_values}
-use Rattle.span_tags.specs.laws.ColumnLaws.{is_key_of, of_length, key_by_length as keys_by_length}
-use Rattle.span_tags.specs.laws.RowLaws.{Told, last_told, last_at-rows, told_none, told_at, last_told-at, on_rows}
+use Rattle.span_tags.proofs.AttributeLaws.{last_at, last_at-append, at_attrs, on_values}
+use Rattle.span_tags.proofs.ColumnLaws.{is_key_of, of_length, key_by_length as keys_by_length}
+use Rattle.span_tags.proofs.RowLaws.{Told, last_told, last_at-rows, told_none, told_at, last_told-at, on_rows}
 use Rattle.span_tags.specs.TagWords.{Pairs}
 use Rattle.map_zipkin.specs.Keys.{is_zipkin_reserved, peer_key}
 use Rattle.map_zipkin.specs.OwnColumns.{all_own, own_row, own_form, own_forms, is_own, own_rows, own_in}

@@ -9,9 +9,10 @@ use Rattle.trace_model.specs.Attributes.{attrs, at}
 use Rattle.trace_model.specs.ValueTexts.{value_text}
 use Rattle.trace_model.specs.declared.value.Value.{Value, Text}
 use Rattle.span_tags.specs.Escapes.{front, rekeyed, is_touched, esc, unesc, escaped, unescaped}
-use Rattle.span_tags.specs.laws.AttributeLaws.{same_key, key_itself, last_at, last_at-rising, attrs_rise, at_attrs, all_attrs, same_pairs}
-use Rattle.span_tags.specs.laws.ColumnLaws.{each_key}
-use Rattle.span_tags.specs.laws.EscapeLaws.{IsApart, esc_injective, esc_unesc, unesc_esc, esc_free, esc_untouched, touched_reserved, escaped_rise, unescaped_rise, at_reserved}
+use Rattle.span_tags.proofs.AttributeLaws.{same_key, key_itself, last_at, last_at-rising, attrs_rise, at_attrs, all_attrs, same_pairs}
+use Rattle.span_tags.proofs.ColumnLaws.{each_key}
+use Rattle.span_tags.specs.Escapes.{IsApart}
+use Rattle.span_tags.proofs.EscapeLaws.{esc_injective, esc_unesc, unesc_esc, esc_free, esc_untouched, touched_reserved, escaped_rise, unescaped_rise, at_reserved}
 use Rattle.span_tags.specs.TagWords.{Pairs}
 use Rattle.map_zipkin.specs.Keys.{is_zipkin_reserved, peer_key}
 use Rattle.map_zipkin.specs.OwnColumns.{all_own, own_row, is_own}

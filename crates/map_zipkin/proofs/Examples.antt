@@ -6,7 +6,7 @@ use Rattle.span_tags.specs.TagKeys.{service_key}
 use Rattle.trace_model.specs.declared.span.Code.TheVariants as statuses
 use Rattle.trace_model.specs.declared.span.Kind.TheVariants as kinds
 use Rattle.trace_model.specs.declared.span.Span.{Span}
-use Rattle.trace_model.specs.declared.trace.Group.{Group}
+use Rattle.trace_model.specs.declared.group.Group.{Group}
 use Rattle.trace_model.specs.declared.value.Value.{Text, Truth}
 use Rattle.zipkin_json.specs.declared.span.ZKind.TheVariants as zkinds
 use Rattle.zipkin_json.specs.declared.span.ZSpan.{ZSpan}

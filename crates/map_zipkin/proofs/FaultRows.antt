@@ -6,8 +6,9 @@ use Rattle.std.specs.List.Sorted.{IsStrictlySortedBy}
 use Rattle.std.proofs.lemmas.Bool.Decides.{Decides-and, Decides-like, Decides-ltb}
 use Rattle.span_tags.specs.PlacedFaults.{KeyAtMost}
 use Rattle.span_tags.specs.TagWords.{Pairs}
-use Rattle.span_tags.specs.laws.FaultLaws.{FindsRows, FindsFaults, doubles_decide, span_doubles}
-use Rattle.span_tags.specs.laws.LeastRows.{least_same, least_found, least_key_of, Rising, any_decides, itself, never}
+use Rattle.span_tags.specs.FoundFaults.{FindsRows, FindsFaults}
+use Rattle.span_tags.proofs.FaultLaws.{doubles_decide, span_doubles}
+use Rattle.span_tags.proofs.LeastRows.{least_same, least_found, least_key_of, Rising, any_decides, itself, never}
 use Rattle.trace_model.specs.Attributes.{at}
 use Rattle.trace_model.specs.EventExact.{EventTextsExact}
 use Rattle.trace_model.specs.EventReading.{event_text_read}

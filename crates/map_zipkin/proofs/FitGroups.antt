@@ -3,7 +3,7 @@ use Rattle.std.proofs.Common.{◌≡◌, ◌<◌, Bool, true, false, ◌||◌, L
 use Rattle.std.specs.List.{list_any}
 use Rattle.std.proofs.lemmas.Bool.{le-ltb}
 use Rattle.std.proofs.lemmas.List.Folds.{list_any_none}
-use Rattle.span_tags.specs.laws.FaultLaws.{plain_resource, none_scoped}
+use Rattle.span_tags.proofs.FaultLaws.{plain_resource, none_scoped}
 use Rattle.span_tags.specs.Runs.{scoped}
 use Rattle.span_tags.specs.TagWords.{Pairs}
 use Rattle.trace_model.specs.EventTexts.{holds_double}
@@ -11,7 +11,7 @@ use Rattle.trace_model.specs.ValueTexts.{has_double}
 use Rattle.trace_model.specs.declared.fault.Fault.TheVariants.{DoubleInText}
 use Rattle.trace_model.specs.declared.span.Event.{Event}
 use Rattle.trace_model.specs.declared.span.Span.{Span}
-use Rattle.trace_model.specs.declared.trace.Group.{Group}
+use Rattle.trace_model.specs.declared.group.Group.{Group}
 use Rattle.trace_model.specs.declared.value.Value.{Value}
 use Rattle.map_zipkin.specs.Faults.{HasDoubleIn, IsZipkinResourceFault, IsZipkinSpanFault, HasNoZipkinFault}
 use Rattle.map_zipkin.specs.OwnColumns.{own_in, is_port_text}

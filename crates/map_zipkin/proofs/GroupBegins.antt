@@ -6,14 +6,14 @@ use Rattle.std.proofs.lemmas.Grind.{flat_map-append}
 use Rattle.std.proofs.lemmas.List.{length-append}
 use Rattle.std.proofs.lemmas.List.Elements.{All-head}
 use Rattle.trace_model.specs.declared.span.Span.{Span}
-use Rattle.trace_model.specs.declared.trace.Group.{Group}
-use Rattle.trace_model.specs.declared.trace.Scope.{Scope}
+use Rattle.trace_model.specs.declared.group.Group.{Group}
+use Rattle.trace_model.specs.declared.group.Scope.{Scope}
 use Rattle.span_tags.specs.LossMeanings.{spans_in}
 use Rattle.span_tags.specs.Losses.{named}
 use Rattle.span_tags.specs.Runs.{Scoped, is_of, plain_scope, in_front}
 use Rattle.span_tags.specs.TagWords.{Pairs}
-use Rattle.span_tags.specs.laws.BeginLaws.{Starts, starts_first, front_more, front_one, are_names_at, BeginsWith, begins_with, scoped_length}
-use Rattle.span_tags.specs.laws.RunLaws.{in_front_spans}
+use Rattle.span_tags.proofs.BeginLaws.{Starts, starts_first, front_more, front_one, are_names_at, BeginsWith, begins_with, scoped_length}
+use Rattle.span_tags.proofs.RunLaws.{in_front_spans}
 use Rattle.map_zipkin.specs.LossMeaning.{scopes_in, all_spans, BeginsGroup}
 use Rattle.map_zipkin.specs.Regrouped.{RunSpan, in_scope, same_resource, plain_group, group_of_one, before, regrouped}
 use Rattle.map_zipkin.specs.StatedLaws.{IsPlainGroup}

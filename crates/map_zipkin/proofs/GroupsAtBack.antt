@@ -5,8 +5,8 @@ use Rattle.std.proofs.lemmas.Bool.{le-leb, leb-true, leb-false}
 use Rattle.std.proofs.lemmas.List.{append-nil}
 use Rattle.std.proofs.lemmas.List.Elements.{All-nil, All-cons, All-head, All-tail}
 use Rattle.std.specs.Str.{bytes_eq}
-use Rattle.span_tags.specs.laws.AttributeLaws.{same_key}
-use Rattle.span_tags.specs.laws.RunLaws.{in_front_spans}
+use Rattle.span_tags.proofs.AttributeLaws.{same_key}
+use Rattle.span_tags.proofs.RunLaws.{in_front_spans}
 use Rattle.span_tags.specs.Runs.{Scoped, scoped, in_front}
 use Rattle.span_tags.specs.TagWords.{Pairs}
 use Rattle.trace_model.specs.OtlpParts.{NotedGroup}
@@ -15,8 +15,8 @@ use Rattle.trace_model.specs.declared.place.Place.TheVariants as places
 use Rattle.trace_model.specs.declared.remark.Remark.{Remark}
 use Rattle.trace_model.specs.declared.remark.RemarkKind.TheVariants as kinds
 use Rattle.trace_model.specs.declared.span.Span.{Span}
-use Rattle.trace_model.specs.declared.trace.Group.{Group}
-use Rattle.trace_model.specs.declared.trace.Scope.{Scope}
+use Rattle.trace_model.specs.declared.group.Group.{Group}
+use Rattle.trace_model.specs.declared.group.Scope.{Scope}
 use Rattle.trace_model.specs.declared.value.Value.{Value, Text, Truth, Number, Eight, Bytes, List', Map', Nothing}
 use Rattle.map_zipkin.specs.NotedGroups.{noted_group, left_out_remarks, spans_in, with_left_out}
 use Rattle.map_zipkin.specs.private.ReadGroups.{groups_joined, last_alone, moved_to, IsAdded, IsAlone}

@@ -3,9 +3,10 @@ use Rattle.std.proofs.Common.{ℕ, List, [], ◌∷◌, map, get_or, All, refl, 
 use Rattle.std.specs.Prelude.{◌≢◌, IsUtf8}
 use Rattle.std.proofs.lemmas.List.Elements.{All-nil, All-cons, All-head, All-tail, All-map, All-weaker}
 use Rattle.std.proofs.lemmas.Str.{IsUtf8-nil}
-use Rattle.span_tags.specs.laws.AttributeLaws.{attrs_rise}
-use Rattle.span_tags.specs.laws.FaultLaws.{none_plain, none_counts}
-use Rattle.span_tags.specs.laws.RunLaws.{IsPlain, scoped_each}
+use Rattle.span_tags.proofs.AttributeLaws.{attrs_rise}
+use Rattle.span_tags.proofs.FaultLaws.{none_plain, none_counts}
+use Rattle.span_tags.specs.Runs.{IsPlain}
+use Rattle.span_tags.proofs.RunLaws.{scoped_each}
 use Rattle.span_tags.specs.Runs.{Scoped, spans_of, under}
 use Rattle.span_tags.specs.TagWords.{Pairs}
 use Rattle.trace_model.specs.Proper.{IsProperPair, AreProper, IsProperSpan, IsProperScope, IsProperGroup}
@@ -13,8 +14,8 @@ use Rattle.trace_model.specs.Soundness.{IsSoundSpan, IsSoundScope, IsSoundGroup}
 use Rattle.trace_model.specs.Values.{IsSound, AreSound}
 use Rattle.trace_model.specs.declared.fault.Fault.{Fault}
 use Rattle.trace_model.specs.declared.span.Span.{Span}
-use Rattle.trace_model.specs.declared.trace.Group.{Group}
-use Rattle.trace_model.specs.declared.trace.Scope.{Scope}
+use Rattle.trace_model.specs.declared.group.Group.{Group}
+use Rattle.trace_model.specs.declared.group.Scope.{Scope}
 use Rattle.trace_model.specs.declared.value.Value.{Value}
 use Rattle.zipkin_json.specs.Proper.{IsProperZSpan, IsTimelyZSpan}
 use Rattle.zipkin_json.specs.declared.span.ZSpan.{ZSpan}

@@ -1,13 +1,14 @@
 -- The groups that are read are sound, whatever the spans are.
 use Rattle.std.proofs.Common.{List, All, map, get_or, sym, subst}
 use Rattle.std.proofs.lemmas.List.Elements.{All-map, All-weaker}
-use Rattle.span_tags.specs.laws.RunLaws.{IsPlain, scoped_each}
+use Rattle.span_tags.specs.Runs.{IsPlain}
+use Rattle.span_tags.proofs.RunLaws.{scoped_each}
 use Rattle.span_tags.specs.Runs.{Scoped, spans_of}
 use Rattle.trace_model.specs.Soundness.{IsSoundSpan, IsSoundScope, IsSoundGroup}
 use Rattle.trace_model.specs.Values.{AreSound}
 use Rattle.trace_model.specs.declared.span.Span.{Span}
-use Rattle.trace_model.specs.declared.trace.Group.{Group}
-use Rattle.trace_model.specs.declared.trace.Scope.{Scope}
+use Rattle.trace_model.specs.declared.group.Group.{Group}
+use Rattle.trace_model.specs.declared.group.Scope.{Scope}
 use Rattle.zipkin_json.specs.declared.span.ZSpan.{ZSpan}
 use Rattle.map_zipkin.specs.Reading.{run_span_of, groups_of}
 use Rattle.map_zipkin.proofs.EventFacts.{EventsRead}

@@ -6,10 +6,10 @@ use Rattle.trace_model.specs.Proper.{IsProperSpan, IsProperScope}
 use Rattle.trace_model.specs.Soundness.{IsSoundSpan, IsSoundScope}
 use Rattle.trace_model.specs.declared.fault.Fault.{Fault}
 use Rattle.trace_model.specs.declared.span.Span.{Span}
-use Rattle.trace_model.specs.declared.trace.Group.{Group}
-use Rattle.trace_model.specs.declared.trace.Scope.{Scope}
-use Rattle.span_tags.specs.laws.FaultLaws.{plain_spans}
-use Rattle.span_tags.specs.laws.RunLaws.{scoped_all}
+use Rattle.trace_model.specs.declared.group.Group.{Group}
+use Rattle.trace_model.specs.declared.group.Scope.{Scope}
+use Rattle.span_tags.proofs.FaultLaws.{plain_spans}
+use Rattle.span_tags.proofs.RunLaws.{scoped_all}
 use Rattle.span_tags.specs.Runs.{Scoped, spans_of, scoped}
 use Rattle.map_zipkin.specs.Faults.{IsZipkinResourceFault, IsZipkinSpanFault, HasNoZipkinFault}
 use Rattle.map_zipkin.specs.StatedLaws.{IsHeldByZipkin}

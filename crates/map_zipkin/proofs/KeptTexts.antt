@@ -10,9 +10,9 @@ use Rattle.std.specs.declared.cmp.Ordering.TheVariants.{Less}
 use Rattle.trace_model.specs.Attributes.{Rise, keys, at}
 use Rattle.trace_model.specs.ValueTexts.{value_text}
 use Rattle.trace_model.specs.declared.value.Value.{Value, Text}
-use Rattle.span_tags.specs.laws.AttributeLaws.{same_key, other_way, at_below, same_pairs}
+use Rattle.span_tags.proofs.AttributeLaws.{same_key, other_way, at_below, same_pairs}
 use Rattle.span_tags.specs.Losses.{is_empty, is_text}
-use Rattle.span_tags.specs.laws.QuietLaws.{same_parts}
+use Rattle.span_tags.proofs.QuietLaws.{same_parts}
 use Rattle.span_tags.specs.TagWords.{Pairs, text_given, text_or_none}
 use Rattle.map_zipkin.specs.Losses.{goes, changes}
 use Rattle.map_zipkin.specs.private.LossWalks.{kept_text, kept_texts}

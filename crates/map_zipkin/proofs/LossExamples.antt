@@ -10,8 +10,8 @@ use Rattle.trace_model.specs.declared.place.Place.TheVariants as places
 use Rattle.trace_model.specs.declared.span.Code.TheVariants as statuses
 use Rattle.trace_model.specs.declared.span.Kind.TheVariants as kinds
 use Rattle.trace_model.specs.declared.span.Span.{Span}
-use Rattle.trace_model.specs.declared.trace.Group.{Group}
-use Rattle.trace_model.specs.declared.trace.Scope.{Scope}
+use Rattle.trace_model.specs.declared.group.Group.{Group}
+use Rattle.trace_model.specs.declared.group.Scope.{Scope}
 use Rattle.trace_model.specs.declared.value.Value.{Text, Truth, Number, Bytes, Nothing}
 use Rattle.span_tags.specs.TagKeys.{service_key}
 use Rattle.span_tags.specs.TagWords.{Pairs}

@@ -10,8 +10,8 @@ use Rattle.std.specs.Prelude.{not, if◌then◌else◌}
 use Rattle.std.proofs.lemmas.Bool.Decides.{Decides-eqb}
 use Rattle.trace_model.specs.declared.loss.Loss.{Loss}
 use Rattle.trace_model.specs.declared.span.Span.{Span}
-use Rattle.trace_model.specs.declared.trace.Group.{Group}
-use Rattle.trace_model.specs.declared.trace.Scope.{Scope}
+use Rattle.trace_model.specs.declared.group.Group.{Group}
+use Rattle.trace_model.specs.declared.group.Scope.{Scope}
 use Rattle.trace_model.specs.declared.value.Value.{Value}
 use Rattle.span_tags.specs.Losses.{is_empty, Names, named, names_of, names_behind, scopes_losses}
 use Rattle.span_tags.specs.Runs.{Scoped, under, scoped}

@@ -22,17 +22,17 @@ use Rattle.trace_model.specs.declared.span.Kind.{Kind}
 use Rattle.trace_model.specs.declared.span.Kind.TheVariants as kinds
 use Rattle.trace_model.specs.declared.span.Link.{Link}
 use Rattle.trace_model.specs.declared.span.Span.{Span}
-use Rattle.trace_model.specs.declared.trace.Group.{Group}
-use Rattle.trace_model.specs.declared.trace.Scope.{Scope}
+use Rattle.trace_model.specs.declared.group.Group.{Group}
+use Rattle.trace_model.specs.declared.group.Scope.{Scope}
 use Rattle.trace_model.specs.declared.value.Value.{Value}
 use Rattle.span_tags.specs.LossMeanings.{StaysOther, Goes, OfResource, OfSpan, OfEvent, OfLink, numbered, InPlace, IsLinkLoss, spans_in, Begins}
 use Rattle.span_tags.specs.Losses.{is_empty, is_text, is_unspecified, differ, lost, lost_keys, losses_of, Names, named, are_names_of, joins, scopes_losses}
 use Rattle.span_tags.specs.Runs.{Scoped, under, spans_of, scoped}
 use Rattle.span_tags.specs.TagKeys.{service_key}
 use Rattle.span_tags.specs.TagWords.{Pairs, text_given, text_or_none}
-use Rattle.span_tags.specs.laws.AttributeLaws.{same_key}
-use Rattle.span_tags.specs.laws.BeginLaws.{Starts, starts_begins, begins_starts, in_scoped, scoped_length, last_names, names_scoped}
-use Rattle.span_tags.specs.laws.MeaningLaws.{Told, ToldAt, told_not, told_parts, told_both, told_as, IsRow, told_row, IsOne, told_one, told_differ, told_given, empty_is, Becomes, told_other, told_gone, becomes, told_made, text_goes, text_becomes, text_is, Among, told_list, member_of, among_member, in_place_of, placed_of, told_scopes, scope_same, AmongScopes, IsScope, scope_of, among_scope, names_after}
+use Rattle.span_tags.proofs.AttributeLaws.{same_key}
+use Rattle.span_tags.proofs.BeginLaws.{Starts, starts_begins, begins_starts, in_scoped, scoped_length, last_names, names_scoped}
+use Rattle.span_tags.proofs.MeaningLaws.{Told, ToldAt, told_not, told_parts, told_both, told_as, IsRow, told_row, IsOne, told_one, told_differ, told_given, empty_is, Becomes, told_other, told_gone, becomes, told_made, text_goes, text_becomes, text_is, Among, told_list, member_of, among_member, in_place_of, placed_of, told_scopes, scope_same, AmongScopes, IsScope, scope_of, among_scope, names_after}
 use Rattle.map_zipkin.specs.Keys.{peer_key}
 use Rattle.map_zipkin.specs.LossMeaning.{scopes_in, all_spans, BeginsGroup, OfUnit, spans_from, MeansLoss, run_behind_all}
 use Rattle.map_zipkin.specs.Losses.{goes, changes, bytes_change, event_losses, link_losses, message_goes, own_losses, span_losses, resource_losses, follows, names_before, last_of, run_behind, has_no_span, unit_losses, group_losses}

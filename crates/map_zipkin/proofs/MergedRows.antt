@@ -13,8 +13,8 @@ use Rattle.trace_model.specs.Attributes.{Rise, keys, by_order, placed, attrs}
 use Rattle.trace_model.specs.ValueTexts.{value_text}
 use Rattle.trace_model.specs.declared.value.Value.{Value, Text}
 use Rattle.span_tags.specs.Escapes.{rekeyed, escaped}
-use Rattle.span_tags.specs.laws.AttributeLaws.{same_key, below_all, attrs_itself, attrs_rise, at_attrs, same_pairs, at_filter, filter_rise, map_attrs}
-use Rattle.span_tags.specs.laws.RowLaws.{last_at-filter}
+use Rattle.span_tags.proofs.AttributeLaws.{same_key, below_all, attrs_itself, attrs_rise, at_attrs, same_pairs, at_filter, filter_rise, map_attrs}
+use Rattle.span_tags.proofs.RowLaws.{last_at-filter}
 use Rattle.span_tags.specs.TagWords.{Pairs}
 use Rattle.map_zipkin.specs.Keys.{is_zipkin_reserved}
 use Rattle.map_zipkin.specs.Writing.{as_text, as_texts, is_told, told_pairs, escaped_pairs, zipkin_tag_of}

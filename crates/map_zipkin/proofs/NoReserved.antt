@@ -6,7 +6,7 @@ use Rattle.trace_model.specs.Attributes.{at}
 use Rattle.trace_model.specs.Remarks.{Keys}
 use Rattle.trace_model.specs.declared.value.Value.{Value}
 use Rattle.span_tags.specs.Columns.{left_out_by as left_out_of}
-use Rattle.span_tags.specs.laws.AttributeLaws.{same_key}
+use Rattle.span_tags.proofs.AttributeLaws.{same_key}
 use Rattle.span_tags.specs.TagKeys.{service_key}
 use Rattle.span_tags.specs.TagWords.{Pairs, if_left}
 use Rattle.map_zipkin.specs.Keys.{resource_prefix, resource_key, is_zipkin_reserved}

@@ -4,7 +4,7 @@ use Rattle.std.specs.Prelude.{◌↔◌}
 use Rattle.std.specs.List.{flat_map}
 use Rattle.std.proofs.lemmas.List.Elements.{All-nil, All-head, All-tail, All-append}
 use Rattle.trace_model.specs.Soundness.{IsSoundGroup}
-use Rattle.trace_model.specs.declared.trace.Group.{Group}
+use Rattle.trace_model.specs.declared.group.Group.{Group}
 use Rattle.map_zipkin.specs.Faults.{HasNoZipkinFault}
 use Rattle.zipkin_json.specs.Proper.{IsProperZSpan, IsTimelyZSpan}
 use Rattle.zipkin_json.specs.declared.span.ZSpan.{ZSpan}

@@ -3,7 +3,7 @@ use Rattle.std.proofs.Common.{◌≡◌, ℕ, Bool, true, false, cond, List, [],
 use Rattle.std.specs.Prelude.{filter, not, ◌||◌}
 use Rattle.std.specs.Option.{option_or}
 use Rattle.std.specs.Str.{bytes_eq}
-use Rattle.span_tags.specs.laws.AttributeLaws.{last_at, key_itself, same_key, other_way, option_or-none, at_attrs-append, attrs_rise, at_filter, filter_rise, at_map, map_rise, same_pairs}
+use Rattle.span_tags.proofs.AttributeLaws.{last_at, key_itself, same_key, other_way, option_or-none, at_attrs-append, attrs_rise, at_filter, filter_rise, at_map, map_rise, same_pairs}
 use Rattle.span_tags.specs.TagKeys.{service_key}
 use Rattle.span_tags.specs.TagWords.{Pairs, row, without, text_given, text_or_none}
 use Rattle.trace_model.specs.Attributes.{Rise, keys, at}

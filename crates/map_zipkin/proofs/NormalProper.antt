@@ -7,8 +7,8 @@ use Rattle.std.specs.Str.{bytes_eq}
 use Rattle.std.proofs.lemmas.List.Elements.{All-nil, All-cons, All-head, All-tail, All-append, All-filter, All-map, All-weaker}
 use Rattle.std.proofs.lemmas.Map.Entries.{All-lookup}
 use Rattle.std.proofs.lemmas.Str.{IsUtf8-nil}
-use Rattle.span_tags.specs.laws.AttributeLaws.{all_attrs}
-use Rattle.span_tags.specs.laws.RunLaws.{scoped_all}
+use Rattle.span_tags.proofs.AttributeLaws.{all_attrs}
+use Rattle.span_tags.proofs.RunLaws.{scoped_all}
 use Rattle.span_tags.specs.Runs.{Scoped, spans_of, scoped}
 use Rattle.span_tags.specs.TagKeys.{service_key}
 use Rattle.span_tags.specs.TagWords.{Pairs, row, without, text_given, text_or_none}
@@ -20,8 +20,8 @@ use Rattle.trace_model.specs.declared.span.Code.{Code}
 use Rattle.trace_model.specs.declared.span.Code.TheVariants as statuses
 use Rattle.trace_model.specs.declared.span.Event.{Event}
 use Rattle.trace_model.specs.declared.span.Span.{Span}
-use Rattle.trace_model.specs.declared.trace.Group.{Group}
-use Rattle.trace_model.specs.declared.trace.Scope.{Scope}
+use Rattle.trace_model.specs.declared.group.Group.{Group}
+use Rattle.trace_model.specs.declared.group.Scope.{Scope}
 use Rattle.trace_model.specs.declared.value.Value.{Value, Text}
 use Rattle.map_zipkin.specs.Keys.{peer_key}
 use Rattle.map_zipkin.specs.StatedLaws.{IsHeldByZipkin}

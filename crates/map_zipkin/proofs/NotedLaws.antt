@@ -6,7 +6,7 @@ use Rattle.std.specs.List.{flat_map}
 use Rattle.span_tags.specs.Runs.{scoped}
 use Rattle.trace_model.specs.OtlpParts.{NotedGroup}
 use Rattle.trace_model.specs.Remarks.{Keys, numbered}
-use Rattle.trace_model.specs.declared.trace.Group.{Group}
+use Rattle.trace_model.specs.declared.group.Group.{Group}
 use Rattle.zipkin_json.specs.declared.span.ZSpan.{ZSpan}
 use Rattle.map_zipkin.specs.StatedLaws.{GroupsNoted}
 use Rattle.map_zipkin.specs.NotedGroups.{plain_noted, left_out_remarks, spans_in, with_left_out}

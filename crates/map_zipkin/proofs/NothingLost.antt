@@ -12,12 +12,13 @@ use Rattle.trace_model.specs.declared.loss.Loss.{Loss}
 use Rattle.trace_model.specs.declared.loss.LossRow.TheVariants as rows
 use Rattle.trace_model.specs.declared.place.Place.TheVariants as places
 use Rattle.trace_model.specs.declared.span.Span.{Span}
-use Rattle.trace_model.specs.declared.trace.Group.{Group}
-use Rattle.trace_model.specs.declared.trace.Scope.{Scope}
-use Rattle.span_tags.specs.laws.AttributeLaws.{key_itself}
+use Rattle.trace_model.specs.declared.group.Group.{Group}
+use Rattle.trace_model.specs.declared.group.Scope.{Scope}
+use Rattle.span_tags.proofs.AttributeLaws.{key_itself}
 use Rattle.span_tags.specs.Losses.{is_empty, differ, lost, lost_keys, Names, named, scopes_losses}
-use Rattle.span_tags.specs.laws.QuietLaws.{Quiet, both, quiet_as, row_quiet, differ_not, given_not, same_test, same_parts, keys_quiet, scopes_quiet}
-use Rattle.span_tags.specs.laws.RunLaws.{IsPlain, in_front_spans, scoped_all, on_span}
+use Rattle.span_tags.proofs.QuietLaws.{Quiet, both, quiet_as, row_quiet, differ_not, given_not, same_test, same_parts, keys_quiet, scopes_quiet}
+use Rattle.span_tags.specs.Runs.{IsPlain}
+use Rattle.span_tags.proofs.RunLaws.{in_front_spans, scoped_all, on_span}
 use Rattle.span_tags.specs.Runs.{Scoped, spans_of, scoped, in_front, runs}
 use Rattle.span_tags.specs.TagKeys.{service_key}
 use Rattle.span_tags.specs.TagWords.{Pairs}

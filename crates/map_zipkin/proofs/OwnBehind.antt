@@ -10,7 +10,7 @@ use Rattle.trace_model.specs.Attributes.{attrs}
 use Rattle.trace_model.specs.declared.value.Value.{Value}
 use Rattle.span_tags.specs.Columns.{rows_by}
 use Rattle.span_tags.specs.Escapes.{rekeyed, unescaped}
-use Rattle.span_tags.specs.laws.AttributeLaws.{same_key, option_or-none, last_at, last_at-append, attrs_rise, at_attrs, same_pairs}
+use Rattle.span_tags.proofs.AttributeLaws.{same_key, option_or-none, last_at, last_at-append, attrs_rise, at_attrs, same_pairs}
 use Rattle.span_tags.specs.TagWords.{Pairs, row}
 use Rattle.map_zipkin.specs.Keys.{is_zipkin_reserved, peer_key}
 use Rattle.map_zipkin.specs.OwnColumns.{OwnColumns, all_own, own_row, own_rows}

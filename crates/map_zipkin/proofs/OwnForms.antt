@@ -5,7 +5,7 @@ use Rattle.std.specs.Str.{bytes_eq}
 use Rattle.std.specs.Str.Parse.{digits_value}
 use Rattle.std.proofs.lemmas.Fmt.{decimal_is_IsNumeral_wide}
 use Rattle.trace_model.specs.declared.value.Value.{Value, Text, Truth, Number, Eight, Bytes, List', Map', Nothing}
-use Rattle.span_tags.specs.laws.AttributeLaws.{same_key, key_itself}
+use Rattle.span_tags.proofs.AttributeLaws.{same_key, key_itself}
 use Rattle.span_tags.specs.TagWords.{decimal_in, at_most, count_in, text_given, is_idle}
 use Rattle.map_zipkin.specs.Faults.{IsOutOfForm}
 use Rattle.map_zipkin.specs.OwnColumns.{truth_given, is_true_text, is_address, has_port, is_port_text}

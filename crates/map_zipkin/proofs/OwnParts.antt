@@ -3,7 +3,7 @@ use Rattle.std.proofs.Common.{◌≡◌, ℕ, Bool, true, false, cond, ◌||◌,
 use Rattle.std.specs.Str.{bytes_eq}
 use Rattle.trace_model.specs.Attributes.{at}
 use Rattle.trace_model.specs.declared.value.Value.{Value}
-use Rattle.span_tags.specs.laws.AttributeLaws.{same_key}
+use Rattle.span_tags.proofs.AttributeLaws.{same_key}
 use Rattle.span_tags.specs.TagWords.{Pairs}
 use Rattle.map_zipkin.specs.LeastZipkinFault.{is_out_of_form, out_of_form}
 use Rattle.map_zipkin.specs.OwnColumns.{OwnColumns, own_row, own_form, forms_of, is_own, own_in}

@@ -10,10 +10,10 @@ use Rattle.trace_model.specs.Attributes.{by_order, attrs, at}
 use Rattle.trace_model.specs.EventTexts.{holds_double}
 use Rattle.trace_model.specs.ValueTexts.{has_double}
 use Rattle.trace_model.specs.declared.value.Value.{Value}
-use Rattle.span_tags.specs.laws.AttributeLaws.{all_attrs}
+use Rattle.span_tags.proofs.AttributeLaws.{all_attrs}
 use Rattle.span_tags.specs.Doubles.{double_at}
-use Rattle.span_tags.specs.laws.ColumnLaws.{all_rows}
-use Rattle.span_tags.specs.laws.EscapeLaws.{escaped_all}
+use Rattle.span_tags.proofs.ColumnLaws.{all_rows}
+use Rattle.span_tags.proofs.EscapeLaws.{escaped_all}
 use Rattle.span_tags.specs.Escapes.{escaped}
 use Rattle.span_tags.specs.Runs.{under}
 use Rattle.span_tags.specs.TagKeys.{service_key}

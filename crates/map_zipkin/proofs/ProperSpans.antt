@@ -10,9 +10,9 @@ use Rattle.std.proofs.lemmas.List.Elements.{All-nil, All-cons, All-append, All-f
 use Rattle.std.proofs.lemmas.Map.Entries.{All-lookup}
 use Rattle.std.proofs.lemmas.Str.{IsUtf8-nil, IsUtf8-append, IsUtf8-from_ascii}
 use Rattle.span_ids.specs.Times.{floor}
-use Rattle.span_tags.specs.laws.AttributeLaws.{attrs_rise, all_attrs}
-use Rattle.span_tags.specs.laws.ColumnLaws.{all_rows}
-use Rattle.span_tags.specs.laws.EscapeLaws.{escaped_all, esc_holds}
+use Rattle.span_tags.proofs.AttributeLaws.{attrs_rise, all_attrs}
+use Rattle.span_tags.proofs.ColumnLaws.{all_rows}
+use Rattle.span_tags.proofs.EscapeLaws.{escaped_all, esc_holds}
 use Rattle.span_tags.specs.Escapes.{front, esc}
 use Rattle.span_tags.specs.Runs.{Scoped, scoped}
 use Rattle.span_tags.specs.TagKeys.{service_key}
@@ -26,7 +26,7 @@ use Rattle.trace_model.specs.declared.span.Code.{Code}
 use Rattle.trace_model.specs.declared.span.Code.TheVariants as statuses
 use Rattle.trace_model.specs.declared.span.Event.{Event}
 use Rattle.trace_model.specs.declared.span.Span.{Span}
-use Rattle.trace_model.specs.declared.trace.Group.{Group}
+use Rattle.trace_model.specs.declared.group.Group.{Group}
 use Rattle.trace_model.specs.declared.value.Value.{Value, Text, Truth, Number, Eight, Bytes, List', Map', Nothing}
 use Rattle.zipkin_json.specs.Proper as written
 use Rattle.map_zipkin.specs.Faults.{HasNoZipkinFault}

@@ -15,7 +15,7 @@ use Rattle.trace_model.specs.declared.span.Link.{Link}
 use Rattle.trace_model.specs.declared.span.Span.{Span}
 use Rattle.trace_model.specs.declared.value.Value.{Value}
 use Rattle.span_tags.specs.Losses.{is_empty, differ, is_unspecified, lost, lost_keys, losses_of}
-use Rattle.span_tags.specs.laws.QuietLaws.{Quiet, both, quiet_as, row_quiet, differ_not, keys_quiet, mapped_quiet, list_quiet}
+use Rattle.span_tags.proofs.QuietLaws.{Quiet, both, quiet_as, row_quiet, differ_not, keys_quiet, mapped_quiet, list_quiet}
 use Rattle.span_tags.specs.TagWords.{Pairs}
 use Rattle.map_zipkin.specs.Keys.{peer_key}
 use Rattle.map_zipkin.specs.Losses.{goes, changes, bytes_change, event_losses, link_losses, message_goes, own_losses, span_losses}

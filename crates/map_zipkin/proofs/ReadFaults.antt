@@ -6,7 +6,7 @@ use Rattle.std.specs.Str.{bytes_eq}
 use Rattle.std.specs.Str.Parse.{digits_value}
 use Rattle.std.proofs.lemmas.Fmt.{decimal_is_IsNumeral_wide}
 use Rattle.std.proofs.lemmas.List.Elements.{All-nil, All-cons, All-head, All-tail, All-map, All-contains}
-use Rattle.span_tags.specs.laws.AttributeLaws.{key_itself, same_key}
+use Rattle.span_tags.proofs.AttributeLaws.{key_itself, same_key}
 use Rattle.span_tags.specs.TagWords.{Pairs, decimal_in, text_given}
 use Rattle.trace_model.specs.Attributes.{at}
 use Rattle.trace_model.specs.EventReading.{event_text_read}

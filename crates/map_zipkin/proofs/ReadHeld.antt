@@ -12,8 +12,8 @@ use Rattle.std.proofs.Math.Dec.{ltb}
 use Rattle.std.specs.List.{list_all}
 use Rattle.std.proofs.lemmas.Str.{IsUtf8-nil, IsUtf8-drop, IsUtf8-from_ascii, IsCharBoundary-after_ascii}
 use Rattle.span_tags.specs.Escapes.{front, unesc}
-use Rattle.span_tags.specs.laws.AttributeLaws.{attrs_rise, same_key}
-use Rattle.span_tags.specs.laws.EscapeLaws.{unesc_holds}
+use Rattle.span_tags.proofs.AttributeLaws.{attrs_rise, same_key}
+use Rattle.span_tags.proofs.EscapeLaws.{unesc_holds}
 use Rattle.span_tags.specs.TagKeys.{service_key}
 use Rattle.span_tags.specs.TagWords.{Pairs, text_in, text_given, at_most, decimal_in, count_in, name_in}
 use Rattle.trace_model.specs.Attributes.{Rise, keys, at}

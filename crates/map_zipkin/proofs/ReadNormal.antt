@@ -5,7 +5,7 @@ use Rattle.std.specs.List.{flat_map}
 use Rattle.std.specs.Str.{bytes_eq}
 use Rattle.std.proofs.lemmas.List.Elements.{All-head, All-tail}
 use Rattle.span_ids.specs.Times.{floor}
-use Rattle.span_tags.specs.laws.AttributeLaws.{key_itself}
+use Rattle.span_tags.proofs.AttributeLaws.{key_itself}
 use Rattle.span_tags.specs.Runs.{scoped}
 use Rattle.span_tags.specs.TagKeys.{service_key}
 use Rattle.span_tags.specs.TagWords.{Pairs, text_given, text_or_none}
@@ -13,7 +13,7 @@ use Rattle.trace_model.specs.Attributes.{at}
 use Rattle.trace_model.specs.EventReading.{event_text_read}
 use Rattle.trace_model.specs.declared.span.Code.{Code}
 use Rattle.trace_model.specs.declared.span.Code.TheVariants as statuses
-use Rattle.trace_model.specs.declared.trace.Group.{Group}
+use Rattle.trace_model.specs.declared.group.Group.{Group}
 use Rattle.trace_model.specs.declared.value.Value.{Value, Text}
 use Rattle.zipkin_json.specs.Proper.{IsTimelyZSpan}
 use Rattle.zipkin_json.specs.declared.span.ZKind.{ZKind}

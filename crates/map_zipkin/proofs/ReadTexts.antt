@@ -3,9 +3,9 @@ use Rattle.std.proofs.Common.{◌≡◌, ℕ, ◌==◌, Bool, true, false, cond,
 use Rattle.std.specs.Prelude.{not, codes, filter}
 use Rattle.std.specs.Str.{bytes_eq}
 use Rattle.std.proofs.lemmas.List.Elements.{All-nil, All-cons, All-head, All-tail, All-append, All-filter}
-use Rattle.span_tags.specs.laws.AttributeLaws.{all_attrs, attrs_rise}
-use Rattle.span_tags.specs.laws.ColumnLaws.{all_rows}
-use Rattle.span_tags.specs.laws.EscapeLaws.{unescaped_all}
+use Rattle.span_tags.proofs.AttributeLaws.{all_attrs, attrs_rise}
+use Rattle.span_tags.proofs.ColumnLaws.{all_rows}
+use Rattle.span_tags.proofs.EscapeLaws.{unescaped_all}
 use Rattle.span_tags.specs.TagKeys.{service_key}
 use Rattle.span_tags.specs.TagWords.{Pairs, row, without, text_in, text_given}
 use Rattle.trace_model.specs.Attributes.{Rise, keys, at}

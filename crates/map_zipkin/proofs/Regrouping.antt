@@ -4,13 +4,14 @@ use Rattle.std.specs.Prelude.{◌≢◌, ◌&&◌, if◌then◌else◌}
 use Rattle.std.specs.List.{flat_map}
 use Rattle.std.specs.Str.{bytes_eq}
 use Rattle.std.proofs.lemmas.List.Elements.{All-nil, All-cons, All-head, All-tail}
-use Rattle.span_tags.specs.laws.AttributeLaws.{same_key}
-use Rattle.span_tags.specs.laws.RunLaws.{IsPlain, in_front_spans, in_front_plain}
+use Rattle.span_tags.proofs.AttributeLaws.{same_key}
+use Rattle.span_tags.specs.Runs.{IsPlain}
+use Rattle.span_tags.proofs.RunLaws.{in_front_spans, in_front_plain}
 use Rattle.span_tags.specs.Runs.{Scoped, scoped, plain_scope, in_front}
 use Rattle.span_tags.specs.TagWords.{Pairs}
 use Rattle.trace_model.specs.declared.span.Span.{Span}
-use Rattle.trace_model.specs.declared.trace.Group.{Group}
-use Rattle.trace_model.specs.declared.trace.Scope.{Scope}
+use Rattle.trace_model.specs.declared.group.Group.{Group}
+use Rattle.trace_model.specs.declared.group.Scope.{Scope}
 use Rattle.trace_model.specs.declared.value.Value.{Value, Text}
 use Rattle.map_zipkin.specs.StatedLaws.{Regroupings}
 use Rattle.map_zipkin.specs.Regrouped.{RunSpan, in_scope, run_of, runs_of, same_text, same_resource, plain_group, group_of_one, before, regrouped}

@@ -3,7 +3,7 @@ use Rattle.std.proofs.Common.{◌≡◌, ℕ, Bool, true, false, cond, List, [],
 use Rattle.std.specs.Option.{option_or}
 use Rattle.std.specs.Str.{bytes_eq}
 use Rattle.std.proofs.lemmas.List.{take-append-drop}
-use Rattle.span_tags.specs.laws.AttributeLaws.{same_key, option_or-none, last_at}
+use Rattle.span_tags.proofs.AttributeLaws.{same_key, option_or-none, last_at}
 use Rattle.span_tags.specs.TagWords.{Pairs}
 use Rattle.map_zipkin.specs.Keys.{resource_prefix, resource_key}
 use Rattle.map_zipkin.specs.Reading.{resource_row, resource_tags}

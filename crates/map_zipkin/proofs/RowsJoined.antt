@@ -4,9 +4,9 @@ use Rattle.std.specs.Option.{option_or}
 use Rattle.trace_model.specs.Attributes.{placed, attrs}
 use Rattle.trace_model.specs.declared.span.Span.{Span}
 use Rattle.span_tags.specs.Columns.{is_key, rows_by}
-use Rattle.span_tags.specs.laws.AttributeLaws.{option_or-none, option_or-assoc, last_at, last_at-append, last_at-rising, attrs_rise, at_attrs, same_pairs}
-use Rattle.span_tags.specs.laws.ColumnLaws.{each_key}
-use Rattle.span_tags.specs.laws.RowLaws.{last_told, last_at-rows, told_none}
+use Rattle.span_tags.proofs.AttributeLaws.{option_or-none, option_or-assoc, last_at, last_at-append, last_at-rising, attrs_rise, at_attrs, same_pairs}
+use Rattle.span_tags.proofs.ColumnLaws.{each_key}
+use Rattle.span_tags.proofs.RowLaws.{last_told, last_at-rows, told_none}
 use Rattle.span_tags.specs.Runs.{Scoped}
 use Rattle.span_tags.specs.TagWords.{Pairs}
 use Rattle.map_zipkin.specs.TagColumns.{TagColumns, all_columns, row_of, is_column, zipkin_columns_of, column_rows}

@@ -2,7 +2,7 @@
 use Rattle.std.proofs.Common.{◌≡◌, ℕ, false, List, [], ◌∷◌, ◌++◌, map, get_or, All, None, is_some, unwrap_or, refl, ap, ◌∙◌, inr}
 use Rattle.std.proofs.lemmas.List.Elements.{All-head, All-tail, All-map}
 use Rattle.span_ids.specs.Times.{floor}
-use Rattle.span_tags.specs.laws.ColumnLaws.{none_left}
+use Rattle.span_tags.proofs.ColumnLaws.{none_left}
 use Rattle.span_tags.specs.Runs.{Scoped, scoped}
 use Rattle.span_tags.specs.TagKeys.{service_key}
 use Rattle.span_tags.specs.TagWords.{Pairs, text_in, code_in, name_in, text_given, code_given, text_or_none, is_idle, if_left}
@@ -13,7 +13,7 @@ use Rattle.trace_model.specs.declared.span.Code.TheVariants as statuses
 use Rattle.trace_model.specs.declared.span.Kind.{Kind}
 use Rattle.trace_model.specs.declared.span.Kind.TheVariants as kinds
 use Rattle.trace_model.specs.declared.span.Span.{Span}
-use Rattle.trace_model.specs.declared.trace.Group.{Group}
+use Rattle.trace_model.specs.declared.group.Group.{Group}
 use Rattle.map_zipkin.specs.Faults.{IsToldWrong, HasDoubleIn}
 use Rattle.map_zipkin.specs.Keys.{resource_prefix, peer_key}
 use Rattle.map_zipkin.specs.StatedLaws.{IsHeldByZipkin, SpansReadBack}

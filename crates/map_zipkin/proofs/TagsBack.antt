@@ -8,10 +8,10 @@ use Rattle.trace_model.specs.declared.span.Code.{Code}
 use Rattle.trace_model.specs.declared.span.Code.TheVariants as statuses
 use Rattle.trace_model.specs.declared.span.Span.{Span}
 use Rattle.trace_model.specs.declared.value.Value.{Value}
-use Rattle.span_tags.specs.laws.AttributeLaws.{same_key, option_or-none, last_at, last_at-append, last_at-rising, attrs_rise, at_attrs, same_pairs, at_filter, filter_rise, on_values, at_map, map_rise, map_attrs}
-use Rattle.span_tags.specs.laws.ColumnLaws.{each_key}
-use Rattle.span_tags.specs.laws.EscapeLaws.{esc_free, escaped_rise, unescaped_rise, escaped_values, at_esc, at_reserved, at_unescaped, NoneReserved}
-use Rattle.span_tags.specs.laws.RowLaws.{last_at-filter}
+use Rattle.span_tags.proofs.AttributeLaws.{same_key, option_or-none, last_at, last_at-append, last_at-rising, attrs_rise, at_attrs, same_pairs, at_filter, filter_rise, on_values, at_map, map_rise, map_attrs}
+use Rattle.span_tags.proofs.ColumnLaws.{each_key}
+use Rattle.span_tags.proofs.EscapeLaws.{esc_free, escaped_rise, unescaped_rise, escaped_values, at_esc, at_reserved, at_unescaped, NoneReserved}
+use Rattle.span_tags.proofs.RowLaws.{last_at-filter}
 use Rattle.span_tags.specs.Escapes.{escaped}
 use Rattle.span_tags.specs.Runs.{Scoped}
 use Rattle.span_tags.specs.TagKeys.{service_key}

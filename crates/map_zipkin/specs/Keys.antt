@@ -6,6 +6,7 @@ use Rattle.map_zipkin.specs.TagColumns.{is_column}
 
 -- ---- of the resource: tags that begin with this
 
+-- the front of the keys under which a resource's attributes, but for its service, stand as tags of each of its spans
 abbrev pub resource_prefix : List ℕ
 resource_prefix = codes "otel.resource."
 
@@ -15,10 +16,12 @@ resource_key key = if bytes_eq (take 14 key) resource_prefix then Some (drop 14 
 
 -- ---- reserved: those of the span and its scope, too
 
+-- a tag of this key tells of the resource, the scope or the span itself, so that no attribute of a span is written under it
 abbrev pub is_zipkin_reserved : List ℕ → Bool
 is_zipkin_reserved key = is_column key || is_some (resource_key key)
 
 -- ---- the service at the other end
 
+-- the key of the attribute that Zipkin v2 has as the `serviceName` of a span's `remoteEndpoint`
 abbrev pub peer_key : List ℕ
 peer_key = codes "peer.service"

@@ -12,20 +12,23 @@ use Rattle.trace_model.specs.declared.loss.LossRow.TheVariants as rows
 use Rattle.trace_model.specs.declared.place.Place.{Place}
 use Rattle.trace_model.specs.declared.place.Place.TheVariants as places
 use Rattle.trace_model.specs.declared.span.Span.{Span}
-use Rattle.trace_model.specs.declared.trace.Group.{Group}
-use Rattle.trace_model.specs.declared.trace.Scope.{Scope}
+use Rattle.trace_model.specs.declared.group.Group.{Group}
+use Rattle.trace_model.specs.declared.group.Scope.{Scope}
 use Rattle.span_tags.specs.LossMeanings.{OfResource, InScope, InSpan, InEvent, InLink, spans_in}
 use Rattle.span_tags.specs.TagKeys.{service_key}
 use Rattle.map_zipkin.specs.Losses.{run_behind}
 use Rattle.map_zipkin.specs.Normal.{normal_pairs}
 use Rattle.map_zipkin.specs.declared.run.Run.{Run}
 
+-- the scopes of groups, group after group
 abbrev pub scopes_in : List Group → List Scope
 scopes_in groups = flat_map (λ group. group.scopes) groups
 
+-- the spans of groups, group after group and scope after scope
 abbrev pub all_spans : List Group → List Span
 all_spans groups = spans_in (scopes_in groups)
 
+-- one of the groups begins behind this many spans: the groups before it have so many together
 pub record BeginsGroup (n : ℕ) (groups : List Group) : Type 0 where
   pub before : List Group
   pub group : Group
@@ -49,6 +52,8 @@ OfUnit spans group normal other key = ⊥
 abbrev pub spans_from : List Group → List Group → List Span
 spans_from before normal = drop (length (all_spans before)) (all_spans normal)
 
+-- the condition of a row at a place: the group as a whole, its resource, or one of its scopes, spans, events or links, beside
+-- what the normal form of the whole trace has in that place
 abbrev pub MeansLoss : List Group → Group → List Group → Place → LossRow → List ℕ → Type 0
 MeansLoss before group normal places.Whole row key = OfUnit (length (all_spans before)) group normal row key
 MeansLoss before group normal places.Resource row key = OfResource group (normal_pairs service_key group.resource) row key

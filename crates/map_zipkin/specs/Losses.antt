@@ -13,7 +13,7 @@ use Rattle.trace_model.specs.declared.span.Event.{Event}
 use Rattle.trace_model.specs.declared.span.Link.{Link}
 use Rattle.trace_model.specs.declared.span.Span.{Span}
 use Rattle.trace_model.specs.declared.span.Status.{Status}
-use Rattle.trace_model.specs.declared.trace.Group.{Group}
+use Rattle.trace_model.specs.declared.group.Group.{Group}
 use Rattle.trace_model.specs.declared.value.Value.{Value}
 use Rattle.span_tags.specs.Losses.{is_empty, differ, is_text, is_unspecified, lost, lost_keys, losses_of, Names, named, scopes_losses}
 use Rattle.span_tags.specs.Runs.{scoped}
@@ -36,23 +36,30 @@ changes key pair = not (goes key pair) && not (is_text pair.1)
 
 -- ---- events and links
 
+-- a value of an event's attribute has bytes in it, at any depth, which come back as their base64 texts
 abbrev pub bytes_change : List ℕ × Value → Bool
 bytes_change pair = has_bytes pair.1
 
+-- of an event, by the number of its span and its own: values with bytes, its count of dropped attributes, and the nanoseconds
+-- of its time below a microsecond
 abbrev pub event_losses : ℕ → ℕ → Event → List Loss
 event_losses span n event =
     lost_keys (places.Event span n) rows.Value bytes_change event.attributes
     ++ (lost (places.Event span n) rows.DroppedCount (differ event.dropped 0)
     ++ lost (places.Event span n) rows.Time (differ event.time (zipkin_normal_event event).time))
 
+-- of a link, by the number of its span and its own: it is lost always, since a span of Zipkin v2 has no links
 abbrev pub link_losses : ℕ → ℕ → Link → List Loss
 link_losses span n link = lost (places.Link span n) rows.Link true
 
 -- ---- spans
 
+-- the status has a message, and its code isn't an error, so that Zipkin has no place for the message
 abbrev pub message_goes : Status → Bool
 message_goes status = not (is_empty status.message) && is_empty (message_kept status.code status.message)
 
+-- of the span of this number, without its events and links: values that become texts, an empty `peer.service`, nanoseconds
+-- below a microsecond, that its kind is unspecified, a message without an error, and its flags
 abbrev pub own_losses : ℕ → Span → List Loss
 own_losses n span =
     lost_keys (places.Span n) rows.Value (changes peer_key) span.attributes
@@ -69,6 +76,7 @@ span_losses n span = own_losses n span ++ (losses_of (event_losses n) 1 span.eve
 
 -- ---- the resource
 
+-- of the resource: values that become texts, its count of dropped attributes, its schema URL, and an empty `service.name`
 abbrev pub resource_losses : Group → List Loss
 resource_losses group =
     lost_keys places.Resource rows.Value (changes service_key) group.resource
@@ -88,6 +96,7 @@ abbrev pub names_before : Option Run → Pairs → Option Names
 names_before before resource =
     if follows before resource then option_map (λ run. named run.name run.version) before else None
 
+-- the last member of a list, if it has one
 abbrev pub last_of : {A : Type 0} → List A → Option A
 last_of [] = None
 last_of (x ∷ []) = Some x
@@ -103,14 +112,17 @@ run_behind before group = option_or (last_run group) before
 
 -- ---- the group
 
+-- there is no span in any scope of the group
 abbrev pub has_no_span : Group → Bool
 has_no_span group = is_empty (scoped group.scopes)
 
+-- of the group as a whole: it goes where it has no span, or joins the group of the span before, which has the same resource
 abbrev pub unit_losses : Option Run → Group → List Loss
 unit_losses before group =
     lost places.Whole rows.UnitEmpty (has_no_span group)
     ++ lost places.Whole rows.UnitJoined (not (has_no_span group) && follows before group.resource)
 
+-- of a group behind a span of this run, or behind none: the group as a whole, its resource, then its scopes and spans
 abbrev pub group_losses : Option Run → Group → List Loss
 group_losses before group =
     unit_losses before group

@@ -14,7 +14,7 @@ use Rattle.trace_model.specs.declared.span.Kind.{Kind}
 use Rattle.trace_model.specs.declared.span.Kind.TheVariants as kinds
 use Rattle.trace_model.specs.declared.span.Span.{Span}
 use Rattle.trace_model.specs.declared.span.Status.{Status}
-use Rattle.trace_model.specs.declared.trace.Group.{Group}
+use Rattle.trace_model.specs.declared.group.Group.{Group}
 use Rattle.map_zipkin.specs.Keys.{peer_key}
 use Rattle.map_zipkin.specs.Regrouped.{RunSpan, regrouped}
 use Rattle.map_zipkin.specs.Writing.{as_texts}
@@ -23,6 +23,7 @@ use Rattle.map_zipkin.specs.Writing.{as_texts}
 abbrev pub normal_pairs : List ℕ → Pairs → Pairs
 normal_pairs key pairs = attrs (row key (text_given (text_or_none (at key pairs))) ++ as_texts (without key pairs))
 
+-- a span of Zipkin v2 without a `kind` is read as internal, so that an unspecified kind becomes internal
 abbrev pub zipkin_normal_kind : Kind → Kind
 zipkin_normal_kind kinds.Unspecified = kinds.Internal
 zipkin_normal_kind kind = kind
@@ -32,13 +33,17 @@ abbrev pub message_kept : Code → List ℕ → List ℕ
 message_kept statuses.Fail message = message
 message_kept code message = []
 
+-- the code of the status stays, and its message with an error alone
 abbrev pub zipkin_normal_status : Status → Status
 zipkin_normal_status status = record { code = status.code; message = message_kept status.code status.message }
 
 -- times to the microsecond; bytes in an event's attributes become texts
 abbrev pub zipkin_normal_event : Event → Event
-zipkin_normal_event event = record { time = floor event.time; name = event.name; attributes = with_texts event.attributes; dropped = 0 }
+zipkin_normal_event event =
+    record { time = floor event.time; name = event.name; attributes = with_texts event.attributes; dropped = 0 }
 
+-- what comes back of a span: times to the microsecond, attributes as texts, no links and no flags; its identifiers, name,
+-- trace state and dropped counts stay
 abbrev pub zipkin_normal_span : Span → Span
 zipkin_normal_span span = record span {
   kind = zipkin_normal_kind span.kind;
@@ -51,10 +56,12 @@ zipkin_normal_span span = record span {
   flags = 0;
 }
 
--- the spans of a group, each with its run
+-- a span of a group in normal form, with its run
 abbrev pub normal_one : Pairs → Scoped Span → RunSpan
-normal_one resource one = (record { resource = normal_pairs service_key resource; name = one.name; version = one.version }, zipkin_normal_span one.span)
+normal_one resource one =
+    (record { resource = normal_pairs service_key resource; name = one.name; version = one.version }, zipkin_normal_span one.span)
 
+-- all spans of a group in normal form, in order, each with the resource in normal form and its scope
 abbrev pub normal_spans : Group → List RunSpan
 normal_spans group = map (normal_one group.resource) (scoped group.scopes)
 

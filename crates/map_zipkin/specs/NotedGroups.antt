@@ -5,7 +5,7 @@ use Rattle.trace_model.specs.OtlpParts.{NotedGroup}
 use Rattle.trace_model.specs.Remarks.{Keys, tags_dropped, numbered}
 use Rattle.trace_model.specs.declared.place.Place.TheVariants as places
 use Rattle.trace_model.specs.declared.remark.Remark.{Remark}
-use Rattle.trace_model.specs.declared.trace.Group.{Group}
+use Rattle.trace_model.specs.declared.group.Group.{Group}
 use Rattle.zipkin_json.specs.declared.span.ZSpan.{ZSpan}
 use Rattle.map_zipkin.specs.Reading.{groups_of}
 use Rattle.map_zipkin.specs.Remarks.{zipkin_left_out}
@@ -32,5 +32,6 @@ with_left_out [] left_out = []
 with_left_out (group ∷ groups) left_out =
     record { means = group; notes = numbered left_out_remarks 1 (take (spans_in group) left_out) } ∷ with_left_out groups (drop (spans_in group) left_out)
 
+-- the groups that these spans of Zipkin are, each with a remark for every tag of its spans that was left out
 abbrev pub noted_groups_of : List ZSpan → List NotedGroup
 noted_groups_of spans = with_left_out (groups_of spans) (map zipkin_left_out spans)

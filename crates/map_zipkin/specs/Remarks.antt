@@ -16,11 +16,12 @@ use Rattle.map_zipkin.specs.TagColumns.{TagColumns, row_of, columns_in, is_idle_
 use Rattle.map_zipkin.specs.declared.columns.Column.{Column}
 use Rattle.map_zipkin.specs.declared.columns.Column.TheVariants as columns
 
--- the tag of the remote service is empty, or differs from that of the endpoint
+-- the endpoint names a service, and the tag names another
 abbrev pub differs : List ℕ → List ℕ → Bool
 differs [] tag = false
 differs (x ∷ more) tag = not (bytes_eq (x ∷ more) tag)
 
+-- there is a tag of the remote service, and it is left out: it is empty, or differs from the service that the endpoint names
 abbrev pub is_idle_peer : List ℕ → Option (List ℕ) → Bool
 is_idle_peer service None = false
 is_idle_peer service (Some []) = true
@@ -32,7 +33,9 @@ own_left tags = left_out_of own_row all_own (own_in tags)
 
 -- the columns in front of the service of the resource, by rising keys
 abbrev pub first_columns : List Column
-first_columns = columns.Error ∷ columns.DroppedAttributes ∷ columns.DroppedEvents ∷ columns.DroppedLinks ∷ columns.LibraryName ∷ columns.LibraryVersion ∷ []
+first_columns =
+    columns.Error ∷ columns.DroppedAttributes ∷ columns.DroppedEvents ∷ columns.DroppedLinks ∷ columns.LibraryName
+    ∷ columns.LibraryVersion ∷ []
 
 -- those under reserved keys, in the order of these
 abbrev pub reserved_left : TagColumns → Pairs → Keys
@@ -42,10 +45,13 @@ reserved_left c tags = left_out_of row_of first_columns c
 
 -- all, in the order of their keys, of a span whose remote service is this
 abbrev pub left_out_by : List ℕ → TagColumns → Pairs → Keys
-left_out_by peer c tags = reserved_left c tags ++ (if_left peer_key (is_idle_peer peer (text_in (at peer_key tags))) ++ own_left tags)
+left_out_by peer c tags =
+    reserved_left c tags ++ (if_left peer_key (is_idle_peer peer (text_in (at peer_key tags))) ++ own_left tags)
 
+-- the keys of all tags of a span of Zipkin that are left out, in their order
 abbrev pub zipkin_left_out : ZSpan → Keys
 zipkin_left_out span = left_out_by span.remote.service (columns_in (pairs_of span)) (pairs_of span)
 
+-- a remark for each such tag, at the span, which is given the number 1
 abbrev pub zipkin_remarks : ZSpan → List Remark
 zipkin_remarks span = tags_dropped (places.Span 1) (zipkin_left_out span)

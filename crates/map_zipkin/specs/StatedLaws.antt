@@ -1,12 +1,12 @@
 -- What the laws of the table say.
 use Rattle.std.specs.Prelude.{◌≡◌, ◌≢◌, ◌↔◌, List, [], ◌∷◌, ◌++◌, All, Contains, Option, None, map}
 use Rattle.std.specs.List.{flat_map}
-use Rattle.span_tags.specs.laws.RunLaws.{IsPlain}
+use Rattle.span_tags.specs.Runs.{IsPlain}
 use Rattle.trace_model.specs.Proper.{IsProperGroup}
 use Rattle.trace_model.specs.Soundness.{IsSoundGroup}
 use Rattle.trace_model.specs.declared.fault.Fault.{Fault}
 use Rattle.trace_model.specs.declared.loss.Loss.{Loss}
-use Rattle.trace_model.specs.declared.trace.Group.{Group}
+use Rattle.trace_model.specs.declared.group.Group.{Group}
 use Rattle.zipkin_json.specs.Proper.{IsProperZSpan, IsTimelyZSpan}
 use Rattle.zipkin_json.specs.declared.span.ZSpan.{ZSpan}
 use Rattle.map_zipkin.specs.Faults.{HasNoZipkinFault, IsZipkinFaultOf}
@@ -35,7 +35,8 @@ pub record Regroupings : Type 0 where
 -- The groups of spans with the remarks on them are the groups of spans; and there is no remark on any of them exactly where no tag is left out.
 pub record GroupsNoted : Type 0 where
   pub groups : (spans : List ZSpan) → map (λ noted. noted.means) (noted_groups_of spans) ≡ groups_of spans
-  pub plainly : (spans : List ZSpan) → (noted_groups_of spans ≡ map plain_noted (groups_of spans)) ↔ All (λ span. zipkin_left_out span ≡ []) spans
+  pub plainly : (spans : List ZSpan)
+      → (noted_groups_of spans ≡ map plain_noted (groups_of spans)) ↔ All (λ span. zipkin_left_out span ≡ []) spans
 
 -- a group that Zipkin can hold
 pub record IsHeldByZipkin (group : Group) : Type 0 where
@@ -63,7 +64,8 @@ pub record ZipkinNormalForms : Type 0 where
 -- what is read of spans is its own normal form, and nothing in it is a fault
 pub record ReadIsZipkinNormal : Type 0 where
   pub no_fault : (spans : List ZSpan) → All IsTimelyZSpan spans → All IsProperZSpan spans → All HasNoZipkinFault (groups_of spans)
-  pub itself : (spans : List ZSpan) → All IsTimelyZSpan spans → All IsProperZSpan spans → zipkin_normal (groups_of spans) ≡ groups_of spans
+  pub itself : (spans : List ZSpan) → All IsTimelyZSpan spans → All IsProperZSpan spans
+      → zipkin_normal (groups_of spans) ≡ groups_of spans
 
 -- what is read of proper spans is sound and proper
 pub record ReadIsHeld : Type 0 where

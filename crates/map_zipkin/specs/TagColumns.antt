@@ -16,6 +16,7 @@ abbrev pub all_columns : List Column
 all_columns = columns.Error ∷ columns.DroppedAttributes ∷ columns.DroppedEvents ∷ columns.DroppedLinks ∷ columns.LibraryName
     ∷ columns.LibraryVersion ∷ columns.ScopeName ∷ columns.ScopeVersion ∷ columns.Code ∷ columns.State ∷ []
 
+-- what stands in each column: the value of its tag, if there is one
 abbrev pub TagColumns : Type 0
 TagColumns = ColumnsOf Column
 
@@ -38,6 +39,7 @@ is_idle_message error other = false
 
 -- ---- rows
 
+-- a row of this table, which is filled from a span under the name and version of its scope
 abbrev pub TagRow : Type 0
 TagRow = Row Column (Scoped Span)
 
@@ -45,13 +47,17 @@ TagRow = Row Column (Scoped Span)
 abbrev pub text_row : List ℕ → (Scoped Span → List ℕ) → TagRow
 text_row key text = record { key = key; given = λ one. text_given (text one); is_idle = λ value c. false }
 
+-- a row of a count: its decimal, no tag where it is 0; a tag says nothing unless it is the decimal of a count of 32 bits
 abbrev pub count_row : List ℕ → (Span → ℕ) → TagRow
-count_row key count = record { key = key; given = λ one. count_text (count one.span); is_idle = λ value c. is_idle value (count_in value) }
+count_row key count =
+    record { key = key; given = λ one. count_text (count one.span); is_idle = λ value c. is_idle value (count_in value) }
 
 -- of an older key, which is read where the newer is absent, and never written
 abbrev pub older_row : List ℕ → Column → TagRow
-older_row key newer = record { key = key; given = λ one. None; is_idle = λ value c. is_idle_library value (text_in value) (text_in (c newer)) }
+older_row key newer =
+    record { key = key; given = λ one. None; is_idle = λ value c. is_idle_library value (text_in value) (text_in (c newer)) }
 
+-- the table: the key of each column, the value that is written under it, and when the tag that is read says nothing
 abbrev pub row_of : Column → TagRow
 row_of columns.Error = record {
   key = codes "error";
@@ -74,6 +80,7 @@ row_of columns.State = text_row (codes "w3c.tracestate") (λ one. one.span.state
 
 -- ---- keys
 
+-- a key is that of one of the columns
 abbrev pub is_column : List ℕ → Bool
 is_column key = is_key row_of all_columns key
 
@@ -97,8 +104,10 @@ column_rows c = rows_by row_of all_columns c
 
 -- ---- what the texts under keys of Zipkin's own say
 
+-- the text that a value is, empty where there is none
 abbrev pub text_told : Option Value → List ℕ
 text_told value = unwrap_or (text_in value) []
 
+-- the number whose decimal a text is, 0 where there is none
 abbrev pub port_told : Option Value → ℕ
 port_told value = unwrap_or (option_and_then decimal_in (text_in value)) 0

@@ -15,7 +15,7 @@ use Rattle.trace_model.specs.declared.span.Event.{Event}
 use Rattle.trace_model.specs.declared.span.Kind.{Kind}
 use Rattle.trace_model.specs.declared.span.Kind.TheVariants as kinds
 use Rattle.trace_model.specs.declared.span.Span.{Span}
-use Rattle.trace_model.specs.declared.trace.Group.{Group}
+use Rattle.trace_model.specs.declared.group.Group.{Group}
 use Rattle.trace_model.specs.declared.value.Value.{Value, Text}
 use Rattle.zipkin_json.specs.declared.span.Endpoint.{Endpoint}
 use Rattle.zipkin_json.specs.declared.span.ZKind.{ZKind}
@@ -26,6 +26,7 @@ use Rattle.map_zipkin.specs.OwnColumns.{OwnColumns, is_own, own_in}
 use Rattle.map_zipkin.specs.TagColumns.{column_rows, zipkin_columns_of, text_told, port_told}
 use Rattle.map_zipkin.specs.declared.own.Own.TheVariants as owns
 
+-- the `kind` of a span (Zipkin v2), which an internal span doesn't have, nor one whose kind is unspecified
 abbrev pub zipkin_kind : Kind → ZKind
 zipkin_kind kinds.Unspecified = zkinds.Absent
 zipkin_kind kinds.Internal = zkinds.Absent
@@ -36,9 +37,11 @@ zipkin_kind kinds.Consumer = zkinds.Consumer
 
 -- ---- tags
 
+-- an attribute with the text of its value in place of the value
 abbrev pub as_text : List ℕ × Value → List ℕ × Value
 as_text pair = (pair.0, Text (value_text pair.1))
 
+-- the same of each, in order
 abbrev pub as_texts : Pairs → Pairs
 as_texts pairs = map as_text pairs
 
@@ -46,6 +49,7 @@ as_texts pairs = map as_text pairs
 abbrev pub prefixed : List ℕ × Value → List ℕ × Value
 prefixed pair = (resource_prefix ++ pair.0, pair.1)
 
+-- all of a resource but its service, as texts under the keys of their tags
 abbrev pub resource_pairs : Pairs → Pairs
 resource_pairs resource = map prefixed (as_texts (without service_key resource))
 
@@ -53,6 +57,7 @@ resource_pairs resource = map prefixed (as_texts (without service_key resource))
 abbrev pub is_told : List ℕ → Bool
 is_told key = not (is_own key || bytes_eq peer_key key)
 
+-- the attributes of a span that are told as tags, as texts under the keys that they have
 abbrev pub told_pairs : Pairs → Pairs
 told_pairs attributes = as_texts (filter (λ attribute. is_told attribute.0) attributes)
 
@@ -64,11 +69,13 @@ escaped_pairs attributes = escaped is_zipkin_reserved (told_pairs attributes)
 abbrev pub zipkin_tag_of : List ℕ × Value → List ℕ × List ℕ
 zipkin_tag_of pair = (pair.0, value_text pair.1)
 
+-- the `tags` of a span (Zipkin v2), by rising keys: its columns, those of its resource, and those of its attributes
 abbrev pub zipkin_tags_of : Pairs → Scoped Span → List (List ℕ × List ℕ)
 zipkin_tags_of resource one = map zipkin_tag_of (attrs (column_rows (zipkin_columns_of one) ++ (resource_pairs resource ++ escaped_pairs one.span.attributes)))
 
 -- ---- endpoints and annotations
 
+-- `localEndpoint` (Zipkin v2): the service of the resource, and the addresses and port that stand under Zipkin's own keys
 abbrev pub local_endpoint : Pairs → OwnColumns → Endpoint
 local_endpoint resource own = record {
   service = text_or_none (at service_key resource);
@@ -77,6 +84,7 @@ local_endpoint resource own = record {
   port = port_told (own owns.LocalPort);
 }
 
+-- `remoteEndpoint` (Zipkin v2): the service of `peer.service`, and the addresses and port that stand under Zipkin's own keys
 abbrev pub remote_endpoint : Pairs → OwnColumns → Endpoint
 remote_endpoint attributes own = record {
   service = text_or_none (at peer_key attributes);
@@ -85,11 +93,14 @@ remote_endpoint attributes own = record {
   port = port_told (own owns.RemotePort);
 }
 
+-- an annotation (Zipkin v2): the time of an event, in nanoseconds down to a whole microsecond, and its event text
 abbrev pub annotation_of : Event → ℕ × List ℕ
 annotation_of event = (floor event.time, event_text event.name event.attributes)
 
 -- ---- the span
 
+-- the span of Zipkin v2 by what stands under Zipkin's own keys, the resource, and the span under its scope; its times are in
+-- nanoseconds, down to whole microseconds
 abbrev pub zipkin_span_by : OwnColumns → Pairs → Scoped Span → ZSpan
 zipkin_span_by own resource one = record {
   trace = one.span.trace;
@@ -107,8 +118,10 @@ zipkin_span_by own resource one = record {
   tags = zipkin_tags_of resource one;
 }
 
+-- the same, with what the attributes of the span have under Zipkin's own keys
 abbrev pub zipkin_span : Pairs → Scoped Span → ZSpan
 zipkin_span resource one = zipkin_span_by (own_in one.span.attributes) resource one
 
+-- the spans of Zipkin that a group is written as: one for each of its spans, in order
 abbrev pub spans_of_group : Group → List ZSpan
 spans_of_group group = map (zipkin_span group.resource) (scoped group.scopes)

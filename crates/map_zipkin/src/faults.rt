@@ -75,7 +75,8 @@ fn is_out_of_form(pairs: &[(Text, Value)], own: Own) -> bool
 
 // The first of these keys of which the attribute isn't of its form.
 fn out_of_form(pairs: &[(Text, Value)], keys: &[Own]) -> Option<&'static str>
-    ensures { option_map (λ key. key.now) result ≡ least.out_of_form pairs.now (columns.forms_of keys.now) }
+    ensures { option_map (λ key. key.now) result
+        ≡ least.out_of_form pairs.now (columns.forms_of keys.now) }
 {
     'keys: for own in keys {
         if is_out_of_form(pairs, *own) {

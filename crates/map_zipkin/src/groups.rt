@@ -5,7 +5,7 @@ ghost use Rattle.std.specs.Str.{bytes_eq};
 ghost use Rattle.trace_model.specs.Remarks.{Keys};
 ghost use Rattle.trace_model.specs.Soundness.{IsSoundGroup};
 ghost use Rattle.trace_model.specs.declared.place.Place.TheVariants as places;
-ghost use Rattle.trace_model.specs.declared.trace.Group as model;
+ghost use Rattle.trace_model.specs.declared.group.Group as model;
 ghost use Rattle.trace_model.specs.declared.value.Value.TheVariants as values;
 ghost use Rattle.map_zipkin.specs.NotedGroups.{left_out_remarks, noted_group, noted_groups_of, with_left_out};
 ghost use Rattle.map_zipkin.specs.private.ReadGroups.{groups_joined, last_alone, moved_to, spans_of_last, with_groups, IsAdded, IsAlone};
@@ -178,10 +178,13 @@ impl Groups {
     // The groups with one more span.
     fn add(self, alloc: Global, one: NotedSpan) -> Result<Groups, OutOfMemory>
         requires counted { spans_of_last self.last + 1 < 2 ^ 32 }
-        ensures groups { IfOk result (λ more. (keys : Keys) (groups : List model.Group) (left_out : List Keys)
+        ensures groups { IfOk result
+            (λ more. (keys : Keys) (groups : List model.Group) (left_out : List Keys)
             → one.remarks ≡ left_out_remarks 1 keys
-            → with_groups more groups left_out ≡ with_groups self (told.before (one.run, one.span) groups) (keys ∷ left_out)) }
-        ensures count { IfOk result (λ more. spans_of_last more.last ≤ spans_of_last self.last + 1) }
+            → with_groups more groups left_out
+            ≡ with_groups self (told.before (one.run, one.span) groups) (keys ∷ left_out)) }
+        ensures count { IfOk result
+            (λ more. spans_of_last more.last ≤ spans_of_last self.last + 1) }
     {
         let Groups { done, last } = self;
         match last {
@@ -208,9 +211,11 @@ fn begin(
     done: Items<(Group, Items<Remark>)>,
     one: NotedSpan,
 ) -> Result<Groups, OutOfMemory>
-    ensures groups { IfOk result (λ more. (keys : Keys) (groups : List model.Group) (left_out : List Keys)
+    ensures groups { IfOk result
+        (λ more. (keys : Keys) (groups : List model.Group) (left_out : List Keys)
         → one.remarks ≡ left_out_remarks 1 keys → with_groups more groups left_out
-        ≡ map noted_group done ++ with_left_out (told.before (one.run, one.span) groups) (keys ∷ left_out)) }
+        ≡ map noted_group done
+        ++ with_left_out (told.before (one.run, one.span) groups) (keys ∷ left_out)) }
     ensures count { IfOk result (λ more. spans_of_last more.last ≡ 1) }
 {
     let first = Last::of(alloc, one)?;
@@ -228,9 +233,11 @@ fn behind(
     one: NotedSpan,
 ) -> Result<Groups, OutOfMemory>
     requires counted { last.spans + 1 < 2 ^ 32 }
-    ensures groups { IfOk result (λ more. (keys : Keys) (groups : List model.Group) (left_out : List Keys)
+    ensures groups { IfOk result
+        (λ more. (keys : Keys) (groups : List model.Group) (left_out : List Keys)
         → one.remarks ≡ left_out_remarks 1 keys → with_groups more groups left_out
-        ≡ map noted_group done ++ groups_joined last (told.before (one.run, one.span) groups) (keys ∷ left_out)) }
+        ≡ map noted_group done
+        ++ groups_joined last (told.before (one.run, one.span) groups) (keys ∷ left_out)) }
     ensures count { IfOk result (λ more. spans_of_last more.last ≤ last.spans + 1) }
 {
     let mut done = done;

@@ -1,3 +1,4 @@
+//! A run of spans that stand in one scope.
 use span_io::Text;
 use trace_model::Attrs;
 

@@ -89,7 +89,8 @@ fn span_of(
     requires rising { Rise (keys shared.now) }
     requires shared { holds_double shared.now ≡ false }
     ensures { (name version : List ℕ) → shared.now ≡ shared_rows resource.now name version
-        → IfOk result (λ written. written ≡ told.zipkin_span resource.now (under name version span)) }
+        → IfOk result
+        (λ written. written ≡ told.zipkin_span resource.now (under name version span)) }
 {
     let part = own_part(&span.attributes);
     let (local, remote) = endpoints_of(alloc, resource, &span.attributes, part)?;
@@ -128,7 +129,9 @@ fn push_spans(
     requires rising { Rise (keys shared.now) }
     requires shared { holds_double shared.now ≡ false }
     ensures { (name version : List ℕ) → shared.now ≡ shared_rows resource.now name version
-        → OnOk result (spans.new ≡ spans.old ++ map (told.zipkin_span resource.now) (map (under name version) own)) }
+        → OnOk result
+        (spans.new
+        ≡ spans.old ++ map (told.zipkin_span resource.now) (map (under name version) own)) }
 {
     'spans: for span in own.into_vec() {
         spans.push(span_of(alloc, resource, shared, span)?)?;
@@ -145,7 +148,8 @@ fn push_scope(
 ) -> Result<(), OutOfMemory>
     requires resource { holds_double resource.now ≡ false }
     requires scope { scope_unfit scope ≡ false }
-    ensures { OnOk result (spans.new ≡ spans.old ++ map (told.zipkin_span resource.now) (scoped_spans scope)) }
+    ensures { OnOk result
+        (spans.new ≡ spans.old ++ map (told.zipkin_span resource.now) (scoped_spans scope)) }
 {
     if scope.spans.len() == 0 {
         return Ok(());

@@ -14,7 +14,7 @@ use Rattle.trace_model.specs.declared.noted.Noted.{Noted}
 use Rattle.trace_model.specs.OtlpParts.{keys_inside, AreNotedAttributes}
 use Rattle.json_members.specs.Members.{AreHeld}
 use Rattle.otlp_json.specs.Attributes.{AreJsonPairs, AreJsonAttributes, pairs_offend}
-use Rattle.otlp_json.specs.Found.{AreGiven, PairsTold}
+use Rattle.otlp_json.specs.private.Found.{AreGiven, PairsTold}
 use Rattle.otlp_json.specs.Values.{held_offends, json_key_value_in, inner_pair_offends}
 use Rattle.trace_model.specs.Values.{most_levels}
 

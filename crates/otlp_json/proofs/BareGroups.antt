@@ -1,6 +1,6 @@
 -- The text of a group in which nothing stands.
 use Rattle.std.proofs.Common.{◌≡◌, [], codes, refl}
-use Rattle.trace_model.specs.declared.trace.Group.{Group}
+use Rattle.trace_model.specs.declared.group.Group.{Group}
 use Rattle.otlp_json.specs.Canonical.{json_group_text}
 
 pub bare_text : (group : Group) → group.resource ≡ [] → group.dropped ≡ 0 → group.schema_url ≡ [] → group.scopes ≡ []

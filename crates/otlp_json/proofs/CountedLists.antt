@@ -5,13 +5,13 @@ use Rattle.serde_json.specs.Data.{Data, array}
 use Rattle.serde_json.specs.View.{items_of}
 use Rattle.trace_model.specs.declared.noted.Noted.{Noted}
 use Rattle.trace_model.specs.Notes.{SpanNotes, ScopeNotes}
-use Rattle.trace_model.specs.laws.ToldLaws.{spans_all_noted}
+use Rattle.trace_model.proofs.ToldLaws.{spans_all_noted}
 use Rattle.trace_model.specs.declared.remark.Remark.{Remark}
 use Rattle.trace_model.specs.declared.span.Span.{Span}
-use Rattle.trace_model.specs.declared.trace.Scope.{Scope}
+use Rattle.trace_model.specs.declared.group.Scope.{Scope}
 use Rattle.json_members.specs.Counted.{values_in, values_in_items, IsCountedValue}
-use Rattle.json_members.specs.laws.CountedLaws.{one_value, given_within, in_both, next_within}
-use Rattle.otlp_json.specs.Found.{IsScopeFound}
+use Rattle.json_members.proofs.CountedLaws.{one_value, given_within, in_both, next_within}
+use Rattle.otlp_json.specs.private.Found.{IsScopeFound}
 use Rattle.otlp_json.specs.Group.{IsJsonScope}
 use Rattle.otlp_json.specs.Span.{IsJsonSpan}
 

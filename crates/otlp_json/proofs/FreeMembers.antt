@@ -6,8 +6,8 @@ use Rattle.trace_model.specs.declared.span.Code.TheVariants as statuses
 use Rattle.trace_model.specs.declared.span.Kind.TheVariants as kinds
 use Rattle.trace_model.specs.OtlpParts.{no_status, no_instrumentation_scope, no_resource}
 use Rattle.json_members.specs.Agreement.{objects_agree, arrays_agree}
-use Rattle.json_members.specs.laws.AgreementLaws.{AgreesBothWays, same_turns, objects_turn, arrays_turn, MeanAlike, given_same, OffencesAlike, no_parts_alike, parts_alike, same_alike, object_offends_alike, by_parts_alike, object_alike, list_alike, object_offence_alike, list_offence_alike}
-use Rattle.json_members.specs.laws.DecisionLaws.{◌&◌}
+use Rattle.json_members.proofs.AgreementLaws.{AgreesBothWays, same_turns, objects_turn, arrays_turn, MeanAlike, given_same, OffencesAlike, no_parts_alike, parts_alike, same_alike, object_offends_alike, by_parts_alike, object_alike, list_alike, object_offence_alike, list_offence_alike}
+use Rattle.json_members.proofs.DecisionLaws.{◌&◌}
 use Rattle.json_members.specs.Members.{IsText, text_offends, Spelled}
 use Rattle.otlp_json.specs.Group.{IsJsonInstrumentationScope, instrumentation_scope_members, instrumentation_scope_offends, IsJsonScope, scope_members, scope_offends, IsJsonResource, resource_members, resource_offends, IsJsonGroup, group_members, group_offends, IsRemarkedGroup, AreJsonGroups, json_groups_offend}
 use Rattle.otlp_json.specs.Identifiers.{SpellsJsonTrace, SpellsJsonSpan, SpellsTraceOrNone, SpellsSpanOrNone, json_trace_offends, json_span_offends, trace_or_none_offends, span_or_none_offends, identified}

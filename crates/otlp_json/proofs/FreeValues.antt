@@ -10,7 +10,7 @@ use Rattle.trace_model.specs.declared.value.Value.TheVariants as values
 use Rattle.trace_model.specs.declared.noted.KeyValue.{KeyValue}
 use Rattle.trace_model.specs.OtlpParts.{NotedValue, leaf, levels_below}
 use Rattle.json_members.specs.Agreement.{Agreement, same, both_or_neither, objects_agree, arrays_agree}
-use Rattle.json_members.specs.laws.AgreementLaws.{AgreesBothWays, same_turns, objects_turn, arrays_turn, MeanAlike, given_alike, given_same, array_alike, OffendAlike, OffencesAlike, nothing_alike, two_alike, no_parts_alike, parts_alike, same_alike, optional_alike, each_alike, valued_alike, array_offends_alike, object_offends_alike, by_parts_alike}
+use Rattle.json_members.proofs.AgreementLaws.{AgreesBothWays, same_turns, objects_turn, arrays_turn, MeanAlike, given_alike, given_same, array_alike, OffendAlike, OffencesAlike, nothing_alike, two_alike, no_parts_alike, parts_alike, same_alike, optional_alike, each_alike, valued_alike, array_offends_alike, object_offends_alike, by_parts_alike}
 use Rattle.json_members.specs.Members.{elements, IsText, text_offends, AreHeld}
 use Rattle.otlp_json.specs.Attributes.{AreJsonAttributes, AreJsonPairs, pairs_offend}
 use Rattle.otlp_json.specs.Known.{many_known, value_known, key_value_known, inner_values_agree, inner_pairs_agree, values_agree, attributes_agree}

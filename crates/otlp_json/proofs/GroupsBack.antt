@@ -18,12 +18,12 @@ use Rattle.trace_model.specs.declared.span.Kind.TheVariants as kinds
 use Rattle.trace_model.specs.declared.span.Link.{Link}
 use Rattle.trace_model.specs.declared.span.Span.{Span}
 use Rattle.trace_model.specs.declared.span.Status.{Status}
-use Rattle.trace_model.specs.declared.trace.Group.{Group}
-use Rattle.trace_model.specs.declared.trace.Scope.{Scope}
-use Rattle.trace_model.specs.laws.RemarkLaws.{all_back}
+use Rattle.trace_model.specs.declared.group.Group.{Group}
+use Rattle.trace_model.specs.declared.group.Scope.{Scope}
+use Rattle.trace_model.proofs.RemarkLaws.{all_back}
 use Rattle.json_members.specs.Canonical.{members_given, unless_empty}
-use Rattle.json_members.specs.laws.ReadBackLaws.{GivesBack, GivenGivesBack, gives_deeper, reads_back, array_back, object_back, rows_back, unless_empty_back}
-use Rattle.json_members.specs.laws.TextLaws.{text_back, number_back, trace_back, id_back, parent_back, items_joined}
+use Rattle.json_members.proofs.ReadBackLaws.{GivesBack, GivenGivesBack, gives_deeper, reads_back, array_back, object_back, rows_back, unless_empty_back}
+use Rattle.json_members.proofs.TextLaws.{text_back, number_back, trace_back, id_back, parent_back, items_joined}
 use Rattle.otlp_json.specs.Canonical.{status_rows, event_rows, event_data, link_rows, link_data, otlp_span_rows, otlp_span_data, instrumentation_scope_rows, scope_rows, scope_data, resource_rows, group_rows, group_data, json_group_text, groups_data, json_groups_text}
 use Rattle.otlp_json.specs.Doubles.{double_in_event, double_in_link, double_in_span, double_in_scope}
 use Rattle.otlp_json.specs.Group.{RemarkedGroup, AreJsonGroups}

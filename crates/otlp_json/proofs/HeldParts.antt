@@ -21,12 +21,12 @@ use Rattle.trace_model.specs.declared.span.Event.{Event}
 use Rattle.trace_model.specs.declared.span.Link.{Link}
 use Rattle.trace_model.specs.declared.span.Span.{Span}
 use Rattle.trace_model.specs.declared.span.Status.{Status}
-use Rattle.trace_model.specs.declared.trace.Scope.{Scope}
-use Rattle.trace_model.specs.laws.PartLaws.{ProperTrace}
+use Rattle.trace_model.specs.declared.group.Scope.{Scope}
+use Rattle.trace_model.proofs.PartLaws.{ProperTrace}
 use Rattle.json_members.specs.Members.{member, Spelled}
-use Rattle.json_members.specs.laws.SoundLaws.{member_sound, given_text, Sound as InUtf8, read_sound}
-use Rattle.json_members.specs.laws.TextLaws.{number_below}
-use Rattle.json_members.specs.laws.Utf8Laws.{HoldsOf}
+use Rattle.json_members.proofs.SoundLaws.{member_sound, given_text, Sound as InUtf8, read_sound}
+use Rattle.json_members.proofs.TextLaws.{number_below}
+use Rattle.json_members.proofs.Utf8Laws.{HoldsOf}
 use Rattle.otlp_json.specs.Doubles.{double_in_event, double_in_link, double_in_span, double_in_scope}
 use Rattle.otlp_json.specs.Group.{IsJsonInstrumentationScope, IsJsonScope, IsJsonResource, IsJsonGroup, RemarkedGroup, IsRemarkedGroup}
 use Rattle.otlp_json.specs.Held.{IsHeldByJson}

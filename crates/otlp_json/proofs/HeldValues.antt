@@ -20,11 +20,11 @@ use Rattle.trace_model.specs.Values.{depth, MapsRise, IsSound, AreSound, most_le
 use Rattle.trace_model.specs.ValueTexts.{has_double}
 use Rattle.trace_model.specs.declared.value.Value.{Value}
 use Rattle.trace_model.specs.declared.value.Value.TheVariants as values
-use Rattle.trace_model.specs.laws.PartLaws.{each_in_range}
-use Rattle.trace_model.specs.laws.PartLaws.{Sound, kept_all}
+use Rattle.trace_model.proofs.PartLaws.{each_in_range}
+use Rattle.trace_model.proofs.PartLaws.{Sound, kept_all}
 use Rattle.json_members.specs.Members.{member, elements, AreHeld}
-use Rattle.json_members.specs.laws.SoundLaws.{member_sound, text_sound, given_text, array_sound, Sound as InUtf8, ItemsSound as AllInUtf8}
-use Rattle.json_members.specs.laws.Utf8Laws.{HoldsOf}
+use Rattle.json_members.proofs.SoundLaws.{member_sound, text_sound, given_text, array_sound, Sound as InUtf8, ItemsSound as AllInUtf8}
+use Rattle.json_members.proofs.Utf8Laws.{HoldsOf}
 use Rattle.otlp_json.specs.Attributes.{AreJsonAttributes}
 use Rattle.otlp_json.specs.Numbers.{integer_in, unsigned_below, signed_fitting, unsigned_in, signed_in, IsJsonUnsigned, IsJsonSigned}
 use Rattle.otlp_json.specs.Values.{JsonMember, string_member, bool_member, int_member, double_member, array_member, kvlist_member, bytes_member, standing, standing_members, IsJsonList, IsJsonMap, MeansJsonMember, MeansStanding, IsJsonValue, IsJsonKeyValue, json_value_in, json_key_value_in, json_key_value_at}

@@ -7,10 +7,10 @@ use Rattle.serde_json.specs.View.{items_of}
 use Rattle.span_io.specs.declared.cause.Cause.{Cause}
 use Rattle.span_io.specs.declared.halt.Halt.{Halt}
 use Rattle.span_io.specs.Paths.{Offences, each, NothingOffends, Halts}
-use Rattle.span_io.specs.laws.PathLaws.{clean_nothing, clean_one_more, halts_at}
+use Rattle.span_io.proofs.PathLaws.{clean_nothing, clean_one_more, halts_at}
 use Rattle.json_members.specs.Counted.{values_in, values_in_items}
-use Rattle.json_members.specs.laws.ElementLaws.{items_listed, each_more}
-use Rattle.otlp_json.specs.Found.{AreFound, AreGiven, FindsMore}
+use Rattle.json_members.proofs.ElementLaws.{items_listed, each_more}
+use Rattle.otlp_json.specs.private.Found.{AreFound, AreGiven, FindsMore}
 use Rattle.otlp_json.proofs.CountedLists.{number_fits, number_on}
 use Rattle.otlp_json.proofs.Walks.{Passed, none_passed, all_passed, stands, passed_on}
 

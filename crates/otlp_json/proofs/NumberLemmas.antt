@@ -12,11 +12,11 @@ use Rattle.std.specs.Result.{result_ok}
 use Rattle.std.proofs.lemmas.Str.Parse.{IsNumeralModel, numerals_by_value, tells_all_ascii_digits, parse_signed_minus, parse_signed_plain}
 use Rattle.serde_json.specs.Data.{Num, Data, unsigned, negative, float}
 use Rattle.serde_json.specs.Find.{as_number, as_u64, as_i64}
-use Rattle.json_members.specs.laws.ChoiceLaws.{either_side}
+use Rattle.json_members.proofs.ChoiceLaws.{either_side}
 use Rattle.span_io.specs.declared.cause.Cause.TheVariants as causes
 use Rattle.span_io.specs.Causes.{cause_number}
 use Rattle.span_io.specs.Paths.{valued, NothingOffends, Counts}
-use Rattle.span_io.specs.laws.PathLaws.{clean_here, counts_here, counts_only}
+use Rattle.span_io.proofs.PathLaws.{clean_here, counts_here, counts_only}
 use Rattle.otlp_json.specs.Numbers.{numeral, integer_in_text, integer_in, unsigned_below, signed_fitting, unsigned_in, signed_in, enum_number_offends, enum_offends}
 
 -- ---- digits

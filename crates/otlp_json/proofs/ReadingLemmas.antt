@@ -11,7 +11,7 @@ use Rattle.span_io.specs.Paths.{JudgesInput}
 use Rattle.span_io.specs.declared.halt.Halt.{Halt}
 use Rattle.span_io.specs.declared.halt.Halt.TheVariants as halts
 use Rattle.span_io.specs.declared.refusal.Refusal.{Refusal}
-use Rattle.json_members.specs.laws.ReadingLaws.{same_value, no_value}
+use Rattle.json_members.proofs.ReadingLaws.{same_value, no_value}
 use Rattle.json_members.specs.Texts.{IsJsonText, IsUnread}
 use Rattle.otlp_json.specs.Group.{RemarkedGroup, AreJsonGroups, json_groups_offend}
 use Rattle.otlp_json.specs.Held.{IsHeldByJson}

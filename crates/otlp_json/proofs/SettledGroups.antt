@@ -1,11 +1,11 @@
 -- A JSON value means one list of groups, or one offence in it counts.
 use Rattle.std.proofs.Common.{map, codes, refl}
 use Rattle.serde_json.specs.Data.{Data}
-use Rattle.span_io.specs.laws.PathDecisions.{IsSettled, decided_as, decided_optional}
+use Rattle.span_io.proofs.PathDecisions.{IsSettled, decided_as, decided_optional}
 use Rattle.trace_model.specs.StatedLaws.{AttributesOnce, AttributesExist}
 use Rattle.trace_model.specs.GroupRemarks.{group_remarks}
 use Rattle.trace_model.specs.OtlpParts.{no_resource, no_instrumentation_scope}
-use Rattle.json_members.specs.laws.DecisionLaws.{◌&◌, next, last, object_settled, text_settled, array_settled}
+use Rattle.json_members.proofs.DecisionLaws.{◌&◌, next, last, object_settled, text_settled, array_settled}
 use Rattle.json_members.specs.Members.{member}
 use Rattle.otlp_json.specs.Group.{IsJsonInstrumentationScope, instrumentation_scope_members, instrumentation_scope_offends, IsJsonScope, scope_members, scope_offends, IsJsonResource, resource_members, resource_offends, IsJsonGroup, group_members, group_offends, IsRemarkedGroup, AreJsonGroups, json_groups_offend}
 use Rattle.otlp_json.specs.Span.{IsJsonSpan, otlp_span_offends}

@@ -3,18 +3,18 @@ use Rattle.std.proofs.Common.{◌≡◌, ℕ, ◌^◌, ◌<◌, ◌≤◌, ◌�
 use Rattle.serde_json.specs.Data.{Num, Data, unsigned, negative, float}
 use Rattle.serde_json.specs.Find.{as_number, as_u64}
 use Rattle.span_io.specs.declared.cause.Cause.TheVariants as causes
-use Rattle.span_io.specs.laws.RowLaws.{EnumLaws}
+use Rattle.span_io.proofs.RowLaws.{EnumLaws}
 use Rattle.span_io.specs.Paths.{here, optional, valued, Given, Never}
-use Rattle.span_io.specs.laws.PathLaws.{clean_here, counts_here, counts_only}
-use Rattle.span_io.specs.laws.PathDecisions.{IsSettled, one, none, decided_optional, decided_plain}
+use Rattle.span_io.proofs.PathLaws.{clean_here, counts_here, counts_only}
+use Rattle.span_io.proofs.PathDecisions.{IsSettled, one, none, decided_optional, decided_plain}
 use Rattle.trace_model.specs.declared.noted.Noted.{Noted}
 use Rattle.trace_model.specs.OtlpParts.{kind_number, code_number}
-use Rattle.trace_model.specs.laws.OtlpEnums.{code_laws, code_numbered, kind_laws, kind_numbered}
+use Rattle.trace_model.proofs.OtlpEnums.{code_laws, code_numbered, kind_laws, kind_numbered}
 use Rattle.trace_model.specs.declared.span.Code.TheVariants as statuses
 use Rattle.trace_model.specs.declared.span.Kind.TheVariants as kinds
 use Rattle.json_members.specs.Members.{member, Spelled, unspelled}
-use Rattle.json_members.specs.laws.ChoiceLaws.{either_side, SpellsOne}
-use Rattle.json_members.specs.laws.DecisionLaws.{spelled_decided}
+use Rattle.json_members.proofs.ChoiceLaws.{either_side, SpellsOne}
+use Rattle.json_members.proofs.DecisionLaws.{spelled_decided}
 use Rattle.otlp_json.specs.Identifiers.{SpellsJsonTrace, SpellsJsonSpan, SpellsTraceOrNone, SpellsSpanOrNone, json_trace_offends, json_span_offends, trace_or_none_offends, span_or_none_offends, identified}
 use Rattle.otlp_json.specs.Numbers.{IsJsonCount, json_count_offends, IsJsonTime, json_time_offends, unsigned_in, enum_number_offends, enum_offends, IsJsonKind, IsJsonCode}
 use Rattle.otlp_json.proofs.SpelledOnce.{trace_spelled, span_spelled, trace_or_none_spelled, span_or_none_spelled}

@@ -2,7 +2,7 @@
 use Rattle.std.proofs.Common.{◌≡◌, List, map, Bool, is_none, codes, refl, sym}
 use Rattle.std.specs.List.{list_any}
 use Rattle.serde_json.specs.Data.{Data}
-use Rattle.span_io.specs.laws.PathDecisions.{IsSettled, decided_optional}
+use Rattle.span_io.proofs.PathDecisions.{IsSettled, decided_optional}
 use Rattle.trace_model.specs.StatedLaws.{AttributesOnce, AttributesExist}
 use Rattle.trace_model.specs.declared.noted.Noted.{Noted}
 use Rattle.trace_model.specs.Notes.{SpanNotes}
@@ -11,7 +11,7 @@ use Rattle.trace_model.specs.declared.span.Event.{Event}
 use Rattle.trace_model.specs.declared.span.Link.{Link}
 use Rattle.trace_model.specs.declared.span.Span.{Span}
 use Rattle.trace_model.specs.OtlpParts.{link_of, kept_links, no_status}
-use Rattle.json_members.specs.laws.DecisionLaws.{◌&◌, next, last, object_settled, text_settled, array_settled}
+use Rattle.json_members.proofs.DecisionLaws.{◌&◌, next, last, object_settled, text_settled, array_settled}
 use Rattle.json_members.specs.Members.{member}
 use Rattle.otlp_json.specs.Span.{IsJsonStatus, status_members, status_offends, IsJsonEvent, event_members, event_offends, IsJsonLink, link_members, link_offends, IsJsonSpan, json_span_members, otlp_span_offends}
 use Rattle.otlp_json.proofs.SettledMembers.{count_settled, time_settled, kind_settled, code_settled, trace_settled, span_id_settled, trace_or_none_settled, span_or_none_settled}

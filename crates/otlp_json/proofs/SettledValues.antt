@@ -6,8 +6,8 @@ use Rattle.serde_json.specs.Data.{Data}
 use Rattle.serde_json.specs.Find.{as_array, as_object}
 use Rattle.span_io.specs.declared.cause.Cause.TheVariants as causes
 use Rattle.span_io.specs.Paths.{Offences, nothing, optional, Given, Quiet}
-use Rattle.span_io.specs.laws.PathLaws.{clean_nothing, counts_only, quiet_nothing, quiet_parts}
-use Rattle.span_io.specs.laws.PathDecisions.{IsSettled, one, none, decided_as, also, no_more, decided_optional, decided_each, decided_valued, decided_plain, pair}
+use Rattle.span_io.proofs.PathLaws.{clean_nothing, counts_only, quiet_nothing, quiet_parts}
+use Rattle.span_io.proofs.PathDecisions.{IsSettled, one, none, decided_as, also, no_more, decided_optional, decided_each, decided_valued, decided_plain, pair}
 use Rattle.trace_model.specs.Attributes.{AreAttributes, AreRepeated, AreKeysInOrder, StandsTwice}
 use Rattle.trace_model.specs.StatedLaws.{AttributesOnce, AttributesExist}
 use Rattle.trace_model.specs.Remarks.{Keys}
@@ -16,7 +16,7 @@ use Rattle.trace_model.specs.declared.value.Value.TheVariants as values
 use Rattle.trace_model.specs.declared.noted.KeyValue.{KeyValue}
 use Rattle.trace_model.specs.OtlpParts.{NotedValue, leaf, entry, keys_inside, levels_below}
 use Rattle.json_members.specs.Members.{member, elements, AreHeld}
-use Rattle.json_members.specs.laws.DecisionLaws.{text_decided, truth_decided, spelled_decided, next, last, object_settled, text_settled, array_settled}
+use Rattle.json_members.proofs.DecisionLaws.{text_decided, truth_decided, spelled_decided, next, last, object_settled, text_settled, array_settled}
 use Rattle.json_members.specs.Parts.{joined}
 use Rattle.otlp_json.specs.Attributes.{AreJsonAttributes, AreJsonPairs, pairs_offend}
 use Rattle.otlp_json.specs.Numbers.{signed_in, SpellsBytes}

@@ -15,18 +15,18 @@ use Rattle.trace_model.specs.declared.noted.LinkParts.{LinkParts}
 use Rattle.trace_model.specs.declared.noted.InstrumentationScope.{InstrumentationScope}
 use Rattle.trace_model.specs.declared.noted.Resource.{Resource}
 use Rattle.trace_model.specs.OtlpParts.{levels_below, NotedValue, leaf, entry, link_of, kept_links, no_instrumentation_scope, no_resource, NotedGroup}
-use Rattle.trace_model.specs.laws.PartLaws.{Sound, kept_all, each_in_range}
+use Rattle.trace_model.proofs.PartLaws.{Sound, kept_all, each_in_range}
 use Rattle.trace_model.specs.Remarks.{Keys}
 use Rattle.trace_model.specs.Soundness.{IsSoundEvent, IsSoundLink, IsSoundSpan, IsSoundScope, IsSoundGroup}
 use Rattle.trace_model.specs.Values.{depth, MapsRise, IsSound, AreSound, most_levels}
 use Rattle.trace_model.specs.declared.span.Event.{Event}
 use Rattle.trace_model.specs.declared.span.Link.{Link}
 use Rattle.trace_model.specs.declared.span.Span.{Span}
-use Rattle.trace_model.specs.declared.trace.Scope.{Scope}
+use Rattle.trace_model.specs.declared.group.Scope.{Scope}
 use Rattle.trace_model.specs.declared.value.Value.{Value}
 use Rattle.trace_model.specs.declared.value.Value.TheVariants as values
 use Rattle.json_members.specs.Members.{member, elements, AreHeld}
-use Rattle.json_members.specs.laws.Utf8Laws.{HoldsOf}
+use Rattle.json_members.proofs.Utf8Laws.{HoldsOf}
 use Rattle.otlp_json.specs.Attributes.{AreJsonAttributes}
 use Rattle.otlp_json.specs.Group.{IsJsonInstrumentationScope, IsJsonScope, IsJsonResource, IsJsonGroup, RemarkedGroup, IsRemarkedGroup, AreJsonGroups}
 use Rattle.otlp_json.specs.Span.{IsJsonEvent, IsJsonLink, IsJsonSpan}

@@ -9,7 +9,7 @@ use Rattle.base64.specs.GeneralPurpose.{encode_of, decode_of}
 use Rattle.base64.proofs.EngineFacts.{decode_of-encode_of}
 use Rattle.span_ids.specs.HexTexts.{SpellsInHex}
 use Rattle.span_ids.specs.declared.hex_text.IdRule.TheVariants.{Exact}
-use Rattle.json_members.specs.laws.ChoiceLaws.{Choice, at_most_chosen, both, either, all_of, hex_digit, same_text_chosen, SpellsOne, zeros_value}
+use Rattle.json_members.proofs.ChoiceLaws.{Choice, at_most_chosen, both, either, all_of, hex_digit, same_text_chosen, SpellsOne, zeros_value}
 use Rattle.trace_model.specs.OtlpParts.{IsNoIdentifier}
 use Rattle.otlp_json.specs.Identifiers.{SpellsJsonTrace, SpellsJsonSpan, SpellsTraceOrNone, SpellsSpanOrNone}
 use Rattle.otlp_json.specs.Numbers.{SpellsBytes}

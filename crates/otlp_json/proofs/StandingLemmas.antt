@@ -1,6 +1,6 @@
 -- The members that stand in a value, one behind the other.
 use Rattle.std.proofs.Common.{◌≡◌, List, [], ◌∷◌, ◌++◌, Result, Ok, Err, OnErr, sym, ap, ◌∙◌}
-use Rattle.otlp_json.specs.Found.{AreSeveral}
+use Rattle.otlp_json.specs.private.Found.{AreSeveral}
 use Rattle.otlp_json.specs.Values.{JsonMember}
 
 pub several_more : (xs ys : List JsonMember) → AreSeveral xs → AreSeveral (xs ++ ys)

@@ -7,7 +7,7 @@ use Rattle.serde_json.specs.View.{items_of}
 use Rattle.trace_model.specs.declared.value.Value.{Value, Text, Truth, Number, Eight, Bytes, List as Several, Map as Named, Nothing, List', Map', Row_of-Value, end_of-Value, more_of-Value, Row_of-Value-Map-0-2, end_of-Value-Map-0-2, more_of-Value-Map-0-2, items-the_row-Value, items-the_row-Value-Map-0-2, items_hidden-the_row-Value-0, items_hidden-the_row-Value-Map-0-2-1}
 use Rattle.json_members.specs.Canonical.{text_data}
 use Rattle.json_members.specs.Writing.{data_tokens, given_tokens}
-use Rattle.json_members.specs.laws.WritingLaws.{member_rows_written}
+use Rattle.json_members.proofs.WritingLaws.{member_rows_written}
 use Rattle.otlp_json.specs.Canonical.{one_member, of_values, any_value_data, each_data, pairs_data, key_value_data, unless_bare, list_data, attributes_data}
 use Rattle.otlp_json.specs.private.Writing.{value_tokens, key_value_tokens}
 

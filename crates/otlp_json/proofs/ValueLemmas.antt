@@ -8,12 +8,12 @@ use Rattle.serde_json.specs.View.{items_of}
 use Rattle.span_io.specs.declared.cause.Cause.{Cause}
 use Rattle.span_io.specs.declared.halt.Halt.{Halt}
 use Rattle.span_io.specs.Paths.{Offences, nothing, here, each, valued, NothingOffends, Counts, Halts, JudgesValue}
-use Rattle.span_io.specs.laws.PathLaws.{clean_nothing, clean_parts, clean_one_more, quiet_nothing, halts_first, halts_later, halts_at, counts_here, counts_only}
+use Rattle.span_io.proofs.PathLaws.{clean_nothing, clean_parts, clean_one_more, quiet_nothing, halts_first, halts_later, halts_at, counts_here, counts_only}
 use Rattle.trace_model.specs.declared.noted.KeyValue.{KeyValue}
 use Rattle.trace_model.specs.OtlpParts.{NotedValue}
 use Rattle.json_members.specs.Members.{elements}
-use Rattle.json_members.specs.laws.ElementLaws.{items_listed}
-use Rattle.otlp_json.specs.Found.{AreFound}
+use Rattle.json_members.proofs.ElementLaws.{items_listed}
+use Rattle.otlp_json.specs.private.Found.{AreFound}
 use Rattle.otlp_json.specs.Numbers.{SpellsBytes, base64_offends}
 use Rattle.otlp_json.specs.Values.{behind, values_offend, held_offends, json_value_in, json_key_value_in, json_value_at, json_key_value_at, inner_value_offends, inner_pair_offends, json_value_offends, json_key_value_offends}
 use Rattle.otlp_json.proofs.ListLemmas.{finds_more}

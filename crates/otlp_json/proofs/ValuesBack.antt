@@ -15,9 +15,9 @@ use Rattle.trace_model.specs.Proper.{AreProper}
 use Rattle.trace_model.specs.Values.{AreSound, most_levels}
 use Rattle.trace_model.specs.declared.value.Value.{Value}
 use Rattle.trace_model.specs.declared.value.Value.TheVariants as values
-use Rattle.trace_model.specs.laws.PartLaws.{by_variant}
-use Rattle.json_members.specs.laws.ReadBackLaws.{GivesBack, ItemsGiveBack, GivenGivesBack, gives_deeper, string_back, truth_back, no_items_back, item_back, array_back, no_members_back, member_back, object_back, rows_back}
-use Rattle.json_members.specs.laws.TextLaws.{text_back}
+use Rattle.trace_model.proofs.PartLaws.{by_variant}
+use Rattle.json_members.proofs.ReadBackLaws.{GivesBack, ItemsGiveBack, GivenGivesBack, gives_deeper, string_back, truth_back, no_items_back, item_back, array_back, no_members_back, member_back, object_back, rows_back}
+use Rattle.json_members.proofs.TextLaws.{text_back}
 use Rattle.otlp_json.specs.Canonical.{one_member, of_values, unless_bare, any_value_data, decimal_data, list_data, attributes_data}
 use Rattle.otlp_json.proofs.WrittenLaws.{Laws}
 use Rattle.otlp_json.proofs.WrittenValues.{pair_data, pair_rows, list_value, map_value, IsHeld, not_held, as_next, held_members, held_pairs, held_attributes}

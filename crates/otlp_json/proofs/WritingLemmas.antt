@@ -11,10 +11,11 @@ use Rattle.serde_json.specs.Written.{items_outline}
 use Rattle.serde_json.proofs.Texts.{print-outline}
 use Rattle.trace_model.specs.declared.value.Value.{Value}
 use Rattle.trace_model.specs.declared.span.Span.{Span}
-use Rattle.trace_model.specs.declared.trace.Group.{Group}
+use Rattle.trace_model.specs.declared.group.Group.{Group}
 use Rattle.json_members.specs.Canonical.{MemberRow, members_given, unless_empty, text_data, count_data}
-use Rattle.json_members.specs.Writing.{Appends, GrewFront, data_tokens, given_tokens, rows_tokens, pieces}
-use Rattle.json_members.specs.laws.WritingLaws.{nothing_written, seq, member_rows_written}
+use Rattle.json_members.specs.Writing.{Appends, GrewFront, data_tokens, given_tokens}
+use Rattle.json_members.specs.private.Pieces.{rows_tokens, pieces}
+use Rattle.json_members.proofs.WritingLaws.{nothing_written, seq, member_rows_written}
 use Rattle.otlp_json.specs.Canonical.{decimal_data, list_data, attributes_data, otlp_span_rows, group_rows, group_data, json_group_text}
 use Rattle.otlp_json.specs.private.Writing.{part_tokens}
 

@@ -14,12 +14,12 @@ use Rattle.trace_model.specs.OtlpParts.{no_resource, no_instrumentation_scope}
 use Rattle.trace_model.specs.Proper.{IsProperScope}
 use Rattle.trace_model.specs.Soundness.{IsSoundScope}
 use Rattle.trace_model.specs.declared.span.Span.{Span}
-use Rattle.trace_model.specs.declared.trace.Group.{Group}
-use Rattle.trace_model.specs.declared.trace.Scope.{Scope}
-use Rattle.trace_model.specs.laws.RemarkLaws.{quiet, quiet_span, quiet_scope, quiet_scopes, mapped, all_back}
+use Rattle.trace_model.specs.declared.group.Group.{Group}
+use Rattle.trace_model.specs.declared.group.Scope.{Scope}
+use Rattle.trace_model.proofs.RemarkLaws.{quiet, quiet_span, quiet_scope, quiet_scopes, mapped, all_back}
 use Rattle.json_members.specs.Canonical.{members_given, unless_empty}
 use Rattle.json_members.specs.Members.{unless_null, member}
-use Rattle.json_members.specs.laws.MeaningLaws.{given_row}
+use Rattle.json_members.proofs.MeaningLaws.{given_row}
 use Rattle.otlp_json.specs.Canonical.{list_data, otlp_span_data, instrumentation_scope_rows, scope_rows, scope_data, resource_rows, group_rows, group_data, groups_data}
 use Rattle.otlp_json.specs.Doubles.{double_in_span, double_in_scope}
 use Rattle.otlp_json.specs.Group.{IsJsonInstrumentationScope, AreJsonSpans, IsJsonScope, IsJsonResource, AreJsonScopes, IsJsonGroup, IsRemarkedGroup, AreJsonGroups}

@@ -13,7 +13,7 @@ use Rattle.trace_model.specs.Values.{AreSound}
 use Rattle.trace_model.specs.declared.value.Value.{Value}
 use Rattle.json_members.specs.Canonical.{MemberRow, members_given, unless_empty, text_data, count_data, trace_id_text, span_id_text}
 use Rattle.json_members.specs.Members.{unless_null, member, IsText, Spelled}
-use Rattle.json_members.specs.laws.MeaningLaws.{in_rows, either_one, found, given_row, text_again}
+use Rattle.json_members.proofs.MeaningLaws.{in_rows, either_one, found, given_row, text_again}
 use Rattle.otlp_json.specs.Attributes.{AreJsonAttributes}
 use Rattle.otlp_json.specs.Canonical.{attributes_data, decimal_data, list_data}
 use Rattle.otlp_json.specs.Identifiers.{SpellsJsonTrace, SpellsJsonSpan, SpellsSpanOrNone}

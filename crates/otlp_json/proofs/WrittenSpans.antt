@@ -17,10 +17,10 @@ use Rattle.trace_model.specs.declared.span.Kind.TheVariants as kinds
 use Rattle.trace_model.specs.declared.span.Link.{Link}
 use Rattle.trace_model.specs.declared.span.Span.{Span}
 use Rattle.trace_model.specs.declared.span.Status.{Status}
-use Rattle.trace_model.specs.laws.RemarkLaws.{quiet, quiet_link, quiet_span, mapped, all_back, links_back, links_noted, none_dropped}
+use Rattle.trace_model.proofs.RemarkLaws.{quiet, quiet_link, quiet_span, mapped, all_back, links_back, links_noted, none_dropped}
 use Rattle.json_members.specs.Canonical.{members_given, unless_empty, count_data, trace_id_text, span_id_text}
 use Rattle.json_members.specs.Members.{unless_null, Spelled}
-use Rattle.json_members.specs.laws.MeaningLaws.{given_row}
+use Rattle.json_members.proofs.MeaningLaws.{given_row}
 use Rattle.otlp_json.specs.Canonical.{list_data, status_rows, event_rows, event_data, link_rows, link_data, otlp_span_rows, otlp_span_data}
 use Rattle.otlp_json.specs.Doubles.{double_in_event, double_in_link, double_in_span}
 use Rattle.otlp_json.specs.Identifiers.{SpellsJsonTrace, SpellsJsonSpan, SpellsTraceOrNone, SpellsSpanOrNone}

@@ -16,10 +16,10 @@ use Rattle.trace_model.specs.ValueTexts.{has_double}
 use Rattle.trace_model.specs.declared.value.Value.{Value, List as Several, Map as Named, List', Map', Row_of-Value, end_of-Value, more_of-Value, Row_of-Value-Map-0-2, end_of-Value-Map-0-2, more_of-Value-Map-0-2, items-the_row-Value, items-the_row-Value-Map-0-2, items_hidden-the_row-Value-0, items_hidden-the_row-Value-Map-0-2-1}
 use Rattle.trace_model.specs.declared.value.Value.TheVariants as values
 use mathlib.Core.Former.{Count}
-use Rattle.trace_model.specs.laws.PartLaws.{by_variant, some_depth, quiet_key_value, values_back, values_quiet, pairs_back, pairs_quiet}
+use Rattle.trace_model.proofs.PartLaws.{by_variant, some_depth, quiet_key_value, values_back, values_quiet, pairs_back, pairs_quiet}
 use Rattle.json_members.specs.Canonical.{MemberRow, text_data}
 use Rattle.json_members.specs.Members.{unless_null, member, IsText}
-use Rattle.json_members.specs.laws.MeaningLaws.{given_row, text_again}
+use Rattle.json_members.proofs.MeaningLaws.{given_row, text_again}
 use Rattle.otlp_json.specs.Attributes.{AreJsonAttributes}
 use Rattle.otlp_json.specs.Canonical.{one_member, of_values, unless_bare, key_value_data, any_value_data, each_data, pairs_data, attributes_data}
 use Rattle.otlp_json.specs.Values.{IsJsonList, IsJsonMap, IsJsonValue, standing_members, json_value_in, json_key_value_in, json_value_at, json_key_value_at}

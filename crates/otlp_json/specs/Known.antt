@@ -36,22 +36,27 @@ unfoldable mutual
 abbrev pub values_agree : ℕ → Agreement
 values_agree left v w = objects_agree (value_known (inner_values_agree left) (inner_pairs_agree left)) v w
 
+-- arrays of `KeyValue`s that agree one by one, each value at level 1 of 24
 abbrev pub attributes_agree : Agreement
 attributes_agree v w = arrays_agree (objects_agree (key_value_known (values_agree levels_below))) v w
 
 -- ---- the parts of a group
 
+-- the members of `Status`
 abbrev pub status_known : List KnownMember
 status_known = (codes "message", same) ∷ (codes "code", same) ∷ []
 
+-- the members of `Span.Event`
 abbrev pub event_known : List KnownMember
 event_known = (codes "timeUnixNano", same) ∷ (codes "name", same) ∷ (codes "attributes", attributes_agree)
     ∷ (codes "droppedAttributesCount", same) ∷ []
 
+-- the members of `Span.Link`
 abbrev pub link_known : List KnownMember
 link_known = (codes "traceId", same) ∷ (codes "spanId", same) ∷ (codes "traceState", same) ∷ (codes "attributes", attributes_agree)
     ∷ (codes "droppedAttributesCount", same) ∷ (codes "flags", same) ∷ []
 
+-- the members of `Span`, with those of its events, its links and its status
 abbrev pub otlp_span_known : List KnownMember
 otlp_span_known = (codes "traceId", same) ∷ (codes "spanId", same) ∷ (codes "traceState", same) ∷ (codes "parentSpanId", same)
     ∷ (codes "name", same) ∷ (codes "kind", same) ∷ (codes "startTimeUnixNano", same) ∷ (codes "endTimeUnixNano", same)
@@ -60,17 +65,21 @@ otlp_span_known = (codes "traceId", same) ∷ (codes "spanId", same) ∷ (codes 
     ∷ (codes "links", arrays_agree (objects_agree link_known)) ∷ (codes "droppedLinksCount", same)
     ∷ (codes "status", objects_agree status_known) ∷ (codes "flags", same) ∷ []
 
+-- the members of `InstrumentationScope`
 abbrev pub instrumentation_scope_known : List KnownMember
 instrumentation_scope_known = (codes "name", same) ∷ (codes "version", same) ∷ (codes "attributes", attributes_agree)
     ∷ (codes "droppedAttributesCount", same) ∷ []
 
+-- the members of `ScopeSpans`, with those of its `InstrumentationScope` and its spans
 abbrev pub scope_known : List KnownMember
 scope_known = (codes "scope", objects_agree instrumentation_scope_known) ∷ (codes "spans", arrays_agree (objects_agree otlp_span_known))
     ∷ (codes "schemaUrl", same) ∷ []
 
+-- the members of `Resource`
 abbrev pub resource_known : List KnownMember
 resource_known = (codes "attributes", attributes_agree) ∷ (codes "droppedAttributesCount", same) ∷ []
 
+-- the members of `ResourceSpans`, with those of its `Resource` and its `ScopeSpans`
 abbrev pub group_known : List KnownMember
 group_known = (codes "resource", objects_agree resource_known) ∷ (codes "scopeSpans", arrays_agree (objects_agree scope_known))
     ∷ (codes "schemaUrl", same) ∷ []

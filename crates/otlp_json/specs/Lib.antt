@@ -1,7 +1,6 @@
 pub mod Attributes
 pub mod Canonical
 pub mod Doubles
-pub mod Found
 pub mod Group
 pub mod Held
 pub mod Identifiers

@@ -23,19 +23,24 @@ use Rattle.otlp_json.specs.Numbers.{IsJsonCount, json_count_offends, IsJsonTime,
 
 -- ---- `Status`
 
+-- the object means this status; an absent message is empty, and an absent code is STATUS_CODE_UNSET
 pub record IsJsonStatus (s : Status) (d : Data) : Type 0 where
   pub shape : is_some (as_object d) ≡ true
   pub message : Given IsText (λ text. text ≡ []) s.message (member (codes "message") d)
   pub code : Given IsJsonCode (λ code. code ≡ statuses.Unset) s.code (member (codes "code") d)
 
+-- how its members offend, in the order of field numbers: `message` 2, `code` 3, whose last number is 2
 unfoldable pub status_members : Data → List Offences
 status_members d = optional text_offends (member (codes "message") d) ∷ optional (enum_offends 2) (member (codes "code") d) ∷ []
 
+-- BadShape: a `Status` that is no object; else what offends in its members
 abbrev pub status_offends : Data → Offences
 status_offends d = object_offends status_members d
 
 -- ---- `Event`
 
+-- the object means this event, its time in nanoseconds since 1970, and the keys that are noted in its attributes;
+-- a member that is absent means its default: 0, the empty text, or no attributes
 pub record IsJsonEvent (e : Noted Event Keys) (d : Data) : Type 0 where
   pub shape : is_some (as_object d) ≡ true
   pub time : Given IsJsonTime (λ n. n ≡ 0) e.means.time (member (codes "timeUnixNano") d)
@@ -43,16 +48,21 @@ pub record IsJsonEvent (e : Noted Event Keys) (d : Data) : Type 0 where
   pub attributes : AreJsonAttributes e.means.attributes e.notes (member (codes "attributes") d)
   pub dropped : Given IsJsonCount (λ n. n ≡ 0) e.means.dropped (member (codes "droppedAttributesCount") d)
 
+-- how its members offend, in the order of field numbers: `time_unix_nano` 1, `name` 2, `attributes` 3,
+-- `dropped_attributes_count` 4
 unfoldable pub event_members : Data → List Offences
 event_members d = optional json_time_offends (member (codes "timeUnixNano") d) ∷ optional text_offends (member (codes "name") d)
     ∷ optional pairs_offend (member (codes "attributes") d) ∷ optional json_count_offends
     (member (codes "droppedAttributesCount") d) ∷ []
 
+-- BadShape: a `Span.Event` that is no object; else what offends in its members
 abbrev pub event_offends : Data → Offences
 event_offends d = object_offends event_members d
 
 -- ---- `Link`: one without one of its identifiers is dropped
 
+-- the object means this link, with the keys that are noted in its attributes, or none where `traceId` or `spanId` is absent,
+-- empty or all zeros; another member that is absent means its default
 pub record IsJsonLink (l : Option (Noted Link Keys)) (d : Data) : Type 0 where
   pub shape : is_some (as_object d) ≡ true
   pub trace : Option ℕ
@@ -66,6 +76,8 @@ pub record IsJsonLink (l : Option (Noted Link Keys)) (d : Data) : Type 0 where
   pub flags : Given IsJsonCount (λ n. n ≡ 0) parts.flags (member (codes "flags") d)
   pub link : l ≡ link_of trace span parts
 
+-- how its members offend, in the order of field numbers: `trace_id` 1, `span_id` 2, `trace_state` 3, `attributes` 4,
+-- `dropped_attributes_count` 5, `flags` 6
 unfoldable pub link_members : Data → List Offences
 link_members d =
     optional trace_or_none_offends (member (codes "traceId") d) ∷ optional span_or_none_offends (member (codes "spanId") d)
@@ -73,23 +85,30 @@ link_members d =
     ∷ optional json_count_offends (member (codes "droppedAttributesCount") d) ∷ optional json_count_offends
     (member (codes "flags") d) ∷ []
 
+-- BadShape: a `Span.Link` that is no object; else what offends in its members, also where the link is dropped
 abbrev pub link_offends : Data → Offences
 link_offends d = object_offends link_members d
 
 -- ---- `Span`
 
+-- the elements of an array mean these events, one by one
 abbrev pub AreJsonEvents : List (Noted Event Keys) → Data → Type 0
 AreJsonEvents events d = AreHeld IsJsonEvent events d
 
+-- BadShape: `events` that are no array; else what offends in one of them
 abbrev pub events_offend : Data → Offences
 events_offend d = elements_offend event_offends d
 
+-- the elements of an array mean these links, one by one, and none stands for one that is dropped
 abbrev pub AreJsonLinks : List (Option (Noted Link Keys)) → Data → Type 0
 AreJsonLinks links d = AreHeld IsJsonLink links d
 
+-- BadShape: `links` that are no array; else what offends in one of them
 abbrev pub links_offend : Data → Offences
 links_offend d = elements_offend link_offends d
 
+-- the object means this span, and what is noted of it: `traceId` and `spanId` must be there, and any other member that is
+-- absent means its default; its two times are nanoseconds since 1970
 pub record IsJsonSpan (s : Noted Span SpanNotes) (d : Data) : Type 0 where
   pub shape : is_some (as_object d) ≡ true
   pub trace : Given (Spelled SpellsJsonTrace) Never s.means.trace (member (codes "traceId") d)
@@ -113,6 +132,8 @@ pub record IsJsonSpan (s : Noted Span SpanNotes) (d : Data) : Type 0 where
   pub status : Given IsJsonStatus (λ status. status ≡ no_status) s.means.status (member (codes "status") d)
   pub flags : Given IsJsonCount (λ n. n ≡ 0) s.means.flags (member (codes "flags") d)
 
+-- how its members offend, in the order of field numbers, from `trace_id` 1 to `flags` 16: without one of the first two
+-- it is BadId, and the last number of `kind` is 5
 unfoldable pub json_span_members : Data → List Offences
 json_span_members d =
     identified json_trace_offends (member (codes "traceId") d) ∷ identified json_span_offends (member (codes "spanId") d)
@@ -126,5 +147,6 @@ json_span_members d =
     ∷ optional links_offend (member (codes "links") d) ∷ optional json_count_offends (member (codes "droppedLinksCount") d)
     ∷ optional status_offends (member (codes "status") d) ∷ optional json_count_offends (member (codes "flags") d) ∷ []
 
+-- BadShape: a `Span` that is no object; else what offends in its members
 abbrev pub otlp_span_offends : Data → Offences
 otlp_span_offends d = object_offends json_span_members d

@@ -24,10 +24,12 @@ pub data JsonMember : Type 0 where
   kvlist_member : Data → JsonMember
   bytes_member : Data → JsonMember
 
+-- the member of a value that has this name, if it stands
 abbrev pub standing : (Data → JsonMember) → Option Data → List JsonMember
 standing named None = []
 standing named (Some d) = named d ∷ []
 
+-- all members of an `AnyValue` that stand, in the order of field numbers, from `string_value` 1 to `bytes_value` 7
 unfoldable pub standing_members : Data → List JsonMember
 standing_members d = (((((standing string_member (member (codes "stringValue") d) ++ standing bool_member (member (codes "boolValue") d))
     ++ standing int_member (member (codes "intValue") d)) ++ standing double_member (member (codes "doubleValue") d))
@@ -67,10 +69,12 @@ module _ (IsValue : NotedValue → Data → Type 0) (IsPair : KeyValue → Data 
   MeansStanding (m ∷ []) r = MeansJsonMember m r
   MeansStanding (m ∷ n ∷ ms) r = ⊥
 
+  -- `AnyValue`, by what values in a list and `KeyValue`s in a map mean: an object in which one member at most stands
   pub record IsJsonValue (r : NotedValue) (d : Data) : Type 0 where
     pub shape : is_some (as_object d) ≡ true
     pub value : MeansStanding (standing_members d) r
 
+-- `KeyValue`, by what values mean: an absent `key` is the empty text, and an absent `value` is nothing
 pub record IsJsonKeyValue (IsValue : NotedValue → Data → Type 0) (p : KeyValue) (d : Data) : Type 0 where
   pub shape : is_some (as_object d) ≡ true
   pub key : Given IsText (λ text. text ≡ []) p.key (member (codes "key") d)
@@ -85,12 +89,14 @@ unfoldable mutual
   -- a `KeyValue` in such a map
   pub json_key_value_in : ℕ → KeyValue → Data → Type 0
   json_key_value_in zero p d = ⊥
-  json_key_value_in (suc left) p d = IsJsonKeyValue (λ r inner. IsJsonValue (json_value_in left) (json_key_value_in left) r inner) p d
+  json_key_value_in (suc left) p d =
+      IsJsonKeyValue (λ r inner. IsJsonValue (json_value_in left) (json_key_value_in left) r inner) p d
 
 -- a value, and a `KeyValue` with such a value, below which so many levels are left
 abbrev pub json_value_at : ℕ → NotedValue → Data → Type 0
 json_value_at left r d = IsJsonValue (json_value_in left) (json_key_value_in left) r d
 
+-- a `KeyValue` with a value below which so many levels are left
 abbrev pub json_key_value_at : ℕ → KeyValue → Data → Type 0
 json_key_value_at left p d = IsJsonKeyValue (json_value_at left) p d
 
@@ -107,6 +113,7 @@ values_offend zero Offends [] = nothing
 values_offend zero Offends (d ∷ ds) = here (λ number. number ≡ 5)
 values_offend (suc left) Offends ds = each Offends ds
 
+-- how the `values` of a list or map offend, below which so many levels are left; BadShape: no array
 abbrev pub held_offends : ℕ → (Data → Offences) → Data → Offences
 held_offends left Offends d = valued (λ ds. values_offend left Offends (elements ds)) (as_array d)
 
@@ -114,6 +121,7 @@ held_offends left Offends d = valued (λ ds. values_offend left Offends (element
 unfoldable pub many_members : ℕ → (Data → Offences) → Data → List Offences
 many_members left Offends d = optional (held_offends left Offends) (member (codes "values") d) ∷ []
 
+-- BadShape: an `ArrayValue` or `KeyValueList` that is no object; else what offends in its `values`
 abbrev pub many_offend : ℕ → (Data → Offences) → Data → Offences
 many_offend left Offends d = object_offends (many_members left Offends) d
 
@@ -134,12 +142,15 @@ module _ (list_offends map_offends : Data → Offences) where
   standing_offend (m ∷ []) = json_member_offends m
   standing_offend (m ∷ n ∷ ms) = here (λ number. number ≡ 11)
 
+  -- BadShape: an `AnyValue` that is no object, or in which two members stand; else what offends in the one that does
   abbrev pub any_value_offends : Data → Offences
   any_value_offends d = valued (λ members. standing_offend (standing_members d)) (as_object d)
 
+-- how the members of a `KeyValue` offend, by how values do, in the order of field numbers: `key` 1, `value` 2
 unfoldable pub key_value_members : (Data → Offences) → Data → List Offences
 key_value_members Offends d = optional text_offends (member (codes "key") d) ∷ optional Offends (member (codes "value") d) ∷ []
 
+-- BadShape: a `KeyValue` that is no object; else what offends in its members
 abbrev pub key_value_offends : (Data → Offences) → Data → Offences
 key_value_offends Offends d = object_offends (key_value_members Offends) d
 
@@ -147,7 +158,8 @@ unfoldable mutual
   -- how a value offends in a list or map below which so many levels are left
   pub inner_value_offends : ℕ → Data → Offences
   inner_value_offends zero d = nothing
-  inner_value_offends (suc left) d = any_value_offends (many_offend left (inner_value_offends left)) (many_offend left (inner_pair_offends left)) d
+  inner_value_offends (suc left) d =
+      any_value_offends (many_offend left (inner_value_offends left)) (many_offend left (inner_pair_offends left)) d
 
   -- how a `KeyValue` does in such a map
   pub inner_pair_offends : ℕ → Data → Offences
@@ -159,11 +171,14 @@ unfoldable mutual
 abbrev pub json_list_offends : ℕ → Data → Offences
 json_list_offends left d = many_offend left (inner_value_offends left) d
 
+-- how a map offends, a `KeyValueList`, below which so many levels are left
 abbrev pub json_map_offends : ℕ → Data → Offences
 json_map_offends left d = many_offend left (inner_pair_offends left) d
 
+-- how an `AnyValue` offends, below which so many levels are left
 abbrev pub json_value_offends : ℕ → Data → Offences
 json_value_offends left d = any_value_offends (json_list_offends left) (json_map_offends left) d
 
+-- how a `KeyValue` offends with a value below which so many levels are left
 abbrev pub json_key_value_offends : ℕ → Data → Offences
 json_key_value_offends left d = key_value_offends (json_value_offends left) d

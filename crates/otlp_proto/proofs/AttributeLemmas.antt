@@ -8,13 +8,13 @@ use Rattle.otlp_proto.specs.declared.reading.attributes.AttributeRows.{Attribute
 use Rattle.trace_model.specs.declared.noted.KeyValue.{KeyValue}
 use Rattle.trace_model.specs.OtlpParts.{entry, keys_inside, leaf, levels_below}
 use Rattle.otlp_proto.specs.declared.reading.plain.PlainPair.{PlainPair}
-use Rattle.otlp_proto.specs.PlainPairs.{value_of, IsPlainPair}
+use Rattle.otlp_proto.specs.private.PlainPairs.{value_of, IsPlainPair}
 use Rattle.otlp_proto.proofs.PlainLemmas.{pair_reading}
 use Rattle.std.proofs.lemmas.List.{append-nil}
-use Rattle.trace_model.specs.laws.ToldLaws.{pair_added}
+use Rattle.trace_model.proofs.ToldLaws.{pair_added}
 use Rattle.otlp_proto.specs.Attributes.{attribute_at, AttributesOf}
-use Rattle.otlp_proto.specs.AttributesSoFar.{GatheredAttributes}
-use Rattle.span_io.specs.laws.RowLaws.{all_zip_push}
+use Rattle.otlp_proto.specs.private.AttributesSoFar.{GatheredAttributes}
+use Rattle.span_io.proofs.RowLaws.{all_zip_push}
 
 pub attribute_push : (earlier : List (List ℕ)) (held : List ℕ) (old new : AttributeRows) (p : KeyValue) → attribute_at held p → new.pairs ≡ old.pairs ++ entry p ∷ [] → new.noted ≡ old.noted ++ p.value.notes
     → GatheredAttributes earlier old → GatheredAttributes (earlier ++ held ∷ []) new

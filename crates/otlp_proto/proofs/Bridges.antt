@@ -4,7 +4,7 @@ use Rattle.std.proofs.Common.{◌≡◌, ℕ, true, List, ◌∷◌, ◌++◌, s
 use Rattle.std.specs.Prelude.{◌↔◌}
 use Rattle.span_io.specs.Offences.{Offence}
 use Rattle.span_io.specs.Tables.{Row, givens, Givens, Values, Mean, rules_by, IsFree}
-use Rattle.span_io.specs.laws.TableLaws.{TableShape, TableMeaning, values_once, table_fine, givens_without}
+use Rattle.span_io.proofs.TableLaws.{TableShape, TableMeaning, values_once, table_fine, givens_without}
 use Rattle.proto_wire.specs.Messages.{messages}
 use Rattle.proto_wire.specs.Records.{Record}
 use Rattle.proto_wire.specs.Wire.{Wire}

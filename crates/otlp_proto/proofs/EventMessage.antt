@@ -12,13 +12,13 @@ use Rattle.otlp_proto.specs.Event.{IsEvent, event_table, event_padded}
 use Rattle.trace_model.specs.Remarks.{Keys}
 use Rattle.trace_model.specs.declared.noted.Noted.{Noted}
 use Rattle.otlp_proto.specs.Rows.{bytes_of, varints_of, fixed64s_of, MeansMessage}
-use Rattle.otlp_proto.specs.Texts.{otlp_event_text}
+use Rattle.otlp_proto.specs.Canonical.{otlp_event_text}
 use Rattle.otlp_proto.proofs.Bridges.{Bridge, read_back}
 use Rattle.otlp_proto.proofs.CanonicalLaws.{Laws}
 use Rattle.otlp_proto.proofs.FieldLemmas.{Fits}
 use Rattle.otlp_proto.proofs.MessageProofs.{MessageProof, never_ends, proved}
 use Rattle.otlp_proto.proofs.ProperLemmas.{text_proper, number_proper, count_proper}
-use Rattle.trace_model.specs.laws.RemarkLaws.{quiet}
+use Rattle.trace_model.proofs.RemarkLaws.{quiet}
 use Rattle.otlp_proto.proofs.Ranges.{AreBytes, AllInRange, wire_in_range, all_bytes, all_times}
 use Rattle.otlp_proto.proofs.RowProofs.{TableProof, text_proof, time_proof, count_proof, attributes_proof}
 use Rattle.otlp_proto.proofs.WrittenAttributes.{attributes_written}

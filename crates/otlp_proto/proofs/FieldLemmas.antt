@@ -8,7 +8,7 @@ use Rattle.std.proofs.lemmas.List.{append-nil}
 use Rattle.std.proofs.lemmas.List.Elements.{All-nil, All-cons}
 use Rattle.proto_wire.specs.Records.{Held, bytes, Record, IsFieldNumber, IsProper}
 use Rattle.proto_wire.specs.Wire.{SpellsRecord, Wire, record_text, opening_text}
-use Rattle.otlp_proto.specs.Texts.{bytes_field, filled_field, parent_field, list_text}
+use Rattle.otlp_proto.specs.Canonical.{bytes_field, filled_field, parent_field, list_text}
 use Rattle.otlp_proto.proofs.Growth.{opened}
 use Rattle.otlp_proto.proofs.ListTexts.{list_first}
 

@@ -2,7 +2,7 @@
 use Rattle.std.proofs.Common.{◌≡◌, ℕ, List, [], ◌∷◌, ◌++◌, sym, ap, subst, ◌∙◌}
 use Rattle.std.specs.List.{AllZip}
 use Rattle.span_io.specs.Tables.{Row, Singular, givens, MeansText}
-use Rattle.span_io.specs.laws.TableLaws.{givens_without}
+use Rattle.span_io.proofs.TableLaws.{givens_without}
 use Rattle.proto_wire.specs.Records.{Record}
 use Rattle.proto_wire.specs.Wire.{Wire}
 use Rattle.trace_model.specs.declared.value.Value.TheVariants as values

@@ -5,7 +5,7 @@ use Rattle.std.proofs.lemmas.Bool.{eqb-true}
 use Rattle.span_io.specs.Varint.{varint_text, shortest_within}
 use Rattle.proto_wire.specs.Records.{varint, bytes, Record}
 use Rattle.proto_wire.specs.Wire.{record_text, held_text, key_of}
-use Rattle.otlp_proto.specs.Texts.{bytes_field, filled_field, count_field, list_text}
+use Rattle.otlp_proto.specs.Canonical.{bytes_field, filled_field, count_field, list_text}
 use Rattle.otlp_proto.proofs.ListTexts.{list_first}
 
 varint_some : (n : ℕ) → varint_text n ≡ [] → ⊥

@@ -3,12 +3,12 @@ use Rattle.std.proofs.Common.{◌≡◌, ℕ, ◌⊎◌, inl, inr, List, ap, sub
 use Rattle.std.specs.Prelude.{◌↔◌}
 use Rattle.span_io.specs.Causes.{cause_number}
 use Rattle.span_io.specs.declared.cause.Cause.{Cause}
-use Rattle.span_io.specs.FreeItems.{SameOffence}
-use Rattle.span_io.specs.laws.OffenceLaws.{one_cause}
+use Rattle.span_io.proofs.FreeItemLaws.{SameOffence}
+use Rattle.span_io.proofs.OffenceLaws.{one_cause}
 use Rattle.span_io.specs.Offences.{Offence, Least}
 use Rattle.proto_wire.specs.Messages.{messages}
 use Rattle.trace_model.specs.declared.remark.Remark.{Remark}
-use Rattle.trace_model.specs.declared.trace.Group.{Group}
+use Rattle.trace_model.specs.declared.group.Group.{Group}
 use Rattle.otlp_proto.specs.Group.{IsGroup, IsGroupText, group_rules, GroupPadded}
 use Rattle.trace_model.specs.OtlpParts.{NotedGroup}
 use Rattle.otlp_proto.specs.StatedLaws.{ReadingLaws, MessageRules, SomeGroup, FreeAnywhere}

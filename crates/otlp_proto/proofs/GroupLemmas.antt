@@ -2,15 +2,15 @@
 use Rattle.std.proofs.Common.{◌≡◌, ℕ, ◌+◌, List, [], ◌∷◌, ◌++◌, length}
 use Rattle.trace_model.specs.declared.noted.Noted.{Noted}
 use Rattle.trace_model.specs.declared.remark.Remark.{Remark}
-use Rattle.trace_model.specs.declared.trace.Scope.{Scope}
+use Rattle.trace_model.specs.declared.group.Scope.{Scope}
 use Rattle.trace_model.specs.Notes.{ScopeNotes}
-use Rattle.trace_model.specs.laws.ToldLaws.{spans_all_noted, scope_added}
+use Rattle.trace_model.proofs.ToldLaws.{spans_all_noted, scope_added}
 use Rattle.otlp_proto.specs.declared.reading.group.ScopeList.{ScopeList}
-use Rattle.otlp_proto.specs.GroupSoFar.{GatheredScopes}
-use Rattle.otlp_proto.specs.ReadParts.{IsReadScope}
+use Rattle.otlp_proto.specs.private.GroupSoFar.{GatheredScopes}
+use Rattle.otlp_proto.specs.private.ReadParts.{IsReadScope}
 use Rattle.otlp_proto.specs.Rows.{MeansMessage}
 use Rattle.otlp_proto.specs.Scope.{IsScope}
-use Rattle.span_io.specs.laws.RowLaws.{all_zip_push}
+use Rattle.span_io.proofs.RowLaws.{all_zip_push}
 
 pub scope_push : (earlier : List (List ℕ)) (held : List ℕ) (old new : ScopeList) (number : ℕ) (read : Noted Scope (List Remark)) → new.scopes ≡ old.scopes ++ read.means ∷ [] → new.remarks ≡ old.remarks ++ read.notes
     → new.next_span ≡ old.next_span + length read.means.spans → number ≡ 1 + length old.scopes → IsReadScope number old.next_span read held → GatheredScopes earlier old → GatheredScopes (earlier ++ held ∷ []) new

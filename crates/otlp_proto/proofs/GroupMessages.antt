@@ -6,8 +6,8 @@ use Rattle.span_io.specs.Tables.{no_ends}
 use Rattle.trace_model.specs.Proper.{IsProperPair, AreProper, IsProperScope, IsProperGroup}
 use Rattle.trace_model.specs.Soundness.{IsSoundGroup}
 use Rattle.trace_model.specs.declared.remark.Remark.{Remark}
-use Rattle.trace_model.specs.declared.trace.Group.{Group}
-use Rattle.trace_model.specs.declared.trace.Scope.{Scope}
+use Rattle.trace_model.specs.declared.group.Group.{Group}
+use Rattle.trace_model.specs.declared.group.Scope.{Scope}
 use Rattle.trace_model.specs.declared.value.Value.{Value}
 use Rattle.otlp_proto.specs.StatedLaws.{ReadingLaws}
 use Rattle.otlp_proto.specs.Attributes.{AttributesOf}
@@ -20,15 +20,15 @@ use Rattle.trace_model.specs.declared.noted.Resource.{Resource}
 use Rattle.trace_model.specs.OtlpParts.{no_resource, NotedGroup}
 use Rattle.otlp_proto.specs.Rows.{bytes_of, varints_of, MeansMessage}
 use Rattle.otlp_proto.specs.Scope.{IsScope}
-use Rattle.otlp_proto.specs.Texts.{attributes_text, key_value_text, scope_text, resource_text, group_text}
+use Rattle.otlp_proto.specs.Canonical.{attributes_text, key_value_text, scope_text, resource_text, group_text}
 use Rattle.otlp_proto.proofs.Bridges.{Bridge, read_back}
 use Rattle.otlp_proto.proofs.CanonicalLaws.{Laws}
 use Rattle.otlp_proto.proofs.FieldLemmas.{Fits}
 use Rattle.otlp_proto.proofs.Fronts.{front_none, rest_none, no_count, no_list}
 use Rattle.otlp_proto.proofs.MessageProofs.{MessageProof, message_proof, messages_proof, never_ends, proved}
 use Rattle.otlp_proto.proofs.ProperLemmas.{singular_in_range, text_proper, count_proper}
-use Rattle.trace_model.specs.laws.PartLaws.{each_in_range}
-use Rattle.trace_model.specs.laws.RemarkLaws.{quiet, quiet_scope, quiet_scopes, mapped, all_back}
+use Rattle.trace_model.proofs.PartLaws.{each_in_range}
+use Rattle.trace_model.proofs.RemarkLaws.{quiet, quiet_scope, quiet_scopes, mapped, all_back}
 use Rattle.otlp_proto.proofs.Ranges.{AreBytes, AllInRange, wire_in_range, all_bytes}
 use Rattle.otlp_proto.proofs.RowProofs.{TableProof, text_proof, count_proof, attributes_proof}
 use Rattle.otlp_proto.proofs.ScopeMessages.{scope_proof, scope_again, scope_proper}

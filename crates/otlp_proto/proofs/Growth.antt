@@ -5,7 +5,7 @@ use Rattle.std.proofs.lemmas.Result.{on_err_weaker}
 use Rattle.span_io.specs.Outside.{GrowsFront}
 use Rattle.span_io.specs.Varint.{varint_text}
 use Rattle.proto_wire.specs.Wire.{record_text, opening_text}
-use Rattle.otlp_proto.specs.Texts.{bytes_field, filled_field}
+use Rattle.otlp_proto.specs.Canonical.{bytes_field, filled_field}
 
 pub joins : (old middle new first second : List ℕ) → middle ≡ old ++ first → new ≡ middle ++ second → new ≡ old ++ (first ++ second)
 joins old middle new first second e h = h ∙ ap (λ l. l ++ second) e ∙ append_assoc old first second

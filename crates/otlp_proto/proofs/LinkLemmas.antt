@@ -9,13 +9,13 @@ use Rattle.otlp_proto.specs.declared.reading.link.LinkRows.{LinkRows}
 use Rattle.otlp_proto.specs.Attributes.{AttributesOf}
 use Rattle.otlp_proto.specs.Identifiers.{MeansTraceId, MeansSpanId}
 use Rattle.otlp_proto.specs.Link.{IsLink, link_table}
-use Rattle.otlp_proto.specs.LinkSoFar.{GatheredLink}
+use Rattle.otlp_proto.specs.private.LinkSoFar.{GatheredLink}
 use Rattle.trace_model.specs.Remarks.{Keys}
 use Rattle.trace_model.specs.declared.noted.Noted.{Noted}
 use Rattle.trace_model.specs.declared.noted.LinkParts.{LinkParts}
 use Rattle.trace_model.specs.OtlpParts.{link_of}
 use Rattle.otlp_proto.specs.Rows.{bytes_of, varints_of, fixed32s_of, MeansNumber, MeansCount}
-use Rattle.span_io.specs.laws.RowLaws.{gave_or}
+use Rattle.span_io.proofs.RowLaws.{gave_or}
 
 -- what stands in the link of these rows beside its identifiers
 abbrev pub parts_of : LinkRows → List (List ℕ × Value) → Keys → LinkParts

@@ -17,14 +17,14 @@ use Rattle.otlp_proto.specs.Rows.{bytes_of, varints_of, fixed32s_of, MeansMessag
 use Rattle.trace_model.specs.declared.noted.Noted.{Noted}
 use Rattle.trace_model.specs.declared.noted.LinkParts.{LinkParts}
 use Rattle.trace_model.specs.OtlpParts.{link_of, kept_links}
-use Rattle.otlp_proto.specs.Texts.{link_text}
+use Rattle.otlp_proto.specs.Canonical.{link_text}
 use Rattle.otlp_proto.proofs.Bridges.{Bridge, read_back}
 use Rattle.otlp_proto.proofs.CanonicalLaws.{Laws}
 use Rattle.otlp_proto.proofs.FieldLemmas.{Fits}
 use Rattle.otlp_proto.proofs.MessageProofs.{MessageProof, never_ends, proved}
 use Rattle.otlp_proto.proofs.ProperLemmas.{text_proper, number_proper, count_proper, trace_proper, span_id_proper}
-use Rattle.trace_model.specs.laws.PartLaws.{ProperTrace}
-use Rattle.trace_model.specs.laws.RemarkLaws.{quiet_link}
+use Rattle.trace_model.proofs.PartLaws.{ProperTrace}
+use Rattle.trace_model.proofs.RemarkLaws.{quiet_link}
 use Rattle.otlp_proto.proofs.Ranges.{AreBytes, AllInRange, wire_in_range, all_bytes, all_flags}
 use Rattle.otlp_proto.proofs.RowProofs.{TableProof, text_proof, flags_proof, count_proof, trace_id_proof, span_id_proof, attributes_proof}
 use Rattle.otlp_proto.proofs.WrittenAttributes.{attributes_written}

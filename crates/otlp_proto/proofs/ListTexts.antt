@@ -3,7 +3,7 @@ use Rattle.std.proofs.Common.{◌≡◌, ℕ, ◌+◌, ◌<◌, List, [], ◌∷
 use Rattle.std.proofs.lemmas.List.{append-nil, take_more, flat_map_more, take-append-drop}
 use Rattle.std.proofs.lemmas.List.Concat.{flat_map-append, flat_map-cons}
 use Rattle.span_io.specs.Outside.{GrowsFront}
-use Rattle.otlp_proto.specs.Texts.{bytes_field, list_text}
+use Rattle.otlp_proto.specs.Canonical.{bytes_field, list_text}
 use Rattle.otlp_proto.proofs.Growth.{joins, grows_first, grows_second}
 
 module _ {A : Type 0} (number : ℕ) (text : A → List ℕ) where

@@ -2,12 +2,12 @@
 -- message at most, they mean one or an offence counts, and free records added anywhere in it change nothing.
 use Rattle.std.proofs.Common.{◌≡◌, ◌≤◌, ℕ, inl, inr, true, List, sym, subst, ⊎_elim, arith}
 use Rattle.std.specs.Prelude.{◌↔◌}
-use Rattle.span_io.specs.laws.FreeItemLaws.{means_padded, items_given, padded_whole, same_offence, text_self}
+use Rattle.span_io.proofs.FreeItemLaws.{means_padded, items_given, padded_whole, same_offence, text_self}
 use Rattle.span_io.specs.FreeItems.{Paddings, GivenPadded, TextPadded}
-use Rattle.span_io.specs.laws.OffenceLaws.{RulesLaws}
+use Rattle.span_io.specs.Offences.{RulesLaws}
 use Rattle.span_io.specs.Offences.{Offence}
-use Rattle.span_io.specs.laws.TableDecisions.{DecidedHere, decide_message}
-use Rattle.span_io.specs.laws.TableLaws.{table_rules, message_within, message_late}
+use Rattle.span_io.proofs.TableDecisions.{DecidedHere, decide_message}
+use Rattle.span_io.proofs.TableLaws.{table_rules, message_within, message_late}
 use Rattle.span_io.specs.Tables.{Row, rules_by, no_ends}
 use Rattle.proto_wire.specs.Messages.{messages}
 use Rattle.proto_wire.specs.Records.{Record}

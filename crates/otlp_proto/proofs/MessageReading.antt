@@ -5,12 +5,12 @@ use Rattle.std.specs.Result.{IsErrAnd}
 use Rattle.std.proofs.lemmas.Result.{err_from_is_err_and}
 use Rattle.span_io.specs.declared.cause.Cause.{Cause}
 use Rattle.span_io.specs.declared.halt.Halt.{Halt}
-use Rattle.span_io.specs.Gathering.{GatheredAll}
-use Rattle.span_io.specs.laws.GatheringLaws.{Seen, seen_end}
-use Rattle.span_io.specs.laws.OffenceLaws.{judged_inside, none_in_item}
-use Rattle.span_io.specs.laws.RowLaws.{first_item}
+use Rattle.span_io.specs.private.Gathering.{GatheredAll}
+use Rattle.span_io.proofs.GatheringLaws.{Seen, seen_end}
+use Rattle.span_io.proofs.OffenceLaws.{judged_inside, none_in_item}
+use Rattle.span_io.proofs.RowLaws.{first_item}
 use Rattle.span_io.specs.Offences.{Rules, Cut, Offence, Judges}
-use Rattle.span_io.specs.RowsSoFar.{OffendsAlone, JudgesMessage}
+use Rattle.span_io.specs.private.RowSteps.{OffendsAlone, JudgesMessage}
 use Rattle.span_io.specs.Tables.{Twice}
 use Rattle.proto_wire.specs.StatedLaws.{MessageCuts}
 use Rattle.proto_wire.specs.Messages.{messages}

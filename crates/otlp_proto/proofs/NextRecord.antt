@@ -2,7 +2,7 @@
 use Rattle.std.proofs.Common.{◌≡◌, ℕ, ◌⊎◌, inl, inr, List, [], refl}
 use Rattle.span_io.specs.declared.cause.Cause.TheVariants as causes
 use Rattle.span_io.specs.Frames.{BeginsWhole}
-use Rattle.span_io.specs.laws.TableDecisions.{Next, ended, stopped, begun}
+use Rattle.span_io.specs.Tables.{Next, ended, stopped, begun}
 use Rattle.proto_wire.specs.StatedLaws.{OpenWireFronts}
 use Rattle.proto_wire.specs.Messages.{messages}
 use Rattle.proto_wire.specs.Wire.{IsOpenRecord, HasOverlong, HasBadKey, records}

@@ -1,6 +1,6 @@
 -- Counts that grow record by record.
 use Rattle.std.proofs.Common.{ℕ, ◌+◌, ◌≤◌, List, [], ◌∷◌, arith}
-use Rattle.otlp_proto.specs.Numbering.{HaveNumbers, GrewWithin}
+use Rattle.otlp_proto.specs.private.Numbering.{HaveNumbers, GrewWithin}
 
 pub grew_none : (counts : List ℕ) → GrewWithin 0 counts counts
 grew_none [] = tt

@@ -2,10 +2,10 @@
 use Rattle.std.proofs.Common.{◌≡◌, ℕ, zero, suc, ◌⊎◌, inl, inr, List, refl, sym, subst}
 use Rattle.std.specs.Prelude.{◌↔◌}
 use Rattle.std.specs.List.{AllZip}
-use Rattle.span_io.specs.laws.FreeItemLaws.{equal_padding, text_self}
-use Rattle.span_io.specs.FreeItems.{SameOffence, RowPadding, TablePadding}
+use Rattle.span_io.proofs.FreeItemLaws.{equal_padding, text_self}
+use Rattle.span_io.proofs.FreeItemLaws.{SameOffence, RowPadding, TablePadding}
 use Rattle.span_io.specs.Offences.{Offence}
-use Rattle.span_io.specs.laws.TableDecisions.{Next}
+use Rattle.span_io.specs.Tables.{Next}
 use Rattle.proto_wire.specs.Messages.{messages}
 use Rattle.trace_model.specs.StatedLaws.{AttributesOnce, AttributesExist}
 use Rattle.trace_model.specs.declared.value.Value.TheVariants as values
@@ -19,7 +19,7 @@ use Rattle.trace_model.specs.declared.noted.KeyValue.{KeyValue}
 use Rattle.trace_model.specs.OtlpParts.{levels_below, NotedValue, leaf}
 use Rattle.otlp_proto.proofs.RowDecisions.{text_decides}
 use Rattle.otlp_proto.proofs.RowPaddings.{Keeps, message_padding, moved, endless_same}
-use Rattle.span_io.specs.laws.RowLaws.{same_twice, singular_moves, all_zip_moves}
+use Rattle.span_io.proofs.RowLaws.{same_twice, singular_moves, all_zip_moves}
 use Rattle.otlp_proto.proofs.ValueDecisions.{list_table_decides, map_table_decides, value_table_decides, key_value_table_decides}
 
 -- ---- members of a value

@@ -8,7 +8,7 @@ use Rattle.proto_wire.specs.Records.{varint, bytes, Record}
 use Rattle.proto_wire.specs.Wire.{Wire}
 use Rattle.trace_model.specs.declared.noted.KeyValue.{KeyValue}
 use Rattle.trace_model.specs.OtlpParts.{leaf}
-use Rattle.otlp_proto.specs.PlainPairs.{short_field, value_of, IsPlainValue, IsPlainPair}
+use Rattle.otlp_proto.specs.private.PlainPairs.{short_field, value_of, IsPlainValue, IsPlainPair}
 use Rattle.otlp_proto.specs.StatedLaws.{ReadingLaws}
 use Rattle.trace_model.specs.declared.value.Value.TheVariants as values
 use Rattle.otlp_proto.specs.Values.{value_at, key_value_at, key_value_rules}

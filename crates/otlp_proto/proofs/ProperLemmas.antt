@@ -20,7 +20,7 @@ use Rattle.otlp_proto.specs.Values.{Member, string_value, bool_value, int_value,
 use Rattle.trace_model.specs.declared.noted.KeyValue.{KeyValue}
 use Rattle.trace_model.specs.OtlpParts.{levels_below, NotedValue, leaf, entry}
 use Rattle.otlp_proto.proofs.Ranges.{AreBytes, InRange, AllInRange, wire_in_range, all_bytes, in_each, chosen, span_below, trace_below, span_above, trace_above}
-use Rattle.trace_model.specs.laws.PartLaws.{kept_all, each_in_range, ProperTrace}
+use Rattle.trace_model.proofs.PartLaws.{kept_all, each_in_range, ProperTrace}
 
 -- ---- rows
 

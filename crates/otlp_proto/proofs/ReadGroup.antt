@@ -8,7 +8,7 @@ use Rattle.span_io.specs.Offences.{Offence, Judges, OnlyReads}
 use Rattle.proto_wire.specs.Messages.{messages}
 use Rattle.trace_model.specs.Soundness.{IsSoundGroup}
 use Rattle.trace_model.specs.declared.remark.Remark.{Remark}
-use Rattle.trace_model.specs.declared.trace.Group.{Group}
+use Rattle.trace_model.specs.declared.group.Group.{Group}
 use Rattle.otlp_proto.specs.Group.{IsGroupText, group_rules}
 
 module _ (text : List ℕ) where

@@ -9,8 +9,8 @@ use Rattle.span_io.specs.declared.cause.Cause.{Cause}
 use Rattle.span_io.specs.declared.cause.Cause.TheVariants as causes
 use Rattle.span_io.specs.Offences.{Least}
 use Rattle.span_io.specs.Tables.{Singular, Twice, NotText, MeansText, Above}
-use Rattle.span_io.specs.laws.RowLaws.{singular_exists, twice_or, twice_only, not_text, some_text, above_or, not_above}
-use Rattle.span_io.specs.laws.TableDecisions.{Decided, DecidedHere, Clean, RowDecides}
+use Rattle.span_io.proofs.RowLaws.{singular_exists, twice_or, twice_only, not_text, some_text, above_or, not_above}
+use Rattle.span_io.proofs.TableDecisions.{Decided, DecidedHere, Clean, RowDecides}
 use Rattle.proto_wire.specs.Records.{Record}
 use Rattle.otlp_proto.specs.Identifiers.{MeansTraceId, MeansSpanId, WrongLength}
 use Rattle.otlp_proto.specs.Rows.{bytes_row, number_row, text, time, flags, count, enum, trace_id, span_id, message, messages_of, fixed64_in, fixed32_in, varint_in}

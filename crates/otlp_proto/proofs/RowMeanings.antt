@@ -5,8 +5,8 @@ use Rattle.std.specs.List.{AllZip}
 use Rattle.std.proofs.lemmas.Bool.{cases_eq}
 use Rattle.std.proofs.lemmas.List.Elements.{All-nil, All-cons}
 use Rattle.span_io.specs.Tables.{Singular, Twice, NotText, MeansText, Above}
-use Rattle.span_io.specs.laws.TableLaws.{RowMeaning}
-use Rattle.span_io.specs.laws.RowLaws.{all_zip_split, all_zip_once, singular_split, singular_once, singular_fine, EnumLaws}
+use Rattle.span_io.proofs.TableLaws.{RowMeaning}
+use Rattle.span_io.proofs.RowLaws.{all_zip_split, all_zip_once, singular_split, singular_once, singular_fine, EnumLaws}
 use Rattle.span_ids.specs.Identifiers.{IsIdText, SpellsTraceId, SpellsSpanId}
 use Rattle.proto_wire.specs.Records.{Record}
 use Rattle.otlp_proto.specs.Identifiers.{MeansTraceId, MeansSpanId, WrongLength}

@@ -1,11 +1,12 @@
 -- What is added in the messages that a row's records hold changes no meaning of the row, where it changes none of them.
 use Rattle.std.proofs.Common.{◌≡◌, ℕ, List, inl, subst}
-use Rattle.span_io.specs.laws.FreeItemLaws.{means_padded, items_given, padded_whole, same_offence}
-use Rattle.span_io.specs.FreeItems.{Paddings, TextPadded, SameOffence, RowPadding, TablePadding}
-use Rattle.span_io.specs.laws.OffenceLaws.{RulesLaws}
+use Rattle.span_io.proofs.FreeItemLaws.{means_padded, items_given, padded_whole, same_offence}
+use Rattle.span_io.specs.FreeItems.{Paddings, TextPadded}
+use Rattle.span_io.proofs.FreeItemLaws.{SameOffence, RowPadding, TablePadding}
+use Rattle.span_io.specs.Offences.{RulesLaws}
 use Rattle.span_io.specs.Offences.{Offence}
-use Rattle.span_io.specs.laws.RowLaws.{same_twice, singular_moves, all_zip_moves}
-use Rattle.span_io.specs.laws.TableDecisions.{TableDecides}
+use Rattle.span_io.proofs.RowLaws.{same_twice, singular_moves, all_zip_moves}
+use Rattle.span_io.proofs.TableDecisions.{TableDecides}
 use Rattle.span_io.specs.Tables.{Row, Values, Mean, givens, rules_by, no_ends}
 use Rattle.proto_wire.specs.Messages.{messages}
 use Rattle.proto_wire.specs.Records.{Record}

@@ -1,11 +1,12 @@
 -- What is proved of a row of OTLP's tables: where what stands inside it offends, that it has one meaning, that it is decided, and that free
 -- records inside it change nothing. A message has one list of these beside its table.
 use Rattle.std.proofs.Common.{◌≡◌, ◌≤◌, ℕ, ◌==◌, true, false, List, [], ◌∷◌, ap, ◌∙◌}
-use Rattle.span_io.specs.laws.FreeItemLaws.{equal_padding}
-use Rattle.span_io.specs.FreeItems.{Paddings, Same, RowPadding, TablePadding}
-use Rattle.span_io.specs.laws.RowLaws.{EnumLaws}
-use Rattle.span_io.specs.laws.TableDecisions.{RowDecides, TableDecides, Apart}
-use Rattle.span_io.specs.laws.TableLaws.{RowShape, TableShape, RowMeaning, TableMeaning}
+use Rattle.span_io.proofs.FreeItemLaws.{equal_padding}
+use Rattle.span_io.specs.FreeItems.{Paddings, Same}
+use Rattle.span_io.proofs.FreeItemLaws.{RowPadding, TablePadding}
+use Rattle.span_io.proofs.RowLaws.{EnumLaws}
+use Rattle.span_io.proofs.TableDecisions.{RowDecides, TableDecides, Apart}
+use Rattle.span_io.proofs.TableLaws.{RowShape, TableShape, RowMeaning, TableMeaning}
 use Rattle.span_io.specs.Tables.{Row, IsFree}
 use Rattle.proto_wire.specs.Messages.{messages}
 use Rattle.proto_wire.specs.Records.{Record}

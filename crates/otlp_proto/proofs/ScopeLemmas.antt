@@ -4,13 +4,13 @@ use Rattle.trace_model.specs.declared.noted.Noted.{Noted}
 use Rattle.trace_model.specs.declared.remark.Remark.{Remark}
 use Rattle.trace_model.specs.declared.span.Span.{Span}
 use Rattle.trace_model.specs.Notes.{SpanNotes}
-use Rattle.trace_model.specs.laws.ToldLaws.{span_added}
+use Rattle.trace_model.proofs.ToldLaws.{span_added}
 use Rattle.otlp_proto.specs.declared.reading.scope.SpanList.{SpanList}
-use Rattle.otlp_proto.specs.ReadParts.{IsReadSpan}
+use Rattle.otlp_proto.specs.private.ReadParts.{IsReadSpan}
 use Rattle.otlp_proto.specs.Rows.{MeansMessage}
-use Rattle.otlp_proto.specs.ScopeSoFar.{GatheredSpans}
+use Rattle.otlp_proto.specs.private.ScopeSoFar.{GatheredSpans}
 use Rattle.otlp_proto.specs.Span.{IsSpan}
-use Rattle.span_io.specs.laws.RowLaws.{all_zip_push}
+use Rattle.span_io.proofs.RowLaws.{all_zip_push}
 
 pub span_push : (first : ℕ) (earlier : List (List ℕ)) (held : List ℕ) (old new : SpanList) (number : ℕ) (read : Noted Span (List Remark)) → new.first ≡ old.first → new.spans ≡ old.spans ++ read.means ∷ [] → new.remarks ≡ old.remarks ++ read.notes
     → number ≡ old.first + length old.spans → IsReadSpan number read held → GatheredSpans first earlier old → GatheredSpans first (earlier ++ held ∷ []) new

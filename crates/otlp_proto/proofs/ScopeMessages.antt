@@ -8,7 +8,7 @@ use Rattle.span_io.specs.Tables.{Values, no_ends}
 use Rattle.trace_model.specs.Proper.{IsProperPair, AreProper, IsProperSpan, IsProperScope}
 use Rattle.trace_model.specs.Soundness.{IsSoundScope}
 use Rattle.trace_model.specs.declared.span.Span.{Span}
-use Rattle.trace_model.specs.declared.trace.Scope.{Scope}
+use Rattle.trace_model.specs.declared.group.Scope.{Scope}
 use Rattle.trace_model.specs.declared.value.Value.{Value}
 use Rattle.otlp_proto.specs.StatedLaws.{ReadingLaws}
 use Rattle.otlp_proto.specs.Attributes.{AttributesOf}
@@ -20,15 +20,15 @@ use Rattle.trace_model.specs.Notes.{SpanNotes, ScopeNotes}
 use Rattle.trace_model.specs.declared.noted.InstrumentationScope.{InstrumentationScope}
 use Rattle.trace_model.specs.OtlpParts.{no_instrumentation_scope}
 use Rattle.otlp_proto.specs.Span.{IsSpan}
-use Rattle.otlp_proto.specs.Texts.{filled_field, attributes_text, key_value_text, span_text, instrumentation_scope_text, scope_text}
+use Rattle.otlp_proto.specs.Canonical.{filled_field, attributes_text, key_value_text, span_text, instrumentation_scope_text, scope_text}
 use Rattle.otlp_proto.proofs.Bridges.{Bridge, read_back}
 use Rattle.otlp_proto.proofs.CanonicalLaws.{Laws}
 use Rattle.otlp_proto.proofs.FieldLemmas.{Fits}
 use Rattle.otlp_proto.proofs.Fronts.{front_none, rest_none, no_filled, no_count, no_list}
 use Rattle.otlp_proto.proofs.MessageProofs.{MessageProof, message_proof, messages_proof, never_ends, proved}
 use Rattle.otlp_proto.proofs.ProperLemmas.{singular_in_range, text_proper, count_proper}
-use Rattle.trace_model.specs.laws.PartLaws.{each_in_range}
-use Rattle.trace_model.specs.laws.RemarkLaws.{quiet, quiet_span, quiet_scope, mapped, all_back}
+use Rattle.trace_model.proofs.PartLaws.{each_in_range}
+use Rattle.trace_model.proofs.RemarkLaws.{quiet, quiet_span, quiet_scope, mapped, all_back}
 use Rattle.otlp_proto.proofs.Ranges.{AreBytes, AllInRange, wire_in_range, all_bytes}
 use Rattle.otlp_proto.proofs.RowProofs.{TableProof, text_proof, count_proof, attributes_proof}
 use Rattle.otlp_proto.proofs.SpanMessage.{span_proof, span_again, span_proper}

@@ -2,9 +2,9 @@
 -- search for the offence that counts asks it.
 use Rattle.std.proofs.Common.{◌≡◌, ℕ, zero, suc, ◌≤◌, inl, inr, ◌==◌, if◌then◌else◌, Bool, true, false, List, [], ◌∷◌, length, refl, ap, subst, arith}
 use Rattle.span_io.specs.Offences.{Offence}
-use Rattle.span_io.specs.laws.OffenceLaws.{FormatLaws, RulesLaws}
+use Rattle.span_io.specs.Offences.{FormatLaws, RulesLaws}
 use Rattle.span_io.specs.Tables.{Row, rules_by, no_ends}
-use Rattle.span_io.specs.laws.TableLaws.{IsFew, HasBareEnd, RowShape, TableShape, table_rules, message_within, message_late}
+use Rattle.span_io.proofs.TableLaws.{IsFew, HasBareEnd, RowShape, TableShape, table_rules, message_within, message_late}
 use Rattle.proto_wire.specs.Messages.{messages, inner_size, NoRecord}
 use Rattle.proto_wire.specs.Records.{Held, varint, fixed64, bytes, fixed32, Record}
 use Rattle.otlp_proto.specs.Attributes.{attributes, attribute_rules}

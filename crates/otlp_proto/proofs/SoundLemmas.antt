@@ -14,7 +14,7 @@ use Rattle.otlp_proto.specs.Rows.{bytes_of}
 use Rattle.otlp_proto.specs.Values.{Member, string_value, bool_value, int_value, double_value, array_value, kvlist_value, bytes_value, members_of, IsListText, IsMapText, MeansMember, IsValueText, IsKeyValueText, value_in, key_value_in, key_value_at}
 use Rattle.trace_model.specs.declared.noted.KeyValue.{KeyValue}
 use Rattle.trace_model.specs.OtlpParts.{NotedValue, leaf, entry, levels_below}
-use Rattle.trace_model.specs.laws.PartLaws.{Sound, kept_all}
+use Rattle.trace_model.proofs.PartLaws.{Sound, kept_all}
 
 pub each_all : {A B C : Type 0} (Is : A → B → Type 0) (f : B → C) (P : C → Type 0) → ((x : B) (a : A) → Is a x → P (f x)) → (held : List A) (xs : List B) → AllZip Is held xs → All P (map f xs)
 each_all Is f P so [] [] all = All-nil P

@@ -4,8 +4,8 @@ use Rattle.std.proofs.Common.{◌≡◌, ◌≢◌, ℕ, ◌⊎◌, inl, inr, Li
 use Rattle.std.proofs.lemmas.Bool.{cases_eq}
 use Rattle.span_io.specs.declared.cause.Cause.TheVariants as causes
 use Rattle.span_io.specs.FreeItems.{GivenPadded}
-use Rattle.span_io.specs.laws.RowLaws.{all_zip_equal, one_number}
-use Rattle.span_io.specs.laws.TableDecisions.{DecidedHere}
+use Rattle.span_io.proofs.RowLaws.{all_zip_equal, one_number}
+use Rattle.span_io.proofs.TableDecisions.{DecidedHere}
 use Rattle.span_io.specs.Tables.{Singular}
 use Rattle.span_ids.specs.StatedLaws.{IdentifiersReadBack}
 use Rattle.proto_wire.specs.Records.{Record}

@@ -2,7 +2,7 @@
 use Rattle.std.proofs.Common.{◌≡◌, ℕ, List, ◌++◌, sym, ap, subst, ◌∙◌, append_assoc}
 use Rattle.span_io.specs.Outside.{GrowsFront}
 use Rattle.trace_model.specs.declared.span.Span.{Span}
-use Rattle.otlp_proto.specs.Texts.{filled_field, count_field, time_field, flags_field, trace_field, span_field, parent_field, list_text, attributes_text, status_text, otlp_event_text, link_text, span_text}
+use Rattle.otlp_proto.specs.Canonical.{filled_field, count_field, time_field, flags_field, trace_field, span_field, parent_field, list_text, attributes_text, status_text, otlp_event_text, link_text, span_text}
 use Rattle.trace_model.specs.OtlpParts.{kind_number}
 use Rattle.otlp_proto.proofs.Growth.{joins_three, grows_first, grows_at_two, grows_at_three, grows_past_three, on_err_from}
 

@@ -12,10 +12,10 @@ use Rattle.trace_model.specs.Remarks.{Keys, equal_keys, link_dropped}
 use Rattle.trace_model.specs.GroupRemarks.{event_remarks, link_remarks, span_remarks}
 use Rattle.trace_model.specs.declared.noted.Noted.{Noted}
 use Rattle.trace_model.specs.Notes.{SpanNotes}
-use Rattle.trace_model.specs.laws.ToldLaws.{event_added, link_left_out, link_added}
-use Rattle.otlp_proto.specs.SpanSoFar.{GatheredEvents, GatheredLinks}
+use Rattle.trace_model.proofs.ToldLaws.{event_added, link_left_out, link_added}
+use Rattle.otlp_proto.specs.private.SpanSoFar.{GatheredEvents, GatheredLinks}
 use Rattle.otlp_proto.specs.Rows.{MeansMessage}
-use Rattle.span_io.specs.laws.RowLaws.{all_zip_push}
+use Rattle.span_io.proofs.RowLaws.{all_zip_push}
 
 module _ (span : ℕ) where
   -- ---- events

@@ -23,20 +23,20 @@ use Rattle.trace_model.specs.Remarks.{Keys}
 use Rattle.otlp_proto.specs.Rows.{bytes_of, varints_of, fixed64s_of, fixed32s_of, MeansMessage}
 use Rattle.otlp_proto.specs.Span.{IsSpan, span_table, span_padded, span_ends}
 use Rattle.otlp_proto.specs.Status.{IsStatus}
-use Rattle.otlp_proto.specs.Texts.{status_text, otlp_event_text, link_text, span_text}
+use Rattle.otlp_proto.specs.Canonical.{status_text, otlp_event_text, link_text, span_text}
 use Rattle.trace_model.specs.declared.noted.Noted.{Noted}
 use Rattle.trace_model.specs.Notes.{SpanNotes}
 use Rattle.trace_model.specs.OtlpParts.{kept_links, no_status, kind_number}
 use Rattle.otlp_proto.proofs.Bridges.{Bridge, read_back}
 use Rattle.otlp_proto.proofs.CanonicalLaws.{Laws}
-use Rattle.trace_model.specs.laws.OtlpEnums.{kind_laws, kind_numbered}
+use Rattle.trace_model.proofs.OtlpEnums.{kind_laws, kind_numbered}
 use Rattle.otlp_proto.proofs.EventMessage.{event_proof, event_again, event_proper}
 use Rattle.otlp_proto.proofs.FieldLemmas.{Fits}
 use Rattle.otlp_proto.proofs.LinkMessage.{link_proof, link_again, links_proper}
 use Rattle.otlp_proto.proofs.MessageProofs.{MessageProof, message_proof, messages_proof, proved}
 use Rattle.otlp_proto.proofs.ProperLemmas.{singular_in_range, text_proper, number_proper, count_proper, trace_proper, span_id_proper}
-use Rattle.trace_model.specs.laws.PartLaws.{each_in_range}
-use Rattle.trace_model.specs.laws.RemarkLaws.{quiet, quiet_link, quiet_span, mapped, all_back, links_back, links_noted, none_dropped}
+use Rattle.trace_model.proofs.PartLaws.{each_in_range}
+use Rattle.trace_model.proofs.RemarkLaws.{quiet, quiet_link, quiet_span, mapped, all_back, links_back, links_noted, none_dropped}
 use Rattle.otlp_proto.proofs.Ranges.{AreBytes, AllInRange, wire_in_range, all_bytes, all_times, all_flags}
 use Rattle.otlp_proto.proofs.RowProofs.{TableProof, text_proof, time_proof, flags_proof, count_proof, enum_proof, trace_id_proof, span_id_proof, attributes_proof}
 use Rattle.otlp_proto.proofs.SpanEnds.{span_end, known, known_trace, known_span, ends_moved, span_ends_well}

@@ -9,11 +9,11 @@ use Rattle.trace_model.specs.declared.span.Status.{Status}
 use Rattle.otlp_proto.specs.StatedLaws.{ReadingLaws}
 use Rattle.otlp_proto.specs.Rows.{bytes_of, MeansMessage}
 use Rattle.otlp_proto.specs.Status.{IsStatus, status_table, status_padded}
-use Rattle.otlp_proto.specs.Texts.{filled_field, count_field, status_text}
+use Rattle.otlp_proto.specs.Canonical.{filled_field, count_field, status_text}
 use Rattle.trace_model.specs.OtlpParts.{no_status, code_number}
 use Rattle.otlp_proto.proofs.Bridges.{Bridge, read_back}
 use Rattle.otlp_proto.proofs.CanonicalLaws.{Laws}
-use Rattle.trace_model.specs.laws.OtlpEnums.{code_laws, code_numbered}
+use Rattle.trace_model.proofs.OtlpEnums.{code_laws, code_numbered}
 use Rattle.otlp_proto.proofs.FieldLemmas.{Fits, record_of}
 use Rattle.otlp_proto.proofs.Fronts.{front_none, rest_none, record_some, no_filled}
 use Rattle.otlp_proto.proofs.MessageProofs.{MessageProof, never_ends, proved}

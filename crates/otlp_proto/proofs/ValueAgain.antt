@@ -19,10 +19,10 @@ use Rattle.trace_model.specs.declared.value.Value.{Value}
 use Rattle.trace_model.specs.declared.value.Value.TheVariants as values
 use Rattle.otlp_proto.specs.Attributes.{attribute_at, AttributesOf}
 use Rattle.otlp_proto.specs.Rows.{bytes_in}
-use Rattle.otlp_proto.specs.Texts.{bytes_field, list_text, truth_bit, value_text, key_value_text, attributes_text}
+use Rattle.otlp_proto.specs.Canonical.{bytes_field, list_text, truth_bit, value_text, key_value_text, attributes_text}
 use Rattle.otlp_proto.specs.Values.{Member, members_of, MeansMember, value_in, key_value_in, value_at, key_value_at, table_of_key_value}
 use Rattle.trace_model.specs.OtlpParts.{levels_below, NotedValue, leaf, entry}
-use Rattle.trace_model.specs.laws.PartLaws.{by_variant, some_depth, quiet_key_value, values_back, values_quiet, pairs_back, pairs_quiet}
+use Rattle.trace_model.proofs.PartLaws.{by_variant, some_depth, quiet_key_value, values_back, values_quiet, pairs_back, pairs_quiet}
 use Rattle.otlp_proto.proofs.CanonicalLaws.{Laws}
 use Rattle.otlp_proto.proofs.Fronts.{record_some}
 use Rattle.otlp_proto.proofs.FieldLemmas.{Fits, held_fits, list_fits, record_of, no_wire, one_wire, held_wire, list_wire}

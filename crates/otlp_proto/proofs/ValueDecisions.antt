@@ -9,10 +9,12 @@ use Rattle.span_io.specs.Causes.{cause_number}
 use Rattle.span_io.specs.declared.cause.Cause.{Cause}
 use Rattle.span_io.specs.declared.cause.Cause.TheVariants as causes
 use Rattle.span_io.specs.Offences.{Offence, Least}
-use Rattle.span_io.specs.laws.OffenceLaws.{RulesLaws}
+use Rattle.span_io.specs.Offences.{RulesLaws}
 use Rattle.span_io.specs.Tables.{Row, Singular, Twice, rules_by, no_ends}
-use Rattle.span_io.specs.laws.TableLaws.{TableShape, Whole}
-use Rattle.span_io.specs.laws.TableDecisions.{Decided, DecidedHere, Clean, RowDecides, TableDecides, Apart, Next, Means, decide_message}
+use Rattle.span_io.proofs.TableLaws.{TableShape}
+use Rattle.span_io.specs.Tables.{Whole}
+use Rattle.span_io.proofs.TableDecisions.{Decided, DecidedHere, Clean, RowDecides, TableDecides, Apart, Means, decide_message}
+use Rattle.span_io.specs.Tables.{Next}
 use Rattle.proto_wire.specs.Messages.{messages}
 use Rattle.proto_wire.specs.Records.{Held, varint, fixed64, bytes, fixed32, Record}
 use Rattle.proto_wire.specs.Wire.{Wire}
@@ -30,7 +32,7 @@ use Rattle.trace_model.specs.declared.noted.Noted.{Noted}
 use Rattle.trace_model.specs.declared.noted.KeyValue.{KeyValue}
 use Rattle.trace_model.specs.OtlpParts.{NotedValue, leaf, entry, keys_inside, levels_below}
 use Rattle.otlp_proto.proofs.RowDecisions.{Chosen, chosen_decided, text_decides, message_decides, all_of}
-use Rattle.span_io.specs.laws.RowLaws.{twice_or, one_number, not_text, utf8_or, singular_exists}
+use Rattle.span_io.proofs.RowLaws.{twice_or, one_number, not_text, utf8_or, singular_exists}
 use Rattle.otlp_proto.proofs.ValueReadings.{list_reads, map_reads, value_at_reads, key_value_at_reads, attribute_reads}
 
 -- a message's records, to its end

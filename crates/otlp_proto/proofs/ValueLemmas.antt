@@ -7,7 +7,7 @@ use Rattle.std.specs.List.{AllZip}
 use Rattle.span_io.specs.declared.cause.Cause.{Cause}
 use Rattle.span_io.specs.declared.halt.Halt.{Halt}
 use Rattle.span_io.specs.Offences.{Rules, Offence, HereOrInside, ItemOffends, Judges}
-use Rattle.span_io.specs.laws.OffenceLaws.{judged_inside}
+use Rattle.span_io.proofs.OffenceLaws.{judged_inside}
 use Rattle.span_io.specs.Tables.{Row, Twice, table_here, table_inside}
 use Rattle.proto_wire.specs.Messages.{messages}
 use Rattle.proto_wire.specs.Records.{bytes, Record}
@@ -17,10 +17,10 @@ use Rattle.otlp_proto.specs.Rows.{bytes_in, bytes_of}
 use Rattle.otlp_proto.specs.Values.{Member, MeansMember, value_in, key_value_in, value_at, key_value_at, value_offends, key_value_offends, value_rules, key_value_rules}
 use Rattle.trace_model.specs.declared.noted.KeyValue.{KeyValue}
 use Rattle.trace_model.specs.OtlpParts.{NotedValue, entry}
-use Rattle.trace_model.specs.laws.ToldLaws.{value_added, pair_added}
-use Rattle.otlp_proto.specs.ValuesSoFar.{GatheredMembers, GatheredField, GatheredList, GatheredMap}
-use Rattle.span_io.specs.laws.RowLaws.{all_zip_push, first_item}
-use Rattle.span_io.specs.laws.TableLaws.{flat_more}
+use Rattle.trace_model.proofs.ToldLaws.{value_added, pair_added}
+use Rattle.otlp_proto.specs.private.ValuesSoFar.{GatheredMembers, GatheredField, GatheredList, GatheredMap}
+use Rattle.span_io.proofs.RowLaws.{all_zip_push, first_item}
+use Rattle.span_io.proofs.TableLaws.{flat_more}
 
 -- nothing was given to a row that is not set
 pub no_member : (left : ℕ) (earlier : List Member) (row : Option NotedValue) → row ≡ None → GatheredMembers left earlier row → (n : ℕ) → Twice earlier n ⊎ ⊥ → ⊥

@@ -4,7 +4,8 @@ use Rattle.std.specs.Prelude.{◌↔◌, IsTrue}
 use Rattle.std.specs.List.{AllZip, flat_map}
 use Rattle.span_io.specs.Offences.{Offence}
 use Rattle.span_io.specs.Tables.{Singular, Twice, no_ends, MeansText}
-use Rattle.span_io.specs.laws.TableLaws.{RowMeaning, TableShape, TableMeaning, Whole, table_fine}
+use Rattle.span_io.proofs.TableLaws.{RowMeaning, TableShape, TableMeaning, table_fine}
+use Rattle.span_io.specs.Tables.{Whole}
 use Rattle.proto_wire.specs.Messages.{messages}
 use Rattle.proto_wire.specs.Records.{Record}
 use Rattle.proto_wire.specs.Wire.{Wire}
@@ -20,7 +21,7 @@ use Rattle.otlp_proto.specs.Values.{Member, string_value, bool_value, int_value,
 use Rattle.trace_model.specs.declared.noted.Noted.{Noted}
 use Rattle.trace_model.specs.declared.noted.KeyValue.{KeyValue}
 use Rattle.trace_model.specs.OtlpParts.{NotedValue, leaf, entry, keys_inside, IsNotedMap, AreNotedAttributes, levels_below}
-use Rattle.span_io.specs.laws.RowLaws.{all_zip_split, all_zip_once, singular_split, singular_once}
+use Rattle.span_io.proofs.RowLaws.{all_zip_split, all_zip_once, singular_split, singular_once}
 use Rattle.otlp_proto.proofs.RowMeanings.{Reads, text_meaning, message_meaning, repeated_meaning}
 
 -- a message's records, to its end

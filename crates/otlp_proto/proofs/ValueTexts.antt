@@ -2,7 +2,7 @@
 use Rattle.std.proofs.Common.{◌≡◌, ℕ, List, ◌++◌, sym, ap, ◌∙◌}
 use mathlib.Core.Former.{Count}
 use Rattle.trace_model.specs.declared.value.Value.{Value, List as Several, Map as Named, List', Map', Row_of-Value, end_of-Value, more_of-Value, Row_of-Value-Map-0-2, end_of-Value-Map-0-2, more_of-Value-Map-0-2, items-the_row-Value, items-the_row-Value-Map-0-2, items_hidden-the_row-Value-0, items_hidden-the_row-Value-Map-0-2-1}
-use Rattle.otlp_proto.specs.Texts.{bytes_field, list_text, value_text, members_text, entries_text, key_value_text, attributes_text}
+use Rattle.otlp_proto.specs.Canonical.{bytes_field, list_text, value_text, members_text, entries_text, key_value_text, attributes_text}
 use Rattle.otlp_proto.proofs.ListTexts.{list_none, list_first}
 
 abbrev row_of : Value → (n : Count) × Row_of-Value n

@@ -4,10 +4,10 @@ use Rattle.trace_model.specs.Proper.{AreProper}
 use Rattle.trace_model.specs.Values.{AreSound}
 use Rattle.trace_model.specs.declared.value.Value.{Value}
 use Rattle.otlp_proto.specs.Attributes.{attributes}
-use Rattle.otlp_proto.specs.Texts.{attributes_text, key_value_text}
+use Rattle.otlp_proto.specs.Canonical.{attributes_text, key_value_text}
 use Rattle.otlp_proto.proofs.CanonicalLaws.{Laws}
 use Rattle.otlp_proto.proofs.FieldLemmas.{IsSmall, list_wire}
-use Rattle.trace_model.specs.laws.RemarkLaws.{quiet}
+use Rattle.trace_model.proofs.RemarkLaws.{quiet}
 use Rattle.otlp_proto.proofs.ValueAgain.{attributes_again}
 use Rattle.otlp_proto.proofs.WrittenRows.{Written, of_bytes}
 

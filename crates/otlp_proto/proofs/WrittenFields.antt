@@ -12,9 +12,9 @@ use Rattle.proto_wire.specs.Wire.{SpellsRecord, record_text}
 use Rattle.span_ids.specs.Proper.{IsProperTraceId, IsProperParent}
 use Rattle.otlp_proto.specs.Identifiers.{MeansSpanId}
 use Rattle.otlp_proto.specs.Rows.{varint_in, fixed64_in, fixed32_in, MeansNumber, MeansCount, text, time, flags, count, enum, trace_id, span_id, message, messages_of}
-use Rattle.otlp_proto.specs.Texts.{filled_field, count_field, time_field, flags_field, trace_field, parent_field, list_text}
+use Rattle.otlp_proto.specs.Canonical.{filled_field, count_field, time_field, flags_field, trace_field, parent_field, list_text}
 use Rattle.otlp_proto.proofs.FieldLemmas.{Fits, filled_fits, list_fits, present, unless_zero, some, parent_held, IsSmall, field_number, held_wire, filled_wire, list_wire, parent_wire, number_wire}
-use Rattle.span_io.specs.laws.RowLaws.{EnumLaws}
+use Rattle.span_io.proofs.RowLaws.{EnumLaws}
 use Rattle.otlp_proto.proofs.WrittenRows.{Written, of_bytes, of_numbers, finds_varint, finds_fixed64, finds_fixed32}
 
 -- ---- what a row that may be left out means

@@ -13,9 +13,11 @@ use Rattle.trace_model.specs.declared.noted.Noted.{Noted}
 use Rattle.trace_model.specs.declared.noted.KeyValue.{KeyValue}
 use Rattle.trace_model.specs.OtlpParts.{entry, keys_inside, AreNotedAttributes, levels_below}
 
+-- the bytes are the `KeyValue` of an attribute, whose value has 23 levels of lists and maps left below it
 abbrev pub attribute_at : List ℕ → KeyValue → Type 0
 attribute_at held p = key_value_at levels_below held p
 
+-- how such a `KeyValue` offends, by its fields
 abbrev pub attribute_rules : Rules Record
 attribute_rules = key_value_rules levels_below
 
@@ -27,5 +29,6 @@ pub record AttributesOf (texts : List (List ℕ)) (attributes : List (List ℕ �
 
 -- repeated `KeyValue`s
 abbrev pub attributes : ℕ → Row Record
-attributes number = bytes_row number (Noted (List (List ℕ × Value)) Keys) (λ held a. AttributesOf held a.means a.notes) (λ earlier held n. ⊥)
+attributes number =
+    bytes_row number (Noted (List (List ℕ × Value)) Keys) (λ held a. AttributesOf held a.means a.notes) (λ earlier held n. ⊥)
     (λ held place n. Offence messages attribute_rules held place n)

@@ -19,9 +19,11 @@ pub record IsEvent (e : Noted Event Keys) (records : List Record) : Type 0 where
   pub attributes : AttributesOf (bytes_of 3 records) e.means.attributes e.notes
   pub dropped : Singular MeansCount (λ n. n ≡ 0) (varints_of 4 records) e.means.dropped
 
+-- the fields of `Span.Event`, a row each: `time_unix_nano` 1, `name` 2, `attributes` 3, `dropped_attributes_count` 4
 abbrev pub event_table : List (Row Record)
 event_table = time 1 ∷ text 2 ∷ attributes 3 ∷ count 4 ∷ []
 
+-- how a `Span.Event` offends: in its rows, and never by what it lacks at its end
 abbrev pub event_rules : Rules Record
 event_rules = rules_by event_table no_ends
 
@@ -29,5 +31,6 @@ event_rules = rules_by event_table no_ends
 abbrev pub event_padded : Paddings event_table
 event_padded = (Same, (Same, (AttributePadded, (Same, tt))))
 
+-- the bytes of an event, and the same with free records added at any depth
 abbrev pub EventPadded : List ℕ → List ℕ → Type 0
 EventPadded held other = TextPadded messages event_table event_padded held other

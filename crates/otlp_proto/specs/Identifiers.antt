@@ -2,13 +2,15 @@
 -- zeros, are no identifier.
 use Rattle.std.specs.Prelude.{◌≡◌, ◌≢◌, ℕ, List, [], length, Option, Result}
 use Rattle.span_io.specs.declared.cause.Cause.{Cause}
-use Rattle.span_io.specs.RowsSoFar.{JudgesSingular}
+use Rattle.span_io.specs.private.RowSteps.{JudgesSingular}
 use Rattle.span_ids.specs.Identifiers.{SpellsTraceId, SpellsSpanId}
 use Rattle.trace_model.specs.OtlpParts.{IsIdentifierOrNone}
 
+-- `trace_id`: 16 bytes are an identifier, the most significant byte first; no bytes, or 16 zeros, are none
 abbrev pub MeansTraceId : List ℕ → Option ℕ → Type 0
 MeansTraceId held id = IsIdentifierOrNone SpellsTraceId 0 16 held id
 
+-- `span_id` and `parent_span_id`: 8 bytes are an identifier, the most significant byte first; no bytes, or 8 zeros, are none
 abbrev pub MeansSpanId : List ℕ → Option ℕ → Type 0
 MeansSpanId held id = IsIdentifierOrNone SpellsSpanId 0 8 held id
 

@@ -29,9 +29,11 @@ pub record IsLink (l : Option (Noted Link Keys)) (records : List Record) : Type 
   pub flags : Singular MeansNumber (λ n. n ≡ 0) (fixed32s_of 6 records) parts.flags
   pub link : l ≡ link_of trace span parts
 
+-- the fields of `Span.Link`, a row each, from `trace_id` 1 to `flags` 6
 abbrev pub link_table : List (Row Record)
 link_table = trace_id 1 ∷ span_id 2 ∷ text 3 ∷ attributes 4 ∷ count 5 ∷ flags 6 ∷ []
 
+-- how a `Span.Link` offends: in its rows, and never by what it lacks at its end, since one without an identifier is dropped
 abbrev pub link_rules : Rules Record
 link_rules = rules_by link_table no_ends
 
@@ -39,5 +41,6 @@ link_rules = rules_by link_table no_ends
 abbrev pub link_padded : Paddings link_table
 link_padded = (Same, (Same, (Same, (AttributePadded, (Same, (Same, tt))))))
 
+-- the bytes of a link, and the same with free records added at any depth
 abbrev pub LinkPadded : List ℕ → List ℕ → Type 0
 LinkPadded held other = TextPadded messages link_table link_padded held other

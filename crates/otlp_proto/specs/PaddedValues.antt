@@ -18,21 +18,26 @@ MemberPadded InList InMap this member = member ≡ this
 abbrev pub table_of_list : ℕ → List (Row Record)
 table_of_list left = many_table left NotedValue (value_in left) (value_offends left)
 
+-- the fields of a `KeyValueList` below which so many levels are left: `values` 1, each a `KeyValue`
 abbrev pub table_of_map : ℕ → List (Row Record)
 table_of_map left = many_table left KeyValue (key_value_in left) (key_value_offends left)
 
 -- ---- at a level, by what is added in the values and the `KeyValue`s that stand in a list or map there
 
 module _ (left : ℕ) (InValue InPair : List ℕ → List ℕ → Type 0) where
+  -- an `ArrayValue`: free records added to it, and to its values as `InValue` says
   abbrev pub ListPaddedBy : List ℕ → List ℕ → Type 0
   ListPaddedBy held other = TextPadded messages (table_of_list left) (InValue, tt) held other
 
+  -- a `KeyValueList`: free records added to it, and to its `KeyValue`s as `InPair` says
   abbrev pub MapPaddedBy : List ℕ → List ℕ → Type 0
   MapPaddedBy held other = TextPadded messages (table_of_map left) (InPair, tt) held other
 
+  -- an `AnyValue`: free records added to it, and to the list or map that it holds
   abbrev pub ValuePaddedBy : List ℕ → List ℕ → Type 0
   ValuePaddedBy held other = TextPadded messages (table_of_value left) (MemberPadded ListPaddedBy MapPaddedBy, tt) held other
 
+  -- a `KeyValue`: free records added to it, and to its `value` 2; its `key` 1 is as it was
   abbrev pub KeyValuePaddedBy : List ℕ → List ℕ → Type 0
   KeyValuePaddedBy held other = TextPadded messages (table_of_key_value left) ((λ x y. x ≡ y), (ValuePaddedBy, tt)) held other
 
@@ -49,15 +54,19 @@ unfoldable mutual
 
 -- ---- a list, a map, and a value and a `KeyValue` with such a value, below which so many levels are left
 
+-- an `ArrayValue`, and the same with free records added in it, down through the levels that are left
 abbrev pub ListPadded : ℕ → List ℕ → List ℕ → Type 0
 ListPadded left held other = ListPaddedBy left (value_padded left) (key_value_padded left) held other
 
+-- a `KeyValueList`, and the same with free records added in it, down through the levels that are left
 abbrev pub MapPadded : ℕ → List ℕ → List ℕ → Type 0
 MapPadded left held other = MapPaddedBy left (value_padded left) (key_value_padded left) held other
 
+-- an `AnyValue`, and the same with free records added in it, down through the levels that are left
 abbrev pub ValuePadded : ℕ → List ℕ → List ℕ → Type 0
 ValuePadded left held other = ValuePaddedBy left (value_padded left) (key_value_padded left) held other
 
+-- a `KeyValue`, and the same with free records added in it, down through the levels that are left
 abbrev pub KeyValuePadded : ℕ → List ℕ → List ℕ → Type 0
 KeyValuePadded left held other = KeyValuePaddedBy left (value_padded left) (key_value_padded left) held other
 
@@ -65,6 +74,7 @@ KeyValuePadded left held other = KeyValuePaddedBy left (value_padded left) (key_
 abbrev pub value_paddings : (left : ℕ) → Paddings (table_of_value left)
 value_paddings left = (MemberPadded (ListPadded left) (MapPadded left), tt)
 
+-- a `KeyValue`: its `key` 1 is as it was, and records may be added in its `value` 2
 abbrev pub key_value_paddings : (left : ℕ) → Paddings (table_of_key_value left)
 key_value_paddings left = ((λ x y. x ≡ y), (ValuePadded left, tt))
 

@@ -51,12 +51,15 @@ fixed32_in number r = of r.held
 abbrev pub bytes_of : ℕ → List Record → List (List ℕ)
 bytes_of number records = flat_map (bytes_in number) records
 
+-- the same of wire type 0: the numbers of the varints with this field number
 abbrev pub varints_of : ℕ → List Record → List ℕ
 varints_of number records = flat_map (varint_in number) records
 
+-- the same of wire type 1: the numbers of 8 bytes with this field number
 abbrev pub fixed64s_of : ℕ → List Record → List ℕ
 fixed64s_of number records = flat_map (fixed64_in number) records
 
+-- the same of wire type 5: the numbers of 4 bytes with this field number
 abbrev pub fixed32s_of : ℕ → List Record → List ℕ
 fixed32s_of number records = flat_map (fixed32_in number) records
 
@@ -76,7 +79,10 @@ MeansCount n count = count ≡ n % 2 ^ 32
 
 -- ---- rows by wire type
 
-abbrev pub bytes_row : ℕ → (B : Type 0) → (List (List ℕ) → B → Type 0) → (List (List ℕ) → List ℕ → ℕ → Type 0) → (List ℕ → ℕ → ℕ → Type 0) → Row Record
+-- the row of a field of wire type 2, by its number: what all its records mean together, how one offends behind earlier ones,
+-- and how the message that it holds offends
+abbrev pub bytes_row : ℕ → (B : Type 0) → (List (List ℕ) → B → Type 0) → (List (List ℕ) → List ℕ → ℕ → Type 0)
+    → (List ℕ → ℕ → ℕ → Type 0) → Row Record
 bytes_row number B Means Here Inside = record {
   Given = List ℕ;
   given = λ r. bytes_in number r;
@@ -105,15 +111,18 @@ text number = bytes_row number (List ℕ) (λ held t. Singular MeansText (λ x. 
 
 -- fixed64, a time
 abbrev pub time : ℕ → Row Record
-time number = number_row (fixed64_in number) ℕ (λ held n. Singular MeansNumber (λ x. x ≡ 0) held n) (λ earlier k n. Twice earlier n)
+time number =
+    number_row (fixed64_in number) ℕ (λ held n. Singular MeansNumber (λ x. x ≡ 0) held n) (λ earlier k n. Twice earlier n)
 
 -- fixed32
 abbrev pub flags : ℕ → Row Record
-flags number = number_row (fixed32_in number) ℕ (λ held n. Singular MeansNumber (λ x. x ≡ 0) held n) (λ earlier k n. Twice earlier n)
+flags number =
+    number_row (fixed32_in number) ℕ (λ held n. Singular MeansNumber (λ x. x ≡ 0) held n) (λ earlier k n. Twice earlier n)
 
 -- uint32
 abbrev pub count : ℕ → Row Record
-count number = number_row (varint_in number) ℕ (λ held n. Singular MeansCount (λ x. x ≡ 0) held n) (λ earlier k n. Twice earlier n)
+count number =
+    number_row (varint_in number) ℕ (λ held n. Singular MeansCount (λ x. x ≡ 0) held n) (λ earlier k n. Twice earlier n)
 
 -- an enum of 0 to `last`, by the number of each of its values
 abbrev pub enum : ℕ → ℕ → (E : Type 0) → (E → ℕ) → E → Row Record
@@ -129,7 +138,8 @@ span_id number = bytes_row number (Option ℕ) (λ held id. Singular MeansSpanId
 
 -- one message, with what its absence means
 abbrev pub message : ℕ → (B : Type 0) → (List ℕ → B → Type 0) → B → (List ℕ → ℕ → ℕ → Type 0) → Row Record
-message number B Means absent Offends = bytes_row number B (λ held x. Singular Means (λ y. y ≡ absent) held x) (λ earlier held n. Twice earlier n) Offends
+message number B Means absent Offends =
+    bytes_row number B (λ held x. Singular Means (λ y. y ≡ absent) held x) (λ earlier held n. Twice earlier n) Offends
 
 -- repeated messages
 abbrev pub messages_of : ℕ → (B : Type 0) → (List ℕ → B → Type 0) → (List ℕ → ℕ → ℕ → Type 0) → Row Record

@@ -26,6 +26,7 @@ use Rattle.trace_model.specs.declared.noted.Noted.{Noted}
 use Rattle.trace_model.specs.Notes.{SpanNotes}
 use Rattle.trace_model.specs.OtlpParts.{no_status, kind_number, AreEventsOf, AreLinksOf}
 
+-- the varint of `kind` is the number of this `Span.SpanKind`; it isn't cut to 32 bits, as a count is
 abbrev pub MeansKind : ℕ → Kind → Type 0
 MeansKind n kind = n ≡ kind_number kind
 
@@ -52,10 +53,13 @@ pub record IsSpan (s : Noted Span SpanNotes) (records : List Record) : Type 0 wh
   pub status : Singular (λ held status. MeansMessage IsStatus held status) (λ status. status ≡ no_status) (bytes_of 15 records) s.means.status
   pub flags : Singular MeansNumber (λ n. n ≡ 0) (fixed32s_of 16 records) s.means.flags
 
+-- the fields of `Span`, a row each, by rising number from `trace_id` 1 to `flags` 16
 abbrev pub span_table : List (Row Record)
 span_table = trace_id 1 ∷ span_id 2 ∷ text 3 ∷ span_id 4 ∷ text 5 ∷ enum 6 5 Kind kind_number kinds.Unspecified ∷ time 7 ∷ time 8
-    ∷ attributes 9 ∷ count 10 ∷ messages_of 11 (Noted Event Keys) (MeansMessage IsEvent) (λ held p n. Offence messages event_rules held p n) ∷ count 12
-    ∷ messages_of 13 (Option (Noted Link Keys)) (MeansMessage IsLink) (λ held p n. Offence messages link_rules held p n) ∷ count 14
+    ∷ attributes 9 ∷ count 10
+    ∷ messages_of 11 (Noted Event Keys) (MeansMessage IsEvent) (λ held p n. Offence messages event_rules held p n) ∷ count 12
+    ∷ messages_of 13 (Option (Noted Link Keys)) (MeansMessage IsLink) (λ held p n. Offence messages link_rules held p n)
+    ∷ count 14
     ∷ message 15 Status (MeansMessage IsStatus) no_status (λ held p n. Offence messages status_rules held p n) ∷ flags 16 ∷ []
 
 -- BadId: the span has no trace id, or no span id
@@ -63,6 +67,7 @@ abbrev pub span_ends : List Record → ℕ → Type 0
 span_ends seen number = (number ≡ 12)
     × (Singular MeansTraceId (λ id. id ≡ None) (bytes_of 1 seen) None ⊎ Singular MeansSpanId (λ id. id ≡ None) (bytes_of 2 seen) None)
 
+-- how a `Span` offends: in its rows, and at its end where it has no trace id or no span id
 abbrev pub span_rules : Rules Record
 span_rules = rules_by span_table span_ends
 
@@ -70,5 +75,6 @@ span_rules = rules_by span_table span_ends
 abbrev pub span_padded : Paddings span_table
 span_padded = (Same, (Same, (Same, (Same, (Same, (Same, (Same, (Same, (AttributePadded, (Same, (EventPadded, (Same, (LinkPadded, (Same, (StatusPadded, (Same, tt))))))))))))))))
 
+-- the bytes of a span, and the same with free records added at any depth
 abbrev pub SpanPadded : List ℕ → List ℕ → Type 0
 SpanPadded held other = TextPadded messages span_table span_padded held other

@@ -36,11 +36,13 @@ member_in r = of r.held
         (if r.number == 6 then kvlist_value held ∷ [] else (if r.number == 7 then bytes_value held ∷ [] else [])))
     of (fixed32 n) = []
 
+-- the members that these records are, in their order; records that are none are passed over
 abbrev pub members_of : List Record → List Member
 members_of records = flat_map member_in records
 
 -- ---- what bytes mean: a value, and the keys that stand more than once in a map inside it
 
+-- the bytes are an `ArrayValue` of this list: each of its `values` 1 is a member, as `IsValue` says
 pub record IsListText (IsValue : List ℕ → NotedValue → Type 0) (text : List ℕ) (r : NotedValue) : Type 0 where
   pub records : List Record
   pub wire : Wire records text
@@ -48,6 +50,8 @@ pub record IsListText (IsValue : List ℕ → NotedValue → Type 0) (text : Lis
   pub each : AllZip IsValue (bytes_of 1 records) members
   pub make : IsNotedList members r
 
+-- the bytes are a `KeyValueList` of this map: each of its `values` 1 is a pair, as `IsKeyValue` says, and of equal keys the last
+-- value is kept
 pub record IsMapText (IsKeyValue : List ℕ → KeyValue → Type 0) (text : List ℕ) (r : NotedValue) : Type 0 where
   pub records : List Record
   pub wire : Wire records text
@@ -65,11 +69,14 @@ MeansMember IsValue IsKeyValue (array_value held) r = IsListText IsValue held r
 MeansMember IsValue IsKeyValue (kvlist_value held) r = IsMapText IsKeyValue held r
 MeansMember IsValue IsKeyValue (bytes_value held) r = r ≡ leaf (values.Bytes held)
 
-pub record IsValueText (IsValue : List ℕ → NotedValue → Type 0) (IsKeyValue : List ℕ → KeyValue → Type 0) (text : List ℕ) (r : NotedValue) : Type 0 where
+-- the bytes are an `AnyValue`: of its members one at most stands, and without one the value is nothing
+pub record IsValueText (IsValue : List ℕ → NotedValue → Type 0) (IsKeyValue : List ℕ → KeyValue → Type 0) (text : List ℕ)
+    (r : NotedValue) : Type 0 where
   pub records : List Record
   pub wire : Wire records text
   pub value : Singular (MeansMember IsValue IsKeyValue) (λ x. x ≡ leaf values.Nothing) (members_of records) r
 
+-- the bytes are a `KeyValue`: `key` 1, a text, empty if absent, and `value` 2, nothing if absent; neither stands twice
 pub record IsKeyValueText (IsValue : List ℕ → NotedValue → Type 0) (text : List ℕ) (p : KeyValue) : Type 0 where
   pub records : List Record
   pub wire : Wire records text
@@ -91,6 +98,7 @@ unfoldable mutual
 abbrev pub value_at : ℕ → List ℕ → NotedValue → Type 0
 value_at left text r = IsValueText (value_in left) (key_value_in left) text r
 
+-- a `KeyValue` whose value has so many levels left below it
 abbrev pub key_value_at : ℕ → List ℕ → KeyValue → Type 0
 key_value_at left text p = IsKeyValueText (λ held r. value_at left held r) text p
 
@@ -108,7 +116,8 @@ InMember InList InMap (kvlist_value held) place number = InMap held place number
 InMember InList InMap other place number = ⊥
 
 -- `AnyValue`: all its members are one row
-abbrev pub value_table : (List ℕ → NotedValue → Type 0) → (List ℕ → KeyValue → Type 0) → (List ℕ → ℕ → ℕ → Type 0) → (List ℕ → ℕ → ℕ → Type 0) → List (Row Record)
+abbrev pub value_table : (List ℕ → NotedValue → Type 0) → (List ℕ → KeyValue → Type 0) → (List ℕ → ℕ → ℕ → Type 0)
+    → (List ℕ → ℕ → ℕ → Type 0) → List (Row Record)
 value_table IsValue IsKeyValue InList InMap = record {
   Given = Member;
   given = λ r. member_in r;
@@ -120,7 +129,8 @@ value_table IsValue IsKeyValue InList InMap = record {
 
 -- `ArrayValue` and `KeyValueList`; TooDeep: a record with no level left below the list or map
 abbrev pub many_table : ℕ → (B : Type 0) → (List ℕ → B → Type 0) → (List ℕ → ℕ → ℕ → Type 0) → List (Row Record)
-many_table left B Means Offends = bytes_row 1 (List B) (λ held xs. AllZip Means held xs) (λ earlier held n. (n ≡ 5) × (left ≡ 0)) Offends ∷ []
+many_table left B Means Offends =
+    bytes_row 1 (List B) (λ held xs. AllZip Means held xs) (λ earlier held n. (n ≡ 5) × (left ≡ 0)) Offends ∷ []
 
 -- `KeyValue`
 abbrev pub key_value_table : (List ℕ → NotedValue → Type 0) → (List ℕ → ℕ → ℕ → Type 0) → List (Row Record)
@@ -143,14 +153,17 @@ unfoldable mutual
   -- how a `KeyValue` does in such a map
   pub key_value_offends : ℕ → List ℕ → ℕ → ℕ → Type 0
   key_value_offends zero held place number = ⊥
-  key_value_offends (suc left) held place number = Offence messages (rules_by (key_value_table (λ inner r. IsValueText (value_in left) (key_value_in left) inner r)
+  key_value_offends (suc left) held place number =
+      Offence messages (rules_by (key_value_table (λ inner r. IsValueText (value_in left) (key_value_in left) inner r)
       (λ inside q m. Offence messages (rules_by (value_table (value_in left) (key_value_in left)
       (λ inner p n. Offence messages (many_rules left NotedValue (value_in left) (value_offends left)) inner p n)
       (λ inner p n. Offence messages (many_rules left KeyValue (key_value_in left) (key_value_offends left)) inner p n)) no_ends) inside q m)) no_ends) held place number
 
+-- how an `ArrayValue` offends that has so many levels left below it
 abbrev pub list_rules : ℕ → Rules Record
 list_rules left = many_rules left NotedValue (value_in left) (value_offends left)
 
+-- how a `KeyValueList` offends that has so many levels left below it
 abbrev pub map_rules : ℕ → Rules Record
 map_rules left = many_rules left KeyValue (key_value_in left) (key_value_offends left)
 
@@ -158,11 +171,15 @@ map_rules left = many_rules left KeyValue (key_value_in left) (key_value_offends
 abbrev pub table_of_value : ℕ → List (Row Record)
 table_of_value left = value_table (value_in left) (key_value_in left) (λ held p n. Offence messages (list_rules left) held p n) (λ held p n. Offence messages (map_rules left) held p n)
 
+-- how an `AnyValue` offends that has so many levels left below it
 abbrev pub value_rules : ℕ → Rules Record
 value_rules left = rules_by (table_of_value left) no_ends
 
+-- the fields of a `KeyValue`, a row each: `key` 1, and `value` 2, below which so many levels are left
 abbrev pub table_of_key_value : ℕ → List (Row Record)
-table_of_key_value left = key_value_table (λ held r. value_at left held r) (λ held p n. Offence messages (value_rules left) held p n)
+table_of_key_value left =
+    key_value_table (λ held r. value_at left held r) (λ held p n. Offence messages (value_rules left) held p n)
 
+-- how a `KeyValue` offends whose value has so many levels left below it
 abbrev pub key_value_rules : ℕ → Rules Record
 key_value_rules left = rules_by (table_of_key_value left) no_ends

@@ -3,17 +3,19 @@ ghost use Rattle.std.specs.Prelude.{◌≡◌, ◌<◌, ◌^◌, ℕ, List, [], 
 ghost use Rattle.trace_model.specs.Proper.{IsProperGroup};
 ghost use Rattle.trace_model.specs.Soundness.{IsSoundGroup};
 ghost use Rattle.trace_model.specs.declared.remark.Remark.{Remark};
-ghost use Rattle.trace_model.specs.declared.trace.Group.{Group};
+ghost use Rattle.trace_model.specs.declared.group.Group.{Group};
 ghost use Rattle.otlp_proto.specs.Group.{IsGroupText};
 ghost use Rattle.otlp_proto.specs.StatedLaws.{ReadingLaws, MessageRules, OneGroup, SomeGroup, FreeRecords, FreeAnywhere};
-ghost use Rattle.otlp_proto.specs.Texts.{bytes_field, list_text, value_text, attributes_text, group_text, group_record};
+ghost use Rattle.otlp_proto.specs.Canonical.{bytes_field, list_text, value_text, attributes_text, group_text, group_record};
 
 use trace_model::Value;
 
 /// The text of a list and of a map, by its members.
 pub fn values_by_members()
-    ensures list { (members : List Value) → value_text (Value.List members) ≡ bytes_field 5 (list_text 1 value_text members) }
-    ensures map { (pairs : List (List ℕ × Value)) → value_text (Value.Map pairs) ≡ bytes_field 6 (attributes_text 1 pairs) }
+    ensures list { (members : List Value)
+        → value_text (Value.List members) ≡ bytes_field 5 (list_text 1 value_text members) }
+    ensures map { (pairs : List (List ℕ × Value))
+        → value_text (Value.Map pairs) ≡ bytes_field 6 (attributes_text 1 pairs) }
 {
     // The clauses are the law.
 }
@@ -32,7 +34,8 @@ pub fn written_again()
 
 /// What is read of bytes is proper.
 pub fn read_proper()
-    ensures { (text : List ℕ) (g : Group) (r : List Remark) → All (λ b. b < 256) text → IsGroupText g r text → IsProperGroup g }
+    ensures { (text : List ℕ) (g : Group) (r : List Remark) → All (λ b. b < 256) text
+        → IsGroupText g r text → IsProperGroup g }
 {
     trace_model::laws::members_of_proper_values();
 }

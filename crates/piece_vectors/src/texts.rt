@@ -1,7 +1,6 @@
 //! What the texts of a row say: worked texts by their names, words, numbers and forms.
-use row_tables::{Row, unescaped};
+use row_tables::{Row, texts, unescaped};
 use span_io::{Blob, Form};
-use span_vectors::texts;
 use std::alloc::Global;
 use std::test::Fail;
 

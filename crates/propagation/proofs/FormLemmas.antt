@@ -5,7 +5,7 @@ use Rattle.propagation.specs.Blocks.{Header}
 use Rattle.propagation.specs.Uber.{ReadsUber}
 use Rattle.propagation.specs.Traceparent.{ReadsTraceparent}
 use Rattle.propagation.specs.Heads.{StandsOnce, header_values, uber_name, traceparent_name}
-use Rattle.propagation.specs.HeadAnswers.{TellsNone, AnswersStateless}
+use Rattle.propagation.specs.private.HeadSteps.{TellsNone, AnswersStateless}
 use Rattle.propagation.specs.declared.header_form.HeaderForm.{HeaderForm}
 use Rattle.propagation.specs.declared.header_form.HeaderForm.TheVariants as forms
 use Rattle.propagation.specs.declared.ids.Ids.{Ids}

@@ -1,7 +1,7 @@
 -- Header lines, part by part.
 use Rattle.std.proofs.Common.{◌≡◌, ◌≢◌, ◌≤◌, ℕ, List, [], ◌∷◌, ◌++◌, length, ap, subst, arith}
 use Rattle.propagation.specs.Fronts.{Leads}
-use Rattle.propagation.specs.Tracestate.{Trims}
+use Rattle.propagation.specs.private.Trimming.{Trims}
 use Rattle.propagation.specs.Blocks.{Header, HeaderLine, HasHeaders, IsNameByte, IsHeaderLine, header_line_text}
 use Rattle.propagation.specs.Blocks.HeaderLine.{empty, told}
 use Rattle.propagation.specs.private.HeaderLines.{CutsLine, HeadersThen, IsToldLine}

@@ -3,7 +3,7 @@ use Rattle.std.proofs.Common.{◌≡◌, ℕ, List, sym, subst}
 use Rattle.std.specs.Prelude.{Option, None}
 use Rattle.propagation.specs.Blocks.{Header}
 use Rattle.propagation.specs.Heads.{TellsMulti, TellsMultiSampling}
-use Rattle.propagation.specs.HeadAnswers.{AnswersStateless}
+use Rattle.propagation.specs.private.HeadSteps.{AnswersStateless}
 use Rattle.propagation.specs.declared.header_form.HeaderForm.TheVariants as forms
 use Rattle.propagation.specs.declared.ids.Ids.{Ids}
 use Rattle.propagation.specs.declared.sampling.Sampling.{Sampling}

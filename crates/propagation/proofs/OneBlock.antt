@@ -5,7 +5,8 @@ use Rattle.std.specs.List.{flat_map}
 use Rattle.std.proofs.lemmas.List.{length-append, append-nil, append_cancel_right}
 use Rattle.std.proofs.lemmas.List.Elements.{All-append, All-cons, All-nil, All-head, All-tail, All-same, All-weaker}
 use Rattle.propagation.specs.Fronts.{BeginsWithout}
-use Rattle.propagation.specs.Tracestate.{IsBlank, Trims}
+use Rattle.propagation.specs.Tracestate.{IsBlank}
+use Rattle.propagation.specs.private.Trimming.{Trims}
 use Rattle.propagation.specs.Blocks.{Header, HeaderLine, HeaderEnd, IsNameByte, IsValueByte, IsHeaderLine, HasHeaders, header_line_text, ended_line_text, line_headers}
 use Rattle.propagation.specs.Blocks.HeaderLine.{empty, told}
 use Rattle.propagation.specs.Blocks.HeaderEnd.{crlf, lf}

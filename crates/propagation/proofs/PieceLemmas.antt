@@ -8,7 +8,8 @@ use Rattle.std.proofs.lemmas.List.{append-nil, append_assoc, drop_more, length-a
 use Rattle.std.proofs.lemmas.List.Elements.{All-append, All-cons, All-head, All-nil, All-tail, All-weaker}
 use Rattle.std.proofs.lemmas.List.Splits.{slice_split_none, slice_split_at, join_with_byte-slice_split}
 use Rattle.propagation.specs.Fronts.{BeginsWithout, Leads}
-use Rattle.propagation.specs.Tracestate.{IsBlank, Trims, StateMember, IsStateMember, state_member_text, StateEntry, IsStateEntry, IsListedMember, listed_member_text, state_entry_text, AreStateMembers, ListsMembers}
+use Rattle.propagation.specs.Tracestate.{IsBlank, StateMember, IsStateMember, state_member_text, StateEntry, IsStateEntry, IsListedMember, listed_member_text, state_entry_text, AreStateMembers, ListsMembers}
+use Rattle.propagation.specs.private.Trimming.{Trims}
 use Rattle.propagation.proofs.FrontLemmas.{leads_to}
 use Rattle.propagation.proofs.MemberLemmas.{state_key_plain}
 use Rattle.propagation.proofs.StateTexts.{IsPlain, member_plain, member_begins, member_ends}

@@ -6,7 +6,7 @@ use Rattle.std.proofs.lemmas.Grind.{flat_map-append}
 use Rattle.std.proofs.lemmas.List.{append-nil}
 use Rattle.propagation.specs.Blocks.{Header}
 use Rattle.propagation.specs.Heads.{TellsState, header_values, tracestate_name}
-use Rattle.propagation.specs.HeadAnswers.{behind_commas, IsStateOf}
+use Rattle.propagation.specs.private.HeadSteps.{behind_commas, IsStateOf}
 use Rattle.propagation.proofs.FoundLemmas.{more_values}
 
 -- the values joined by commas, with one comma more in front

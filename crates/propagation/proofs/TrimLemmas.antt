@@ -4,7 +4,8 @@ use Rattle.std.specs.Prelude.{All}
 use Rattle.std.proofs.lemmas.List.{drop_at, reverse-append, reverse-reverse}
 use Rattle.std.proofs.lemmas.List.Elements.{All-append, All-drop, All-head, All-push, All-same, All-tail}
 use Rattle.propagation.specs.Fronts.{Leads}
-use Rattle.propagation.specs.Tracestate.{IsBlank, Trims}
+use Rattle.propagation.specs.Tracestate.{IsBlank}
+use Rattle.propagation.specs.private.Trimming.{Trims}
 use Rattle.propagation.proofs.FrontLemmas.{leads_to}
 
 pub all_reverse : (P : ℕ → Type 0) (xs : List ℕ) → All P xs → All P (reverse xs)

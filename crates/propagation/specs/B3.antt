@@ -20,7 +20,9 @@ IsB3State text Debug = text ≡ codes "d"
 abbrev pub IsB3End : List ℕ → Sampling → Option ℕ → Type 0
 IsB3End end Absent None = end ≡ []
 IsB3End end sampling None = (state : List ℕ) × IsB3State state sampling × (end ≡ dash ∷ state)
-IsB3End end sampling (Some id) = (state parent : List ℕ) × IsB3State state sampling × SpellsInHex Exact 16 parent id × (end ≡ dash ∷ join_with_byte dash (state ∷ parent ∷ []))
+IsB3End end sampling (Some id) =
+    (state parent : List ℕ) × IsB3State state sampling × SpellsInHex Exact 16 parent id
+    × (end ≡ dash ∷ join_with_byte dash (state ∷ parent ∷ []))
 
 -- the value is of the form, and tells these identifiers, if any, and this sampling
 abbrev pub ReadsB3 : List ℕ → Option Ids → Sampling → Type 0
@@ -31,6 +33,7 @@ ReadsB3 value (Some ids) sampling =
 
 -- ---- what is written
 
+-- SamplingState as it is written: one character, or nothing where nothing is said of sampling
 abbrev pub b3_state : Sampling → List ℕ
 b3_state Absent = []
 b3_state No = codes "0"
@@ -43,6 +46,7 @@ b3_end Absent parent = []
 b3_end sampling None = b3_state sampling ∷ []
 b3_end sampling (Some id) = b3_state sampling ∷ span_digits id ∷ []
 
+-- the value of `b3`: the identifiers in all their digits with what stands behind them, or the state alone where there are none
 abbrev pub b3_text : Option Ids → Sampling → List ℕ
 b3_text None sampling = b3_state sampling
 b3_text (Some ids) sampling = join_with_byte dash (trace_digits ids.trace ∷ span_digits ids.span ∷ b3_end sampling ids.parent)
@@ -52,6 +56,7 @@ abbrev pub b3_parent : Sampling → Option ℕ → Option ℕ
 b3_parent Absent parent = None
 b3_parent sampling parent = parent
 
+-- what the form holds of identifiers: all but a parent that would stand without a state
 abbrev pub b3_ids : Option Ids → Sampling → Option Ids
 b3_ids None sampling = None
 b3_ids (Some ids) sampling = Some (record ids { parent = b3_parent sampling ids.parent })

@@ -8,6 +8,7 @@ use Rattle.propagation.specs.Fronts.{BeginsWithout}
 use Rattle.propagation.specs.Tracestate.{IsBlank}
 use Rattle.propagation.specs.Uber.{colon}
 
+-- a header: its name, and its value without the blanks round it
 pub record Header : Type 0 where
   pub name : List ℕ
   pub value : List ℕ
@@ -32,14 +33,17 @@ pub data HeaderLine : Type 0 where
   empty : HeaderLine
   told : (header : Header) (before after : List ℕ) → HeaderLine
 
+-- the bytes of a line without its end: none, or the name, a colon, and the value between its blanks
 abbrev pub header_line_text : HeaderLine → List ℕ
 header_line_text empty = []
 header_line_text (told h before after) = h.name ++ colon ∷ (before ++ (h.value ++ after))
 
+-- a line is empty, or its header is of the form and spaces and tabs alone stand round its value
 abbrev pub IsHeaderLine : HeaderLine → Type 0
 IsHeaderLine empty = ⊤
 IsHeaderLine (told h before after) = IsHeader h × All IsBlank before × All IsBlank after
 
+-- the header on a line, if there is one
 abbrev pub line_headers : HeaderLine → List Header
 line_headers empty = []
 line_headers (told h before after) = h ∷ []
@@ -48,10 +52,12 @@ line_headers (told h before after) = h ∷ []
 pub data HeaderEnd : Type 0 where
   crlf lf : HeaderEnd
 
+-- the bytes that end a line
 abbrev pub header_end_text : HeaderEnd → List ℕ
 header_end_text crlf = 13 ∷ 10 ∷ []
 header_end_text lf = 10 ∷ []
 
+-- the bytes of a line with its end
 abbrev pub ended_line_text : HeaderLine × HeaderEnd → List ℕ
 ended_line_text l = header_line_text l.0 ++ header_end_text l.1
 

@@ -30,30 +30,39 @@ is_named name h = pointwise eq_ignore_ascii_case h.name name
 abbrev pub header_values : List ℕ → List Header → List (List ℕ)
 header_values name headers = map (λ h. h.value) (filter (is_named name) headers)
 
+-- the header of W3C's identifiers and flags (Trace Context Level 1, section 3.2)
 abbrev pub traceparent_name : List ℕ
 traceparent_name = codes "traceparent"
 
+-- the header of W3C's state, which goes with `traceparent` (Trace Context Level 1, section 3.3)
 abbrev pub tracestate_name : List ℕ
 tracestate_name = codes "tracestate"
 
+-- the one header of B3 (B3 propagation, "Single Header")
 abbrev pub b3_name : List ℕ
 b3_name = codes "b3"
 
+-- the one header of Jaeger's propagation format
 abbrev pub uber_name : List ℕ
 uber_name = codes "uber-trace-id"
 
+-- the trace's identifier, in 16 or 32 digits (B3 propagation, "Multiple Headers", "TraceId")
 abbrev pub b3_trace_name : List ℕ
 b3_trace_name = codes "X-B3-TraceId"
 
+-- the span's identifier, in 16 digits (B3 propagation, "Multiple Headers", "SpanId")
 abbrev pub b3_span_name : List ℕ
 b3_span_name = codes "X-B3-SpanId"
 
+-- the parent's identifier, in 16 digits (B3 propagation, "Multiple Headers", "ParentSpanId")
 abbrev pub b3_parent_name : List ℕ
 b3_parent_name = codes "X-B3-ParentSpanId"
 
+-- whether the trace is recorded (B3 propagation, "Multiple Headers", "Sampling State")
 abbrev pub b3_sampled_name : List ℕ
 b3_sampled_name = codes "X-B3-Sampled"
 
+-- 1 for debug, which is recorded in any case (B3 propagation, "Multiple Headers", "Debug Flag")
 abbrev pub b3_flags_name : List ℕ
 b3_flags_name = codes "X-B3-Flags"
 
@@ -61,6 +70,7 @@ b3_flags_name = codes "X-B3-Flags"
 abbrev pub Misses : List ℕ → List Header → Type 0
 Misses name headers = header_values name headers ≡ []
 
+-- none of the five headers X-B3 is there
 pub record MissesMulti (headers : List Header) : Type 0 where
   pub trace : Misses b3_trace_name headers
   pub span : Misses b3_span_name headers
@@ -73,7 +83,8 @@ abbrev pub IsFirstForm : HeaderForm → List Header → Type 0
 IsFirstForm forms.W3c headers = ¬ (Misses traceparent_name headers)
 IsFirstForm forms.B3 headers = Misses traceparent_name headers × ¬ (Misses b3_name headers)
 IsFirstForm forms.B3Multi headers = Misses traceparent_name headers × Misses b3_name headers × ¬ (MissesMulti headers)
-IsFirstForm forms.Uber headers = Misses traceparent_name headers × Misses b3_name headers × MissesMulti headers × ¬ (Misses uber_name headers)
+IsFirstForm forms.Uber headers =
+    Misses traceparent_name headers × Misses b3_name headers × MissesMulti headers × ¬ (Misses uber_name headers)
 
 -- no form is there
 pub record HasNoForm (headers : List Header) : Type 0 where
@@ -117,6 +128,7 @@ TellsSampled (Some text) sampling = ⊥
 abbrev pub TellsMultiSampling : Option (List ℕ) → Option (List ℕ) → Sampling → Type 0
 TellsMultiSampling sampled flags sampling = ((flags ≡ Some (codes "1")) × (sampling ≡ Debug)) ⊎ ((flags ≢ Some (codes "1")) × TellsSampled sampled sampling)
 
+-- the headers X-B3, each of which stands once at most, tell these identifiers, if any, and this sampling, one of both at least
 pub record TellsMulti (headers : List Header) (ids : Option Ids) (sampling : Sampling) : Type 0 where
   pub trace : Option (List ℕ)
   pub span : Option (List ℕ)
@@ -171,6 +183,7 @@ pub data HeaderVerdict : Type 0 where
   told : (c : Context) (dropped : Bool) → HeaderVerdict
   refused : HeaderCause → HeaderVerdict
 
+-- the verdict is right of the block
 abbrev pub IsHeaderVerdict : List ℕ → HeaderVerdict → Type 0
 IsHeaderVerdict block (told c dropped) = Head c dropped block
 IsHeaderVerdict block (refused cause) = IsHeaderCause cause block

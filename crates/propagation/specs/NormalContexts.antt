@@ -27,24 +27,31 @@ abbrev pub state_line : List ℕ → List ℕ
 state_line [] = []
 state_line (c ∷ state) = written_header tracestate_name (c ∷ state)
 
+-- the line `X-B3-ParentSpanId`, where there is a parent
 abbrev pub parent_line : Option ℕ → List ℕ
 parent_line None = []
 parent_line (Some id) = written_header b3_parent_name (span_digits id)
 
+-- the lines `X-B3-TraceId`, `X-B3-SpanId` and that of a parent, or none where there are no identifiers
 abbrev pub multi_ids_lines : Option Ids → List ℕ
 multi_ids_lines None = []
-multi_ids_lines (Some ids) = written_header b3_trace_name (trace_digits ids.trace) ++ written_header b3_span_name (span_digits ids.span) ++ parent_line ids.parent
+multi_ids_lines (Some ids) =
+    written_header b3_trace_name (trace_digits ids.trace) ++ written_header b3_span_name (span_digits ids.span)
+    ++ parent_line ids.parent
 
+-- the line `X-B3-Sampled` with 0 or 1, or for debug `X-B3-Flags` with 1, or none where nothing is said of sampling
 abbrev pub multi_sampling_line : Sampling → List ℕ
 multi_sampling_line Absent = []
 multi_sampling_line No = written_header b3_sampled_name (codes "0")
 multi_sampling_line Yes = written_header b3_sampled_name (codes "1")
 multi_sampling_line Debug = written_header b3_flags_name (codes "1")
 
+-- the line `traceparent` and, where there is a state, `tracestate`; nothing where there are no identifiers
 abbrev pub traceparent_lines : Option Ids → Sampling → List ℕ → List ℕ
 traceparent_lines None sampling state = []
 traceparent_lines (Some ids) sampling state = written_header traceparent_name (traceparent_text ids sampling) ++ state_line state
 
+-- the line `uber-trace-id`, or nothing where there are no identifiers
 abbrev pub uber_lines : Option Ids → Sampling → List ℕ
 uber_lines None sampling = []
 uber_lines (Some ids) sampling = written_header uber_name (uber_text ids sampling)

@@ -18,14 +18,17 @@ pub record IsProperIds (ids : Ids) : Type 0 where
   pub span : IsProperSpanId ids.span
   pub parent : IsProperParent ids.parent
 
+-- identifiers, if there are any, are in their ranges
 abbrev pub AreProperIds : Option Ids → Type 0
 AreProperIds None = ⊤
 AreProperIds (Some ids) = IsProperIds ids
 
 -- a value that is written is of its form, and tells what the form holds of the identifiers and the sampling
 pub record ValuesReadBack : Type 0 where
-  pub traceparent : (ids : Ids) (sampling : Sampling) → IsProperIds ids → ReadsTraceparent (traceparent_text ids sampling) (traceparent_ids ids) (traceparent_sampling sampling)
-  pub b3 : (ids : Option Ids) (sampling : Sampling) → AreProperIds ids → HoldsB3 ids sampling → ReadsB3 (b3_text ids sampling) (b3_ids ids sampling) sampling
+  pub traceparent : (ids : Ids) (sampling : Sampling) → IsProperIds ids
+      → ReadsTraceparent (traceparent_text ids sampling) (traceparent_ids ids) (traceparent_sampling sampling)
+  pub b3 : (ids : Option Ids) (sampling : Sampling) → AreProperIds ids → HoldsB3 ids sampling
+      → ReadsB3 (b3_text ids sampling) (b3_ids ids sampling) sampling
   pub uber : (ids : Ids) (sampling : Sampling) → IsProperIds ids → ReadsUber (uber_text ids sampling) ids (told_sampling sampling)
 
 -- the normal form of a context is its own, and is written by the same lines

@@ -17,6 +17,7 @@ pub record TraceparentParts : Type 0 where
   pub flags : List ℕ
   pub more : List ℕ
 
+-- the value that the parts make, with dashes between them; what a later version has more brings a dash of its own
 abbrev pub traceparent_parts_text : TraceparentParts → List ℕ
 traceparent_parts_text p = join_with_byte dash (p.version ∷ p.trace ∷ p.span ∷ (p.flags ++ p.more) ∷ [])
 
@@ -53,23 +54,27 @@ pub record TellsTraceparent (p : TraceparentParts) (ids : Ids) (sampling : Sampl
 
 -- the value is of the form, and tells these identifiers and this sampling
 abbrev pub ReadsTraceparent : List ℕ → Ids → Sampling → Type 0
-ReadsTraceparent value ids sampling = (p : TraceparentParts) × TellsTraceparent p ids sampling × (value ≡ traceparent_parts_text p)
+ReadsTraceparent value ids sampling =
+    (p : TraceparentParts) × TellsTraceparent p ids sampling × (value ≡ traceparent_parts_text p)
 
 -- ---- what is written, of version 00
 
+-- trace-flags as they are written: bit 0, "sampled", is set where the trace is recorded or debug, not where nothing is said
 abbrev pub sampling_flags : Sampling → List ℕ
 sampling_flags Absent = codes "00"
 sampling_flags No = codes "00"
 sampling_flags Yes = codes "01"
 sampling_flags Debug = codes "01"
 
+-- the value of `traceparent`: version 00, the identifiers without a parent, in all their digits, and the flags
 abbrev pub traceparent_text : Ids → Sampling → List ℕ
 traceparent_text ids sampling = join_with_byte dash (codes "00" ∷ trace_digits ids.trace ∷ span_digits ids.span ∷ sampling_flags sampling ∷ [])
 
--- what the form holds of identifiers and of a sampling: no parent, and whether the trace is recorded
+-- what the form holds of identifiers: no parent
 abbrev pub traceparent_ids : Ids → Ids
 traceparent_ids ids = record ids { parent = None }
 
+-- debug is told as recorded, and what says nothing of sampling as not recorded
 abbrev pub traceparent_sampling : Sampling → Sampling
 traceparent_sampling Absent = No
 traceparent_sampling No = No

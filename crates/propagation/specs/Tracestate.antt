@@ -20,16 +20,6 @@ at_sign = 64
 abbrev pub IsBlank : ℕ → Type 0
 IsBlank c = (c ≡ 32) ⊎ (c ≡ 9)
 
--- a text without the blanks at its ends
-pub record Trims (text inside : List ℕ) : Type 0 where
-  pub before : List ℕ
-  pub after : List ℕ
-  pub whole : text ≡ before ++ (inside ++ after)
-  pub blank_before : All IsBlank before
-  pub blank_after : All IsBlank after
-  pub begins : BeginsWithout IsBlank inside
-  pub ends : BeginsWithout IsBlank (reverse inside)
-
 -- "lcalpha"
 abbrev pub IsLowerLetter : ℕ → Type 0
 IsLowerLetter c = IsInRange 97 122 c
@@ -63,17 +53,20 @@ IsStateByte c = IsInRange 0x20 0x7E c × (c ≢ member_comma) × (c ≢ equals)
 
 -- 1 to 256 of these, the last of which is no space
 abbrev pub IsStateValue : List ℕ → Type 0
-IsStateValue value = (1 ≤ length value) × (length value ≤ 256) × All IsStateByte value × BeginsWithout (λ c. c ≡ 32) (reverse value)
+IsStateValue value =
+    (1 ≤ length value) × (length value ≤ 256) × All IsStateByte value × BeginsWithout (λ c. c ≡ 32) (reverse value)
 
 -- "list-member"
 pub record StateMember : Type 0 where
   pub key : List ℕ
   pub value : List ℕ
 
+-- the key and the value of a member are of their forms
 pub record IsStateMember (m : StateMember) : Type 0 where
   pub key : IsStateKey m.key
   pub value : IsStateValue m.value
 
+-- the text of a member: its key, "=" and its value
 abbrev pub state_member_text : StateMember → List ℕ
 state_member_text m = m.key ++ equals ∷ m.value
 
@@ -83,17 +76,21 @@ pub record StateEntry : Type 0 where
   pub member : Option StateMember
   pub after : List ℕ
 
+-- the text of the member between two commas, empty where there is none
 abbrev pub listed_member_text : Option StateMember → List ℕ
 listed_member_text None = []
 listed_member_text (Some m) = state_member_text m
 
+-- all that stands between two commas, with its blanks
 abbrev pub state_entry_text : StateEntry → List ℕ
 state_entry_text l = l.before ++ (listed_member_text l.member ++ l.after)
 
+-- there is no member, which the standard allows ("list-member" may be white space alone), or it is of the form
 abbrev pub IsListedMember : Option StateMember → Type 0
 IsListedMember None = ⊤
 IsListedMember (Some m) = IsStateMember m
 
+-- spaces and tabs alone stand round the member, which is of the form if there is one
 pub record IsStateEntry (l : StateEntry) : Type 0 where
   pub before : All IsBlank l.before
   pub member : IsListedMember l.member
@@ -117,4 +114,5 @@ tracestate_text members = join_with_byte member_comma (map state_member_text mem
 
 -- the value is of the form, and this is its canonical text
 abbrev pub ReadsTracestate : List ℕ → List ℕ → Type 0
-ReadsTracestate value state = (members : List StateMember) × ListsMembers value members × AreStateMembers members × (state ≡ tracestate_text members)
+ReadsTracestate value state =
+    (members : List StateMember) × ListsMembers value members × AreStateMembers members × (state ≡ tracestate_text members)

@@ -28,6 +28,7 @@ pub record UberParts : Type 0 where
   pub third : List ℕ
   pub flags : List ℕ
 
+-- the value that the parts make, with the colons as they were spelled
 abbrev pub uber_parts_text : UberParts → List ℕ
 uber_parts_text p = p.trace ++ (p.first ++ (p.span ++ (p.second ++ (p.parent ++ (p.third ++ p.flags)))))
 
@@ -61,18 +62,22 @@ ReadsUber value ids sampling = (p : UberParts) × TellsUber p ids sampling × (v
 
 -- ---- what is written
 
+-- parent-span-id as it is written: all its digits, or 0 where there is no parent
 abbrev pub uber_parent : Option ℕ → List ℕ
 uber_parent None = codes "0"
 uber_parent (Some id) = span_digits id
 
+-- flags as they are written: 1 is sampled, and 3 sampled and debug
 abbrev pub uber_flags : Sampling → List ℕ
 uber_flags Absent = codes "0"
 uber_flags No = codes "0"
 uber_flags Yes = codes "1"
 uber_flags Debug = codes "3"
 
+-- the value of `uber-trace-id`: the identifiers in all their digits, plain colons, and the flags
 abbrev pub uber_text : Ids → Sampling → List ℕ
-uber_text ids sampling = join_with_byte colon (trace_digits ids.trace ∷ span_digits ids.span ∷ uber_parent ids.parent ∷ uber_flags sampling ∷ [])
+uber_text ids sampling =
+    join_with_byte colon (trace_digits ids.trace ∷ span_digits ids.span ∷ uber_parent ids.parent ∷ uber_flags sampling ∷ [])
 
 -- what the form holds of a sampling
 abbrev pub told_sampling : Sampling → Sampling

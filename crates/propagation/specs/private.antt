@@ -1,2 +1,4 @@
 pub mod FoundHeaders
+pub mod HeadSteps
 pub mod HeaderLines
+pub mod Trimming

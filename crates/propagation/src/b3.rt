@@ -1,3 +1,4 @@
+//! The single header `b3`, read and written.
 ghost use Rattle.std.specs.Prelude.{◌≡◌, ◌≤◌, ℕ, Option, Some, length, take, IfSome};
 ghost use Rattle.std.specs.Option.{option_copied};
 ghost use Rattle.propagation.specs.B3.{ReadsB3, IsB3State, IsB3End, HoldsB3, b3_state, b3_text};
@@ -15,7 +16,8 @@ use span_ids::{IdRule, SpanId};
 pub fn read_b3(value: &[u8]) -> Option<(Option<Ids>, Sampling)>
     ensures value { IfSome result (λ read. ReadsB3 value.now read.0 read.1) }
     // Whatever the value tells is the answer.
-    ensures only { (ids : Option Ids) (sampling : Sampling) → ReadsB3 value.now ids sampling → result ≡ Some (ids, sampling) }
+    ensures only { (ids : Option Ids) (sampling : Sampling) → ReadsB3 value.now ids sampling
+        → result ≡ Some (ids, sampling) }
 {
     let (trace, rest) = digits(value);
     if rest.is_empty() {
@@ -37,7 +39,8 @@ pub fn read_b3(value: &[u8]) -> Option<(Option<Ids>, Sampling)>
 // Reads what stands behind the identifier of the span.
 fn read_end(end: &[u8]) -> Option<(Sampling, Option<SpanId>)>
     ensures value { IfSome result (λ read. IsB3End end.now read.0 read.1) }
-    ensures only { (sampling : Sampling) (parent : Option ℕ) → IsB3End end.now sampling parent → result ≡ Some (sampling, parent) }
+    ensures only { (sampling : Sampling) (parent : Option ℕ) → IsB3End end.now sampling parent
+        → result ≡ Some (sampling, parent) }
 {
     if end.is_empty() {
         return Some((Sampling::Absent, None));

@@ -1,3 +1,4 @@
+//! The context that headers pass.
 use crate::ids::Ids;
 use crate::sampling::Sampling;
 use span_io::Text;

@@ -22,7 +22,8 @@ pub(crate) fn digits(text: &[u8]) -> (&[u8], &[u8])
 // What stands behind this front.
 pub(crate) fn behind<'a>(text: &'a [u8], front: &[u8]) -> Option<&'a [u8]>
     ensures value { IfSome result (λ rest. text.now ≡ front.now ++ rest.now) }
-    ensures only { (rest : List ℕ) → text.now ≡ front.now ++ rest → IsSomeAnd result (λ r. r.now ≡ rest) }
+    ensures only { (rest : List ℕ) → text.now ≡ front.now ++ rest
+        → IsSomeAnd result (λ r. r.now ≡ rest) }
 {
     text.strip_prefix(front)
 }
@@ -31,7 +32,8 @@ pub(crate) fn behind<'a>(text: &'a [u8], front: &[u8]) -> Option<&'a [u8]>
 pub(crate) fn digits_and_dash(text: &[u8]) -> Option<(&[u8], &[u8])>
     ensures text { IfSome result (λ r. text.now ≡ r.0.now ++ dash ∷ r.1.now) }
     ensures kind { IfSome result (λ r. All IsAsciiHexdigit r.0.now) }
-    ensures only { (front rest : List ℕ) → All IsAsciiHexdigit front → text.now ≡ front ++ dash ∷ rest
+    ensures only { (front rest : List ℕ) → All IsAsciiHexdigit front
+        → text.now ≡ front ++ dash ∷ rest
         → IsSomeAnd result (λ r. (r.0.now ≡ front) × (r.1.now ≡ rest)) }
 {
     let (front, rest) = digits(text);
@@ -91,7 +93,8 @@ pub(crate) fn read_pair(
 ) -> Option<(TraceId, SpanId)>
     ensures trace { IfSome result (λ r. SpellsInHex trace_rule 32 trace.now r.0) }
     ensures span { IfSome result (λ r. SpellsInHex span_rule 16 span.now r.1) }
-    ensures only { (t s : ℕ) → SpellsInHex trace_rule 32 trace.now t → SpellsInHex span_rule 16 span.now s → result ≡ Some (t, s) }
+    ensures only { (t s : ℕ) → SpellsInHex trace_rule 32 trace.now t
+        → SpellsInHex span_rule 16 span.now s → result ≡ Some (t, s) }
 {
     let Ok(trace) = TraceId::read_hex(trace, trace_rule) else {
         return None;

@@ -18,7 +18,8 @@ pub(crate) enum Once<'a> {
 impl<'a> Once<'a> {
     // With one value more.
     fn and(self, value: &'a [u8]) -> Once<'a>
-        ensures { (values : List (List ℕ)) → HoldsOnce self.entry values → HoldsOnce result (values ++ value.now ∷ []) }
+        ensures { (values : List (List ℕ)) → HoldsOnce self.entry values
+            → HoldsOnce result (values ++ value.now ∷ []) }
     {
         match self {
             Once::Missing => Once::At(value),
@@ -30,7 +31,9 @@ impl<'a> Once<'a> {
     // With the value of a header more, where it has the wanted name.
     fn noted(self, wanted: &[u8], name: &[u8], value: &'a [u8]) -> Once<'a>
         ensures { (headers : List Header) → HoldsOnce self.entry (header_values wanted.now headers)
-            → HoldsOnce result (header_values wanted.now (headers ++ (record { name = name.now; value = value.now }) ∷ [])) }
+            → HoldsOnce result
+            (header_values wanted.now
+            (headers ++ (record { name = name.now; value = value.now }) ∷ [])) }
     {
         if is_name(wanted, name) {
             self.and(value)
@@ -40,15 +43,18 @@ impl<'a> Once<'a> {
     }
 
     pub(crate) fn is_missing(&self) -> bool
-        ensures { (values : List (List ℕ)) → HoldsOnce self.now values → IsTrue result ↔ (values ≡ []) }
+        ensures { (values : List (List ℕ)) → HoldsOnce self.now values
+            → IsTrue result ↔ (values ≡ []) }
     {
         matches!(self, Once::Missing)
     }
 
     // The value of a header that stands once.
     pub(crate) fn once(&self) -> Option<&'a [u8]>
-        ensures value { (values : List (List ℕ)) → HoldsOnce self.now values → IfSome result (λ value. values ≡ value.now ∷ []) }
-        ensures only { (values : List (List ℕ)) (value : List ℕ) → HoldsOnce self.now values → values ≡ value ∷ []
+        ensures value { (values : List (List ℕ)) → HoldsOnce self.now values
+            → IfSome result (λ value. values ≡ value.now ∷ []) }
+        ensures only { (values : List (List ℕ)) (value : List ℕ) → HoldsOnce self.now values
+            → values ≡ value ∷ []
             → IsSomeAnd result (λ r. r.now ≡ value) }
     {
         match self {
@@ -61,7 +67,8 @@ impl<'a> Once<'a> {
     pub(crate) fn at_most_once(&self) -> Option<Option<&'a [u8]>>
         ensures value { (values : List (List ℕ)) → HoldsOnce self.now values
             → IfSome result (λ r. values ≡ option_to_list (option_copied r)) }
-        ensures only { (values : List (List ℕ)) (value : Option (List ℕ)) → HoldsOnce self.now values
+        ensures only { (values : List (List ℕ)) (value : Option (List ℕ))
+            → HoldsOnce self.now values
             → values ≡ option_to_list value
             → IsSomeAnd result (λ r. option_copied r ≡ value) }
     {
@@ -75,7 +82,8 @@ impl<'a> Once<'a> {
 
 // Whether a name is the wanted one, in any case of letters.
 pub(crate) fn is_name(wanted: &[u8], name: &[u8]) -> bool
-    ensures { (value : List ℕ) → result ≡ is_named wanted.now (record { name = name.now; value = value }) }
+    ensures { (value : List ℕ)
+        → result ≡ is_named wanted.now (record { name = name.now; value = value }) }
 {
     name.eq_ignore_ascii_case(wanted)
 }
@@ -105,7 +113,8 @@ impl<'a> Multi<'a> {
     }
 
     fn is_missing(&self) -> bool
-        ensures { (headers : List Header) → FoundMulti self.now headers → IsTrue result ↔ MissesMulti headers }
+        ensures { (headers : List Header) → FoundMulti self.now headers
+            → IsTrue result ↔ MissesMulti headers }
     {
         self.trace.is_missing()
             && self.span.is_missing()

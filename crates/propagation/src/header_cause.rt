@@ -1,3 +1,4 @@
+//! Why a block of headers gives no context.
 ghost use Rattle.std.specs.Prelude.{◌≡◌};
 ghost use Rattle.propagation.specs.HeaderCauses.{header_cause_number, header_cause_name};
 

@@ -1,3 +1,4 @@
+//! The forms of headers, and their words.
 ghost use Rattle.std.specs.Prelude.{◌≡◌, ◌↔◌, Some};
 ghost use Rattle.propagation.specs.HeaderForms.{header_form_word};
 ghost use Rattle.propagation.specs.declared.header_form.HeaderForm.{HeaderForm};

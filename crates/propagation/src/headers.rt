@@ -5,7 +5,8 @@ ghost use Rattle.propagation.specs.Blocks.{Header, HasHeaders};
 ghost use Rattle.propagation.specs.private.HeaderLines.{RefusesLine};
 ghost use Rattle.propagation.specs.Heads.{Head, Misses, IsFirstForm, IsHeaderCause, TellsState, header_values, tracestate_name};
 ghost use Rattle.propagation.specs.private.FoundHeaders.{FoundIn};
-ghost use Rattle.propagation.specs.HeadAnswers.{stateless, behind_commas, IsStateOf, AnswersForm, AnswersStateless, OnCause, IfOutOfMemory};
+ghost use Rattle.propagation.specs.private.HeadSteps.{stateless, behind_commas, IsStateOf, AnswersForm, AnswersStateless};
+ghost use Rattle.propagation.specs.HeadAnswers.{OnCause, IfOutOfMemory};
 ghost use Rattle.propagation.specs.declared.header_form.HeaderForm.TheVariants as forms;
 
 use crate::b3::read_b3;
@@ -52,7 +53,8 @@ pub fn read_headers(alloc: Global, block: &[u8]) -> Result<(Context, bool), Halt
 
 // What tells a context, of all lines.
 fn find_headers(block: &[u8]) -> Result<Found<'_>, HeaderCause>
-    ensures found { IfOk result (λ found. (headers : List Header) × HasHeaders block.now headers × FoundIn found headers) }
+    ensures found { IfOk result
+        (λ found. (headers : List Header) × HasHeaders block.now headers × FoundIn found headers) }
     ensures line { IfErr result (λ cause. RefusesLine cause block.now) }
 {
     let mut found = Found::new();
@@ -87,14 +89,16 @@ fn without_state(
 }
 
 fn read_single(found: &Found<'_>) -> Option<(Option<Ids>, Sampling)>
-    ensures { (headers : List Header) → FoundIn found.now headers → AnswersStateless forms.B3 headers result }
+    ensures { (headers : List Header) → FoundIn found.now headers
+        → AnswersStateless forms.B3 headers result }
 {
     let value = found.b3.once()?;
     read_b3(value)
 }
 
 fn read_jaeger(found: &Found<'_>) -> Option<(Option<Ids>, Sampling)>
-    ensures { (headers : List Header) → FoundIn found.now headers → AnswersStateless forms.Uber headers result }
+    ensures { (headers : List Header) → FoundIn found.now headers
+        → AnswersStateless forms.Uber headers result }
 {
     let value = found.uber.once()?;
     let (ids, sampling) = read_uber(value)?;
@@ -106,9 +110,11 @@ fn read_w3c(
     block: &[u8],
     found: &Found<'_>,
 ) -> Result<Option<(Context, bool)>, OutOfMemory>
-    ensures value { (headers : List Header) → HasHeaders block.now headers → FoundIn found.now headers
+    ensures value { (headers : List Header) → HasHeaders block.now headers
+        → FoundIn found.now headers
         → IfOk result (AnswersForm forms.W3c headers) }
-    ensures memory { (headers : List Header) → FoundIn found.now headers → OnErr result (¬ (Misses tracestate_name headers)) }
+    ensures memory { (headers : List Header) → FoundIn found.now headers
+        → OnErr result (¬ (Misses tracestate_name headers)) }
 {
     let Some(value) = found.traceparent.once() else {
         return Ok(None);
@@ -127,9 +133,11 @@ fn read_w3c(
 
 // The state of all lines, and whether it isn't of the form and was dropped.
 fn read_states(alloc: Global, block: &[u8], found: &Found<'_>) -> Result<(Text, bool), OutOfMemory>
-    ensures value { (headers : List Header) → HasHeaders block.now headers → FoundIn found.now headers
+    ensures value { (headers : List Header) → HasHeaders block.now headers
+        → FoundIn found.now headers
         → IfOk result (λ read. TellsState headers read.0 read.1) }
-    ensures memory { (headers : List Header) → FoundIn found.now headers → OnErr result (¬ (Misses tracestate_name headers)) }
+    ensures memory { (headers : List Header) → FoundIn found.now headers
+        → OnErr result (¬ (Misses tracestate_name headers)) }
 {
     match &found.state {
         Once::Missing => Ok((Text::new(alloc), false)),

@@ -1,3 +1,4 @@
+//! The identifiers of a context.
 use span_ids::{SpanId, TraceId};
 
 /// The identifiers of a context: of its trace, of the span that calls, and of that span's parent,

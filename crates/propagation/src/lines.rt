@@ -20,8 +20,10 @@ pub(crate) struct FirstHeader<'a> {
 // The first header of some lines, if they have one.
 pub(crate) fn first_header(text: &[u8]) -> Result<Option<FirstHeader<'_>>, HeaderCause>
     ensures value { IfOk result (λ read. MatchOption read (HasHeaders text.now [])
-        (λ first. HeadersThen text.now ((record { name = first.name.now; value = first.value.now }) ∷ []) first.rest.now)) }
-    ensures nearer { IfOk result (λ read. IfSome read (λ first. length first.rest.now < length text.now)) }
+        (λ first. HeadersThen text.now
+        ((record { name = first.name.now; value = first.value.now }) ∷ []) first.rest.now)) }
+    ensures nearer { IfOk result
+        (λ read. IfSome read (λ first. length first.rest.now < length text.now)) }
     ensures line { IfErr result (λ cause. RefusesLine cause text.now) }
 {
     let mut rest = text;
@@ -62,7 +64,8 @@ fn before_lf(text: &[u8]) -> (&[u8], &[u8])
 
 // A line without the CR at its end, if it has one.
 fn before_cr(line: &[u8]) -> Option<&[u8]>
-    ensures { MatchOption result ((front : List ℕ) → line.now ≢ front ++ 13 ∷ []) (λ front. line.now ≡ front.now ++ 13 ∷ []) }
+    ensures { MatchOption result ((front : List ℕ) → line.now ≢ front ++ 13 ∷ [])
+        (λ front. line.now ≡ front.now ++ 13 ∷ []) }
 {
     line.strip_suffix(b"\r")
 }

@@ -1,7 +1,8 @@
 //! Members of a `tracestate`.
 ghost use Rattle.std.specs.Prelude.{◌≡◌, ◌≢◌, ◌↔◌, ◌≤◌, ℕ, List, ◌++◌, ◌∷◌, length, reverse, All, IsTrue, IfSome, IsSomeAnd};
 ghost use Rattle.propagation.specs.Fronts.{BeginsWithout, Leads};
-ghost use Rattle.propagation.specs.Tracestate.{equals, at_sign, IsBlank, Trims, IsLowerLetter, IsDigit, IsKeyByte, IsTenantStart, IsWord, IsStateKey, IsStateByte, IsStateValue, StateMember, IsStateMember, state_member_text};
+ghost use Rattle.propagation.specs.Tracestate.{equals, at_sign, IsBlank, IsLowerLetter, IsDigit, IsKeyByte, IsTenantStart, IsWord, IsStateKey, IsStateByte, IsStateValue, StateMember, IsStateMember, state_member_text};
+ghost use Rattle.propagation.specs.private.Trimming.{Trims};
 
 use crate::digits::behind;
 

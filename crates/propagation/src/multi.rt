@@ -4,7 +4,7 @@ ghost use Rattle.std.specs.Option.{option_copied};
 ghost use Rattle.propagation.specs.Blocks.{Header};
 ghost use Rattle.propagation.specs.Heads.{TellsMultiIds, TellsSampled, TellsMultiSampling};
 ghost use Rattle.propagation.specs.private.FoundHeaders.{FoundMulti};
-ghost use Rattle.propagation.specs.HeadAnswers.{AnswersStateless};
+ghost use Rattle.propagation.specs.private.HeadSteps.{AnswersStateless};
 ghost use Rattle.propagation.specs.declared.header_form.HeaderForm.TheVariants as forms;
 ghost use Rattle.propagation.specs.declared.ids.Ids.{Ids};
 ghost use Rattle.propagation.specs.declared.sampling.Sampling.{Sampling};
@@ -17,7 +17,8 @@ use span_ids::{IdRule, SpanId};
 
 // Reads the headers, each of which stands once at most. None is where they tell no context.
 pub(crate) fn read_multi(multi: &Multi<'_>) -> Option<(Option<Ids>, Sampling)>
-    ensures { (headers : List Header) → FoundMulti multi.now headers → AnswersStateless forms.B3Multi headers result }
+    ensures { (headers : List Header) → FoundMulti multi.now headers
+        → AnswersStateless forms.B3Multi headers result }
 {
     let trace = multi.trace.at_most_once()?;
     let span = multi.span.at_most_once()?;
@@ -39,8 +40,11 @@ fn read_multi_ids(
     parent: Option<&[u8]>,
 ) -> Option<Option<Ids>>
     ensures value { IfSome result (λ ids.
-        TellsMultiIds (option_copied trace.entry) (option_copied span.entry) (option_copied parent.entry) ids) }
-    ensures only { (ids : Option Ids) → TellsMultiIds (option_copied trace.entry) (option_copied span.entry) (option_copied parent.entry) ids
+        TellsMultiIds (option_copied trace.entry) (option_copied span.entry)
+        (option_copied parent.entry) ids) }
+    ensures only { (ids : Option Ids)
+        → TellsMultiIds (option_copied trace.entry) (option_copied span.entry)
+        (option_copied parent.entry) ids
         → result ≡ Some ids }
 {
     match (trace, span, parent) {
@@ -72,7 +76,8 @@ fn read_multi_ids(
 fn read_multi_sampling(sampled: Option<&[u8]>, flags: Option<&[u8]>) -> Option<Sampling>
     ensures value { IfSome result (λ sampling.
         TellsMultiSampling (option_copied sampled.entry) (option_copied flags.entry) sampling) }
-    ensures only { (sampling : Sampling) → TellsMultiSampling (option_copied sampled.entry) (option_copied flags.entry) sampling
+    ensures only { (sampling : Sampling)
+        → TellsMultiSampling (option_copied sampled.entry) (option_copied flags.entry) sampling
         → result ≡ Some sampling }
 {
     if is_debug(flags) {
@@ -91,8 +96,10 @@ fn is_debug(flags: Option<&[u8]>) -> bool
 }
 
 fn read_sampled(sampled: Option<&[u8]>) -> Option<Sampling>
-    ensures value { IfSome result (λ sampling. TellsSampled (option_copied sampled.entry) sampling) }
-    ensures only { (sampling : Sampling) → TellsSampled (option_copied sampled.entry) sampling → result ≡ Some sampling }
+    ensures value { IfSome result
+        (λ sampling. TellsSampled (option_copied sampled.entry) sampling) }
+    ensures only { (sampling : Sampling) → TellsSampled (option_copied sampled.entry) sampling
+        → result ≡ Some sampling }
 {
     let Some(text) = sampled else {
         return Some(Sampling::Absent);

@@ -1,3 +1,4 @@
+//! The header `traceparent` of W3C Trace Context, read and written.
 ghost use Rattle.std.specs.Prelude.{◌≡◌, ◌↔◌, IsTrue, Some, IfSome};
 ghost use Rattle.std.specs.Str.Parse.{digits_value};
 ghost use Rattle.propagation.specs.Traceparent.{ReadsTraceparent, IsLowerPair, IsVersion, IsMore, IsTraceparentForm, flagged_sampling, sampling_flags, traceparent_text};
@@ -15,7 +16,8 @@ use span_ids::IdRule;
 pub fn read_traceparent(value: &[u8]) -> Option<(Ids, Sampling)>
     ensures value { IfSome result (λ read. ReadsTraceparent value.now read.0 read.1) }
     // Whatever the value tells is the answer.
-    ensures only { (ids : Ids) (sampling : Sampling) → ReadsTraceparent value.now ids sampling → result ≡ Some (ids, sampling) }
+    ensures only { (ids : Ids) (sampling : Sampling) → ReadsTraceparent value.now ids sampling
+        → result ≡ Some (ids, sampling) }
 {
     let (version, rest) = digits_and_dash(value)?;
     let (trace, rest) = digits_and_dash(rest)?;

@@ -43,9 +43,11 @@ impl<'a> Default for Member<'a> {
 pub fn read_tracestate(alloc: Global, value: &[u8]) -> Result<Option<Text>, OutOfMemory>
     ensures value { IfOk result (λ read. IfSome read (λ state. ReadsTracestate value.now state)) }
     // Whatever the value tells is the answer.
-    ensures only { (state : List ℕ) → ReadsTracestate value.now state → IfOk result (λ read. read ≡ Some state) }
+    ensures only { (state : List ℕ) → ReadsTracestate value.now state
+        → IfOk result (λ read. read ≡ Some state) }
     // Memory is wanted for a text alone.
-    ensures wants { OnErr result ((state : List ℕ) × ReadsTracestate value.now state × (state ≢ [])) }
+    ensures wants { OnErr result
+        ((state : List ℕ) × ReadsTracestate value.now state × (state ≢ [])) }
 {
     let Some(members) = read_members(value) else {
         return Ok(None);
@@ -58,7 +60,8 @@ pub fn read_tracestate(alloc: Global, value: &[u8]) -> Result<Option<Text>, OutO
 fn read_members(value: &[u8]) -> Option<ArrayVec<Member<'_>, MOST>>
     ensures listed { IfSome result (λ read. ListsMembers value.now read.items) }
     ensures formed { IfSome result (λ read. AreStateMembers read.items) }
-    ensures only { (members : List StateMember) → ListsMembers value.now members → AreStateMembers members
+    ensures only { (members : List StateMember) → ListsMembers value.now members
+        → AreStateMembers members
         → IsSomeAnd result (λ read. read.items ≡ members) }
 {
     let mut members = ArrayVec::new();
@@ -74,7 +77,8 @@ fn read_members(value: &[u8]) -> Option<ArrayVec<Member<'_>, MOST>>
 // with the others.
 fn add_piece<'a>(members: &mut ArrayVec<Member<'a>, MOST>, piece: &'a [u8]) -> bool
     requires { AreStateMembers members.old.items }
-    ensures added { IsTrue result → (entry : StateEntry) × IsStateEntry entry × (piece.now ≡ state_entry_text entry)
+    ensures added { IsTrue result
+        → (entry : StateEntry) × IsStateEntry entry × (piece.now ≡ state_entry_text entry)
         × (members.new.items ≡ members.old.items ++ option_to_list entry.member) }
     ensures formed { IsTrue result → AreStateMembers members.new.items }
     ensures only { (entry : StateEntry) → IsStateEntry entry → piece.now ≡ state_entry_text entry

@@ -1,3 +1,4 @@
+//! The header `uber-trace-id` of Jaeger, read and written.
 ghost use Rattle.std.specs.Prelude.{◌≡◌, ◌+◌, ◌≤◌, ℕ, List, ◌++◌, ◌↔◌, Option, Some, None, All, length, take, IsTrue, IfSome, IsSomeAnd};
 ghost use Rattle.std.specs.Char.{IsAsciiHexdigit};
 ghost use Rattle.std.specs.Str.Parse.{digits_value};
@@ -15,7 +16,8 @@ use span_ids::{IdRule, SpanId};
 pub fn read_uber(value: &[u8]) -> Option<(Ids, Sampling)>
     ensures value { IfSome result (λ read. ReadsUber value.now read.0 read.1) }
     // Whatever the value tells is the answer.
-    ensures only { (ids : Ids) (sampling : Sampling) → ReadsUber value.now ids sampling → result ≡ Some (ids, sampling) }
+    ensures only { (ids : Ids) (sampling : Sampling) → ReadsUber value.now ids sampling
+        → result ≡ Some (ids, sampling) }
 {
     let (trace, rest) = digits_and_colon(value)?;
     let (span, rest) = digits_and_colon(rest)?;
@@ -33,9 +35,11 @@ pub fn read_uber(value: &[u8]) -> Option<(Ids, Sampling)>
 
 // The digits, and what stands behind the colon that ends them.
 fn digits_and_colon(text: &[u8]) -> Option<(&[u8], &[u8])>
-    ensures text { IfSome result (λ r. (colon : List ℕ) × IsColon colon × (text.now ≡ r.0.now ++ (colon ++ r.1.now))) }
+    ensures text { IfSome result
+        (λ r. (colon : List ℕ) × IsColon colon × (text.now ≡ r.0.now ++ (colon ++ r.1.now))) }
     ensures kind { IfSome result (λ r. All IsAsciiHexdigit r.0.now) }
-    ensures only { (front colon rest : List ℕ) → All IsAsciiHexdigit front → IsColon colon → text.now ≡ front ++ (colon ++ rest)
+    ensures only { (front colon rest : List ℕ) → All IsAsciiHexdigit front → IsColon colon
+        → text.now ≡ front ++ (colon ++ rest)
         → IsSomeAnd result (λ r. (r.0.now ≡ front) × (r.1.now ≡ rest)) }
 {
     let (front, rest) = digits(text);
@@ -44,8 +48,10 @@ fn digits_and_colon(text: &[u8]) -> Option<(&[u8], &[u8])>
 }
 
 fn behind_colon(text: &[u8]) -> Option<&[u8]>
-    ensures value { IfSome result (λ rest. (colon : List ℕ) × IsColon colon × (text.now ≡ colon ++ rest.now)) }
-    ensures only { (colon rest : List ℕ) → IsColon colon → text.now ≡ colon ++ rest → IsSomeAnd result (λ r. r.now ≡ rest) }
+    ensures value { IfSome result
+        (λ rest. (colon : List ℕ) × IsColon colon × (text.now ≡ colon ++ rest.now)) }
+    ensures only { (colon rest : List ℕ) → IsColon colon → text.now ≡ colon ++ rest
+        → IsSomeAnd result (λ r. r.now ≡ rest) }
 {
     if let Some(rest) = behind(text, b":") {
         return Some(rest);
@@ -76,7 +82,8 @@ fn is_zero(text: &[u8]) -> bool
 }
 
 fn read_flags(text: &[u8]) -> Option<Sampling>
-    ensures value { IfSome result (λ sampling. IsUberFlags text.now × (sampling ≡ uber_sampling (digits_value 16 text.now))) }
+    ensures value { IfSome result
+        (λ sampling. IsUberFlags text.now × (sampling ≡ uber_sampling (digits_value 16 text.now))) }
     ensures only { IsUberFlags text.now → result ≡ Some (uber_sampling (digits_value 16 text.now)) }
 {
     if !is_flags(text) {

@@ -85,7 +85,8 @@ fn append_traceparent(
     sampling: Sampling,
     state: &[u8],
 ) -> Result<(), OutOfMemory>
-    ensures ok { OnOk result (out.new ≡ out.old ++ traceparent_lines (Some ids.now) sampling state.now) }
+    ensures ok { OnOk result
+        (out.new ≡ out.old ++ traceparent_lines (Some ids.now) sampling state.now) }
     ensures err { OnErr result (IsFront out.old out.new) }
 {
     let mut value = [0; 55];
@@ -117,7 +118,8 @@ fn append_uber(out: &mut Blob, ids: &Ids, sampling: Sampling) -> Result<(), OutO
 }
 
 fn append_multi(out: &mut Blob, ids: Option<Ids>, sampling: Sampling) -> Result<(), OutOfMemory>
-    ensures ok { OnOk result (out.new ≡ out.old ++ (multi_ids_lines ids ++ multi_sampling_line sampling)) }
+    ensures ok { OnOk result
+        (out.new ≡ out.old ++ (multi_ids_lines ids ++ multi_sampling_line sampling)) }
     ensures err { OnErr result (IsFront out.old out.new) }
 {
     append_multi_ids(out, ids)?;

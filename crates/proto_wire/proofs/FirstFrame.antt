@@ -8,7 +8,7 @@ use Rattle.span_io.specs.declared.step.Step.TheVariants as steps
 use Rattle.span_io.specs.VarintLaws.{VarintLaws}
 use Rattle.span_io.specs.Varint.{SpellsVarint}
 use Rattle.span_io.specs.Frames.{EndsInVarint, IsRefused}
-use Rattle.span_io.specs.laws.FramingLaws.{Place, is_open, is_begun, is_refused, FramingLaws, exact, item_first, refused_first, needs_more, too_long_first, of_front}
+use Rattle.span_io.proofs.FramingLaws.{Place, is_open, is_begun, is_refused, FramingLaws, exact, item_first, refused_first, needs_more, too_long_first, of_front}
 use Rattle.proto_wire.specs.Records.{Record}
 use Rattle.proto_wire.specs.Wire.{BeginsRecord, IsOpenRecord, HoldsLengthPast, records, RefusedBy, FirstIs, NeedsMoreBytes, IsRefusedAs}
 use Rattle.proto_wire.specs.Reading.{record_at}

@@ -8,13 +8,14 @@ use Rattle.span_io.specs.declared.step.Step.{Step}
 use Rattle.span_io.specs.declared.step.Step.TheVariants as steps
 use Rattle.span_io.specs.Varint.{SpellsVarint, SpellsWithin}
 use Rattle.span_io.specs.VarintLaws.{VarintLaws}
-use Rattle.span_io.specs.laws.Cuts.{two_cuts, some_length}
+use Rattle.span_io.proofs.Cuts.{two_cuts, some_length}
 use Rattle.span_io.specs.Frames.{BeginsFrame, IsProperFront}
-use Rattle.span_io.specs.laws.FramingLaws.{open_whole, item_first, needs_more}
-use Rattle.span_io.specs.Pieces.{piece_laws}
+use Rattle.span_io.proofs.FramingLaws.{open_whole, item_first, needs_more}
+use Rattle.span_io.proofs.PieceSteps.{piece_laws}
 use Rattle.proto_wire.specs.Records.{Held, varint, fixed64, bytes, fixed32, wire_type, IsFieldNumber}
 use Rattle.proto_wire.specs.Wire.{SpellsHeld, IsKeyThenVarint, IsOpenRecord, HoldsLengthPast, records, RefusedBy, FirstIs, NeedsMoreBytes}
-use Rattle.proto_wire.specs.Scanners.{longest_head, IsHead, HoldsLength, HoldsLengthWithin, Counts}
+use Rattle.proto_wire.specs.Scanners.{longest_head, IsHead}
+use Rattle.proto_wire.specs.private.HeldLengths.{HoldsLength, HoldsLengthWithin, Counts}
 use Rattle.proto_wire.proofs.Payloads.{zeros, length-zeros, zeros_are_bytes}
 use Rattle.proto_wire.specs.Reading.{number_at}
 use Rattle.proto_wire.proofs.Varints.{number_read}

@@ -3,7 +3,7 @@ use Rattle.std.proofs.Common.{◌≡◌, ◌≤◌, ◌<◌, ◌^◌, ◌+◌, �
 use Rattle.std.proofs.lemmas.List.{length-append, append_assoc, append-nil, take-append-drop, take_at, drop_at, drop-drop, length-take-le, length-drop, take-take}
 use Rattle.span_io.specs.Varint.{shortest_within, varint_text}
 use Rattle.proto_wire.specs.Wire.{opening_text}
-use Rattle.span_io.specs.laws.ShortestVarints.{one_byte, text_within, group_end, group_last, group_more, below_room, room_step}
+use Rattle.span_io.proofs.ShortestVarints.{one_byte, text_within, group_end, group_last, group_more, below_room, room_step}
 
 -- the groups so far stand in front of the byte
 pub record Inserted (old new : List ℕ) (place n passed rest : ℕ) : Type 0 where

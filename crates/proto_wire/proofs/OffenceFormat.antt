@@ -5,8 +5,8 @@ use Rattle.span_io.specs.Causes.{cause_number}
 use Rattle.span_io.specs.declared.cause.Cause.{Cause}
 use Rattle.span_io.specs.declared.cause.Cause.TheVariants as causes
 use Rattle.span_io.specs.Offences.{Cut}
-use Rattle.span_io.specs.laws.OffenceLaws.{FormatLaws}
-use Rattle.span_io.specs.laws.Cuts.{some_length}
+use Rattle.span_io.specs.Offences.{FormatLaws}
+use Rattle.span_io.proofs.Cuts.{some_length}
 use Rattle.proto_wire.specs.Messages.{messages, NoRecord, inner_size}
 use Rattle.proto_wire.specs.Records.{Held, varint, fixed64, bytes, fixed32, Record}
 use Rattle.proto_wire.specs.Wire.{SpellsHeld, BeginsRecord, Wire}

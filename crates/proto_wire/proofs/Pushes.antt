@@ -6,10 +6,12 @@ use Rattle.span_io.specs.declared.step.Step.TheVariants as steps
 use Rattle.span_io.specs.Steps.{behind}
 use Rattle.span_io.specs.VarintLaws.{VarintLaws}
 use Rattle.span_io.specs.Frames.{BeginsFrame}
-use Rattle.span_io.specs.Pieces.{PieceLaws, piece_laws}
+use Rattle.span_io.specs.Pieces.{PieceLaws}
+use Rattle.span_io.proofs.PieceSteps.{piece_laws}
 use Rattle.proto_wire.specs.declared.scanner.UnitScanner.{UnitScanner}
 use Rattle.proto_wire.specs.Wire.{records, RefusedBy, FirstIs, NeedsMoreBytes}
-use Rattle.proto_wire.specs.Scanners.{longest_head, IsHead, Seen, Counts}
+use Rattle.proto_wire.specs.Scanners.{longest_head, IsHead, Seen}
+use Rattle.proto_wire.specs.private.HeldLengths.{Counts}
 use Rattle.proto_wire.proofs.FirstFrame.{record_laws}
 use Rattle.proto_wire.proofs.Heads.{head_of_more}
 

@@ -11,8 +11,8 @@ use Rattle.span_io.specs.Varint.{SpellsVarint, SpellsWithin, IsInsideVarint, IsO
 use Rattle.proto_wire.specs.Records.{Held, varint, fixed64, bytes, fixed32, Record, wire_type, IsFieldNumber}
 use Rattle.proto_wire.specs.Wire.{SpellsHeld, BeginsRecord, IsKeyThenVarint, IsOpenRecord, records, HasOverlong, HasBadKey}
 use Rattle.proto_wire.specs.Reading.{number_at, held_at, record_at, ◌>>=◌}
-use Rattle.span_io.specs.laws.Cuts.{two_cuts, append_empty_right, all_front}
-use Rattle.span_io.specs.laws.FramingLaws.{FrontsAreOpen, open_front}
+use Rattle.span_io.proofs.Cuts.{two_cuts, append_empty_right, all_front}
+use Rattle.span_io.proofs.FramingLaws.{FrontsAreOpen, open_front}
 use Rattle.span_io.specs.VarintLaws.{VarintLaws}
 use Rattle.proto_wire.proofs.Varints.{NumberIs, number_is}
 use Rattle.proto_wire.proofs.Payloads.{WireIs, is_0, is_1, is_2, is_5, IsNoWire, wire_cases, HeldFront, HeldInside, WithVarint, HeldIs, held_is, zero_spelled, zeros, length-zeros, zeros_are_bytes}

@@ -2,7 +2,7 @@
 use Rattle.std.proofs.Common.{◌≡◌, ◌≤◌, ◌<◌, ◌+◌, ◌-◌, ◌/◌, ◌%◌, ◌∷◌, [], ℕ, suc, List, length, take, drop, slice_index, Some, Ok, refl, ap, arith}
 use Rattle.std.proofs.lemmas.Bool.{le-ltb}
 use Rattle.std.proofs.lemmas.List.{length-drop, take_all}
-use Rattle.span_io.specs.laws.VarintFacts.{byte_read}
+use Rattle.span_io.proofs.VarintFacts.{byte_read}
 use Rattle.proto_wire.specs.Records.{bytes}
 use Rattle.proto_wire.specs.Reading.{number_at, with_cause, held_at, record_at}
 use Rattle.proto_wire.proofs.Payloads.{held_2}

@@ -3,7 +3,7 @@ use Rattle.std.proofs.Common.{◌≡◌, ◌≤◌, ◌<◌, ◌^◌, ◌+◌, �
 use Rattle.std.proofs.lemmas.Bool.{cases_lt}
 use Rattle.std.proofs.lemmas.List.{length-append, append_assoc, append-nil}
 use Rattle.span_io.specs.Varint.{shortest_within, varint_text}
-use Rattle.span_io.specs.laws.ShortestVarints.{text_within, group_end, group_last, group_more}
+use Rattle.span_io.proofs.ShortestVarints.{text_within, group_end, group_last, group_more}
 use Rattle.span_io.specs.Outside.{GrowsFront}
 
 -- ---- how long it is

@@ -4,3 +4,4 @@ pub mod Reading
 pub mod Records
 pub mod Scanners
 pub mod Wire
+pub mod private

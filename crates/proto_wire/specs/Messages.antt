@@ -6,7 +6,8 @@ use Rattle.proto_wire.specs.Wire.{BeginsRecord, IsOpenRecord, HasOverlong, HasBa
 
 -- No record begins, and this is why: it is 1 where one may yet come of the bytes, else 2 or 3 by the item that is refused.
 abbrev pub NoRecord : List ℕ → ℕ → Type 0
-NoRecord rest number = ((number ≡ 1) × (rest ≢ []) × IsOpenRecord rest) ⊎ ((number ≡ 2) × HasOverlong rest) ⊎ ((number ≡ 3) × HasBadKey rest)
+NoRecord rest number =
+    ((number ≡ 1) × (rest ≢ []) × IsOpenRecord rest) ⊎ ((number ≡ 2) × HasOverlong rest) ⊎ ((number ≡ 3) × HasBadKey rest)
 
 -- how many bytes an inner message has, where a record can hold one
 abbrev pub inner_size : Held → ℕ
@@ -15,6 +16,8 @@ inner_size (fixed64 n) = 0
 inner_size (bytes held) = length held
 inner_size (fixed32 n) = 0
 
+-- A message is records to its end. A record that holds bytes may hold an inner message, beside which a record has at least two
+-- bytes: one of its key, and one of its length or of the number that it holds.
 abbrev pub messages : Format
 messages = record {
   Item = Record;

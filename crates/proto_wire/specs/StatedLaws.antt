@@ -2,7 +2,7 @@
 use Rattle.std.specs.Prelude.{◌≡◌, ◌≤◌, ◌<◌, ◌++◌, ◌⊎◌, ℕ, List, [], length, All, Err}
 use Rattle.span_io.specs.Frames.{BeginsWhole, CanBeCompleted}
 use Rattle.span_io.specs.Offences.{Cut}
-use Rattle.span_io.specs.laws.OffenceLaws.{FormatLaws}
+use Rattle.span_io.specs.Offences.{FormatLaws}
 use Rattle.span_io.specs.declared.cause.Cause.TheVariants as causes
 use Rattle.proto_wire.specs.Messages.{messages}
 use Rattle.proto_wire.specs.Records.{Record, IsProper, bytes}
@@ -11,14 +11,17 @@ use Rattle.proto_wire.specs.Reading.{record_at}
 
 -- No record's text is a proper front of another's, and a text has one reading.
 pub record OneWireReading : Type 0 where
-  pub one_record : (text other more : List ℕ) (r s : Record) → SpellsRecord text r → SpellsRecord other s → other ≡ text ++ more → (more ≡ []) × (r ≡ s)
+  pub one_record : (text other more : List ℕ) (r s : Record) → SpellsRecord text r → SpellsRecord other s → other ≡ text ++ more
+      → (more ≡ []) × (r ≡ s)
   pub message : (text : List ℕ) (first second : List Record) → Wire first text → Wire second text → first ≡ second
 
 -- What is written is a spelling, and none is shorter.
 pub record ShortestRecord : Type 0 where
   pub spelled : (r : Record) → IsProper r → SpellsRecord (record_text r) r
-  pub shortest : (r : Record) (text : List ℕ) → All (λ b. b < 256) text → SpellsRecord text r → length (record_text r) ≤ length text
-  pub opened : (number : ℕ) (held : List ℕ) → record_text (record { number = number; held = bytes held }) ≡ opening_text number (length held) ++ held
+  pub shortest : (r : Record) (text : List ℕ) → All (λ b. b < 256) text → SpellsRecord text r
+      → length (record_text r) ≤ length text
+  pub opened : (number : ℕ) (held : List ℕ)
+      → record_text (record { number = number; held = bytes held }) ≡ opening_text number (length held) ++ held
 
 -- Open bytes can be completed to a record once a varint that isn't ended is dropped at their end, and their fronts are open.
 pub record OpenWireFronts : Type 0 where

@@ -109,6 +109,8 @@ IsRefusedAs limit text cause = NoFrame records RefusedBy limit text cause
 
 -- ---- writing
 
+-- what is written of a record behind its key: a number as its shortest varint or as 8 or 4 bytes, the lowest first; bytes behind
+-- their length, which is the shortest varint
 abbrev pub held_text : Held → List ℕ
 held_text (varint n) = varint_text n
 held_text (fixed64 n) = to_le_bytes w64 n

@@ -1,3 +1,4 @@
+//! The next record of an input, whose bytes come in pieces.
 ghost use Rattle.std.specs.Prelude.{◌≡◌, ◌↔◌, ◌≤◌, length, true};
 ghost use Rattle.span_io.specs.declared.step.Step.{Step};
 ghost use Rattle.proto_wire.specs.Wire.{IsOpenRecord, HoldsLengthPast, FirstIs, NeedsMoreBytes};

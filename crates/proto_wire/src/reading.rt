@@ -1,9 +1,11 @@
+//! Records of a protobuf message, one after the other.
 ghost use Rattle.std.specs.Prelude.{◌≡◌, ◌≢◌, ◌+◌, ◌*◌, ◌/◌, ◌%◌, ◌<◌, ◌≤◌, ◌↔◌, ℕ, List, [], length, None, Some, Ok, IfOk, IfSome, IfErr, OnErr, IsErrOf};
 ghost use Rattle.span_io.specs.Causes.{cause_number};
 ghost use Rattle.proto_wire.specs.Messages.{NoRecord};
 ghost use Rattle.proto_wire.specs.Records.{Record, plain_record};
 ghost use Rattle.proto_wire.specs.Wire.{BeginsRecord, IsOpenRecord, HasOverlong, HasBadKey};
-ghost use Rattle.proto_wire.specs.Reading.{number_at, held_bytes_at, field_number, held_at, record_at, GivesNumber, GivesBytes, GivesHeld, GivesRecord, GivesNext, IsNext, IsEnd};
+ghost use Rattle.proto_wire.specs.Reading.{number_at, held_bytes_at, field_number, held_at, record_at, GivesNext, IsNext, IsEnd};
+ghost use Rattle.proto_wire.specs.private.Given.{GivesNumber, GivesBytes, GivesHeld, GivesRecord};
 
 use crate::record::{Payload, WireRecord};
 use span_io::{Cause, Cursor, Lack, Short};
@@ -118,7 +120,8 @@ fn record<'a>(c: &mut Cursor<'a>) -> Result<WireRecord<'a>, Cause>
 // The record of bytes that stands here, if its key and its number take a byte each, as most do.
 #[inline(always)]
 fn short_record<'a>(c: &mut Cursor<'a>) -> Option<WireRecord<'a>>
-    ensures some { IfSome result (λ r. record_at c.old.rest ≡ Ok (Some (plain_record r), c.new.rest)) }
+    ensures some { IfSome result
+        (λ r. record_at c.old.rest ≡ Ok (Some (plain_record r), c.new.rest)) }
     ensures none { result ≡ None → c.new ≡ c.old }
     ensures place { c.new.place + length c.new.rest ≡ c.old.place + length c.old.rest }
 {
@@ -175,20 +178,24 @@ fn next_of_any<'a>(c: &mut Cursor<'a>) -> Result<Option<WireRecord<'a>>, Cause>
 /// types 6 and 7, and field numbers outside 1 to 536,870,911 are BadWire (proto3 wire format).
 pub fn next_record<'a>(c: &mut Cursor<'a>) -> Result<Option<WireRecord<'a>>, Cause>
     // What is read begins the bytes, and what begins the bytes is read, whatever follows.
-    ensures found { IfOk result (λ next. IfSome next (λ r. BeginsRecord (plain_record r) c.old.rest c.new.rest)) }
-    ensures only { (r : Record) (rest : List ℕ) → BeginsRecord r c.old.rest rest → IsNext result r × (c.new.rest ≡ rest) }
+    ensures found { IfOk result
+        (λ next. IfSome next (λ r. BeginsRecord (plain_record r) c.old.rest c.new.rest)) }
+    ensures only { (r : Record) (rest : List ℕ) → BeginsRecord r c.old.rest rest
+        → IsNext result r × (c.new.rest ≡ rest) }
     ensures exact { GivesNext result c.new.rest (record_at c.old.rest) }
 
     // When each refusal comes.
     ensures end { IsEnd result ↔ (c.old.rest ≡ []) }
-    ensures truncated { IsErrOf result Cause.Truncated ↔ ((c.old.rest ≢ []) × IsOpenRecord c.old.rest) }
+    ensures truncated { IsErrOf result Cause.Truncated
+        ↔ ((c.old.rest ≢ []) × IsOpenRecord c.old.rest) }
     ensures overlong { IsErrOf result Cause.BadVarint ↔ HasOverlong c.old.rest }
     ensures bad_key { IsErrOf result Cause.BadWire ↔ HasBadKey c.old.rest }
     ensures unread { IfErr result (λ cause. NoRecord c.old.rest (cause_number cause)) }
     ensures causes { IfErr result (λ cause. cause_number cause ≤ 3) }
 
     // A record takes bytes, and a refusal leaves the place.
-    ensures nearer { IfOk result (λ next. IfSome next (λ _. length c.new.rest < length c.old.rest)) }
+    ensures nearer { IfOk result
+        (λ next. IfSome next (λ _. length c.new.rest < length c.old.rest)) }
     ensures place { c.new.place + length c.new.rest ≡ c.old.place + length c.old.rest }
     ensures err { OnErr result (c.new ≡ c.old) }
 {

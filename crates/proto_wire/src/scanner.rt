@@ -5,7 +5,8 @@ ghost use Rattle.span_io.specs.Scans.{IsNew, PushIs, FrameIs, StandsBehind, Ends
 ghost use Rattle.span_io.specs.Steps.{IfUnit};
 ghost use Rattle.span_io.specs.declared.cause.Cause.{Cause};
 ghost use Rattle.span_io.specs.declared.step.Step.{Step};
-ghost use Rattle.proto_wire.specs.Scanners.{longest_head, IsHead, HoldsLength, HoldsLengthWithin, Counts, scanning_of};
+ghost use Rattle.proto_wire.specs.Scanners.{longest_head, IsHead, scanning_of};
+ghost use Rattle.proto_wire.specs.private.HeldLengths.{HoldsLength, HoldsLengthWithin, Counts};
 ghost use Rattle.proto_wire.specs.Wire.{records, RefusedBy, FirstIs, NeedsMoreBytes};
 
 use crate::frame::first_frame;
@@ -46,7 +47,8 @@ fn full_size(head: &[u8], limit: usize) -> usize
 // The first step of bytes whose head needs more.
 fn behind_head(head: &[u8], there: usize, limit: usize) -> Step
     requires { NeedsMoreBytes limit head.now }
-    ensures { (bytes : List ℕ) → IsHead head.now bytes → Counts limit there bytes → FirstIs limit bytes result }
+    ensures { (bytes : List ℕ) → IsHead head.now bytes → Counts limit there bytes
+        → FirstIs limit bytes result }
 {
     span_io::laws::varint_readings();
     if head.len() < LONGEST_HEAD {
@@ -61,7 +63,8 @@ fn behind_head(head: &[u8], there: usize, limit: usize) -> Step
 
 // The first step of bytes, by their head and their number.
 fn first_step(head: &[u8], there: usize, limit: usize) -> Step
-    ensures { (bytes : List ℕ) → IsHead head.now bytes → Counts limit there bytes → FirstIs limit bytes result }
+    ensures { (bytes : List ℕ) → IsHead head.now bytes → Counts limit there bytes
+        → FirstIs limit bytes result }
 {
     span_io::laws::varint_readings();
     match first_frame(head, limit) {

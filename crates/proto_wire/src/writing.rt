@@ -1,3 +1,4 @@
+//! Records of a protobuf message, written.
 ghost use Rattle.std.specs.Prelude.{◌≡◌, ◌+◌, ◌*◌, ◌<◌, ◌≤◌, ◌++◌, ℕ, List, length, take, drop, OnOk, OnErr};
 ghost use Rattle.span_io.specs.Varint.{varint_text};
 ghost use Rattle.span_io.specs.Outside.{GrowsFront};
@@ -62,7 +63,8 @@ fn key_size(number: u32, wire_type: u64) -> u64
 #[tactic(auto, using(crate::proofs::Shortest::in_pieces), unfolding(crate::specs::Wire::record_text, crate::specs::Wire::opening_text))]
 pub fn record_size(number: u32, payload: &Payload<'_>) -> u64
     requires { IsFieldNumber number }
-    ensures { result ≡ length (record_text (record { number = number; held = plain_payload payload.now })) }
+    ensures { result
+        ≡ length (record_text (record { number = number; held = plain_payload payload.now })) }
 {
     match payload {
         Payload::Varint(n) => key_size(number, 0) + varint_size(*n),
@@ -79,7 +81,9 @@ pub fn record_size(number: u32, payload: &Payload<'_>) -> u64
 #[tactic(auto, using(crate::proofs::Shortest::in_pieces), unfolding(crate::specs::Wire::record_text, crate::specs::Wire::opening_text))]
 pub fn write_record(out: &mut Blob, number: u32, payload: Payload<'_>) -> Result<(), OutOfMemory>
     requires { IsFieldNumber number }
-    ensures ok { OnOk result (out.new ≡ out.old ++ record_text (record { number = number; held = plain_payload payload.entry })) }
+    ensures ok { OnOk result
+        (out.new
+        ≡ out.old ++ record_text (record { number = number; held = plain_payload payload.entry })) }
     ensures err { OnErr result (GrowsFront out.old out.new
         (record_text (record { number = number; held = plain_payload payload.entry }))) }
 {
@@ -159,7 +163,8 @@ fn open_long(out: &mut Blob, number: u32) -> Result<(), OutOfMemory>
 #[inline(always)]
 fn set_varint(out: &mut Blob, place: usize, n: u64) -> Result<(), OutOfMemory>
     requires { place < length out.old }
-    ensures ok { OnOk result (out.new ≡ take place out.old ++ (varint_text n ++ drop (place + 1) out.old)) }
+    ensures ok { OnOk result
+        (out.new ≡ take place out.old ++ (varint_text n ++ drop (place + 1) out.old)) }
     ensures err { OnErr result (take place out.new ≡ take place out.old) }
 {
     if n < 128 {
@@ -172,7 +177,8 @@ fn set_varint(out: &mut Blob, place: usize, n: u64) -> Result<(), OutOfMemory>
 #[inline(never)]
 fn set_long(out: &mut Blob, place: usize, n: u64) -> Result<(), OutOfMemory>
     requires { place < length out.old }
-    ensures ok { OnOk result (out.new ≡ take place out.old ++ (varint_text n ++ drop (place + 1) out.old)) }
+    ensures ok { OnOk result
+        (out.new ≡ take place out.old ++ (varint_text n ++ drop (place + 1) out.old)) }
     ensures err { OnErr result (take place out.new ≡ take place out.old) }
 {
     let behind = out.len() - place;
@@ -197,7 +203,8 @@ fn set_long(out: &mut Blob, place: usize, n: u64) -> Result<(), OutOfMemory>
 pub fn close_record(out: &mut Blob, number: u32, begins: usize) -> Result<(), OutOfMemory>
     requires number { IsFieldNumber number }
     requires opened { begins + length (opening_text number 0) ≤ length out.old }
-    ensures ok { (before held : List ℕ) → begins ≡ length before → out.old ≡ (before ++ opening_text number 0) ++ held
+    ensures ok { (before held : List ℕ) → begins ≡ length before
+        → out.old ≡ (before ++ opening_text number 0) ++ held
         → OnOk result (out.new ≡ before ++ (opening_text number (length held) ++ held)) }
     ensures err { OnErr result (out.new ≡ take begins out.old) }
 {

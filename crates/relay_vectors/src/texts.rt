@@ -1,7 +1,6 @@
 //! What the texts of a row say: worked texts by their names, words that stand several times, numbers and forms.
-use row_tables::{Row, append_spelled, unescaped};
+use row_tables::{Row, append_spelled, texts, unescaped};
 use span_io::Form;
-use span_vectors::texts;
 use std::alloc::Global;
 use std::test::Fail;
 

@@ -4,7 +4,8 @@ use Rattle.std.specs.Option.{option_and_then}
 
 -- the number of a hexadecimal digit in lower case
 abbrev pub digit_of : ℕ → Option ℕ
-digit_of c = if nat_le 48 c && nat_le c 57 then Some (c - 48) else if nat_le 97 c && nat_le c 102 then Some (c - 97 + 10) else None
+digit_of c =
+    if nat_le 48 c && nat_le c 57 then Some (c - 48) else if nat_le 97 c && nat_le c 102 then Some (c - 97 + 10) else None
 
 -- the byte that a letter behind a backslash stands for
 abbrev pub letter_of : ℕ → Option ℕ
@@ -31,7 +32,9 @@ first_meant (b ∷ text) = if b == 92 then escape_meant text else Some (b, 1)
 abbrev pub with_meant : List ℕ → ℕ → List ℕ → Option (List ℕ)
 with_meant bytes passed [] = Some bytes
 with_meant bytes (suc passed) (b ∷ text) = with_meant bytes passed text
-with_meant bytes zero (b ∷ text) = option_and_then (λ first. with_meant (bytes ++ (first.0 ∷ [])) (first.1 - 1) text) (first_meant (b ∷ text))
+with_meant bytes zero (b ∷ text) =
+    option_and_then (λ first. with_meant (bytes ++ (first.0 ∷ [])) (first.1 - 1) text) (first_meant (b ∷ text))
 
+-- the bytes that a whole text means, unless a backslash stands in it with no escape behind it
 abbrev pub meant : List ℕ → Option (List ℕ)
 meant text = with_meant [] 0 text

@@ -2,9 +2,11 @@
 use Rattle.std.specs.Prelude.{ℕ, Bool, List, [], ◌∷◌, ◌==◌, if◌then◌else◌}
 use Rattle.std.specs.List.{onto_first}
 
+-- the byte 10, which ends a line
 abbrev pub is_newline : ℕ → Bool
 is_newline b = b == 10
 
+-- the byte 32, a blank
 abbrev pub is_blank : ℕ → Bool
 is_blank b = b == 32
 

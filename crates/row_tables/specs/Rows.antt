@@ -39,6 +39,7 @@ rows_in inside (line ∷ lines) = if length line == 0 then rows_in false lines
     else if inside then rows_in true lines
     else (line, with_lines [] lines) ∷ rows_in true lines
 
+-- the rows of a whole table, by its lines: the first line of a row is its name, and the lines behind it tell its pairs
 abbrev pub rows_of : List ℕ → List Told
 rows_of table = rows_in false (parts_of is_newline table)
 
@@ -46,18 +47,23 @@ rows_of table = rows_in false (parts_of is_newline table)
 abbrev pub key_of : Field → List ℕ
 key_of field = field.key.now
 
+-- the text of a field, which stands behind its key
 abbrev pub text_of : Field → List ℕ
 text_of field = string_bytes field.text
 
+-- the name of a row
 abbrev pub name_of : Row → List ℕ
 name_of row = row.name.now
 
+-- the fields of a row, in their order
 abbrev pub fields_of : Row → List Field
 fields_of row = row.fields.items
 
+-- the keys and texts of fields, in their order
 abbrev pub pairs_of : List Field → List Pair
 pairs_of fields = map (λ f. (key_of f, text_of f)) fields
 
+-- a row in memory as a table tells it: its name, and its keys with their texts
 abbrev pub told_of : Row → Told
 told_of row = (name_of row, pairs_of (fields_of row))
 

@@ -7,6 +7,7 @@ use Rattle.hex.specs.Hex.{decode_of}
 use Rattle.row_tables.specs.Parts.{is_blank, parts_of}
 use Rattle.row_tables.specs.declared.words.Words.{Words}
 
+-- the text that is left behind the words that were taken
 abbrev pub words_left : Words → List ℕ
 words_left words = words.rest.now
 
@@ -39,5 +40,6 @@ abbrev pub with_words : List ℕ → List (List ℕ) → Option (List ℕ)
 with_words bytes [] = Some bytes
 with_words bytes (word ∷ words) = option_and_then (λ more. with_words (bytes ++ more) words) (bytes_of_word word)
 
+-- these bytes, and behind them those that a text spells, if each of its words spells some; blanks and newlines part words
 abbrev pub with_spelled : List ℕ → List ℕ → Option (List ℕ)
 with_spelled bytes text = with_words bytes (parts_of is_space text)

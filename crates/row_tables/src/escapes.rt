@@ -1,3 +1,4 @@
+//! Escapes in the texts of rows.
 ghost use Rattle.std.specs.Prelude.{◌≡◌, ◌<◌, IfOk, IfSome, Some};
 ghost use Rattle.row_tables.specs.Escapes.{digit_of, digits_meant, escape_meant, first_meant, letter_of, meant};
 

@@ -1,3 +1,4 @@
+//! Rows of a table, and their parts.
 ghost use Rattle.std.specs.Prelude.{◌≡◌, ◌∷◌, [], ◌≤◌, IfOk, OnOk, Some, map, length, false, true};
 ghost use Rattle.std.specs.List.{AllPass, find, list_any};
 ghost use Rattle.std.specs.Option.{option_copied, option_to_list};
@@ -60,7 +61,8 @@ pub fn rows(alloc: Global, table: &'static str) -> Result<Vec<Row>, Fail>
 
 /// The row of this name, which is the first where several have it. No other row is read.
 pub fn row_named(alloc: Global, table: &'static str, name: &str) -> Result<Row, Fail>
-    ensures { IfOk result (λ row. find (λ told. bytes_eq told.0 name.now) (rows_of table.now) ≡ Some (told_of row)) }
+    ensures { IfOk result
+        (λ row. find (λ told. bytes_eq told.0 name.now) (rows_of table.now) ≡ Some (told_of row)) }
 {
     let mut rest = table;
     'rows: while !rest.is_empty() {
@@ -86,7 +88,8 @@ fn first_line(text: &'static str) -> (&'static str, &'static str)
 
 // What stands behind the lines of a row.
 fn behind_row(text: &'static str) -> &'static str
-    ensures rows { rows_in true (parts_of is_newline text.now) ≡ rows_in false (parts_of is_newline result.now) }
+    ensures rows { rows_in true (parts_of is_newline text.now)
+        ≡ rows_in false (parts_of is_newline result.now) }
     ensures nearer { length result.now ≤ length text.now }
 {
     let mut rest = text;
@@ -103,7 +106,8 @@ fn behind_row(text: &'static str) -> &'static str
 impl Row {
     // Reads the lines behind a name, up to an empty one.
     fn read(alloc: Global, name: &'static str, text: &'static str) -> Result<Row, Fail>
-        ensures { IfOk result (λ row. told_of row ≡ (name.now, with_lines [] (parts_of is_newline text.now))) }
+        ensures { IfOk result
+            (λ row. told_of row ≡ (name.now, with_lines [] (parts_of is_newline text.now))) }
     {
         let mut row = Row {
             name,
@@ -124,7 +128,8 @@ impl Row {
     // Takes a line behind the name.
     fn take(&mut self, alloc: Global, line: &'static str) -> Result<(), Fail>
         ensures name { name_of self.new ≡ name_of self.old }
-        ensures pairs { OnOk result (pairs_of (fields_of self.new) ≡ with_line (pairs_of (fields_of self.old)) line.now) }
+        ensures pairs { OnOk result
+            (pairs_of (fields_of self.new) ≡ with_line (pairs_of (fields_of self.old)) line.now) }
     {
         let (key, text) = parted(line, ' ');
         if key.is_empty() {
@@ -139,7 +144,8 @@ impl Row {
 
     fn go_on(&mut self, more: &str) -> Result<(), Fail>
         ensures name { name_of self.new ≡ name_of self.old }
-        ensures pairs { OnOk result (pairs_of (fields_of self.new) ≡ with_more (pairs_of (fields_of self.old)) more.now) }
+        ensures pairs { OnOk result
+            (pairs_of (fields_of self.new) ≡ with_more (pairs_of (fields_of self.old)) more.now) }
     {
         let Some(mut field) = self.fields.pop() else {
             return Err(self.fail("before any key", more));
@@ -170,7 +176,8 @@ impl Row {
     /// Fails where the row has a key that isn't one of these, so that a mistyped key never passes.
     pub fn expect_keys(&self, known: &[&str]) -> Result<(), Fail>
         ensures { OnOk result
-            (AllPass (λ field. list_any (λ key. bytes_eq key.now (key_of field)) known.now) (fields_of self.now)) }
+            (AllPass (λ field. list_any (λ key. bytes_eq key.now (key_of field)) known.now)
+            (fields_of self.now)) }
     {
         for field in &self.fields {
             if !known.contains(&field.key) {
@@ -182,7 +189,8 @@ impl Row {
 
     /// The text of a key that stands once, or none where it doesn't stand.
     pub fn text_if_any(&self, key: &str) -> Result<Option<&str>, Fail>
-        ensures { IfOk result (λ text. texts_of key.now self.now ≡ option_to_list (option_copied text)) }
+        ensures { IfOk result
+            (λ text. texts_of key.now self.now ≡ option_to_list (option_copied text)) }
     {
         let mut found = None;
         for field in &self.fields {

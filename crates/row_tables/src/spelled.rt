@@ -1,3 +1,4 @@
+//! Bytes spelled in the letters of a row.
 ghost use Rattle.std.specs.Prelude.{◌≡◌, ◌-◌, ◌≤◌, OnOk, IfOk, Some, slice_range, MatchOption, length, true, false};
 ghost use Rattle.std.specs.List.{position_or_len};
 ghost use Rattle.row_tables.specs.private.TakenParts.{TakesPart};
@@ -71,7 +72,8 @@ fn word_bytes(alloc: Global, word: &[u8]) -> Result<Vec<u8>, Fail>
 // What stands in the quotes of a word.
 fn quoted(word: &[u8]) -> Option<&[u8]>
     ensures { MatchOption result (is_quoted word.now ≡ false)
-        (λ inside. (is_quoted word.now ≡ true) × (inside.now ≡ slice_range word.now 1 (length word.now - 1))) }
+        (λ inside. (is_quoted word.now ≡ true)
+        × (inside.now ≡ slice_range word.now 1 (length word.now - 1))) }
 {
     let size = word.len();
     if size > 1 && word[0] == b'\'' && word[size - 1] == b'\'' {

@@ -1,3 +1,4 @@
+//! The words of a row.
 ghost use Rattle.std.specs.Prelude.{◌≡◌, IfOk};
 ghost use Rattle.std.specs.List.{before_first, after_first};
 ghost use Rattle.row_tables.specs.Parts.{is_blank};

@@ -5,10 +5,10 @@ ghost use Rattle.span_io.specs.Limits.{AreLimits};
 
 use crate::bench::sink;
 use crate::told::append_bytes;
+use row_tables::texts::ONE_SPAN;
 use row_tables::{Row, rows};
 use span_convert::{Bad, Converter, Stop, Tally, Why, Written, convert_all};
 use span_io::{Blob, Cause, Form, Limits, MemSink, Refusal};
-use span_vectors::texts::ONE_SPAN;
 use std::alloc::Global;
 use std::process::Abort;
 use std::test::Fail;

@@ -1,8 +1,7 @@
 //! How the rows of this crate tell bytes: as they stand, in hexadecimal or with escapes, or by the name of a text.
 use crate::texts::TEXTS;
-use row_tables::{Row, Words, row_named, unescaped};
+use row_tables::{Row, Words, row_named, texts, unescaped};
 use span_io::Blob;
-use span_vectors::texts;
 use std::alloc::Global;
 use std::test::Fail;
 

@@ -7,11 +7,11 @@ use Rattle.std.specs.Borrow.{Bor}
 use Rattle.span_io.specs.declared.cause.Cause.{Cause}
 use Rattle.span_io.specs.declared.cause.Cause.TheVariants as causes
 use Rattle.span_io.specs.Frames.{Framing}
-use Rattle.span_io.specs.laws.TableLaws.{flat_more}
+use Rattle.span_io.proofs.TableLaws.{flat_more}
 use Rattle.thrift_core.specs.declared.field.Field.{Field}
 use Rattle.thrift_core.specs.declared.type_code.TypeCode.{TypeCode}
 use Rattle.thrift_core.specs.declared.type_code.TypeCode.TheVariants as kinds
-use Rattle.thrift_core.specs.laws.OneReading.{value_front, own_text, one_part, one_value}
+use Rattle.thrift_core.proofs.OneReading.{value_front, own_text, one_part, one_value}
 use Rattle.thrift_core.specs.Parts.{Part, header, Spelling, Begins}
 use Rattle.thrift_core.specs.Protocols.{ReadsExactly, PartLaws}
 use Rattle.thrift_core.specs.Reading.{ReadingOf}

@@ -12,7 +12,7 @@ use Rattle.span_io.specs.Steps.{NoFrame}
 use Rattle.thrift_core.specs.declared.type_code.TypeCode.{TypeCode}
 use Rattle.thrift_core.specs.declared.type_code.TypeCode.TheVariants as kinds
 use Rattle.thrift_core.specs.FieldValues.{has_id}
-use Rattle.thrift_core.specs.laws.OneReading.{of_kind}
+use Rattle.thrift_core.proofs.OneReading.{of_kind}
 use Rattle.thrift_core.specs.Parts.{Part, Spelling}
 use Rattle.thrift_core.specs.Trees.{Tree, ValueThen, all_levels}
 use Rattle.thrift_core.specs.Values.{BeginsValue}

@@ -5,7 +5,7 @@ use Rattle.std.proofs.Math.Seq.{take-append_seam, drop-append_seam}
 use Rattle.std.specs.Borrow.{Bor}
 use Rattle.span_io.specs.Varint.{BeginsVarint}
 use Rattle.thrift_core.specs.Trees.{BinaryThen}
-use Rattle.thrift_binary.specs.Spelling.{binary_spells}
+use Rattle.thrift_spellings.specs.BinarySpelling.{binary_spells}
 use Rattle.span_agent.specs.Headers.{HeaderThen, CompactHeader, BinaryHeader, NameThen, FourThen, IsCall}
 use Rattle.span_agent.specs.private.Finding.{Either, FindsName, NameThenNumber, NumberedName}
 

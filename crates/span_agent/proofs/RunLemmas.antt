@@ -10,9 +10,9 @@ use Rattle.span_io.specs.declared.halt.Halt.{Halt}
 use Rattle.span_io.specs.declared.halt.Halt.TheVariants as halts
 use Rattle.span_io.specs.declared.limits.Limits.{Limits}
 use Rattle.span_io.specs.declared.source.Failed.{Failed}
-use Rattle.span_io.specs.laws.TableLaws.{flat_more}
+use Rattle.span_io.proofs.TableLaws.{flat_more}
 use Rattle.span_notes.specs.Notes.{NotesMore}
-use Rattle.span_notes.specs.laws.NoteLaws.{notes_all, notes_as, notes_both, notes_nothing}
+use Rattle.span_notes.proofs.NoteLaws.{notes_all, notes_as, notes_both, notes_nothing}
 use Rattle.span_agent.specs.AgentRuns.{Parcel, IsParcel, AreParcels, EndsCourse, LosesDatagrams, ListensAt, PostFaults, ReceivesAt, ReceivesDatagrams, end_line, end_status, parcel_line, parcel_lines, pieces, written}
 use Rattle.span_agent.specs.Pieces.{IsPiece, SaysPiece}
 use Rattle.span_agent.specs.PostCourses.{listen_next, receive_next}

@@ -2,7 +2,7 @@
 use Rattle.std.proofs.Common.{◌≡◌, ◌↔◌, ℕ, ◌<◌, List, length, Option, Some, None, String, Global, refl, sym, subst, ◌∙◌}
 use Rattle.span_io.specs.declared.form.Form.{Form}
 use Rattle.span_notes.specs.Pairs.{CountStands, FormStands, PlaceStands, texts}
-use Rattle.span_notes.specs.laws.WordLaws.{place_within}
+use Rattle.span_notes.proofs.WordLaws.{place_within}
 use Rattle.std.specs.Prelude.{codes}
 use Rattle.span_agent.specs.AgentWords.{SpellsOptions}
 use Rattle.span_agent.specs.declared.options.Options.{Options}

@@ -25,6 +25,7 @@ pub record Parcel : Type 0 where
   pub datagram : List ℕ
   pub told : Result (List ℕ) AgentBad
 
+-- what is told of the datagram is its piece in this form, or why it has none, by the limits shipped
 abbrev pub IsParcel : Form → Parcel → Type 0
 IsParcel to parcel = IsPiece to shipped_limits parcel.datagram parcel.told
 
@@ -38,16 +39,19 @@ abbrev pub bad_text : AgentBad → List ℕ
 bad_text (bads.Message cause) = codes ": cause " ++ decimal (agent_cause_number cause) ++ codes " " ++ agent_cause_name cause ++ codes "\n"
 bad_text (bads.Faulted fault) = codes ": fault " ++ decimal (fault_number fault) ++ codes " " ++ fault_name fault ++ key_part fault ++ codes "\n"
 
+-- the line of the datagram of this number: why it is bad, and none where it has a piece
 abbrev pub parcel_line : ℕ → Result (List ℕ) AgentBad → List ℕ
 parcel_line number (Ok piece) = []
 parcel_line number (Err bad) = codes "datagram " ++ decimal number ++ bad_text bad
 
 -- ---- one after the other
 
+-- each of these is a datagram with what is to be told of it in this form
 abbrev pub AreParcels : Form → List Parcel → Type 0
 AreParcels to [] = Unit {0}
 AreParcels to (parcel ∷ parcels) = IsParcel to parcel × AreParcels to parcels
 
+-- the pieces of the good ones, one behind the other
 abbrev pub pieces : List Parcel → List ℕ
 pieces parcels = flat_map (λ (parcel : Parcel). written parcel.told) parcels
 
@@ -70,6 +74,7 @@ end_status ends.PostFailed = 5
 end_status ends.OutputFailed = 6
 end_status ends.NoMemory = 7
 
+-- the last line: that the post or the output failed, or that memory was wanted, and none where all datagrams were received
 abbrev pub end_line : AgentEnd → List ℕ
 end_line ends.AllReceived = []
 end_line ends.PostFailed = codes "post failed\n"
@@ -117,13 +122,14 @@ WritesInTurn ends.OutputFailed parcels before now = FailsInLast parcels before n
 WritesInTurn ends.NoMemory parcels before now = Gains before now (pieces parcels) ⊎ LacksLast parcels before now
 WritesInTurn other parcels before now = Gains before now (pieces parcels)
 
--- what is noted: the lines of all, of which that of the last may be missing where memory was wanted, and the last line
+-- the lines of all but the last, as where memory was wanted for the last
 pub record WithoutLast (parcels : List Parcel) (text : List ℕ) : Type 0 where
   pub firsts : List Parcel
   pub last : Parcel
   pub are : parcels ≡ firsts ++ last ∷ []
   pub is_text : text ≡ parcel_lines 1 firsts
 
+-- the text is the lines of all, numbered from 1, or where memory was wanted it may be that of all but the last
 abbrev pub AreLines : AgentEnd → List Parcel → List ℕ → Type 0
 AreLines ends.NoMemory parcels text = (text ≡ parcel_lines 1 parcels) ⊎ WithoutLast parcels text
 AreLines other parcels text = text ≡ parcel_lines 1 parcels
@@ -149,7 +155,8 @@ pub record LeavesPost (end : AgentEnd) (asked : List ℕ) (datagrams : List (Lis
   pub listens : 1 ≤ length datagrams → ListensAt asked before now
   pub course : before.course ≡ Some courses.Fresh → EndsCourse end now.course
 
--- the same without how it ended
+-- The datagrams were received one after the other until this end, the output gained the pieces of the good ones, and these are
+-- the lines of the bad ones.
 pub record ReceivesAt (address : List ℕ) (to : Form) (count : ℕ) (end : AgentEnd) (post_before post_now : Mailbox)
     (output_before output_now : Outlet) (lines : List ℕ) : Type 0 where
   pub parcels : List Parcel

@@ -34,9 +34,11 @@ ArgumentsThen Spells last (this ∷ more) whole rest =
 abbrev pub arguments_open : Open
 arguments_open = in_struct all_levels (pos 0)
 
+-- the arguments as one item: the fields of their struct, up to the stop byte that ends it
 abbrev pub argument_texts : Spelling → (Part → List ℕ → Type 0) → Framing
 argument_texts Spells ThenVarint = texts_from Spells ThenVarint arguments_open
 
+-- what refuses such an item, by the cause that this names
 abbrev pub RefusedArguments : Spelling → (Part → Cause → List ℕ → Type 0) → Cause → List ℕ → Type 0
 RefusedArguments Spells Refuses = RefusedFrom Spells Refuses arguments_open
 
@@ -48,6 +50,7 @@ WhyNone F EndsIn other bytes = IsRefusedAt F (EndsIn other) bytes
 
 -- ---- the batch among them (agent.thrift: `oneway void emitBatch(1: Batch batch)`)
 
+-- whether a value of this type is a struct
 abbrev pub is_struct : TypeCode → Bool
 is_struct kinds.Struct = true
 is_struct other = false
@@ -56,5 +59,6 @@ is_struct other = false
 abbrev pub batch_of : Argument → List (List ℕ)
 batch_of this = if is_struct this.kind && has_id 1 this.id then this.text ∷ [] else []
 
+-- the batches among the arguments, in order, each by the bytes of its struct
 abbrev pub batches_of : List Argument → List (List ℕ)
 batches_of arguments = flat_map batch_of arguments

@@ -3,7 +3,7 @@
 use Rattle.std.specs.Prelude.{◌≡◌, ◌⊎◌, ◌+◌, ◌*◌, ℕ, Bool, true, false, List, [], ◌∷◌, ◌++◌, length, codes}
 use Rattle.span_io.specs.Varint.{BeginsVarint}
 use Rattle.thrift_core.specs.Trees.{BinaryThen}
-use Rattle.thrift_binary.specs.Spelling.{binary_spells}
+use Rattle.thrift_spellings.specs.BinarySpelling.{binary_spells}
 
 -- the types of a message that calls a method: 1 waits for an answer, and 4, oneway, for none
 abbrev pub IsCall : ℕ → Type 0
@@ -13,6 +13,7 @@ IsCall kind = (kind ≡ 1) ⊎ (kind ≡ 4)
 abbrev pub compact_front : ℕ → List ℕ
 compact_front kind = 130 ∷ (kind * 32 + 1) ∷ []
 
+-- in the binary protocol: the two bytes 80 01 (hexadecimal) of version 1, an unused byte, which is 0, and the type
 abbrev pub binary_front : ℕ → List ℕ
 binary_front kind = 128 ∷ 1 ∷ 0 ∷ kind ∷ []
 

@@ -4,8 +4,8 @@ use Rattle.std.specs.Prelude.{◌≡◌, ◌≢◌, ◌⊎◌, ℕ, pos, Bool, t
 use Rattle.span_io.specs.declared.cause.Cause.{Cause}
 use Rattle.span_io.specs.declared.cause.Cause.TheVariants as reasons
 use Rattle.thrift_core.specs.Parts.{Part, Spelling}
-use Rattle.thrift_binary.specs.Spelling.{binary_spells, binary_then_varint, binary_refuses}
-use Rattle.thrift_compact.specs.Spelling.{compact_spells, compact_then_varint, compact_refuses}
+use Rattle.thrift_spellings.specs.BinarySpelling.{binary_spells, binary_then_varint, binary_refuses}
+use Rattle.thrift_spellings.specs.CompactSpelling.{compact_spells, compact_then_varint, compact_refuses}
 use Rattle.span_agent.specs.Arguments.{Argument, ArgumentsThen, argument_texts, RefusedArguments, WhyNone, batches_of}
 use Rattle.span_agent.specs.Headers.{HeaderThen, emit_batch}
 use Rattle.span_agent.specs.declared.message.AgentCause.{AgentCause}
@@ -33,8 +33,11 @@ pub record HasNoArguments (Spells : Spelling) (ThenVarint : Part → List ℕ �
   pub why : WhyNone (argument_texts Spells ThenVarint) (RefusedArguments Spells Refuses) cause bytes
   pub told_is : told ≡ Err (causes.Reading cause)
 
-abbrev pub TellsBatch : Spelling → (Part → List ℕ → Type 0) → (Part → Cause → List ℕ → Type 0) → List ℕ → Result (List ℕ) AgentCause → Type 0
-TellsBatch Spells ThenVarint Refuses bytes told = HasArguments Spells bytes told ⊎ HasNoArguments Spells ThenVarint Refuses bytes told
+-- what the bytes behind a header tell, in this spelling: the batch among the arguments, or a cause
+abbrev pub TellsBatch : Spelling → (Part → List ℕ → Type 0) → (Part → Cause → List ℕ → Type 0) → List ℕ
+    → Result (List ℕ) AgentCause → Type 0
+TellsBatch Spells ThenVarint Refuses bytes told =
+    HasArguments Spells bytes told ⊎ HasNoArguments Spells ThenVarint Refuses bytes told
 
 -- the same by the protocol of the header: the compact one or the binary one
 abbrev pub TellsBatchIn : Bool → List ℕ → Result (List ℕ) AgentCause → Type 0
@@ -46,6 +49,7 @@ abbrev pub TellsBehind : Bool → List ℕ → List ℕ → Result (List ℕ) Ag
 TellsBehind compact name bytes told =
     ((name ≡ emit_batch) × TellsBatchIn compact bytes told) ⊎ ((name ≢ emit_batch) × (told ≡ Err causes.BadName))
 
+-- a header in this protocol begins the datagram, and this is told of it
 pub record HasHeader (datagram : List ℕ) (compact : Bool) (told : Result (List ℕ) AgentCause) : Type 0 where
   pub name : List ℕ
   pub bytes : List ℕ
@@ -57,10 +61,11 @@ pub record HasNoHeader (datagram : List ℕ) (told : Result (List ℕ) AgentCaus
   pub none : (compact : Bool) (name bytes : List ℕ) → ¬ HeaderThen compact name datagram bytes
   pub told_is : told ≡ Err causes.BadMessage
 
--- what the datagram tells: the bytes of its batch, in this protocol, or the first cause that holds
+-- what the datagram tells where no cause holds: the bytes of its batch, in this protocol
 abbrev pub IsMessage : List ℕ → Bool → List ℕ → Type 0
 IsMessage datagram compact batch = HasHeader datagram compact (Ok batch)
 
+-- the first of the causes that hold of the datagram: one behind its header, or that no header begins it
 abbrev pub HasCause : List ℕ → AgentCause → Type 0
 HasCause datagram cause = ((compact : Bool) × HasHeader datagram compact (Err cause)) ⊎ HasNoHeader datagram (Err cause)
 

@@ -6,6 +6,8 @@ use Rattle.span_agent.specs.PostCourses.{listen_next, receive_next}
 use Rattle.span_agent.specs.declared.course.PostCourse.{PostCourse}
 use Rattle.span_agent.specs.declared.course.PostCourse.TheVariants as courses
 
+-- How often its calls failed; and, each where it is told, its address, whether it listens, whether it was asked to listen
+-- elsewhere, the datagrams still to come, and how its calls went.
 pub record Mailbox : Type 0 where
   pub faults : ℕ
   pub address : Option (List ℕ)
@@ -39,6 +41,7 @@ as_door post = record {
 abbrev pub PostListens : Mailbox → Type 0
 PostListens post = IsListening (as_door post)
 
+-- it is at this address, where that is told
 abbrev pub IsPostAt : Mailbox → List ℕ → Type 0
 IsPostAt post address = IsAt (as_door post) address
 
@@ -88,6 +91,7 @@ pub record PostState : Type 0 where
   pub astray : Bool
   pub course : PostCourse
 
+-- what contracts see of it: a post in memory tells all
 abbrev pub mailbox_of : PostState → Mailbox
 mailbox_of state = record {
   faults = state.faults;

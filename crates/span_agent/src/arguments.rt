@@ -25,7 +25,8 @@ pub(crate) enum Batches<'a> {
 impl<'a> Batches<'a> {
     // They, and one behind them.
     fn and(self, batch: &'a [u8]) -> Batches<'a>
-        ensures { (held : List (List ℕ)) → Held self.entry held → Held result (held ++ batch.now ∷ []) }
+        ensures { (held : List (List ℕ)) → Held self.entry held
+            → Held result (held ++ batch.now ∷ []) }
     {
         match self {
             Batches::Absent => Batches::One(batch),
@@ -35,7 +36,8 @@ impl<'a> Batches<'a> {
 
     // What they say, with the bytes behind the arguments.
     fn told(self, behind: &[u8]) -> Result<&'a [u8], AgentCause>
-        ensures { (held : List (List ℕ)) → Held self.entry held → SaysBatch result (told_by held behind.now) }
+        ensures { (held : List (List ℕ)) → Held self.entry held
+            → SaysBatch result (told_by held behind.now) }
     {
         match self {
             Batches::More => Err(AgentCause::Reading(Cause::FieldTwice)),
@@ -48,7 +50,8 @@ impl<'a> Batches<'a> {
 
 /// The batch among the arguments that are all of these bytes.
 pub(crate) fn batch_in<P: Parts>(bytes: &[u8]) -> Result<&[u8], AgentCause>
-    ensures { (told : Result (List ℕ) AgentCause) → TellsBatch P.spells P.then_varint P.refuses bytes.now told
+    ensures { (told : Result (List ℕ) AgentCause)
+        → TellsBatch P.spells P.then_varint P.refuses bytes.now told
         ↔ SaysBatch result told }
 {
     let mut c = Cursor::new(bytes);
@@ -83,7 +86,8 @@ fn gather<'a, P: Parts>(
     batches: Batches<'a>,
     found: Field,
 ) -> Result<Batches<'a>, Cause>
-    ensures ok { IfOk result (λ more. Gathers P.spells batches.entry more found c.old.rest c.new.rest) }
+    ensures ok { IfOk result
+        (λ more. Gathers P.spells batches.entry more found c.old.rest c.new.rest) }
     ensures refused { RefusesValue P.spells P.then_varint P.refuses all_levels found.kind found.held result c.old.rest }
     ensures onward { length c.new.rest ≤ length c.old.rest }
 {
@@ -115,7 +119,8 @@ fn is_batch(found: Field) -> bool
 
 // The bytes of the value of a field, which stands here and is passed over.
 fn value_of<'a, P: Parts>(c: &mut Cursor<'a>, found: Field) -> Result<&'a [u8], Cause>
-    ensures value { IfOk result (λ lent. BeginsValue P.spells all_levels found.kind found.held lent.now []
+    ensures value { IfOk result
+        (λ lent. BeginsValue P.spells all_levels found.kind found.held lent.now []
         × (c.old.rest ≡ lent.now ++ c.new.rest)) }
     ensures refused { RefusesValue P.spells P.then_varint P.refuses all_levels found.kind found.held result c.old.rest }
     ensures onward { length c.new.rest ≤ length c.old.rest }

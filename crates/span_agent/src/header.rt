@@ -17,9 +17,12 @@ pub(crate) struct Header<'a> {
 
 // The header at the front of a datagram.
 pub(crate) fn read_header(datagram: &[u8]) -> Option<Header<'_>>
-    ensures found { IfSome result (λ header. HeaderThen header.compact header.name.now datagram.now header.rest.now) }
+    ensures found { IfSome result
+        (λ header. HeaderThen header.compact header.name.now datagram.now header.rest.now) }
     ensures only { (compact : Bool) (name rest : List ℕ) → HeaderThen compact name datagram.now rest
-        → IsSomeAnd result (λ header. (header.compact ≡ compact) × (header.name.now ≡ name) × (header.rest.now ≡ rest)) }
+        → IsSomeAnd result
+        (λ header. (header.compact ≡ compact) × (header.name.now ≡ name)
+        × (header.rest.now ≡ rest)) }
 {
     let mut c = Cursor::new(datagram);
     if let Some(name) = compact_header(&mut c) {
@@ -75,7 +78,8 @@ fn sized_name<'a>(c: &mut Cursor<'a>) -> Option<&'a [u8]>
 
 // The bytes of a name.
 fn name_of<'a>(c: &mut Cursor<'a>, size: u64) -> Option<&'a [u8]>
-    ensures { FindsName (λ name whole rest. NameThen size name whole rest) result c.old.rest c.new.rest }
+    ensures { FindsName
+        (λ name whole rest. NameThen size name whole rest) result c.old.rest c.new.rest }
 {
     match c.take(size as usize) {
         Ok(name) => Some(name),
@@ -114,7 +118,8 @@ fn name_then_number<'a>(c: &mut Cursor<'a>) -> Option<&'a [u8]>
 
 // The name, where four bytes follow.
 fn before_number<'a>(c: &mut Cursor<'a>, name: &'a [u8]) -> Option<&'a [u8]>
-    ensures { FindsName (λ lent whole rest. (lent ≡ name.now) × FourThen whole rest) result c.old.rest c.new.rest }
+    ensures { FindsName
+        (λ lent whole rest. (lent ≡ name.now) × FourThen whole rest) result c.old.rest c.new.rest }
 {
     match c.take(4) {
         Ok(_) => Some(name),

@@ -46,7 +46,8 @@ fn line_of(
     key: &[u8],
 ) -> Result<Blob, OutOfMemory>
     ensures { IfOk result (λ line. line
-        ≡ codes "datagram " ++ decimal number ++ what.now ++ decimal code ++ codes " " ++ name.now ++ key.now ++ codes "\n") }
+        ≡ codes "datagram " ++ decimal number ++ what.now ++ decimal code ++ codes " " ++ name.now
+        ++ key.now ++ codes "\n") }
 {
     let mut digits = Buffer::new();
     let mut figures = Buffer::new();
@@ -70,7 +71,8 @@ fn line_in<'a>(
     key: &'a [u8],
 ) -> Result<Blob, OutOfMemory>
     ensures { IfOk result (λ line. line
-        ≡ codes "datagram " ++ number.now ++ what.now ++ code.now ++ codes " " ++ name.now ++ key.now ++ codes "\n") }
+        ≡ codes "datagram " ++ number.now ++ what.now ++ code.now ++ codes " " ++ name.now
+        ++ key.now ++ codes "\n") }
 {
     let mut line = Blob::new(alloc);
     append_pieces(

@@ -1,3 +1,4 @@
+//! A post in memory, for tests and rows.
 ghost use Rattle.std.specs.Prelude.{◌≡◌, ◌≢◌, ◌≤◌, ◌↔◌, ◌⊎◌, [], ◌∷◌, false, length, take, Contains, IfOk, IsErr, OnErr, OnOk, refl};
 ghost use Rattle.std.specs.Io.{ReadsAtMost};
 ghost use Rattle.span_io.specs.Memory.{CountsFault};
@@ -96,10 +97,13 @@ impl Post for MemPost {
 
     #[tactic(auto, using(span_io::proofs::Addresses::elsewhere))]
     fn listen(&mut self, address: &str) -> Result<(), Failed>
-        ensures ok { OnOk result (ListensNow (mailbox_of self.old) (mailbox_of self.new) address.now) }
+        ensures ok { OnOk result
+            (ListensNow (mailbox_of self.old) (mailbox_of self.new) address.now) }
         ensures right { OnOk result (IsPostAt (mailbox_of self.old) address.now) }
-        ensures err { OnErr result (RefusesToListen (mailbox_of self.old) (mailbox_of self.new) address.now) }
-        ensures failed { OnErr result (Rose (mailbox_of self.old).faults (mailbox_of self.new).faults) }
+        ensures err { OnErr result
+            (RefusesToListen (mailbox_of self.old) (mailbox_of self.new) address.now) }
+        ensures failed { OnErr result
+            (Rose (mailbox_of self.old).faults (mailbox_of self.new).faults) }
         ensures counted { (mailbox_of self.old).faults ≤ (mailbox_of self.new).faults }
 
         // It fails exactly on the listed calls, and at another address.
@@ -127,10 +131,12 @@ impl Post for MemPost {
         requires room { most_bytes ≤ length buf.old }
         ensures bound { ReadsAtMost result buf.new }
         ensures size { length buf.new ≡ length buf.old }
-        ensures ok { IfOk result (λ n. Receives (mailbox_of self.old) (mailbox_of self.new) (take n buf.new)) }
+        ensures ok { IfOk result
+            (λ n. Receives (mailbox_of self.old) (mailbox_of self.new) (take n buf.new)) }
         ensures small { IfOk result (λ n. n ≤ most_bytes) }
         ensures err { OnErr result (RefusesToReceive (mailbox_of self.old) (mailbox_of self.new)) }
-        ensures failed { OnErr result (Rose (mailbox_of self.old).faults (mailbox_of self.new).faults) }
+        ensures failed { OnErr result
+            (Rose (mailbox_of self.old).faults (mailbox_of self.new).faults) }
         ensures counted { (mailbox_of self.old).faults ≤ (mailbox_of self.new).faults }
 
         // It fails exactly on the listed calls, and where no datagram is left.

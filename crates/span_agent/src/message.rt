@@ -66,7 +66,8 @@ impl AgentCause {
 /// Reads the message of a datagram. It takes no memory.
 pub fn read_message(datagram: &[u8]) -> Result<Message<'_>, AgentCause>
     // The batch of the datagram is found, and no other.
-    ensures message { (compact : Bool) (batch : List ℕ) → Finds result compact batch ↔ IsMessage datagram.now compact batch }
+    ensures message { (compact : Bool) (batch : List ℕ)
+        → Finds result compact batch ↔ IsMessage datagram.now compact batch }
     // A cause is answered exactly where it is the first that holds.
     ensures cause { (cause : AgentCause) → (result ≡ Err cause) ↔ HasCause datagram.now cause }
 {
@@ -94,7 +95,8 @@ fn is_emit_batch(name: &[u8]) -> bool
 
 // The batch among the arguments, which are in this protocol.
 fn batch_by<'a>(compact: bool, bytes: &'a [u8]) -> Result<&'a [u8], AgentCause>
-    ensures { (told : Result (List ℕ) AgentCause) → TellsBatchIn compact bytes.now told ↔ SaysBatch result told }
+    ensures { (told : Result (List ℕ) AgentCause)
+        → TellsBatchIn compact bytes.now told ↔ SaysBatch result told }
 {
     if compact {
         return batch_in::<Compact>(bytes);

@@ -18,7 +18,8 @@ pub struct Options {
 
 /// Reads the words after the program's name: each option once, in any order, with nothing else.
 pub fn read_options(words: &[String]) -> Option<Options>
-    ensures { (options : Options) → (result ≡ Some options) ↔ SpellsOptions options (texts words.now) }
+    ensures { (options : Options)
+        → (result ≡ Some options) ↔ SpellsOptions options (texts words.now) }
 {
     if words.len() != 6 {
         return None;

@@ -37,7 +37,8 @@ pub fn convert_datagram(
 
     // There is a piece of the datagram, or why it has none, whatever is answered, and the answer is by it.
     ensures exists { (told : Result (List ℕ) AgentBad) × IsPiece to limits.now datagram.now told }
-    ensures piece { (told : Result (List ℕ) AgentBad) → IsPiece to limits.now datagram.now told → SaysPiece told result }
+    ensures piece { (told : Result (List ℕ) AgentBad) → IsPiece to limits.now datagram.now told
+        → SaysPiece told result }
 {
     match read_message(datagram) {
         Ok(message) => piece_of(alloc, form_in(message.compact), to, message.batch, limits),

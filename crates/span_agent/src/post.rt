@@ -1,3 +1,4 @@
+//! What gives datagrams, and what its calls promise.
 ghost use Rattle.std.specs.Prelude.{◌≡◌, ◌≤◌, length, take, IfOk, OnOk, OnErr};
 ghost use Rattle.std.specs.Io.{ReadsAtMost};
 ghost use Rattle.span_io.specs.Doors.{TellsAstray};
@@ -16,7 +17,8 @@ pub trait Post {
     fn listen(&mut self, address: &str) -> Result<(), Failed>
         ensures ok { OnOk result (ListensNow (mailbox self.old) (mailbox self.new) address.now) }
         ensures right { OnOk result (IsPostAt (mailbox self.old) address.now) }
-        ensures err { OnErr result (RefusesToListen (mailbox self.old) (mailbox self.new) address.now) }
+        ensures err { OnErr result
+            (RefusesToListen (mailbox self.old) (mailbox self.new) address.now) }
         ensures failed { OnErr result (Rose (mailbox self.old).faults (mailbox self.new).faults) }
         ensures counted { (mailbox self.old).faults ≤ (mailbox self.new).faults };
 
@@ -26,7 +28,8 @@ pub trait Post {
         requires room { most_bytes ≤ length buf.old }
         ensures bound { ReadsAtMost result buf.new }
         ensures size { length buf.new ≡ length buf.old }
-        ensures ok { IfOk result (λ n. Receives (mailbox self.old) (mailbox self.new) (take n buf.new)) }
+        ensures ok { IfOk result
+            (λ n. Receives (mailbox self.old) (mailbox self.new) (take n buf.new)) }
         ensures small { IfOk result (λ n. n ≤ most_bytes) }
         ensures err { OnErr result (RefusesToReceive (mailbox self.old) (mailbox self.new)) }
         ensures failed { OnErr result (Rose (mailbox self.old).faults (mailbox self.new).faults) }

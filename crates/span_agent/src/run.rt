@@ -68,12 +68,14 @@ pub fn agent_run<P: Post, K: Sink, N: Sink>(
     notes: &mut N,
 ) -> u8
     // Other words are answered at once: nothing is received, and nothing written but a note.
-    ensures usage { (result ≡ 2) ↔ ((options : Options) → ¬ SpellsOptions options (texts words.now)) }
+    ensures usage { (result ≡ 2)
+        ↔ ((options : Options) → ¬ SpellsOptions options (texts words.now)) }
     ensures untouched { result ≡ 2 → (post.new ≡ post.old) × (output.new ≡ output.old) }
     ensures usage_noted { result ≡ 2 → Notes (N.outlet notes.old) (N.outlet notes.new) usage_line }
 
     // Datagrams are received at the address of the words, and these are converted and written, one after the other.
-    ensures receives { OnOptions (texts words.now) (λ address to count. ReceivesDatagrams address to count result
+    ensures receives { OnOptions (texts words.now)
+        (λ address to count. ReceivesDatagrams address to count result
         (P.mailbox post.old) (P.mailbox post.new) (K.outlet output.old) (K.outlet output.new)
         (N.outlet notes.old) (N.outlet notes.new)) }
 
@@ -108,7 +110,8 @@ fn receive<P: Post, K: Sink, N: Sink>(
     notes: &mut N,
 ) -> u8
     requires { 1 ≤ count }
-    ensures { ReceivesDatagrams address.now to count result (P.mailbox post.old) (P.mailbox post.new)
+    ensures { ReceivesDatagrams address.now to count result (P.mailbox post.old)
+        (P.mailbox post.new)
         (K.outlet output.old) (K.outlet output.new) (N.outlet notes.old) (N.outlet notes.new) }
 {
     gains_then();
@@ -137,7 +140,8 @@ fn receive_at<P: Post, K: Sink, N: Sink>(
     holds: &mut bool,
 ) -> AgentEnd
     requires { 1 ≤ count }
-    ensures { (lines : List ℕ) × ReceivesAt address.now to count result (P.mailbox post.old) (P.mailbox post.new)
+    ensures { (lines : List ℕ)
+        × ReceivesAt address.now to count result (P.mailbox post.old) (P.mailbox post.new)
         (K.outlet output.old) (K.outlet output.new) lines
         × NotesMore holds.old holds.new (N.outlet notes.old) (N.outlet notes.new) lines }
 {
@@ -164,7 +168,8 @@ fn receive_each<P: Post, K: Sink, N: Sink>(
 ) -> AgentEnd
     requires listening { PostListens (P.mailbox post.old) }
     requires room { most_bytes ≤ length buf.old }
-    ensures { ReceivesEach to count result holds.old holds.new (P.mailbox post.old) (P.mailbox post.new)
+    ensures { ReceivesEach to count result holds.old holds.new (P.mailbox post.old)
+        (P.mailbox post.new)
         (K.outlet output.old) (K.outlet output.new) (N.outlet notes.old) (N.outlet notes.new) }
 {
     gains_then();
@@ -192,7 +197,8 @@ fn hand_on<K: Sink, N: Sink>(
     holds: &mut bool,
 ) -> Result<(), Halt<Failed>>
     requires small { length datagram.now ≤ most_bytes }
-    ensures { HandsOn to number datagram.now result holds.old holds.new (K.outlet output.old) (K.outlet output.new)
+    ensures { HandsOn to number datagram.now result holds.old holds.new (K.outlet output.old)
+        (K.outlet output.new)
         (N.outlet notes.old) (N.outlet notes.new) }
 {
     gains_then();
@@ -214,9 +220,11 @@ fn note_bad<N: Sink>(
     notes: &mut N,
     holds: &mut bool,
 ) -> Result<(), Halt<Failed>>
-    ensures ok { OnOk result (NotesMore holds.old holds.new (N.outlet notes.old) (N.outlet notes.new)
+    ensures ok { OnOk result
+        (NotesMore holds.old holds.new (N.outlet notes.old) (N.outlet notes.new)
         (codes "datagram " ++ decimal number ++ bad_text bad.now)) }
-    ensures err { OnErr result ((result ≡ Err Halt.OutOfMemory) × (holds.new ≡ holds.old) × (notes.new ≡ notes.old)) }
+    ensures err { OnErr result
+        ((result ≡ Err Halt.OutOfMemory) × (holds.new ≡ holds.old) × (notes.new ≡ notes.old)) }
 {
     match bad_line(alloc, number, bad) {
         Ok(line) => {

@@ -1,3 +1,4 @@
+//! A post over a socket of UDP.
 ghost use Rattle.std.specs.Prelude.{◌≡◌, ◌≤◌, length, IfSome};
 ghost use Rattle.span_agent.specs.Posts.{untold};
 

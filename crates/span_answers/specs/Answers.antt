@@ -2,6 +2,7 @@
 use Rattle.std.specs.Prelude.{ℕ, Bool, List, [], codes}
 use Rattle.http_conn.specs.Replies.{answer_text}
 
+-- the media type of an answer that holds a line of text (RFC 2046, section 4.1.3)
 abbrev pub plain_text : List ℕ
 plain_text = codes "text/plain"
 

@@ -9,6 +9,7 @@ use Rattle.trace_model.specs.declared.fault.Fault.{Fault}
 use Rattle.trace_model.specs.declared.fault.Fault.TheVariants as faults
 use Rattle.span_convert.specs.declared.target_fault.TargetFault.{TargetFault}
 
+-- why a body can't be read: its unit, counted from 1, or 0 for the whole body, and the number and name of the cause
 abbrev pub refusal_line : Refusal → List ℕ
 refusal_line refusal =
     codes "unit " ++ decimal refusal.unit ++ codes ": cause " ++ decimal (cause_number refusal.cause)
@@ -22,6 +23,15 @@ key_part faults.EventText = []
 key_part faults.ChildOfLink = []
 key_part faults.DoubleInText = []
 
+-- the faults that tell a key
+abbrev pub HasKey : Fault → Type 0
+HasKey (faults.OwnKey key) = Unit {0}
+HasKey faults.EndBeforeStart = ⊥
+HasKey faults.EventText = ⊥
+HasKey faults.ChildOfLink = ⊥
+HasKey faults.DoubleInText = ⊥
+
+-- why the target form can't hold what was read: the unit, counted from 1, the number and name of the fault, and its key, if any
 abbrev pub fault_line : TargetFault → List ℕ
 fault_line found =
     codes "unit " ++ decimal found.unit ++ codes ": fault " ++ decimal (fault_number found.fault)

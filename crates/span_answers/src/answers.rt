@@ -17,7 +17,8 @@ pub fn answer_refusal(
     refusal: &Refusal,
     close: bool,
 ) -> Result<(), OutOfMemory>
-    ensures { OnOk result (out.new ≡ out.old ++ answer_text 400 plain_text (refusal_line refusal.now) close) }
+    ensures { OnOk result
+        (out.new ≡ out.old ++ answer_text 400 plain_text (refusal_line refusal.now) close) }
 {
     let mut line = Blob::new(alloc);
     write_refusal(&mut line, refusal)?;
@@ -31,7 +32,8 @@ pub fn answer_fault(
     found: &TargetFault,
     close: bool,
 ) -> Result<(), OutOfMemory>
-    ensures { OnOk result (out.new ≡ out.old ++ answer_text 422 plain_text (fault_line found.now) close) }
+    ensures { OnOk result
+        (out.new ≡ out.old ++ answer_text 422 plain_text (fault_line found.now) close) }
 {
     let mut line = Blob::new(alloc);
     write_fault(alloc, &mut line, found)?;

@@ -1,8 +1,8 @@
 //! The line that says why a body has no text in the target form.
-ghost use Rattle.std.specs.Prelude.{◌≡◌, ◌++◌, ◌∷◌, [], codes, IfOk, OnOk};
+ghost use Rattle.std.specs.Prelude.{◌≡◌, ◌++◌, ◌∷◌, [], codes, IfOk, IsErr, OnOk};
 ghost use Rattle.json.specs.Print.{print};
 ghost use Rattle.json.specs.Token.{string};
-ghost use Rattle.span_answers.specs.NoteLines.{fault_line, key_part, refusal_line};
+ghost use Rattle.span_answers.specs.NoteLines.{HasKey, fault_line, key_part, refusal_line};
 
 use itoa::Buffer;
 use json::Writer;
@@ -58,9 +58,10 @@ pub(crate) fn write_fault(
     )
 }
 
-/// A space and the key of a fault that has one, as a JSON string, or nothing.
+/// A space and the key of a fault that has one, as a JSON string, or nothing. Only a key takes memory.
 pub fn key_of(alloc: Global, fault: &Fault) -> Result<Blob, OutOfMemory>
-    ensures { IfOk result (λ key. key ≡ key_part fault.now) }
+    ensures says { IfOk result (λ key. key ≡ key_part fault.now) }
+    ensures wants { IsErr result → HasKey fault.now }
 {
     match fault {
         Fault::OwnKey(key) => json_of(alloc, key.as_str()),

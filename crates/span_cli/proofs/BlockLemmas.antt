@@ -3,7 +3,8 @@ use Rattle.std.proofs.Common.{◌≡◌, ◌≤◌, ◌<◌, ℕ, List, [], ◌+
 use Rattle.std.specs.Prelude.{IsTrue}
 use Rattle.std.specs.Io.KnownBytes.{Consumes, IsAtEnd, Keeps}
 use Rattle.span_io.specs.Outside.{Inlet, InputFails, NoReadInVain, Rose}
-use Rattle.span_cli.specs.Inputs.{IsReadWhole, BlockHalts, header_limit, piece}
+use Rattle.span_cli.specs.private.ReadBlocks.{IsReadWhole, BlockHalts}
+use Rattle.span_cli.specs.Inputs.{header_limit, piece}
 use Rattle.span_cli.specs.declared.ending.Ending.TheVariants as endings
 use Rattle.span_cli.proofs.InputLemmas.{Consumes-then, Reading, Reading-end, Reading-start, gave_kept}
 

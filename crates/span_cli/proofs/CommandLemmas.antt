@@ -11,8 +11,10 @@ use Rattle.span_cli.specs.declared.command.Short.{Short}
 use Rattle.span_cli.specs.declared.command.Short.TheVariants as shorts
 use Rattle.span_cli.specs.declared.command.Side.{Side}
 use Rattle.span_cli.specs.declared.command.Side.TheVariants.{From, To}
-use Rattle.span_cli.specs.Commands.{Spells, SpellsLong, SpellsServe, GoesBetween, ShowsForm, ChecksForm, WritesHeaders, WritesSizes, side_word, spans_word, other_side, long_word, short_word, short_option}
-use Rattle.span_cli.specs.Jobs.{IfMakes, IsInRange, task_of}
+use Rattle.span_cli.specs.Commands.{Spells, SpellsLong, SpellsServe, side_word, spans_word, long_word}
+use Rattle.span_cli.specs.private.Words.{GoesBetween, ShowsForm, ChecksForm, WritesHeaders, WritesSizes, other_side, short_word, short_option}
+use Rattle.span_cli.specs.Jobs.{IfMakes, task_of}
+use Rattle.span_cli.specs.private.JobWords.{IsInRange}
 
 -- the words that stand on the two sides
 abbrev pub Between : Side → Command → Long → List ℕ → List ℕ → Type 0

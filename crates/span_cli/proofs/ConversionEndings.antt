@@ -16,9 +16,9 @@ use Rattle.span_convert.specs.Reports.{IsVerdictAs, IsJudgedAs, written_target}
 use Rattle.span_convert.specs.Targets.{Target, open_target}
 use Rattle.span_convert.specs.Units.{InputForm, input_form, open_form}
 use Rattle.span_convert.specs.Verdicts.{Verdict, good, refused, faulted, IsFaulted, IsVerdictOn, verdict_text}
-use Rattle.span_convert.specs.declared.converter.State.{State}
-use Rattle.span_convert.specs.declared.converter.State.TheVariants as states
-use Rattle.span_convert.specs.declared.converter.Walker.{Walker}
+use Rattle.span_convert.specs.declared.walker.State.{State}
+use Rattle.span_convert.specs.declared.walker.State.TheVariants as states
+use Rattle.span_convert.specs.declared.walker.Walker.{Walker}
 use Rattle.span_convert.specs.declared.stop.Stop.{Stop}
 use Rattle.span_convert.specs.declared.stop.Stop.TheVariants as stops
 use Rattle.span_convert.specs.declared.tally.Tally.{Tally}
@@ -26,11 +26,14 @@ use Rattle.span_convert.specs.declared.target_fault.TargetFault.{TargetFault}
 use Rattle.span_convert.specs.declared.report.Report.TheVariants as reports
 use Rattle.span_convert.specs.declared.written.Written.{Written}
 use Rattle.span_convert.specs.declared.written.Written.TheVariants as kinds
-use Rattle.span_cli.specs.Inputs.{GaveInput, ReadsInput, IsAllRead, shipped}
+use Rattle.span_cli.specs.Inputs.{GaveInput, ReadsInput, IsAllRead}
+use Rattle.span_cli.specs.private.ReadBlocks.{shipped}
 use Rattle.span_cli.specs.Jobs.{HasFaults, Spans}
-use Rattle.span_cli.specs.Lines.{said, fault_line, noted_line}
+use Rattle.span_cli.specs.Lines.{said, fault_line}
+use Rattle.span_cli.specs.private.LineWords.{noted_line}
 use Rattle.span_cli.specs.Outcomes.{Outcome, OnOutcome, IsJudgedAt, verdict_outcome}
-use Rattle.span_cli.specs.Runs.{IsEndingAt, IsEndingOf, EndsRun, WritesAllUnits, WritesWholeUnits}
+use Rattle.span_cli.specs.private.RunSteps.{IsEndingAt, IsEndingOf, EndsRun, WritesAllUnits}
+use Rattle.span_cli.specs.Runs.{WritesWholeUnits}
 use Rattle.span_cli.specs.declared.ending.Ending.{Ending}
 use Rattle.span_cli.specs.declared.ending.Ending.TheVariants as endings
 use Rattle.span_cli.specs.declared.noted_fault.NotedFault.{NotedFault}

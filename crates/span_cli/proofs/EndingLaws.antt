@@ -8,9 +8,11 @@ use Rattle.span_io.specs.declared.course.WriteCourse.TheVariants as writes
 use Rattle.span_convert.specs.Outlooks.{SinkTold}
 use Rattle.span_cli.specs.Inputs.{ReadsInput, IsReadThrough}
 use Rattle.span_cli.specs.Jobs.{Job, MayFault}
-use Rattle.span_cli.specs.Lines.{Stage, said, input_failed, output_failed, no_memory, IsRunStatus, Notes, status_of, stage_line, stage_of, ending_line}
+use Rattle.span_cli.specs.Lines.{Stage, said, input_failed, output_failed, no_memory, IsRunStatus, Notes, stage_line, stage_of}
+use Rattle.span_cli.specs.private.LineWords.{status_of, ending_line}
 use Rattle.span_cli.specs.Outcomes.{Outcome, CarriesOut, IsOutcome, OnOutcome, IsJudgedAt}
-use Rattle.span_cli.specs.Runs.{EndsInput, WritesAllOf, WritesRead, WritesSoFar, EndsRun}
+use Rattle.span_cli.specs.private.RunSteps.{EndsInput, WritesAllOf, EndsRun}
+use Rattle.span_cli.specs.Runs.{WritesRead, WritesSoFar}
 use Rattle.span_cli.specs.declared.ending.Ending.{Ending}
 use Rattle.span_cli.specs.declared.ending.Ending.TheVariants as endings
 

@@ -5,9 +5,11 @@ use Rattle.std.specs.Io.KnownBytes.{Consumes}
 use Rattle.span_io.specs.Outside.{Inlet, Outlet, Gains, GainsFront, OutputFails, OutputHolds, FailsWithin}
 use Rattle.span_cli.specs.GaugeLines.{gauge_lines}
 use Rattle.span_cli.specs.Jobs.{Gauge}
-use Rattle.span_cli.specs.Lines.{Notes, said, status_of, ending_line}
+use Rattle.span_cli.specs.Lines.{Notes, said}
+use Rattle.span_cli.specs.private.LineWords.{status_of, ending_line}
 use Rattle.span_cli.specs.Outcomes.{Outcome, OnOutcome, IsJudgedAt, CarriesOut, gauge_outcome}
-use Rattle.span_cli.specs.Runs.{EndsRun, EndsGauge, IsGaugeStatus}
+use Rattle.span_cli.specs.private.RunSteps.{EndsRun, EndsGauge}
+use Rattle.span_cli.specs.Runs.{IsGaugeStatus}
 use Rattle.span_cli.specs.declared.ending.Ending.{Ending}
 use Rattle.span_cli.specs.declared.ending.Ending.TheVariants as endings
 use Rattle.span_cli.proofs.EndingLaws.{RunCourse, Carries, always, ends_output_failed, ends_said, wants, holds_nothing, front_nothing, unlike, untouched_in_vain}

@@ -9,11 +9,13 @@ use Rattle.propagation.specs.declared.context.Context.{Context}
 use Rattle.propagation.specs.declared.header_cause.HeaderCause.{HeaderCause}
 use Rattle.propagation.specs.declared.header_form.HeaderForm.{HeaderForm}
 use Rattle.span_io.specs.Outside.{Inlet, Outlet, Gains, GainsFront, NoReadInVain, OutputFails, OutputHolds, FailsWithin}
-use Rattle.span_cli.specs.Inputs.{GaveInput, IsReadWhole, BlockHalts, header_limit, piece}
+use Rattle.span_cli.specs.Inputs.{GaveInput, header_limit, piece}
+use Rattle.span_cli.specs.private.ReadBlocks.{IsReadWhole, BlockHalts}
 use Rattle.span_cli.specs.Jobs.{HeaderLines}
 use Rattle.span_cli.specs.Lines.{said, header_cause_line, too_long_line}
 use Rattle.span_cli.specs.Outcomes.{Outcome, IsHeadersOutcome, too_long, bad, no_ids, written, OnOutcome, IsJudgedAt}
-use Rattle.span_cli.specs.Runs.{none, some, EndsRun, TellsLines, HaltsLines}
+use Rattle.span_cli.specs.Runs.{none, some}
+use Rattle.span_cli.specs.private.RunSteps.{EndsRun, TellsLines, HaltsLines}
 use Rattle.span_cli.specs.declared.ending.Ending.{Ending}
 use Rattle.span_cli.specs.declared.ending.Ending.TheVariants as endings
 use Rattle.span_cli.proofs.EndingLaws.{RunCourse, Carries, all_told, always, ends_input_unwritten, ends_no_memory, ends_output_failed, ends_said, gains_nothing, holds_nothing, unlike}

@@ -14,9 +14,10 @@ use Rattle.span_io.specs.declared.form.Form.{Form}
 use Rattle.span_convert.specs.Converters.{Fed, Feeds}
 use Rattle.span_convert.specs.Reports.{WritesFrontAs}
 use Rattle.span_convert.specs.Units.{input_limit}
-use Rattle.span_convert.specs.declared.converter.Walker.{Walker}
+use Rattle.span_convert.specs.declared.walker.Walker.{Walker}
 use Rattle.span_convert.specs.declared.written.Written.{Written}
-use Rattle.span_cli.specs.Inputs.{GaveInput, ReadsInput, IsAllRead, IsFed, piece, shipped}
+use Rattle.span_cli.specs.Inputs.{GaveInput, ReadsInput, IsAllRead, piece}
+use Rattle.span_cli.specs.private.ReadBlocks.{IsFed, shipped}
 use Rattle.span_cli.specs.Jobs.{Job, Spans}
 use Rattle.span_cli.proofs.WrittenSoFar.{front_of_units, gained, gains_on}
 

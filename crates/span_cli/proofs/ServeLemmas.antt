@@ -13,10 +13,11 @@ use Rattle.span_gateway.specs.Serving.{KeepsMark, Serves}
 use Rattle.conn_service.specs.declared.ended.Ended.{Ended}
 use Rattle.conn_service.specs.declared.ended.ServeFault.{ServeFault}
 use Rattle.conn_service.specs.declared.ended.ServeFault.TheVariants as faults
-use Rattle.conn_service.specs.DoorRuns.{GivesEach, last_course}
-use Rattle.conn_service.specs.laws.DoorLaws.{gives_all, gives_failed, gives_more, gives_one, leaves_listening, leaves_refused}
+use Rattle.conn_service.specs.private.DoorSteps.{GivesEach}
+use Rattle.conn_service.specs.DoorRuns.{last_course}
+use Rattle.conn_service.proofs.DoorLaws.{gives_all, gives_failed, gives_more, gives_one, leaves_listening, leaves_refused}
 use Rattle.span_notes.specs.Notes.{NotesMore}
-use Rattle.span_notes.specs.laws.NoteLaws.{notes_all, notes_as, notes_both, notes_nothing}
+use Rattle.span_notes.proofs.NoteLaws.{notes_all, notes_as, notes_both, notes_nothing}
 use Rattle.span_cli.specs.Servings.{Visit, IsVisit, AreVisits, WantsMemory, NoneWants, ServesConnections, backs_of, door_failed, end_line, end_status, links_of, visit_line, visit_lines}
 use Rattle.span_cli.specs.private.ServingSteps.{ServesNext, HasServed, VisitsSoFar, ServesEach, ServesAt}
 use Rattle.span_cli.specs.declared.serve.ServeEnd.{ServeEnd}

@@ -3,7 +3,8 @@ use Rattle.std.proofs.Common.{◌≡◌, ◌≢◌, ◌↔◌, ℕ, List, Option
 use Rattle.std.specs.Prelude.{slice_get}
 use Rattle.span_io.specs.declared.form.Form.{Form}
 use Rattle.span_cli.specs.Commands.{OnJob, OnServing, Spells, SpellsServe}
-use Rattle.span_cli.specs.Jobs.{Job, IfMakes, IsInRange, task_of}
+use Rattle.span_cli.specs.Jobs.{Job, IfMakes, task_of}
+use Rattle.span_cli.specs.private.JobWords.{IsInRange}
 use Rattle.span_cli.specs.declared.command.Command.{Command}
 use Rattle.span_cli.specs.declared.command.Command.TheVariants as commands
 use Rattle.span_cli.specs.declared.job.Task.{Task}
@@ -12,7 +13,7 @@ use Rattle.span_cli.specs.Servings.{end_status}
 use Rattle.span_cli.specs.declared.serve.ServeEnd.{ServeEnd}
 use Rattle.span_cli.specs.declared.serve.ServeEnd.TheVariants.{AllServed, DoorFailed, NoMemory}
 use Rattle.span_cli.proofs.CommandLemmas.{in_range}
-use Rattle.span_notes.specs.laws.WordLaws.{one_word}
+use Rattle.span_notes.proofs.WordLaws.{one_word}
 
 -- ---- the status of serving
 

@@ -14,7 +14,7 @@ use Rattle.span_convert.specs.Verdicts.{IsGood}
 use Rattle.span_convert.specs.declared.tally.Tally.{Tally}
 use Rattle.span_convert.specs.declared.written.Written.TheVariants as written
 use Rattle.span_cli.specs.Outcomes.{WritesTextOf}
-use Rattle.span_cli.specs.Runs.{WritesAllUnits}
+use Rattle.span_cli.specs.private.RunSteps.{WritesAllUnits}
 use Rattle.span_cli.proofs.WrittenSoFar.{shipped_valid}
 
 module _ (law : (from to : Form) (limits : Limits) (bytes text : List ℕ) (tally : Tally) → AreLimits limits

@@ -24,5 +24,6 @@ size_line spans form = counted_line (form_word form) (length (canonical_text for
 abbrev pub gauge_forms : List Form
 gauge_forms = OtlpProto ∷ OtlpJson ∷ JaegerBinary ∷ JaegerCompact ∷ ZipkinJson ∷ []
 
+-- the lines `spans` and `groups` with their numbers, and then one for each form with its number of bytes
 unfoldable pub gauge_lines : ℕ → List ℕ
 gauge_lines spans = counted_line (codes "spans") spans ++ (counted_line (codes "groups") (group_count spans) ++ flat_map (size_line spans) gauge_forms)

@@ -1,10 +1,8 @@
 -- What a command asks for: to make the output of a job, or to serve connections.
-use Rattle.std.specs.Prelude.{ℕ}
 use Rattle.span_io.specs.declared.form.Form.{Form}
 use Rattle.span_convert.specs.declared.report.Report.TheVariants as reports
 use Rattle.span_convert.specs.declared.written.Written.{Written}
 use Rattle.span_convert.specs.declared.written.Written.TheVariants as written
-use Rattle.span_cli.specs.GaugeLines.{IsGaugeCount}
 use Rattle.span_cli.specs.declared.command.Command.{Command}
 use Rattle.span_cli.specs.declared.command.Command.TheVariants as commands
 use Rattle.span_cli.specs.declared.job.Task.{Task}
@@ -12,6 +10,7 @@ use Rattle.span_cli.specs.declared.job.Task.TheVariants as tasks
 pub use Rattle.span_cli.specs.declared.job.Job.{Job}
 pub use Rattle.span_cli.specs.declared.job.Job.TheVariants.{Spans, HeaderLines, Gauge}
 
+-- what each command asks for: `serve` to serve connections, and every other one to make the output of a job
 abbrev pub task_of : Command → Task
 task_of (commands.Convert from to) = tasks.Make (Spans from (written.Form to))
 task_of (commands.Losses from to) = tasks.Make (Spans from (written.Report (reports.Losses to)))
@@ -25,11 +24,6 @@ task_of (commands.Serve address to count) = tasks.Serve address to count
 abbrev pub IfMakes : Task → (Job → Type 0) → Type 0
 IfMakes (tasks.Make job) P = P job
 IfMakes (tasks.Serve address to count) P = Unit {0}
-
--- the sizes that a job writes are those of as many spans as may be asked for
-abbrev pub IsInRange : Job → Type 0
-IsInRange (Gauge spans) = IsGaugeCount spans
-IsInRange other = Unit {0}
 
 -- a target that has faults: every span can be shown, and every remark told
 abbrev pub HasFaults : Written → Type 0
@@ -49,9 +43,3 @@ abbrev pub IfSpans : Job → (Form → Written → Type 0) → Type 0
 IfSpans (Spans from what) P = P from what
 IfSpans (HeaderLines form) P = Unit {0}
 IfSpans (Gauge spans) P = Unit {0}
-
--- the fact holds of the number of spans of the gauge, where its sizes are written
-abbrev pub IfGauge : Job → (ℕ → Type 0) → Type 0
-IfGauge (Spans from what) P = Unit {0}
-IfGauge (HeaderLines form) P = Unit {0}
-IfGauge (Gauge spans) P = P spans

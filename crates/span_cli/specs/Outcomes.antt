@@ -50,8 +50,10 @@ pub data IsHeadersOutcome (form : HeaderForm) (bytes : List ℕ) (outcome : Outc
 abbrev pub gauge_outcome : ℕ → Outcome
 gauge_outcome spans = record { status = 0; text = gauge_lines spans; line = [] }
 
+-- the outcome of a job on these bytes: by the verdict on them, by the context that they tell, or the gauge
 abbrev pub IsOutcome : Job → List ℕ → Outcome → Type 0
-IsOutcome (Spans from what) bytes outcome = (verdict : Verdict) × IsVerdictAs from what shipped_limits bytes verdict × (outcome ≡ verdict_outcome verdict)
+IsOutcome (Spans from what) bytes outcome =
+    (verdict : Verdict) × IsVerdictAs from what shipped_limits bytes verdict × (outcome ≡ verdict_outcome verdict)
 IsOutcome (HeaderLines form) bytes outcome = IsHeadersOutcome form bytes outcome
 IsOutcome (Gauge spans) bytes outcome = outcome ≡ gauge_outcome spans
 
@@ -61,12 +63,14 @@ OnOutcome job left P = IfSome left (λ bytes. (outcome : Outcome) → IsOutcome 
 
 -- The same of each outcome on other bytes that hold the same batches of Jaeger, in a protocol of their own.
 abbrev pub OnSameBatches : Form → Written → Option (List ℕ) → (Outcome → Type 0) → Type 0
-OnSameBatches from what left P = IfSome left (λ bytes. (other : Form) (others : List ℕ) → SameBatches shipped_limits from bytes other others
+OnSameBatches from what left P =
+    IfSome left (λ bytes. (other : Form) (others : List ℕ) → SameBatches shipped_limits from bytes other others
     → (outcome : Outcome) → IsOutcome (Spans other what) others outcome → P outcome)
 
 -- The same of each outcome on other bytes that differ in members alone that the form doesn't know, if it is one in JSON.
 abbrev pub OnAgreeingDocuments : Form → Written → Option (List ℕ) → (Outcome → Type 0) → Type 0
-OnAgreeingDocuments from what left P = IfSome left (λ bytes. (others : List ℕ) → AgreeingDocuments shipped_limits from bytes others
+OnAgreeingDocuments from what left P =
+    IfSome left (λ bytes. (others : List ℕ) → AgreeingDocuments shipped_limits from bytes others
     → (outcome : Outcome) → IsOutcome (Spans from what) others outcome → P outcome)
 
 -- ---- what a run did of it

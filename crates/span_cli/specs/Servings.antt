@@ -42,6 +42,7 @@ visit_line number (Err faults.OutOfMemory) = []
 
 -- ---- one after the other
 
+-- each of these is a connection that was served so
 abbrev pub AreVisits : Form → List Visit → Type 0
 AreVisits to [] = Unit {0}
 AreVisits to (visit ∷ visits) = IsVisit to visit × AreVisits to visits
@@ -68,6 +69,7 @@ visit_lines number (visit ∷ visits) = visit_line number visit.ended ++ visit_l
 abbrev pub links_of : List Visit → List Link
 links_of visits = map (λ (visit : Visit). visit.before) visits
 
+-- the connections as they were given back
 abbrev pub backs_of : List Visit → List Link
 backs_of visits = map (λ (visit : Visit). visit.now) visits
 
@@ -79,6 +81,7 @@ end_status AllServed = 0
 end_status DoorFailed = 5
 end_status NoMemory = 7
 
+-- the last line: that the door failed or memory was wanted, and none where all connections were served
 abbrev pub end_line : ServeEnd → List ℕ
 end_line AllServed = []
 end_line DoorFailed = codes "door failed\n"

@@ -1,6 +1,7 @@
 //! Reading a block of header lines.
 ghost use Rattle.std.specs.Prelude.{◌≡◌, ◌≤◌, [], length, OnOk, IfOk, IfErr};
-ghost use Rattle.span_cli.specs.Inputs.{IsReadWhole, BlockHalts, header_limit, piece};
+ghost use Rattle.span_cli.specs.private.ReadBlocks.{IsReadWhole, BlockHalts};
+ghost use Rattle.span_cli.specs.Inputs.{header_limit, piece};
 
 use crate::ending::Ending;
 use crate::input::{PIECE, room};
@@ -12,9 +13,11 @@ const HEADER_LIMIT: usize = 16_384;
 
 /// Reads an input of header lines to its end. Where the run ends before, the answer is how.
 pub fn read_block<S: Source>(alloc: Global, input: &mut S) -> Result<Blob, Ending>
-    ensures whole { IfOk result (λ block. IsReadWhole (S.inlet input.old) (S.inlet input.new) block) }
+    ensures whole { IfOk result
+        (λ block. IsReadWhole (S.inlet input.old) (S.inlet input.new) block) }
     ensures within { IfOk result (λ block. length block ≤ header_limit) }
-    ensures ended { IfErr result (λ ending. BlockHalts ending (S.inlet input.old) (S.inlet input.new)) }
+    ensures ended { IfErr result
+        (λ ending. BlockHalts ending (S.inlet input.old) (S.inlet input.new)) }
 {
     let Ok(mut buffer) = room(alloc, PIECE) else {
         return Err(Ending::NoMemory);
@@ -30,7 +33,8 @@ fn read_pieces<S: Source>(input: &mut S, block: &mut Blob, buffer: &mut [u8]) ->
     requires none { block.old ≡ [] }
     ensures whole { OnOk result (IsReadWhole (S.inlet input.old) (S.inlet input.new) block.new) }
     ensures within { OnOk result (length block.new ≤ header_limit) }
-    ensures ended { IfErr result (λ ending. BlockHalts ending (S.inlet input.old) (S.inlet input.new)) }
+    ensures ended { IfErr result
+        (λ ending. BlockHalts ending (S.inlet input.old) (S.inlet input.new)) }
 {
     'pieces: loop {
         let Ok(given) = input.read(buffer) else {

@@ -1,6 +1,7 @@
 //! The words of the command line.
 ghost use Rattle.std.specs.Prelude.{◌≡◌, ◌↔◌, ◌∷◌, [], ℕ, Some};
-ghost use Rattle.span_cli.specs.Commands.{texts, Spells, GoesBetween, ShowsForm, ChecksForm, WritesHeaders, WritesSizes, TellsSpans, side_word, other_side, long_word, short_word, short_option};
+ghost use Rattle.span_cli.specs.Commands.{texts, Spells, side_word, long_word};
+ghost use Rattle.span_cli.specs.private.Words.{GoesBetween, ShowsForm, ChecksForm, WritesHeaders, WritesSizes, TellsSpans, other_side, short_word, short_option};
 ghost use Rattle.span_cli.specs.declared.command.Command.{Command};
 ghost use Rattle.span_cli.specs.declared.command.Long.{Long};
 ghost use Rattle.span_cli.specs.declared.command.Short.{Short};
@@ -81,7 +82,8 @@ pub fn read_words(words: &[String]) -> Option<Command>
 
 // The command that a mode and one option with its word spell.
 fn one_option(mode: &[u8], option: &[u8], word: &str) -> Option<Command>
-    ensures { (command : Command) → (result ≡ Some command) ↔ Spells command (mode.now ∷ option.now ∷ word.now ∷ []) }
+    ensures { (command : Command)
+        → (result ≡ Some command) ↔ Spells command (mode.now ∷ option.now ∷ word.now ∷ []) }
 {
     let bytes = word.as_bytes();
     match short_mode(mode, option)? {
@@ -158,7 +160,8 @@ fn command_of(
     second_word: &[u8],
 ) -> Option<Command>
     ensures { (command : Command) → (result ≡ Some command)
-        ↔ Spells command (mode.now ∷ first.now ∷ first_word.now ∷ second.now ∷ second_word.now ∷ []) }
+        ↔ Spells command
+        (mode.now ∷ first.now ∷ first_word.now ∷ second.now ∷ second_word.now ∷ []) }
 {
     let long = long_mode(mode)?;
     match first_side(first, second)? {
@@ -180,7 +183,9 @@ fn long_mode(mode: &[u8]) -> Option<Long>
 
 // The side that the first of two options is of, where the second is of the other.
 fn first_side(first: &[u8], second: &[u8]) -> Option<Side>
-    ensures { (side : Side) → (result ≡ Some side) ↔ ((first.now ≡ side_word side) × (second.now ≡ side_word (other_side side))) }
+    ensures { (side : Side)
+        → (result ≡ Some side)
+        ↔ ((first.now ≡ side_word side) × (second.now ≡ side_word (other_side side))) }
 {
     match (first, second) {
         (b"--from", b"--to") => Some(Side::From),
@@ -191,7 +196,8 @@ fn first_side(first: &[u8], second: &[u8]) -> Option<Side>
 
 // The command of a mode between the forms that two words name.
 fn between(long: Long, source: &[u8], target: &[u8]) -> Option<Command>
-    ensures { (command : Command) → (result ≡ Some command) ↔ GoesBetween command long source.now target.now }
+    ensures { (command : Command)
+        → (result ≡ Some command) ↔ GoesBetween command long source.now target.now }
 {
     let source = Form::of_word(source)?;
     let target = Form::of_word(target)?;

@@ -1,8 +1,8 @@
 //! How a run ends.
 ghost use Rattle.std.specs.Prelude.{◌≡◌, Some};
 ghost use Rattle.span_convert.specs.Converters.{stop_of};
-ghost use Rattle.span_cli.specs.Lines.{status_of};
-ghost use Rattle.span_cli.specs.Runs.{IsEndingOf};
+ghost use Rattle.span_cli.specs.private.LineWords.{status_of};
+ghost use Rattle.span_cli.specs.private.RunSteps.{IsEndingOf};
 
 use crate::noted_fault::NotedFault;
 use propagation::HeaderCause;

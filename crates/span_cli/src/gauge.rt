@@ -2,7 +2,7 @@
 ghost use Rattle.std.specs.Prelude.{◌≡◌, ◌++◌, IfOk, OnOk};
 ghost use Rattle.span_io.specs.Forms.{form_word};
 ghost use Rattle.span_cli.specs.GaugeLines.{IsGaugeCount, counted_line, gauge_lines, size_line};
-ghost use Rattle.span_cli.specs.Runs.{EndsGauge};
+ghost use Rattle.span_cli.specs.private.RunSteps.{EndsGauge};
 
 use crate::ending::Ending;
 use itoa::Buffer;

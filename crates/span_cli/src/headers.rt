@@ -1,7 +1,7 @@
 //! The run of `headers`.
 ghost use Rattle.std.specs.Prelude.{IfOk, IfErr};
 ghost use Rattle.span_cli.specs.Jobs.{HeaderLines};
-ghost use Rattle.span_cli.specs.Runs.{EndsRun, TellsLines, HaltsLines};
+ghost use Rattle.span_cli.specs.private.RunSteps.{EndsRun, TellsLines, HaltsLines};
 
 use crate::block::read_block;
 use crate::ending::Ending;
@@ -17,7 +17,8 @@ pub fn headers<S: Source, K: Sink>(
     input: &mut S,
     output: &mut K,
 ) -> Ending
-    ensures { EndsRun K.outlet (HeaderLines form) result (S.inlet input.old) (S.inlet input.new) output.old output.new }
+    ensures { EndsRun K.outlet (HeaderLines form) result (S.inlet input.old)
+        (S.inlet input.new) output.old output.new }
 {
     one_verdict();
     let block = match read_block(alloc, input) {

@@ -1,9 +1,10 @@
 //! Feeding an input to what converts or reports it.
 ghost use Rattle.std.specs.Prelude.{◌≡◌, [], length, vec_len, IfOk, OnOk};
 ghost use Rattle.span_convert.specs.Converters.{Fed, work_of};
-ghost use Rattle.span_cli.specs.Inputs.{IsFed, piece, shipped};
+ghost use Rattle.span_cli.specs.private.ReadBlocks.{IsFed, shipped};
+ghost use Rattle.span_cli.specs.Inputs.{piece};
 ghost use Rattle.span_cli.specs.Jobs.{Spans};
-ghost use Rattle.span_cli.specs.Runs.{EndsEarly};
+ghost use Rattle.span_cli.specs.private.RunSteps.{EndsEarly};
 
 use crate::ending::Ending;
 use span_convert::Walker;
@@ -25,10 +26,13 @@ pub fn feed_input<S: Source, K: Sink>(
     input: &mut S,
     output: &mut K,
 ) -> Result<(), Ending>
-    requires fresh { Fed walker.old (shipped (work_of walker.old).from (work_of walker.old).what) [] [] }
+    requires fresh { Fed walker.old
+        (shipped (work_of walker.old).from (work_of walker.old).what) [] [] }
     ensures fed { OnOk result (IsFed (shipped (work_of walker.old).from (work_of walker.old).what)
-        (S.inlet input.old) (S.inlet input.new) (K.outlet output.old) (K.outlet output.new) walker.new) }
-    ensures ended { EndsEarly K.outlet (Spans (work_of walker.old).from (work_of walker.old).what) result
+        (S.inlet input.old) (S.inlet input.new) (K.outlet output.old)
+        (K.outlet output.new) walker.new) }
+    ensures ended { EndsEarly K.outlet
+        (Spans (work_of walker.old).from (work_of walker.old).what) result
         (S.inlet input.old) (S.inlet input.new) output.old output.new }
 {
     nothing_written();
@@ -54,10 +58,13 @@ fn feed_pieces<S: Source, K: Sink>(
     buffer: &mut [u8],
 ) -> Result<(), Ending>
     requires room { length buffer.old ≡ piece }
-    requires fresh { Fed walker.old (shipped (work_of walker.old).from (work_of walker.old).what) [] [] }
+    requires fresh { Fed walker.old
+        (shipped (work_of walker.old).from (work_of walker.old).what) [] [] }
     ensures fed { OnOk result (IsFed (shipped (work_of walker.old).from (work_of walker.old).what)
-        (S.inlet input.old) (S.inlet input.new) (K.outlet output.old) (K.outlet output.new) walker.new) }
-    ensures ended { EndsEarly K.outlet (Spans (work_of walker.old).from (work_of walker.old).what) result
+        (S.inlet input.old) (S.inlet input.new) (K.outlet output.old)
+        (K.outlet output.new) walker.new) }
+    ensures ended { EndsEarly K.outlet
+        (Spans (work_of walker.old).from (work_of walker.old).what) result
         (S.inlet input.old) (S.inlet input.new) output.old output.new }
 {
     nothing_written();

@@ -1,6 +1,7 @@
 //! What is noted: the line that tells how a run ended.
 ghost use Rattle.std.specs.Prelude.{◌≡◌, ◌++◌, codes};
-ghost use Rattle.span_cli.specs.Lines.{Notes, ending_line, named_cause_line, noted_line, refusal_line, usage_line};
+ghost use Rattle.span_cli.specs.Lines.{Notes, named_cause_line, refusal_line, usage_line};
+ghost use Rattle.span_cli.specs.private.LineWords.{ending_line, noted_line};
 
 use crate::ending::Ending;
 use crate::noted_fault::NotedFault;
@@ -88,7 +89,7 @@ fn note_fault<N: Sink>(notes: &mut N, noted: &NotedFault)
         unit.format(noted.unit).as_bytes(),
         number.format(noted.number).as_bytes(),
         noted.name.as_bytes(),
-        noted.key(),
+        noted.key.as_slice(),
     );
 }
 
@@ -101,7 +102,8 @@ fn note_fault_in<'a, N: Sink>(
     key: &'a [u8],
 )
     ensures { Notes (N.outlet notes.old) (N.outlet notes.new)
-        (codes "unit " ++ unit.now ++ codes ": fault " ++ number.now ++ codes " " ++ name.now ++ key.now ++ codes "\n") }
+        (codes "unit " ++ unit.now ++ codes ": fault " ++ number.now ++ codes " " ++ name.now
+        ++ key.now ++ codes "\n") }
 {
     note_pieces(
         notes,

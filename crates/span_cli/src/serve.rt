@@ -122,8 +122,10 @@ fn serve_next<D: Door>(
     door: &mut D,
 ) -> Result<Result<Ended, ServeFault>, Failed>
     requires { IsListening (D.doorway door.old) }
-    ensures ok { IfOk result (λ ended. ServesNext to ended (D.doorway door.old) (D.doorway door.new)) }
-    ensures err { OnErr result (D.doorway door.new ≡ refused (D.doorway door.old) (D.doorway door.new).faults) }
+    ensures ok { IfOk result
+        (λ ended. ServesNext to ended (D.doorway door.old) (D.doorway door.new)) }
+    ensures err { OnErr result
+        (D.doorway door.new ≡ refused (D.doorway door.old) (D.doorway door.new).faults) }
     ensures failed { OnErr result (Rose (D.doorway door.old).faults (D.doorway door.new).faults) }
 {
     let mut conn = door.accept()?;
@@ -149,7 +151,8 @@ fn note_visit<N: Sink>(
     number: u32,
     ended: Result<Ended, ServeFault>,
 ) -> bool
-    ensures { NotesMore holds result (N.outlet notes.old) (N.outlet notes.new) (visit_line number ended) }
+    ensures { NotesMore holds result (N.outlet notes.old) (N.outlet notes.new)
+        (visit_line number ended) }
 {
     match ended {
         Ok(_) => holds,

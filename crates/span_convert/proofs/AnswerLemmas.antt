@@ -5,15 +5,16 @@ use Rattle.span_io.specs.Outside.{Outlet}
 use Rattle.span_io.specs.declared.form.Form.{Form}
 use Rattle.span_io.specs.declared.limits.Limits.{Limits}
 use Rattle.span_io.specs.declared.refusal.Refusal.{Refusal}
-use Rattle.span_convert.specs.Converters.{KeepsWhy, bad_in, stop_in}
+use Rattle.span_convert.specs.Converters.{KeepsWhy, stop_in}
+use Rattle.span_convert.specs.private.States.{bad_in}
 use Rattle.span_convert.specs.Outlooks.{GainsFrom, IsLasting, IsOutlookAs, ReachesFrom}
 use Rattle.span_convert.specs.Reports.{IsVerdictAs, written_target}
 use Rattle.span_convert.specs.Targets.{open_target}
 use Rattle.span_convert.specs.Units.{open_form}
 use Rattle.span_convert.specs.Verdicts.{Verdict, refused, Answers, IsJudgedOn, verdict_text}
 use Rattle.span_convert.specs.declared.bad.Bad.TheVariants as bads
-use Rattle.span_convert.specs.declared.converter.State.{State}
-use Rattle.span_convert.specs.declared.converter.State.TheVariants as states
+use Rattle.span_convert.specs.declared.walker.State.{State}
+use Rattle.span_convert.specs.declared.walker.State.TheVariants as states
 use Rattle.span_convert.specs.declared.stop.Stop.{Stop}
 use Rattle.span_convert.specs.declared.stop.Stop.TheVariants as stops
 use Rattle.span_convert.specs.declared.written.Written.{Written}

@@ -6,11 +6,11 @@ use Rattle.span_io.specs.Causes.{cause_number}
 use Rattle.span_io.specs.Frames.{ItemsThen, GoesOn}
 use Rattle.span_io.specs.Framings.{Framed}
 use Rattle.span_io.specs.Offences.{Least}
-use Rattle.span_io.specs.laws.RowLaws.{all_zip_once}
+use Rattle.span_io.proofs.RowLaws.{all_zip_once}
 use Rattle.span_io.specs.declared.cause.Cause.{Cause}
 use Rattle.span_io.specs.declared.limits.Limits.{Limits}
 use Rattle.trace_model.specs.OtlpParts.{NotedGroup}
-use Rattle.jaeger_model.specs.Batches.{IsBatchText}
+use Rattle.jaeger_model.specs.Batch.{IsBatchText}
 use Rattle.jaeger_model.specs.StatedLaws.{BatchOffends}
 use Rattle.jaeger_model.specs.declared.batch.Batch.{Batch}
 use Rattle.map_jaeger.specs.Reading.{group_of}

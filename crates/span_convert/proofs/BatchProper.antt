@@ -4,7 +4,7 @@ use Rattle.thrift_core.specs.Parts.{Spelling}
 use Rattle.trace_model.specs.Proper.{IsProperGroup}
 use Rattle.trace_model.specs.declared.span.Span.{Span}
 use Rattle.trace_model.specs.OtlpParts.{NotedGroup}
-use Rattle.trace_model.specs.declared.trace.Scope.{Scope}
+use Rattle.trace_model.specs.declared.group.Scope.{Scope}
 use Rattle.jaeger_model.specs.StatedLaws.{ReadsProper}
 use Rattle.jaeger_model.specs.WrittenAgain.{all_kept, all_counted}
 use Rattle.jaeger_model.specs.declared.batch.Batch.{Batch}

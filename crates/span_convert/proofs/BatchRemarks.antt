@@ -1,7 +1,7 @@
 -- Each batch has one list of remarks.
 use Rattle.std.proofs.Common.{◌≡◌, ◌++◌, ◌∷◌, List, [], map, is_some, refl, sym, ◌∙◌}
 use Rattle.std.specs.List.{AllZip, zip}
-use Rattle.span_io.specs.laws.RowLaws.{all_zip_once}
+use Rattle.span_io.proofs.RowLaws.{all_zip_once}
 use Rattle.jaeger_model.specs.declared.batch.Batch.{Batch}
 use Rattle.jaeger_model.specs.declared.span.JSpan.{JSpan}
 use Rattle.jaeger_model.specs.declared.span.Log.{Log}

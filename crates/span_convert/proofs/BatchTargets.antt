@@ -2,8 +2,8 @@
 use Rattle.std.proofs.Common.{◌≡◌, ◌++◌, ◌∷◌, ℕ, List, [], map, ap, ◌∙◌}
 use Rattle.std.proofs.lemmas.Grind.{flat_map-append}
 use Rattle.std.proofs.lemmas.List.{map-append}
-use Rattle.span_io.specs.laws.TableLaws.{flat_more}
-use Rattle.trace_model.specs.declared.trace.Group.{Group}
+use Rattle.span_io.proofs.TableLaws.{flat_more}
+use Rattle.trace_model.specs.declared.group.Group.{Group}
 use Rattle.map_jaeger.specs.Normal.{normal, normal_group}
 use Rattle.span_convert.specs.BatchFiles.{ProtocolWords, group_batch, batches_text}
 

@@ -11,13 +11,13 @@ use Rattle.trace_model.specs.Proper.{IsProperGroup}
 use Rattle.trace_model.specs.Soundness.{IsSoundGroup, IsSoundTrace}
 use Rattle.trace_model.specs.declared.span.Span.{Span}
 use Rattle.trace_model.specs.OtlpParts.{NotedGroup}
-use Rattle.trace_model.specs.declared.trace.Group.{Group}
-use Rattle.trace_model.specs.declared.trace.Scope.{Scope}
-use Rattle.jaeger_model.specs.Batches.{IsBatchText}
+use Rattle.trace_model.specs.declared.group.Group.{Group}
+use Rattle.trace_model.specs.declared.group.Scope.{Scope}
+use Rattle.jaeger_model.specs.Batch.{IsBatchText}
 use Rattle.jaeger_model.specs.Writable.{IsWritable}
 use Rattle.jaeger_model.specs.WrittenAgain.{HasAllKept}
 use Rattle.jaeger_model.specs.declared.batch.Batch.{Batch}
-use Rattle.span_tags.specs.laws.RunLaws.{scoped_runs}
+use Rattle.span_tags.proofs.RunLaws.{scoped_runs}
 use Rattle.span_tags.specs.Runs.{Scoped, scoped, spans_of, runs}
 use Rattle.map_jaeger.specs.Faults.{HasNoFault}
 use Rattle.map_jaeger.specs.StatedLaws.{IsHeld, NormalForms, IsTimely, ReadIsNormal}

@@ -4,13 +4,15 @@ use Rattle.std.proofs.lemmas.List.{append-nil}
 use Rattle.span_io.specs.Limits.{AreLimits}
 use Rattle.span_io.specs.Outside.{Outlet, Sure, so_many, any_number, Takes, GainsFront, IsFront}
 use Rattle.span_io.specs.declared.limits.Limits.{Limits}
-use Rattle.span_convert.specs.Converters.{KeepsWhy, state_at, stop_at}
+use Rattle.span_convert.specs.Converters.{KeepsWhy}
+use Rattle.span_convert.specs.private.States.{state_at, stop_at}
 use Rattle.span_convert.specs.Outlooks.{EndsFrom, FailsFrom, GainsFrom, GainsFrontFrom, ReachesFrom, StopsFrom, WritesFrontFrom}
 use Rattle.span_convert.specs.Targets.{Target}
 use Rattle.span_convert.specs.Units.{InputForm}
 use Rattle.span_convert.specs.Verdicts.{Verdict, good, refused, faulted, IsJudgedOn, IsVerdictOn, IsTextSoFar, all, verdict_text}
-use Rattle.span_convert.specs.Walks.{Exceeds, IsLookedAt, StopsWalk, WritesWhole}
-use Rattle.span_convert.specs.declared.converter.State.TheVariants as states
+use Rattle.span_convert.specs.private.WalkSteps.{Exceeds, IsLookedAt, StopsWalk}
+use Rattle.span_convert.specs.Walks.{WritesWhole}
+use Rattle.span_convert.specs.declared.walker.State.TheVariants as states
 use Rattle.span_convert.specs.declared.progress.WalkStop.{WalkStop}
 use Rattle.span_convert.specs.declared.progress.WalkStop.TheVariants as walk_stops
 use Rattle.span_convert.specs.declared.stop.Stop.TheVariants as stops

@@ -4,8 +4,8 @@ use Rattle.span_io.specs.Steps.{NoFrame}
 use Rattle.span_io.specs.declared.cause.Cause.TheVariants as causes
 use Rattle.thrift_core.specs.Levels.{RefusesPart}
 use Rattle.thrift_core.specs.Parts.{Part}
-use Rattle.thrift_binary.specs.laws.ProtocolLaws.{binary_part_laws}
-use Rattle.thrift_compact.specs.laws.ProtocolLaws.{compact_part_laws}
+use Rattle.thrift_spellings.proofs.BinaryLaws.{binary_part_laws}
+use Rattle.thrift_spellings.proofs.CompactLaws.{compact_part_laws}
 use Rattle.span_convert.specs.BatchFiles.{ProtocolWords, binary, compact, batches, RefusedBatch}
 
 abbrev pub RefusesNoCut : ProtocolWords → Type 0

@@ -6,15 +6,15 @@ use Rattle.span_io.specs.Tables.{Row, OfFirst, table_here, table_inside, rules_b
 use Rattle.thrift_core.specs.Messages.{FieldItem, StructRest, structs, whole_struct}
 use Rattle.thrift_core.specs.Parts.{Spelling}
 use Rattle.thrift_core.specs.Trees.{Fields, Trees, no_trees, tree_then, outer_levels}
-use Rattle.jaeger_model.specs.Batches.{batch_table, batch_ends, MeansSpans, passed}
+use Rattle.jaeger_model.specs.Batch.{batch_table, batch_ends, MeansSpans, passed}
 use Rattle.jaeger_model.specs.InnerRows.{structure, structures, BadElement, ElementsOffend}
 use Rattle.jaeger_model.specs.StatedLaws.{BatchOffends}
-use Rattle.jaeger_model.specs.Logs.{MeansTags, log_table, log_ends, log_rules}
-use Rattle.jaeger_model.specs.Processes.{MeansProcess, process_table, process_ends, process_rules}
-use Rattle.jaeger_model.specs.References.{reference_number, reference_table, reference_ends, reference_rules}
+use Rattle.jaeger_model.specs.Log.{MeansTags, log_table, log_ends, log_rules}
+use Rattle.jaeger_model.specs.Process.{MeansProcess, process_table, process_ends, process_rules}
+use Rattle.jaeger_model.specs.Reference.{reference_number, reference_table, reference_ends, reference_rules}
 use Rattle.jaeger_model.specs.Rows.{BadEnum, BadTime, required, or_else, text_of_id, bytes, number, time_of_id, int, enum_of_id, truth, double}
-use Rattle.jaeger_model.specs.Spans.{MeansLogs, MeansReferences, jspan_table, jspan_ends, jspan_rules, or_empty}
-use Rattle.jaeger_model.specs.Tags.{no_double, tag_type_number, tag_table, tag_ends, tag_rules}
+use Rattle.jaeger_model.specs.Span.{MeansLogs, MeansReferences, jspan_table, jspan_ends, jspan_rules, or_empty}
+use Rattle.jaeger_model.specs.Tag.{no_double, tag_type_number, tag_table, tag_ends, tag_rules}
 use Rattle.jaeger_model.specs.declared.span.SpanRef.{SpanRef}
 use Rattle.jaeger_model.specs.declared.span.JSpan.{JSpan}
 use Rattle.jaeger_model.specs.declared.span.Log.{Log}

@@ -4,7 +4,7 @@ use Rattle.std.proofs.lemmas.Bool.{cases_lt}
 use Rattle.std.proofs.lemmas.List.{map-append}
 use Rattle.std.proofs.lemmas.List.Elements.{All-nil, All-cons, All-head, All-tail}
 use Rattle.span_io.specs.Causes.{cause_number}
-use Rattle.span_io.specs.laws.PathLaws.{one_least}
+use Rattle.span_io.proofs.PathLaws.{one_least}
 use Rattle.span_io.specs.Paths.{Counts, NothingOffends, unit_of}
 use Rattle.span_io.specs.declared.cause.Cause.{Cause}
 use Rattle.span_io.specs.declared.cause.Cause.TheVariants as causes

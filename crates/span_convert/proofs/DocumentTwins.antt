@@ -8,7 +8,7 @@ use Rattle.span_io.specs.declared.form.Form.TheVariants as forms
 use Rattle.span_io.specs.declared.limits.Limits.{Limits}
 use Rattle.span_io.specs.declared.refusal.Refusal.{Refusal}
 use Rattle.trace_model.specs.OtlpParts.{NotedGroup}
-use Rattle.json_members.specs.laws.ReadingLaws.{same_value}
+use Rattle.json_members.proofs.ReadingLaws.{same_value}
 use Rattle.json_members.specs.Texts.{IsJsonText, document_offends}
 use Rattle.otlp_json.specs.Group.{RemarkedGroup, AreJsonGroups, json_groups_offend}
 use Rattle.otlp_json.specs.StatedLaws.{FreeGroupMembers}

@@ -9,14 +9,15 @@ use Rattle.span_io.specs.declared.limits.Limits.{Limits}
 use Rattle.span_io.specs.declared.refusal.Refusal.{Refusal}
 use Rattle.trace_model.specs.OtlpParts.{NotedGroup}
 use Rattle.trace_model.specs.declared.remark.Remark.{Remark}
-use Rattle.trace_model.specs.declared.trace.Group.{Group}
+use Rattle.trace_model.specs.declared.group.Group.{Group}
 use Rattle.map_zipkin.specs.NotedGroups.{noted_group}
 use Rattle.span_convert.specs.Documents.{DocumentForm, IsDocument, DocumentBegins, DocumentText, closing_document}
 use Rattle.span_convert.specs.Reports.{written_target}
 use Rattle.span_convert.specs.Targets.{open_target}
 use Rattle.span_convert.specs.Units.{document_input, open_document}
 use Rattle.span_convert.specs.Verdicts.{IsTextSoFar, none, first}
-use Rattle.span_convert.specs.Walks.{Converted, DocumentTaken, Exceeds, IsLookedAt, Reaches, StopsUnit, StopsWalk}
+use Rattle.span_convert.specs.private.WalkSteps.{Converted, Exceeds, IsLookedAt, StopsUnit, StopsWalk}
+use Rattle.span_convert.specs.Walks.{DocumentTaken, Reaches}
 use Rattle.span_convert.specs.declared.progress.Progress.{Progress}
 use Rattle.span_convert.specs.declared.progress.WalkStop.{WalkStop}
 use Rattle.span_convert.specs.declared.progress.WalkStop.TheVariants as walk_stops

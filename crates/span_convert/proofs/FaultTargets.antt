@@ -10,7 +10,7 @@ use Rattle.trace_model.specs.Faults.{fault_number}
 use Rattle.trace_model.specs.declared.fault.Fault.{Fault}
 use Rattle.trace_model.specs.declared.fault.Fault.TheVariants.{EndBeforeStart, OwnKey, EventText, ChildOfLink, DoubleInText}
 use Rattle.trace_model.specs.declared.span.Span.{Span}
-use Rattle.trace_model.specs.declared.trace.Group.{Group}
+use Rattle.trace_model.specs.declared.group.Group.{Group}
 use Rattle.trace_model.specs.declared.value.Value.{Value}
 use Rattle.span_tags.specs.PlacedFaults.{FaultAtMost, key_in, CountsBy}
 

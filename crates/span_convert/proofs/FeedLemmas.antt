@@ -8,10 +8,10 @@ use Rattle.span_convert.specs.Intakes.{Taken, form_in}
 use Rattle.span_convert.specs.Outlooks.{IsOutlookAs}
 use Rattle.span_convert.specs.Units.{input_limit}
 use Rattle.span_convert.specs.Verdicts.{good}
-use Rattle.span_convert.specs.Walks.{Exceeds, IsLookedAt}
-use Rattle.span_convert.specs.declared.converter.State.{State}
-use Rattle.span_convert.specs.declared.converter.State.TheVariants as states
-use Rattle.span_convert.specs.declared.converter.Walker.{Walker}
+use Rattle.span_convert.specs.private.WalkSteps.{Exceeds, IsLookedAt}
+use Rattle.span_convert.specs.declared.walker.State.{State}
+use Rattle.span_convert.specs.declared.walker.State.TheVariants as states
+use Rattle.span_convert.specs.declared.walker.Walker.{Walker}
 use Rattle.span_convert.specs.declared.intake.Intake.{Intake}
 use Rattle.span_convert.specs.declared.progress.Progress.{Progress}
 use Rattle.span_convert.specs.declared.stop.Stop.{Stop}

@@ -7,15 +7,16 @@ use Rattle.span_io.specs.declared.form.Form.{Form}
 use Rattle.trace_model.specs.OtlpParts.{NotedGroup}
 use Rattle.trace_model.specs.Proper.{IsProperGroup}
 use Rattle.trace_model.specs.Soundness.{IsSoundGroup}
-use Rattle.trace_model.specs.declared.trace.Group.{Group}
+use Rattle.trace_model.specs.declared.group.Group.{Group}
 use Rattle.map_jaeger.specs.StatedLaws.{FaultsFound}
 use Rattle.map_zipkin.specs.StatedLaws.{ZipkinFaultsFound, ZipkinNormalForms}
 use Rattle.span_convert.specs.Canonical.{IsHeldBy}
-use Rattle.span_convert.specs.Targets.{CanHoldUnits, AreHeldBy, TargetLaws, form_target}
+use Rattle.span_convert.specs.Targets.{CanHoldUnits, AreHeldBy, form_target}
+use Rattle.span_convert.specs.private.TargetSteps.{TargetLaws}
 use Rattle.span_convert.specs.Units.{groups_in, CanHold, IsSizedGroup, partial_text, span_count}
 use Rattle.span_convert.specs.Verdicts.{CanHoldTrace, tally_of, units_tally}
 use Rattle.span_convert.specs.Pens.{StandsForAny}
-use Rattle.span_convert.specs.Walks.{WritesUnit}
+use Rattle.span_convert.specs.private.WalkSteps.{WritesUnit}
 use Rattle.span_convert.specs.declared.tally.Tally.{Tally}
 use Rattle.span_convert.proofs.TargetLaws as by_form
 use Rattle.span_convert.proofs.WalkLemmas.{as_many, groups_push, held_one}

@@ -6,7 +6,7 @@ use Rattle.std.proofs.lemmas.List.Elements.{All-nil, All-cons}
 use Rattle.std.proofs.lemmas.Slice.Zip.{AllZip-long}
 use Rattle.span_io.specs.Causes.{cause_number}
 use Rattle.span_io.specs.Limits.{AreLimits}
-use Rattle.span_io.specs.laws.OffenceLaws.{one_cause}
+use Rattle.span_io.proofs.OffenceLaws.{one_cause}
 use Rattle.span_io.specs.Offences.{Least}
 use Rattle.span_io.specs.declared.cause.Cause.{Cause}
 use Rattle.span_io.specs.declared.form.Form.TheVariants as forms

@@ -8,9 +8,9 @@ use Rattle.span_io.specs.declared.cause.Cause.{Cause}
 use Rattle.trace_model.specs.Proper.{IsProperGroup}
 use Rattle.trace_model.specs.Soundness.{IsSoundGroup, IsSoundTrace}
 use Rattle.trace_model.specs.OtlpParts.{NotedGroup}
-use Rattle.trace_model.specs.laws.RemarkLaws.{mapped, all_back}
-use Rattle.trace_model.specs.declared.trace.Group.{Group}
-use Rattle.json_members.specs.laws.ReadingLaws.{same_value}
+use Rattle.trace_model.proofs.RemarkLaws.{mapped, all_back}
+use Rattle.trace_model.specs.declared.group.Group.{Group}
+use Rattle.json_members.proofs.ReadingLaws.{same_value}
 use Rattle.json_members.specs.Texts.{IsJsonText}
 use Rattle.otlp_json.specs.Group.{RemarkedGroup, AreJsonGroups, json_groups_offend}
 use Rattle.otlp_json.specs.Held.{IsHeldByJson}

@@ -7,8 +7,8 @@ use Rattle.span_io.specs.declared.form.Form.TheVariants as forms
 use Rattle.trace_model.specs.Proper.{IsProperGroup}
 use Rattle.trace_model.specs.Soundness.{IsSoundGroup, IsSoundTrace}
 use Rattle.trace_model.specs.OtlpParts.{NotedGroup}
-use Rattle.trace_model.specs.laws.RemarkLaws.{mapped}
-use Rattle.trace_model.specs.declared.trace.Group.{Group}
+use Rattle.trace_model.proofs.RemarkLaws.{mapped}
+use Rattle.trace_model.specs.declared.group.Group.{Group}
 use Rattle.otlp_json.specs.Canonical.{json_group_text, json_groups_text}
 use Rattle.otlp_json.specs.Group.{RemarkedGroup}
 use Rattle.otlp_json.specs.Held.{IsHeldByJson}

@@ -8,7 +8,8 @@ use Rattle.span_io.specs.declared.limits.Limits.{Limits}
 use Rattle.span_io.specs.Scans.{Scanning}
 use Rattle.span_convert.specs.Converters.{is_ended, stop_in}
 use Rattle.span_convert.specs.FramedForms.{FramedForm}
-use Rattle.span_convert.specs.Intakes.{CanBeRead, Taken, form_in}
+use Rattle.span_convert.specs.private.TargetSteps.{CanBeRead}
+use Rattle.span_convert.specs.Intakes.{Taken, form_in}
 use Rattle.span_convert.specs.Outlooks.{IfDocument, IsOutlookOn, WritesFrontFrom}
 use Rattle.span_convert.specs.Reports.{written_target}
 use Rattle.span_convert.specs.Targets.{Target, CanHoldUnits, open_target}
@@ -17,8 +18,8 @@ use Rattle.span_convert.specs.Documents.{DocumentForm}
 use Rattle.trace_model.specs.OtlpParts.{NotedGroup}
 use Rattle.span_convert.specs.Verdicts.{good, IsTextSoFar, none, first, all, IsGood}
 use Rattle.span_convert.specs.Walks.{DocumentTaken, FramesTaken}
-use Rattle.span_convert.specs.declared.converter.State.{State}
-use Rattle.span_convert.specs.declared.converter.State.TheVariants as states
+use Rattle.span_convert.specs.declared.walker.State.{State}
+use Rattle.span_convert.specs.declared.walker.State.TheVariants as states
 use Rattle.span_convert.specs.declared.intake.Intake.{Intake}
 use Rattle.span_convert.specs.declared.intake.Intake.TheVariants as intakes
 use Rattle.span_convert.specs.declared.progress.Progress.{Progress}

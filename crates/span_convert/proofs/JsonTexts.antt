@@ -8,7 +8,7 @@ use Rattle.span_io.specs.Causes.{cause_number}
 use Rattle.span_io.specs.Paths.{Offences, IsLeast, Counts, NothingOffends, RefusesInput}
 use Rattle.span_io.specs.declared.cause.Cause.{Cause}
 use Rattle.span_io.specs.declared.cause.Cause.TheVariants as causes
-use Rattle.json_members.specs.laws.ReadingLaws.{in_value, of_value, bad_json}
+use Rattle.json_members.proofs.ReadingLaws.{in_value, of_value, bad_json}
 use Rattle.json_members.specs.Texts.{IsJsonText, document_offends}
 
 module _ (Inside : Data → Offences) (bytes : List ℕ) where

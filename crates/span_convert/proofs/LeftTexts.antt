@@ -8,7 +8,8 @@ use Rattle.zipkin_json.specs.declared.span.ZSpan.{ZSpan}
 use Rattle.span_convert.specs.Documents.{pieces_added}
 use Rattle.span_convert.specs.Pens.{pen_stands, written_by}
 use Rattle.span_convert.specs.Reports.{written_target}
-use Rattle.span_convert.specs.Walks.{Converted, FailsFrontOf, StandsFor, with_text}
+use Rattle.span_convert.specs.private.WalkSteps.{Converted, FailsFrontOf, with_text}
+use Rattle.span_convert.specs.Walks.{StandsFor}
 use Rattle.span_convert.specs.declared.pen.Pen.{Pen}
 use Rattle.span_convert.specs.declared.progress.Progress.{Progress}
 use Rattle.span_convert.specs.declared.written.Written.{Written}

@@ -6,14 +6,15 @@ use Rattle.trace_model.specs.OtlpParts.{NotedGroup}
 use Rattle.trace_model.specs.Proper.{IsProperGroup}
 use Rattle.trace_model.specs.Soundness.{IsSoundGroup}
 use Rattle.trace_model.specs.declared.loss.Loss.{Loss}
-use Rattle.trace_model.specs.declared.trace.Group.{Group}
+use Rattle.trace_model.specs.declared.group.Group.{Group}
 use Rattle.loss_report.specs.Lines.{loss_count_text}
 use Rattle.map_zipkin.specs.Losses as zipkin
 use Rattle.map_zipkin.specs.declared.run.Run.{Run}
 use Rattle.span_convert.specs.Reports.{all_losses, last_run_in, loss_count, losses_end, form_losses, report_target, runs_behind, unit_lost, units_lost}
-use Rattle.span_convert.specs.Targets.{TargetLaws, form_target}
+use Rattle.span_convert.specs.private.TargetSteps.{TargetLaws}
+use Rattle.span_convert.specs.Targets.{form_target}
 use Rattle.span_convert.specs.Units.{groups_in, CanHold}
-use Rattle.span_convert.specs.Walks.{WritesUnit}
+use Rattle.span_convert.specs.private.WalkSteps.{WritesUnit}
 use Rattle.span_convert.specs.declared.report.Report.TheVariants as reports
 use Rattle.span_convert.specs.declared.tally.Tally.{Tally}
 use Rattle.span_convert.proofs.WalkLemmas.{groups_push, held_one}

@@ -11,9 +11,9 @@ use Rattle.trace_model.specs.Soundness.{IsSoundGroup}
 use Rattle.trace_model.specs.declared.loss.Loss.{Loss}
 use Rattle.trace_model.specs.declared.place.Place.{Place}
 use Rattle.trace_model.specs.declared.place.Place.TheVariants as places
-use Rattle.trace_model.specs.declared.trace.Group.{Group}
+use Rattle.trace_model.specs.declared.group.Group.{Group}
 use Rattle.loss_report.specs.Lines.{loss_count_text, loss_text, lost_text, place_text}
-use Rattle.span_tags.specs.laws.QuietLaws.{Quiet, both, quiet_as, same_parts}
+use Rattle.span_tags.proofs.QuietLaws.{Quiet, both, quiet_as, same_parts}
 use Rattle.map_jaeger.specs.StatedLaws.{NoneLost}
 use Rattle.map_jaeger.specs.Losses as jaeger
 use Rattle.map_jaeger.specs.Normal.{normal, normal_group}

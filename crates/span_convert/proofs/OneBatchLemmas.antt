@@ -5,7 +5,7 @@ use Rattle.span_io.specs.Outside.{Outlet}
 use Rattle.span_io.specs.declared.form.Form.{Form}
 use Rattle.span_io.specs.declared.limits.Limits.{Limits}
 use Rattle.trace_model.specs.OtlpParts.{NotedGroup}
-use Rattle.span_convert.specs.Converters.{bad_in, state_at}
+use Rattle.span_convert.specs.private.States.{bad_in, state_at}
 use Rattle.span_convert.specs.FramedForms.{FramedForm}
 use Rattle.span_convert.specs.OneBatches.{ConvertsAll}
 use Rattle.span_convert.specs.Outlooks.{IsLasting, IsOutlookAs}
@@ -13,7 +13,7 @@ use Rattle.span_convert.specs.Reports.{IsVerdictAs, written_target}
 use Rattle.span_convert.specs.Targets.{open_target}
 use Rattle.span_convert.specs.Units.{framed_input, input_form, open_form}
 use Rattle.span_convert.specs.Verdicts.{Verdict, good, refused, faulted, Answers, units_tally}
-use Rattle.span_convert.specs.Walks.{HeldByFrames, Converted, WalkedUnits, StopsWalk}
+use Rattle.span_convert.specs.private.WalkSteps.{HeldByFrames, Converted, WalkedUnits, StopsWalk}
 use Rattle.span_convert.specs.declared.progress.Progress.{Progress}
 use Rattle.span_convert.specs.declared.progress.WalkStop.{WalkStop}
 use Rattle.span_convert.specs.declared.progress.WalkStop.TheVariants as walk_stops

@@ -3,7 +3,7 @@ use Rattle.std.proofs.Common.{◌≡◌, ◌≢◌, ◌-◌, ◌<◌, ◌≤◌,
 use Rattle.std.proofs.Math.ListN.{replicate}
 use Rattle.std.proofs.lemmas.List.{append_assoc, append-nil, length-append, length-replicate, take_all}
 use Rattle.std.proofs.lemmas.List.Elements.{All-nil, All-cons, All-tail}
-use Rattle.span_io.specs.laws.Cuts.{append_empty_right, some_length}
+use Rattle.span_io.proofs.Cuts.{append_empty_right, some_length}
 use Rattle.span_io.specs.Frames.{AreBytes, IsDecided, NeedsMore, ItemsThen}
 use Rattle.span_io.specs.Offences.{Rules, Offence, unread, here, inside, at_end, Cut}
 use Rattle.span_io.specs.Varint.{SpellsVarint, SpellsWithin}

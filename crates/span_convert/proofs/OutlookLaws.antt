@@ -11,7 +11,8 @@ use Rattle.trace_model.specs.OtlpParts.{NotedGroup}
 use Rattle.span_convert.specs.BatchFiles.{binary, compact}
 use Rattle.span_convert.specs.FramedForms.{FramedForm}
 use Rattle.span_convert.specs.Outlooks.{IsOutlookOn, IsLasting, EndsSo, whole, cut, IfFrames}
-use Rattle.span_convert.specs.Targets.{Target, TargetLaws, CanHoldUnits, open_target}
+use Rattle.span_convert.specs.Targets.{Target, CanHoldUnits, open_target}
+use Rattle.span_convert.specs.private.TargetSteps.{TargetLaws}
 use Rattle.span_convert.specs.Units.{InputForm, request_form, batch_form, framed_input, input_form, open_frames}
 use Rattle.span_convert.specs.Verdicts.{Verdict, good, refused, faulted, IsGood, IsRefusal, IsFaulted, IsTextSoFar, none, first, IsVerdictOn, verdict_text}
 use Rattle.span_convert.specs.declared.tally.Tally.{Tally}

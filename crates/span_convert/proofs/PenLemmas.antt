@@ -2,7 +2,7 @@
 use Rattle.std.proofs.Common.{ℕ, List}
 use Rattle.trace_model.specs.OtlpParts.{NotedGroup}
 use Rattle.span_convert.specs.Targets.{Target}
-use Rattle.span_convert.specs.Walks.{WritesUnit}
+use Rattle.span_convert.specs.private.WalkSteps.{WritesUnit}
 use Rattle.span_convert.specs.declared.tally.Tally.{Tally}
 
 -- The pen stands for the same units.

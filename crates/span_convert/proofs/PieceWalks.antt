@@ -4,7 +4,7 @@ use Rattle.std.proofs.lemmas.List.{append-nil, take_at}
 use Rattle.std.proofs.Math.Logic.{∥∥₁_elim, ∥∥₁_map}
 use Rattle.std.proofs.Math.Seq.{take-append-add}
 use Rattle.std.specs.Coded.{le_prop}
-use Rattle.span_io.specs.laws.RowLaws.{all_zip_push}
+use Rattle.span_io.proofs.RowLaws.{all_zip_push}
 use Rattle.span_io.specs.Causes.{cause_number}
 use Rattle.span_io.specs.Frames.{BeginsFrame, NeedsMore}
 use Rattle.span_io.specs.Limits.{AreLimits}
@@ -21,7 +21,8 @@ use Rattle.span_convert.specs.FramedForms.{FramedForm, LastingCause, UnitsThen, 
 use Rattle.span_convert.specs.Reports.{written_target}
 use Rattle.span_convert.specs.Targets.{open_target}
 use Rattle.span_convert.specs.Units.{framed_input, open_frames}
-use Rattle.span_convert.specs.Walks.{Exceeds, IsLookedAt, CutsFrame, HeldByFrames, Scans, StandsFor, Converted, WalkedUnits, WalksOn, WaitsForMore, FramesTaken, Reaches, StopsUnit, StopsText, EndsText, StopsWalk, EndsWalk, WritesOut}
+use Rattle.span_convert.specs.private.WalkSteps.{Exceeds, IsLookedAt, CutsFrame, HeldByFrames, Scans, Converted, WalkedUnits, WalksOn, WaitsForMore, StopsUnit, StopsText, EndsText, StopsWalk, EndsWalk, WritesOut}
+use Rattle.span_convert.specs.Walks.{StandsFor, FramesTaken, Reaches}
 use Rattle.span_convert.specs.declared.progress.Progress.{Progress}
 use Rattle.span_convert.specs.declared.progress.WalkStop.{WalkStop}
 use Rattle.span_convert.specs.declared.progress.WalkStop.TheVariants as walk_stops

@@ -7,7 +7,7 @@ use Rattle.span_io.specs.declared.limits.Limits.{Limits}
 use Rattle.trace_model.specs.Proper.{IsProperGroup}
 use Rattle.trace_model.specs.Soundness.{IsSoundGroup}
 use Rattle.trace_model.specs.OtlpParts.{NotedGroup}
-use Rattle.trace_model.specs.declared.trace.Group.{Group}
+use Rattle.trace_model.specs.declared.group.Group.{Group}
 use Rattle.otlp_proto.specs.StatedLaws.{SomeGroup}
 use Rattle.map_jaeger.specs.Normal.{normal, normal_group}
 use Rattle.map_jaeger.specs.StatedLaws.{IsHeld, NormalForms, ReadIsNormal, ReadIsSound, ReadIsProper}

@@ -5,16 +5,17 @@ use Rattle.std.proofs.lemmas.List.{take_more}
 use Rattle.std.specs.List.{flat_map}
 use Rattle.span_io.specs.Outside.{last_count}
 use Rattle.span_io.specs.declared.form.Form.{Form}
-use Rattle.span_io.specs.laws.TableLaws.{flat_more}
+use Rattle.span_io.proofs.TableLaws.{flat_more}
 use Rattle.trace_model.specs.OtlpParts.{NotedGroup}
 use Rattle.trace_model.specs.Proper.{IsProperGroup}
 use Rattle.trace_model.specs.Soundness.{IsSoundGroup}
 use Rattle.loss_report.specs.Lines.{counts_text}
 use Rattle.span_convert.specs.Reports.{check_end, group_shown, remark_count, report_target, unit_checked, units_checked, units_shown, written_target}
-use Rattle.span_convert.specs.Targets.{TargetLaws, form_target}
+use Rattle.span_convert.specs.private.TargetSteps.{TargetLaws}
+use Rattle.span_convert.specs.Targets.{form_target}
 use Rattle.span_convert.specs.Verdicts.{units_tally}
 use Rattle.span_convert.specs.Pens.{StandsForAny}
-use Rattle.span_convert.specs.Walks.{WritesUnit}
+use Rattle.span_convert.specs.private.WalkSteps.{WritesUnit}
 use Rattle.span_convert.specs.declared.report.Report.{Report}
 use Rattle.span_convert.specs.declared.report.Report.TheVariants as reports
 use Rattle.span_convert.specs.declared.tally.Tally.{Tally}

@@ -6,7 +6,8 @@ use Rattle.span_io.specs.declared.refusal.Refusal.{Refusal}
 use Rattle.trace_model.specs.Soundness.{IsSoundGroup, IsSoundTrace}
 use Rattle.trace_model.specs.declared.fault.Fault.{Fault}
 use Rattle.trace_model.specs.OtlpParts.{NotedGroup}
-use Rattle.span_convert.specs.Targets.{Target, TargetLaws, CanHoldUnits}
+use Rattle.span_convert.specs.Targets.{Target, CanHoldUnits}
+use Rattle.span_convert.specs.private.TargetSteps.{TargetLaws}
 use Rattle.span_convert.specs.Units.{InputForm, groups_in}
 use Rattle.span_convert.specs.Verdicts.{Verdict, good, refused, faulted, IsVerdictOn, units_tally}
 use Rattle.span_convert.proofs.InputForms.{InputFormLaws, IsDecidedInput, SomeInput}

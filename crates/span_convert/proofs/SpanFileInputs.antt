@@ -11,7 +11,7 @@ use Rattle.trace_model.specs.OtlpParts.{NotedGroup}
 use Rattle.zipkin_json.specs.StatedLaws.{OneList, ReadsWritable}
 use Rattle.zipkin_json.specs.Proper.{IsProperZSpan, IsTimelyZSpan, IsWritableZSpan}
 use Rattle.zipkin_json.specs.Span.{AreSpans, spans_offend}
-use Rattle.json_members.specs.laws.ReadingLaws.{same_value}
+use Rattle.json_members.proofs.ReadingLaws.{same_value}
 use Rattle.json_members.specs.Texts.{IsJsonText, document_offends}
 use Rattle.zipkin_json.specs.Texts.{AreSpansText}
 use Rattle.zipkin_json.specs.declared.span.ZSpan.{ZSpan}

@@ -12,8 +12,8 @@ use Rattle.trace_model.specs.Proper.{IsProperGroup}
 use Rattle.trace_model.specs.Soundness.{IsSoundGroup, IsSoundTrace}
 use Rattle.trace_model.specs.declared.span.Span.{Span}
 use Rattle.trace_model.specs.OtlpParts.{NotedGroup}
-use Rattle.trace_model.specs.declared.trace.Group.{Group}
-use Rattle.trace_model.specs.declared.trace.Scope.{Scope}
+use Rattle.trace_model.specs.declared.group.Group.{Group}
+use Rattle.trace_model.specs.declared.group.Scope.{Scope}
 use Rattle.zipkin_json.specs.Canonical.{zspan_text, spans_text}
 use Rattle.zipkin_json.specs.Proper.{IsProperZSpan, IsTimelyZSpan, IsWritableZSpan}
 use Rattle.zipkin_json.specs.Texts.{AreSpansText}

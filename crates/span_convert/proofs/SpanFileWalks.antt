@@ -7,7 +7,7 @@ use Rattle.span_io.specs.declared.form.Form.TheVariants as forms
 use Rattle.trace_model.specs.OtlpParts.{NotedGroup}
 use Rattle.trace_model.specs.Proper.{IsProperGroup}
 use Rattle.trace_model.specs.Soundness.{IsSoundGroup}
-use Rattle.trace_model.specs.declared.trace.Group.{Group}
+use Rattle.trace_model.specs.declared.group.Group.{Group}
 use Rattle.zipkin_json.specs.Canonical.{zspan_text}
 use Rattle.zipkin_json.specs.declared.span.ZSpan.{ZSpan}
 use Rattle.map_zipkin.specs.Faults.{HasNoZipkinFault}
@@ -20,7 +20,7 @@ use Rattle.span_convert.specs.Targets.{form_target}
 use Rattle.span_convert.specs.Units.{groups_in, CanHold, partial_text, span_count}
 use Rattle.span_convert.specs.Verdicts.{CanHoldTrace, tally_of}
 use Rattle.span_convert.specs.Pens.{StandsForAny}
-use Rattle.span_convert.specs.Walks.{ClosesText, WritesUnit}
+use Rattle.span_convert.specs.private.WalkSteps.{ClosesText, WritesUnit}
 use Rattle.span_convert.specs.declared.tally.Tally.{Tally}
 use Rattle.span_convert.proofs.DocumentTexts.{added_text, is_some_piece}
 use Rattle.span_convert.proofs.DocumentWalks.{is_closing, is_opening}

@@ -9,9 +9,9 @@ use Rattle.span_io.specs.declared.form.Form.TheVariants as forms
 use Rattle.trace_model.specs.Soundness.{IsSoundGroup}
 use Rattle.trace_model.specs.declared.fault.Fault.{Fault}
 use Rattle.trace_model.specs.declared.fault.Fault.TheVariants.{DoubleInText}
-use Rattle.trace_model.specs.declared.trace.Group.{Group}
+use Rattle.trace_model.specs.declared.group.Group.{Group}
 use Rattle.otlp_json.specs.Doubles.{double_in_group}
-use Rattle.otlp_proto.specs.Texts.{group_record}
+use Rattle.otlp_proto.specs.Canonical.{group_record}
 use Rattle.map_jaeger.specs.Faults.{IsResourceFault, IsSpanFault}
 use Rattle.map_jaeger.specs.StatedLaws.{FaultsFound}
 use Rattle.map_zipkin.specs.Faults.{IsZipkinResourceFault, IsZipkinSpanFault}

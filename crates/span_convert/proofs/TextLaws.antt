@@ -8,15 +8,15 @@ use Rattle.span_io.specs.Limits.{AreLimits}
 use Rattle.span_io.specs.declared.form.Form.{Form}
 use Rattle.span_io.specs.declared.form.Form.TheVariants as forms
 use Rattle.span_io.specs.declared.limits.Limits.{Limits}
-use Rattle.span_io.specs.laws.RowLaws.{all_zip_once}
+use Rattle.span_io.proofs.RowLaws.{all_zip_once}
 use Rattle.proto_wire.specs.Records.{Record, IsProper, bytes}
 use Rattle.proto_wire.specs.Wire.{SpellsRecord, records, RefusedBy, opening_text}
 use Rattle.trace_model.specs.Proper.{IsProperGroup}
 use Rattle.trace_model.specs.Soundness.{IsSoundGroup, IsSoundTrace}
 use Rattle.trace_model.specs.OtlpParts.{NotedGroup}
-use Rattle.trace_model.specs.laws.RemarkLaws.{all_back}
-use Rattle.trace_model.specs.declared.trace.Group.{Group}
-use Rattle.otlp_proto.specs.Texts.{group_text, group_record}
+use Rattle.trace_model.proofs.RemarkLaws.{all_back}
+use Rattle.trace_model.specs.declared.group.Group.{Group}
+use Rattle.otlp_proto.specs.Canonical.{group_text, group_record}
 use Rattle.map_jaeger.specs.StatedLaws.{NormalForms, ReadIsNormal}
 use Rattle.map_jaeger.specs.Normal.{normal}
 use Rattle.map_zipkin.specs.NotedGroups.{plain_noted}

@@ -14,7 +14,7 @@ use Rattle.trace_model.specs.Proper.{IsProperGroup}
 use Rattle.trace_model.specs.Soundness.{IsSoundGroup}
 use Rattle.trace_model.specs.declared.remark.Remark.{Remark}
 use Rattle.trace_model.specs.OtlpParts.{NotedGroup}
-use Rattle.trace_model.specs.declared.trace.Group.{Group}
+use Rattle.trace_model.specs.declared.group.Group.{Group}
 use Rattle.otlp_proto.specs.Group.{IsGroupText, group_rules}
 use Rattle.otlp_proto.specs.StatedLaws.{SomeGroup}
 use Rattle.otlp_proto.specs.Rows.{bytes_in}

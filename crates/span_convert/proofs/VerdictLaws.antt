@@ -2,14 +2,15 @@
 use Rattle.std.proofs.Common.{◌≡◌, ◌+◌, ◌++◌, ◌∷◌, ◌⊎◌, inl, inr, ℕ, List, [], length, All, ap, sym, ◌∙◌, subst}
 use Rattle.std.proofs.lemmas.List.{append-nil, append_assoc, same_from_push}
 use Rattle.std.proofs.lemmas.List.Elements.{All-head, All-tail}
-use Rattle.span_io.specs.laws.Cuts.{snoc_front}
+use Rattle.span_io.proofs.Cuts.{snoc_front}
 use Rattle.span_io.specs.Limits.{AreLimits}
 use Rattle.span_io.specs.Outside.{IsFront}
 use Rattle.span_io.specs.declared.limits.Limits.{Limits}
 use Rattle.span_io.specs.declared.refusal.Refusal.{Refusal}
 use Rattle.trace_model.specs.declared.fault.Fault.{Fault}
 use Rattle.trace_model.specs.OtlpParts.{NotedGroup}
-use Rattle.span_convert.specs.Targets.{Target, TargetLaws, CanHoldUnits}
+use Rattle.span_convert.specs.Targets.{Target, CanHoldUnits}
+use Rattle.span_convert.specs.private.TargetSteps.{TargetLaws}
 use Rattle.span_convert.specs.Units.{InputForm}
 use Rattle.span_convert.specs.Verdicts.{Verdict, good, refused, faulted, IsGood, IsRefusal, IsFaulted, IsPartial, IsTextSoFar, none, first, all, IsVerdictOn, verdict_text, units_tally}
 use Rattle.span_convert.specs.declared.tally.Tally.{Tally}

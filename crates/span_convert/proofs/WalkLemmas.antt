@@ -9,7 +9,7 @@ use Rattle.std.specs.Coded.{le_prop}
 use mathlib.Core.HLevel.{⊥_prop}
 use Rattle.std.specs.Prelude.{◌==◌, if◌then◌else◌}
 use Rattle.std.specs.List.{flat_map}
-use Rattle.span_io.specs.laws.TableLaws.{flat_more}
+use Rattle.span_io.proofs.TableLaws.{flat_more}
 use Rattle.span_io.specs.Frames.{Framing, BeginsFrame, ItemsThen}
 use Rattle.span_io.specs.Framings.{OneStep}
 use Rattle.span_io.specs.Outside.{Outlet, Sure, so_many, any_number, less, Gains, OutputHolds, FailsWithin, Rises, last_count}
@@ -26,19 +26,22 @@ use Rattle.trace_model.specs.Proper.{IsProperGroup}
 use Rattle.trace_model.specs.Soundness.{IsSoundGroup}
 use Rattle.trace_model.specs.OtlpParts.{NotedGroup}
 use Rattle.trace_model.specs.declared.fault.Fault.{Fault}
-use Rattle.trace_model.specs.declared.trace.Group.{Group}
-use Rattle.trace_model.specs.declared.trace.Scope.{Scope}
+use Rattle.trace_model.specs.declared.group.Group.{Group}
+use Rattle.trace_model.specs.declared.group.Scope.{Scope}
 use Rattle.otlp_proto.specs.Rows.{bytes_in}
 use Rattle.span_convert.specs.BatchFiles.{ProtocolWords, batches, RefusedBatch, IsOwnUnit, HoldsBatches}
 use Rattle.span_convert.specs.Outlooks.{FailsFrom, GainsFrom, GainsFrontFrom, WritesFrontFrom}
-use Rattle.span_convert.specs.Pens.{StartsAs, pen_stands, pen_target, written_by}
+use Rattle.span_convert.specs.private.PenTargets.{StartsAs, pen_target}
+use Rattle.span_convert.specs.Pens.{pen_stands, written_by}
 use Rattle.span_convert.specs.Reports.{written_target}
 use Rattle.span_convert.specs.Requests.{HoldsUnit, AreRequestUnits, HoldsRequestUnits}
-use Rattle.span_convert.specs.Rests.{Cuts}
-use Rattle.span_convert.specs.Targets.{Target, TargetLaws, CanHoldUnits, AreHeldBy, open_target}
+use Rattle.span_convert.specs.private.TargetSteps.{Cuts}
+use Rattle.span_convert.specs.Targets.{Target, CanHoldUnits, AreHeldBy, open_target}
+use Rattle.span_convert.specs.private.TargetSteps.{TargetLaws}
 use Rattle.span_convert.specs.Units.{InputForm, groups_in, request_form, batch_form, span_count}
 use Rattle.span_convert.specs.Verdicts.{tally_of, units_tally, IsTextSoFar, first, all}
-use Rattle.span_convert.specs.Walks.{HeldByFrames, ClosesText, StandsFor, Converted, WritesUnit, AddsUnit, AddsNothing, WritesFrontOf, FailsFrontOf, FailsFrontFrom, StopsUnit, EndsText, StopsText, StopsWalk, EndsWalk, WritesOut}
+use Rattle.span_convert.specs.private.WalkSteps.{HeldByFrames, ClosesText, Converted, WritesUnit, AddsUnit, AddsNothing, WritesFrontOf, FailsFrontOf, FailsFrontFrom, StopsUnit, EndsText, StopsText, StopsWalk, EndsWalk, WritesOut}
+use Rattle.span_convert.specs.Walks.{StandsFor}
 use Rattle.span_convert.specs.declared.pen.Pen.{Pen}
 use Rattle.span_convert.specs.declared.progress.Progress.{Progress}
 use Rattle.span_convert.specs.declared.progress.WalkStop.{WalkStop}

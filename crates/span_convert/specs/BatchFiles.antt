@@ -8,13 +8,13 @@ use Rattle.thrift_core.specs.Parts.{Part, Spelling}
 use Rattle.thrift_core.specs.Protocols.{WritingOf}
 use Rattle.thrift_core.specs.Reading.{ReadingOf}
 use Rattle.thrift_core.specs.Values.{struct_frames, RefusedStruct}
-use Rattle.thrift_binary.specs.Reading.{binary_reads}
-use Rattle.thrift_binary.specs.Spelling as binary_protocol
-use Rattle.thrift_compact.specs.Reading.{compact_reads}
-use Rattle.thrift_compact.specs.Spelling as compact_protocol
+use Rattle.thrift_spellings.specs.BinaryReading.{binary_reads}
+use Rattle.thrift_spellings.specs.BinarySpelling as binary_protocol
+use Rattle.thrift_spellings.specs.CompactReading.{compact_reads}
+use Rattle.thrift_spellings.specs.CompactSpelling as compact_protocol
 use Rattle.trace_model.specs.OtlpParts.{NotedGroup}
-use Rattle.trace_model.specs.declared.trace.Group.{Group}
-use Rattle.jaeger_model.specs.Batches.{IsBatchText}
+use Rattle.trace_model.specs.declared.group.Group.{Group}
+use Rattle.jaeger_model.specs.Batch.{IsBatchText}
 use Rattle.jaeger_model.specs.Canonical.{batch_text}
 use Rattle.jaeger_model.specs.declared.batch.Batch.{Batch}
 use Rattle.map_jaeger.specs.Reading.{group_of}
@@ -32,14 +32,17 @@ pub record ProtocolWords : Type 1 where
   pub keeps : Option Bool → Option Bool
   pub writes : WritingOf
 
+-- the words of a protocol, of these six parts
 abbrev pub words : Spelling → ReadingOf → (Part → List ℕ → Type 0) → (Part → Cause → List ℕ → Type 0)
     → (Option Bool → Option Bool) → WritingOf → ProtocolWords
 words spells reads then_varint refuses keeps writes =
     record { spells = spells; reads = reads; then_varint = then_varint; refuses = refuses; keeps = keeps; writes = writes }
 
+-- the words of Thrift's binary protocol, where the head of a field keeps no truth value
 abbrev pub binary : ProtocolWords
 binary = words binary_protocol.binary_spells binary_reads binary_protocol.binary_then_varint binary_protocol.binary_refuses binary_protocol.binary_keeps binary_protocol.binary_writes
 
+-- the words of Thrift's compact protocol, where the head of a field keeps its truth value
 abbrev pub compact : ProtocolWords
 compact = words compact_protocol.compact_spells compact_reads compact_protocol.compact_then_varint compact_protocol.compact_refuses compact_protocol.compact_keeps compact_protocol.compact_writes
 

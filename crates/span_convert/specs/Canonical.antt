@@ -6,7 +6,7 @@ use Rattle.span_io.specs.declared.form.Form.TheVariants as forms
 use Rattle.span_io.specs.declared.limits.Limits.{Limits}
 use Rattle.proto_wire.specs.Wire.{records}
 use Rattle.trace_model.specs.OtlpParts.{NotedGroup}
-use Rattle.trace_model.specs.declared.trace.Group.{Group}
+use Rattle.trace_model.specs.declared.group.Group.{Group}
 use Rattle.map_zipkin.specs.NotedGroups.{plain_noted}
 use Rattle.span_moves.specs.Keeps.{EachSpan}
 use Rattle.span_convert.specs.BatchFiles.{binary, compact, batches, ReadsBatches}

@@ -13,13 +13,9 @@ use Rattle.span_convert.specs.Targets.{open_target}
 use Rattle.span_convert.specs.Units.{input_form, input_limit, open_form}
 use Rattle.span_convert.specs.Verdicts.{Verdict, good, refused, faulted, IsJudgedOn, verdict_text}
 use Rattle.span_convert.specs.Walks.{Reaches, WritesWhole}
-use Rattle.span_convert.specs.declared.bad.Bad.{Bad}
-use Rattle.span_convert.specs.declared.bad.Bad.TheVariants as bads
-use Rattle.span_convert.specs.declared.converter.Walker.{Walker}
-use Rattle.span_convert.specs.declared.converter.State.{State}
-use Rattle.span_convert.specs.declared.converter.State.TheVariants as states
-use Rattle.span_convert.specs.declared.progress.WalkStop.{WalkStop}
-use Rattle.span_convert.specs.declared.progress.WalkStop.TheVariants as walk_stops
+use Rattle.span_convert.specs.declared.walker.Walker.{Walker}
+use Rattle.span_convert.specs.declared.walker.State.{State}
+use Rattle.span_convert.specs.declared.walker.State.TheVariants as states
 use Rattle.span_convert.specs.declared.why.Why.{Why}
 use Rattle.span_convert.specs.declared.why.Why.TheVariants as whys
 use Rattle.span_convert.specs.declared.stop.Stop.{Stop}
@@ -37,6 +33,7 @@ stop_in (states.Faulted found) = Some stops.Faulted
 stop_in states.Write = Some stops.Write
 stop_in states.OutOfMemory = Some stops.OutOfMemory
 
+-- the refusal that is kept, if the input was refused
 abbrev pub refusal_in : State → Option Refusal
 refusal_in states.Open = None
 refusal_in states.Ended = None
@@ -45,6 +42,7 @@ refusal_in (states.Faulted found) = None
 refusal_in states.Write = None
 refusal_in states.OutOfMemory = None
 
+-- the fault of the target that is kept, with the number of its unit, if there was one
 abbrev pub fault_in : State → Option TargetFault
 fault_in states.Open = None
 fault_in states.Ended = None
@@ -53,6 +51,7 @@ fault_in (states.Faulted found) = Some found
 fault_in states.Write = None
 fault_in states.OutOfMemory = None
 
+-- whether the whole text was written
 abbrev pub is_ended : State → Bool
 is_ended states.Open = false
 is_ended states.Ended = true
@@ -69,6 +68,7 @@ end_of c = c.state
 abbrev pub stop_of : Walker → Option Stop
 stop_of c = stop_in (end_of c)
 
+-- whether it wrote the whole text
 abbrev pub has_ended : Walker → Bool
 has_ended c = is_ended (end_of c)
 
@@ -80,6 +80,7 @@ pub record Work : Type 0 where
   pub what : Written
   pub limits : Limits
 
+-- the work of a converter or a reporter, by what it holds: the form of its intake, what its pen writes, and its limits
 abbrev pub work_of : Walker → Work
 work_of c = record { from = form_in c.intake; what = written_by c.progress.pen; limits = c.limits }
 
@@ -108,7 +109,8 @@ KeepsWhy verdict states.OutOfMemory = Unit {0}
 
 -- What a call did that fed it these bytes, behind what was written of those before. There is an outlook on them, and it was carried out.
 -- Whatever is answered, a front of what goes on from there was written, up to the text of the first units.
-pub record Feeds (work : Work) (new : Walker) (said bytes : List ℕ) (result : Result (Unit {0}) Stop) (before now : Outlet) : Type 0 where
+pub record Feeds (work : Work) (new : Walker) (said bytes : List ℕ) (result : Result (Unit {0}) Stop) (before now : Outlet)
+    : Type 0 where
   pub fed : OnOk result (Reaches (Fed new work bytes) said before now)
   pub exists : IsJudgedOn (open_form work.from) (open_target (written_target work.what)) work.limits bytes result
   pub outlook : (outlook : Verdict) → IsOutlookAs work.from work.what work.limits bytes outlook
@@ -117,7 +119,8 @@ pub record Feeds (work : Work) (new : Walker) (said bytes : List ℕ) (result : 
 
 -- The same of the end of these bytes, and the verdict on them. What is whole is the text of units of which no part is longer than the target
 -- can tell.
-pub record Finishes (work : Work) (new : Walker) (said bytes : List ℕ) (result : Result Tally Stop) (before now : Outlet) : Type 0 where
+pub record Finishes (work : Work) (new : Walker) (said bytes : List ℕ) (result : Result Tally Stop) (before now : Outlet)
+    : Type 0 where
   pub judged : IsJudgedAs work.from work.what work.limits bytes result
   pub verdict : (verdict : Verdict) → IsVerdictAs work.from work.what work.limits bytes verdict
       → CarriesFrom said verdict result before now × KeepsWhy verdict (end_of new)
@@ -135,28 +138,6 @@ SameStop (Some stop) result Unchanged = (result ≡ Err stop) × Unchanged
 abbrev pub KeepsStop : {T : Type 0} → Result T Stop → Walker → Type 0
 KeepsStop (Ok x) c = Unit {0}
 KeepsStop (Err stop) c = stop_of c ≡ Some stop
-
--- the stop and the state behind a walk that goes no further
-abbrev pub stop_at : WalkStop → Stop
-stop_at (walk_stops.Refused refusal) = stops.Refused
-stop_at (walk_stops.Faulted found) = stops.Faulted
-stop_at walk_stops.Write = stops.Write
-stop_at walk_stops.OutOfMemory = stops.OutOfMemory
-
-abbrev pub state_at : WalkStop → State
-state_at (walk_stops.Refused refusal) = states.Refused refusal
-state_at (walk_stops.Faulted found) = states.Faulted found
-state_at walk_stops.Write = states.Write
-state_at walk_stops.OutOfMemory = states.OutOfMemory
-
--- the refusal or fault that is kept, or want of memory
-abbrev pub bad_in : State → Bad
-bad_in (states.Refused refusal) = bads.Refused refusal
-bad_in (states.Faulted found) = bads.Faulted found
-bad_in states.Open = bads.OutOfMemory
-bad_in states.Ended = bads.OutOfMemory
-bad_in states.Write = bads.OutOfMemory
-bad_in states.OutOfMemory = bads.OutOfMemory
 
 -- what is told is the refusal or fault that is kept
 abbrev pub IsWhy : Why → Walker → Type 0

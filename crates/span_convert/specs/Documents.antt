@@ -6,8 +6,9 @@ use Rattle.span_io.specs.declared.cause.Cause.TheVariants as causes
 use Rattle.span_io.specs.declared.limits.Limits.{Limits}
 use Rattle.span_io.specs.declared.refusal.Refusal.{Refusal}
 use Rattle.trace_model.specs.OtlpParts.{NotedGroup}
-use Rattle.trace_model.specs.declared.trace.Group.{Group}
+use Rattle.trace_model.specs.declared.group.Group.{Group}
 
+-- what a form says of the bytes of a document, however many they are
 pub record DocumentForm : Type 1 where
   -- the bytes are a text of these groups, each with the remarks on it
   pub Reads : List ℕ → List NotedGroup → Type 0
@@ -30,12 +31,16 @@ pub record DocumentBegins (from : DocumentForm) (limits : Limits) (bytes : List 
 
 -- There are more bytes than the limit; else an offence in them counts. No group stands before a refusal.
 abbrev pub IsTooLongDocument : Limits → List ℕ → Refusal → Type 0
-IsTooLongDocument limits bytes refusal = (limits.json < length bytes) × (refusal ≡ record { unit = 0; cause = causes.InputTooLong })
+IsTooLongDocument limits bytes refusal =
+    (limits.json < length bytes) × (refusal ≡ record { unit = 0; cause = causes.InputTooLong })
 
+-- There are no more bytes than the limit, and the offence in them that counts makes the refusal.
 abbrev pub OffendsInDocument : DocumentForm → Limits → List ℕ → Refusal → Type 0
 OffendsInDocument from limits bytes refusal = (length bytes ≤ limits.json) × RefusesInput (from.Offends bytes) refusal
 
-pub record DocumentRefused (from : DocumentForm) (limits : Limits) (bytes : List ℕ) (noted : List NotedGroup) (refusal : Refusal) : Type 0 where
+-- A document is refused as a whole: it is too long, or something offends in it.
+pub record DocumentRefused (from : DocumentForm) (limits : Limits) (bytes : List ℕ) (noted : List NotedGroup) (refusal : Refusal)
+    : Type 0 where
   pub none : noted ≡ []
   pub why : IsTooLongDocument limits bytes refusal ⊎ OffendsInDocument from limits bytes refusal
 
@@ -68,6 +73,7 @@ abbrev pub partial_document : DocumentText → List Group → List ℕ
 partial_document spelled [] = []
 partial_document spelled (group ∷ groups) = document_so_far spelled (group ∷ groups)
 
+-- The bytes that close the text so far. Of no group nothing was written so far, so they are the whole text.
 abbrev pub closing_document : DocumentText → List Group → List ℕ
 closing_document spelled [] = spelled.opens ++ spelled.closes
 closing_document spelled (group ∷ groups) = spelled.closes

@@ -16,10 +16,12 @@ remarked_group noted = (noted.means, noted.notes)
 abbrev pub ReadsGroups : List ℕ → List NotedGroup → Type 0
 ReadsGroups bytes noted = AreGroupsText (map remarked_group noted) bytes
 
+-- OTLP/JSON as a form of documents: what a text of it is read as, and what offends in one
 abbrev pub group_document : DocumentForm
 group_document = record { Reads = ReadsGroups; Offends = groups_document_offends }
 
 -- ---- texts
 
+-- the canonical text by its parts: an object whose one member `resourceSpans` is an array with a piece for each group
 abbrev pub group_file : DocumentText
 group_file = record { opens = codes "{\"resourceSpans\":["; pieces = λ groups. map json_group_text groups; closes = codes "]}" }

@@ -1,5 +1,5 @@
 -- What takes in an input, by its form, and what it was given of it.
-use Rattle.std.specs.Prelude.{ℕ, ◌<◌, ◌^◌, List, length, None}
+use Rattle.std.specs.Prelude.{ℕ, List, None}
 use Rattle.span_io.specs.Scans.{Scanning}
 use Rattle.span_io.specs.declared.form.Form.{Form}
 use Rattle.span_io.specs.declared.form.Form.TheVariants as forms
@@ -50,11 +50,3 @@ Taken (intakes.BinaryBatches scanner) what limits bytes said held progress =
 Taken (intakes.CompactBatches scanner) what limits bytes said held progress =
     FramesTaken (batch_form compact) what limits bytes said (struct_scanning compact scanner) held progress
 Taken intakes.SpanFile what limits bytes said held progress = DocumentTaken what limits bytes said held progress
-
--- the bytes that are held can be read, where they are a document
-abbrev pub CanBeRead : Intake → List ℕ → Type 0
-CanBeRead (intakes.Request scanner) held = Unit {0}
-CanBeRead intakes.GroupFile held = length held < 2 ^ 32
-CanBeRead (intakes.BinaryBatches scanner) held = Unit {0}
-CanBeRead (intakes.CompactBatches scanner) held = Unit {0}
-CanBeRead intakes.SpanFile held = length held < 2 ^ 32

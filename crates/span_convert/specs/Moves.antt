@@ -3,7 +3,7 @@ use Rattle.std.specs.Prelude.{◌≡◌, List}
 use Rattle.span_io.specs.declared.form.Form.{Form}
 use Rattle.span_io.specs.declared.form.Form.TheVariants as forms
 use Rattle.trace_model.specs.declared.span.Span.{Span}
-use Rattle.trace_model.specs.declared.trace.Group.{Group}
+use Rattle.trace_model.specs.declared.group.Group.{Group}
 use Rattle.span_moves.specs.Keeps.{Keeps, KeepsWithLinks}
 use Rattle.span_convert.specs.Units.{normal_form}
 use Rattle.span_convert.specs.Verdicts.{CanHoldTrace}

@@ -7,7 +7,7 @@ use Rattle.span_io.specs.declared.limits.Limits.{Limits}
 use Rattle.trace_model.specs.OtlpParts.{NotedGroup}
 use Rattle.span_convert.specs.BatchFiles.{binary, compact, batches}
 use Rattle.span_convert.specs.Units.{InputForm}
-use Rattle.span_convert.specs.Walks.{Converted}
+use Rattle.span_convert.specs.private.WalkSteps.{Converted}
 use Rattle.span_convert.specs.declared.progress.Progress.{Progress}
 use Rattle.span_convert.specs.declared.written.Written.{Written}
 
@@ -20,7 +20,8 @@ IsOneBatch forms.JaegerCompact bytes = (batches compact).Whole bytes
 IsOneBatch forms.ZipkinJson bytes = ⊥
 
 -- all units of an input were converted
-pub record ConvertsAll (from : InputForm) (what : Written) (limits : Limits) (bytes : List ℕ) (before now : Outlet) (progress : Progress) : Type 0 where
+pub record ConvertsAll (from : InputForm) (what : Written) (limits : Limits) (bytes : List ℕ) (before now : Outlet)
+    (progress : Progress) : Type 0 where
   pub noted : List NotedGroup
   pub whole : from.IsWhole limits bytes noted
   pub converted : Converted what noted [] before now progress

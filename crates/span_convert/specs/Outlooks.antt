@@ -54,7 +54,8 @@ IfDocument forms.ZipkinJson P = P
 -- The units so far, of which this was said, are all of the input; or it ends too early behind them.
 pub data EndsSo (from : InputForm) (to : Target) (limits : Limits) (bytes said : List ℕ) (tally : Tally) : Type 0 where
   whole : (text : List ℕ) → IsGood from to limits bytes text tally → EndsSo from to limits bytes said tally
-  cut : IsRefusal from to limits bytes said (record { unit = tally.units + 1; cause = causes.Truncated }) → EndsSo from to limits bytes said tally
+  cut : IsRefusal from to limits bytes said (record { unit = tally.units + 1; cause = causes.Truncated })
+      → EndsSo from to limits bytes said tally
 
 -- ---- what a call tells of a sink
 
@@ -84,7 +85,8 @@ pub record FailsFrom (said : List ℕ) (before now : Outlet) (text : List ℕ) :
   pub fails : FailsWithin before now added
 
 -- it gained a front of what goes on so, up to the text of the first units of these bytes
-pub record WritesFrontFrom (from : InputForm) (to : Target) (limits : Limits) (bytes said : List ℕ) (before now : Outlet) : Type 0 where
+pub record WritesFrontFrom (from : InputForm) (to : Target) (limits : Limits) (bytes said : List ℕ) (before now : Outlet)
+    : Type 0 where
   pub text : List ℕ
   pub so_far : IsTextSoFar from to limits bytes text
   pub gains : GainsFrontFrom said before now text
@@ -101,7 +103,8 @@ StopsFrom said verdict stops.OutOfMemory before now = GainsFrontFrom said before
 
 -- how it was where a call went on, or came to the end: it is good, of so many units and spans
 abbrev pub EndsFrom : List ℕ → Verdict → Tally → Outlet → Outlet → Type 0
-EndsFrom said verdict counts before now = (verdict ≡ good (verdict_text verdict) counts) × GainsFrom said before now (verdict_text verdict)
+EndsFrom said verdict counts before now =
+    (verdict ≡ good (verdict_text verdict) counts) × GainsFrom said before now (verdict_text verdict)
 
 -- the end of an input carries out the verdict on it
 abbrev pub CarriesFrom : List ℕ → Verdict → Result Tally Stop → Outlet → Outlet → Type 0

@@ -1,12 +1,11 @@
 -- What writes the units of an input, by what it writes them as, and for which units it stands.
-use Rattle.std.specs.Prelude.{◌≡◌, min, List, []}
+use Rattle.std.specs.Prelude.{◌≡◌, min, List}
 use Rattle.span_io.specs.Outside.{last_count}
 use Rattle.span_io.specs.declared.form.Form.{Form}
 use Rattle.span_io.specs.declared.form.Form.TheVariants as forms
 use Rattle.trace_model.specs.OtlpParts.{NotedGroup}
-use Rattle.trace_model.specs.declared.trace.Group.{Group}
-use Rattle.span_convert.specs.Reports.{last_run_in, loss_count, remark_count, written_target}
-use Rattle.span_convert.specs.Targets.{Target}
+use Rattle.trace_model.specs.declared.group.Group.{Group}
+use Rattle.span_convert.specs.Reports.{last_run_in, loss_count, remark_count}
 use Rattle.span_convert.specs.Units.{groups_in}
 use Rattle.span_convert.specs.declared.check_writer.CheckWriter.{CheckWriter}
 use Rattle.span_convert.specs.declared.losing.LastRun.{LastRun}
@@ -35,7 +34,8 @@ HasLastRun last groups = last.run ≡ last_run_in groups
 
 -- It counted what a move to the form loses of them, and what looks for losses stands behind their groups.
 abbrev pub CountsLosses : {L : Type 0} → Form → (L → List Group → Type 0) → LossWriter L → List NotedGroup → Type 0
-CountsLosses form Behind writer units = (writer.count ≡ min (loss_count form units) last_count) × Behind writer.losing (groups_in units)
+CountsLosses form Behind writer units =
+    (writer.count ≡ min (loss_count form units) last_count) × Behind writer.losing (groups_in units)
 
 -- ---- pens
 
@@ -52,9 +52,6 @@ units_written_by (unit_pens.CompactLosses writer) = written.Report (reports.Loss
 units_written_by (unit_pens.SpanFileLosses writer) = written.Report (reports.Losses forms.ZipkinJson)
 units_written_by (unit_pens.Show writer) = written.Report reports.Show
 units_written_by (unit_pens.Check writer) = written.Report reports.Check
-
-abbrev pub unit_pen_target : UnitPen → Target
-unit_pen_target pen = written_target (units_written_by pen)
 
 -- the units for which it stands
 abbrev pub unit_pen_stands : UnitPen → List NotedGroup → Type 0
@@ -75,15 +72,7 @@ abbrev pub written_by : Pen → Written
 written_by (pens.Spans writer) = written.Form forms.ZipkinJson
 written_by (pens.Units pen) = units_written_by pen
 
-abbrev pub pen_target : Pen → Target
-pen_target pen = written_target (written_by pen)
-
 -- the units for which it stands
 abbrev pub pen_stands : Pen → List NotedGroup → Type 0
 pen_stands (pens.Spans writer) = StandsForAny writer
 pen_stands (pens.Units pen) = unit_pen_stands pen
-
--- a pen that writes so, and wrote nothing yet
-pub record StartsAs (what : Written) (pen : Pen) : Type 0 where
-  pub writes : written_by pen ≡ what
-  pub stands : pen_stands pen []

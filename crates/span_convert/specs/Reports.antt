@@ -10,7 +10,7 @@ use Rattle.trace_model.specs.OtlpParts.{NotedGroup}
 use Rattle.trace_model.specs.declared.loss.Loss.{Loss}
 use Rattle.trace_model.specs.declared.remark.Remark.{Remark}
 use Rattle.trace_model.specs.declared.span.Span.{Span}
-use Rattle.trace_model.specs.declared.trace.Group.{Group}
+use Rattle.trace_model.specs.declared.group.Group.{Group}
 use Rattle.loss_report.specs.Lines.{counts_text, loss_count_text, loss_text, remark_text, shown_text}
 use Rattle.map_jaeger.specs.Losses as jaeger
 use Rattle.map_zipkin.specs.Losses as zipkin
@@ -73,9 +73,11 @@ losses_end to units = loss_count_text (min (loss_count to units) last_count)
 abbrev pub spans_shown : List Span → List ℕ
 spans_shown spans = flat_map shown_text spans
 
+-- a line for each span of the group, scope by scope
 abbrev pub group_shown : Group → List ℕ
 group_shown group = flat_map (λ scope. spans_shown scope.spans) group.scopes
 
+-- a line for each span of the units, in order
 abbrev pub units_shown : List NotedGroup → List ℕ
 units_shown units = flat_map (λ unit. group_shown unit.means) units
 

@@ -7,10 +7,10 @@ use Rattle.span_io.specs.declared.limits.Limits.{Limits}
 use Rattle.proto_wire.specs.Records.{Record}
 use Rattle.proto_wire.specs.Wire.{SpellsRecord, records}
 use Rattle.trace_model.specs.OtlpParts.{NotedGroup}
-use Rattle.trace_model.specs.declared.trace.Group.{Group}
+use Rattle.trace_model.specs.declared.group.Group.{Group}
 use Rattle.otlp_proto.specs.Group.{IsGroupText}
 use Rattle.otlp_proto.specs.Rows.{bytes_in}
-use Rattle.otlp_proto.specs.Texts.{group_record}
+use Rattle.otlp_proto.specs.Canonical.{group_record}
 
 -- the record holds these units: one or none
 pub record HoldsUnit (frame : List ℕ) (units : List (List ℕ)) : Type 0 where

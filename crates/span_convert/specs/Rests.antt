@@ -1,18 +1,9 @@
 -- What stands at the front of a rest, and why nothing does, over any framing and what refuses its frames.
-use Rattle.std.specs.Prelude.{◌≡◌, ◌≢◌, ℕ, ◌≤◌, ◌⊎◌, List, [], ◌++◌, length}
+use Rattle.std.specs.Prelude.{◌≡◌, ◌≢◌, ℕ, ◌⊎◌, List, []}
 use Rattle.span_io.specs.Frames.{Framing, NeedsMore}
 use Rattle.span_io.specs.Steps.{NoFrame}
 use Rattle.span_io.specs.declared.cause.Cause.{Cause}
 use Rattle.span_io.specs.declared.cause.Cause.TheVariants as causes
-
--- A frame of at most `limit` bytes stands at the front of the rest, and holds these units.
-pub record Cuts (F : Framing) (Holds : List ℕ → List (List ℕ) → Type 0) (limit : ℕ)
-    (rest : List ℕ) (units : List (List ℕ)) (behind : List ℕ) : Type 0 where
-  pub frame : List ℕ
-  pub whole : F.Whole frame
-  pub within : length frame ≤ limit
-  pub holds : Holds frame units
-  pub parts : rest ≡ frame ++ behind
 
 -- Why the rest, at which no frame begins, isn't read. A front of it is refused; or none is, and the input has other bytes than those that
 -- are looked at, or has none and ends inside a frame.

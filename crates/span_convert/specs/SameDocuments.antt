@@ -19,7 +19,8 @@ pub record SayTheSame {A : Type 0} (Means : A → Data → Type 0) (Offends : Da
   pub offends : (path : List ℕ) (number : ℕ) → Offends value path number ↔ Offends other path number
 
 -- the bytes are texts of two such values, each within the limit
-pub record HoldSameDocument {A : Type 0} (Means : A → Data → Type 0) (Offends : Data → Offences) (limits : Limits) (bytes others : List ℕ) : Type 0 where
+pub record HoldSameDocument {A : Type 0} (Means : A → Data → Type 0) (Offends : Data → Offences) (limits : Limits)
+    (bytes others : List ℕ) : Type 0 where
   pub value : Data
   pub other : Data
   pub text : IsJsonText value bytes

@@ -2,7 +2,7 @@
 use Rattle.std.specs.Prelude.{◌≡◌, ℕ, List, codes, map}
 use Rattle.std.specs.List.{flat_map}
 use Rattle.trace_model.specs.OtlpParts.{NotedGroup}
-use Rattle.trace_model.specs.declared.trace.Group.{Group}
+use Rattle.trace_model.specs.declared.group.Group.{Group}
 use Rattle.zipkin_json.specs.Canonical.{zspan_text, spans_text}
 use Rattle.zipkin_json.specs.Span.{spans_offend}
 use Rattle.zipkin_json.specs.Texts.{AreSpansText}
@@ -22,11 +22,13 @@ pub record ReadsSpans (bytes : List ℕ) (noted : List NotedGroup) : Type 0 wher
   pub text : AreSpansText spans bytes
   pub means : noted ≡ noted_groups_of spans
 
+-- Zipkin's JSON (Zipkin v2's API, ListOfSpans) as a form of documents: what an array of spans is read as, and what offends in it
 abbrev pub span_document : DocumentForm
 span_document = record { Reads = ReadsSpans; Offends = document_offends spans_offend }
 
 -- ---- texts
 
+-- the spans of Zipkin that the groups are written as: one for each of their spans, in order
 abbrev pub spans_of_groups : List Group → List ZSpan
 spans_of_groups groups = flat_map spans_of_group groups
 

@@ -1,13 +1,13 @@
 -- What is asked of a target, over the units that are written to it: groups, each with the remarks on it.
-use Rattle.std.specs.Prelude.{◌≡◌, ◌⊎◌, ℕ, List, [], ◌++◌, All}
-use Rattle.span_io.specs.Outside.{IsFront}
+use Rattle.std.specs.Prelude.{ℕ, List, [], All}
 use Rattle.span_io.specs.declared.form.Form.{Form}
 use Rattle.trace_model.specs.OtlpParts.{NotedGroup}
 use Rattle.trace_model.specs.Proper.{IsProperGroup}
-use Rattle.trace_model.specs.Soundness.{IsSoundGroup, IsSoundTrace}
+use Rattle.trace_model.specs.Soundness.{IsSoundTrace}
 use Rattle.trace_model.specs.declared.fault.Fault.{Fault}
 use Rattle.span_convert.specs.Units.{groups_in, FaultOf, CanHold, IsSizedGroup, canonical_text, partial_text, closing_text}
 
+-- what is asked of each unit, and the texts of units that are written
 pub record Target : Type 1 where
   -- the fault of the unit that counts
   pub FaultOf : NotedGroup → Fault → Type 0
@@ -54,16 +54,3 @@ pub record CanHoldUnits (to : Target) (units : List NotedGroup) : Type 0 where
 pub record AreHeldBy (to : Target) (units : List NotedGroup) : Type 0 where
   pub can_hold : CanHoldUnits to units
   pub sized : All to.IsSized units
-
--- ---- what every target keeps
-
-pub record TargetLaws (to : Target) : Type 0 where
-  -- a unit whose group is sound can be held, or has one fault that counts
-  pub fault_or_none : (unit : NotedGroup) → IsSoundGroup unit.means → to.CanHold unit ⊎ ((fault : Fault) × to.FaultOf unit fault)
-  pub fault_once : (unit : NotedGroup) (a b : Fault) → to.FaultOf unit a → to.FaultOf unit b → a ≡ b
-  pub no_fault : (unit : NotedGroup) (fault : Fault) → to.FaultOf unit fault → to.CanHold unit → ⊥
-  -- the text so far of no unit is empty, and that of the first units is a front of that of all
-  pub none : to.partial_text [] ≡ []
-  pub front : (a b : List NotedGroup) → CanHoldUnits to (a ++ b) → IsFront (to.partial_text a) (to.partial_text (a ++ b))
-  -- the whole text is the text so far, and then the bytes that close it
-  pub closed : (units : List NotedGroup) → to.whole_text units ≡ to.partial_text units ++ to.closing_text units

@@ -10,11 +10,11 @@ use Rattle.proto_wire.specs.Wire.{records, RefusedBy}
 use Rattle.trace_model.specs.Flat.{flat}
 use Rattle.trace_model.specs.OtlpParts.{NotedGroup}
 use Rattle.trace_model.specs.declared.fault.Fault.{Fault}
-use Rattle.trace_model.specs.declared.trace.Group.{Group}
+use Rattle.trace_model.specs.declared.group.Group.{Group}
 use Rattle.otlp_json.specs.Canonical.{json_groups_text}
 use Rattle.otlp_json.specs.Held.{IsJsonFaultOf}
 use Rattle.otlp_proto.specs.Group.{group_rules}
-use Rattle.otlp_proto.specs.Texts.{group_record}
+use Rattle.otlp_proto.specs.Canonical.{group_record}
 use Rattle.jaeger_model.specs.StatedLaws.{BatchOffends}
 use Rattle.jaeger_model.specs.Writable.{IsWritable}
 use Rattle.map_jaeger.specs.Faults.{IsFaultOf}
@@ -43,6 +43,7 @@ request_form = record {
   Offends = λ unit. Offence messages group_rules unit;
 }
 
+-- Each frame of a file of Jaeger is its own unit: a struct in this protocol, to be read as a Batch (jaeger.thrift).
 abbrev pub batch_form : ProtocolWords → FramedForm
 batch_form protocol = record {
   frames = batches protocol;
@@ -67,12 +68,15 @@ pub record InputForm : Type 1 where
   -- behind these it isn't read, and is refused so
   pub Refuses : Limits → List ℕ → List NotedGroup → Refusal → Type 0
 
+-- what a form of frames says of an input that ends with these bytes
 abbrev pub framed_input : FramedForm → InputForm
 framed_input form = record { Begins = UnitsBegin form; IsWhole = AreAllUnits form; Refuses = UnitsRefused form }
 
+-- the same of a form of documents
 abbrev pub document_input : DocumentForm → InputForm
 document_input form = record { Begins = DocumentBegins form; IsWhole = IsDocument form; Refuses = DocumentRefused form }
 
+-- The same of each form: an OTLP request in protobuf and batches of Jaeger are frames, and a text in JSON is a document.
 abbrev pub input_form : Form → InputForm
 input_form forms.OtlpProto = framed_input request_form
 input_form forms.OtlpJson = document_input group_document
@@ -85,9 +89,11 @@ input_form forms.ZipkinJson = document_input span_document
 abbrev pub open_frames : FramedForm → InputForm
 open_frames form = record { Begins = UnitsBegin form; IsWhole = UnitsGoOn form; Refuses = UnitsHalted form }
 
+-- The same of a document: no group is known before its end, and it is refused only for more bytes than the limit.
 abbrev pub open_document : InputForm
 open_document = record { Begins = λ limits bytes noted. noted ≡ []; IsWhole = DocumentGoesOn; Refuses = DocumentHalted }
 
+-- what each form says of the first bytes of an input, behind which others may come
 abbrev pub open_form : Form → InputForm
 open_form forms.OtlpProto = open_frames request_form
 open_form forms.OtlpJson = open_document
@@ -157,6 +163,7 @@ partial_text forms.JaegerBinary groups = batches_text binary (normal groups)
 partial_text forms.JaegerCompact groups = batches_text compact (normal groups)
 partial_text forms.ZipkinJson groups = partial_document span_file groups
 
+-- the bytes that close it: none but in JSON, where they are the whole text if there is no group
 abbrev pub closing_text : Form → List Group → List ℕ
 closing_text forms.OtlpProto groups = []
 closing_text forms.OtlpJson groups = closing_document group_file groups

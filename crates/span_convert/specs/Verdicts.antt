@@ -9,7 +9,7 @@ use Rattle.span_io.specs.declared.refusal.Refusal.{Refusal}
 use Rattle.trace_model.specs.OtlpParts.{NotedGroup}
 use Rattle.trace_model.specs.Proper.{IsProperGroup}
 use Rattle.trace_model.specs.Soundness.{IsSoundTrace}
-use Rattle.trace_model.specs.declared.trace.Group.{Group}
+use Rattle.trace_model.specs.declared.group.Group.{Group}
 use Rattle.span_convert.specs.Targets.{Target, form_target, CanHoldUnits}
 use Rattle.span_convert.specs.Units.{InputForm, groups_in, input_form, CanHold, span_count}
 use Rattle.span_convert.specs.declared.bad.Bad.{Bad}
@@ -37,6 +37,7 @@ pub record CanHoldTrace (to : Form) (groups : List Group) : Type 0 where
 
 -- ---- verdicts
 
+-- what is said of an input, with the text that is to be written of it
 pub data Verdict : Type 0 where
   -- the whole text, and how many units and spans it has
   good : List ℕ → Tally → Verdict
@@ -78,6 +79,7 @@ pub record IsFaulted (from : InputForm) (to : Target) (limits : Limits) (bytes t
   pub number : found.unit ≡ length noted + 1
   pub is_text : text ≡ to.partial_text noted
 
+-- the verdict on these bytes, which are an input in the one form whose units are written to the target
 abbrev pub IsVerdictOn : InputForm → Target → Limits → List ℕ → Verdict → Type 0
 IsVerdictOn from to limits bytes (good text tally) = IsGood from to limits bytes text tally
 IsVerdictOn from to limits bytes (refused refusal text) = IsRefusal from to limits bytes text refusal

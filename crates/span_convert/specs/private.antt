@@ -1,1 +1,5 @@
 pub mod InputLaws
+pub mod PenTargets
+pub mod States
+pub mod TargetSteps
+pub mod WalkSteps

@@ -33,22 +33,28 @@ pub fn convert_all(
 
     // There is a verdict on the input, whatever is answered, and the answer is by it.
     ensures exists { (verdict : Verdict) × IsVerdict from to limits.now bytes.now verdict }
-    ensures verdict { (verdict : Verdict) → IsVerdict from to limits.now bytes.now verdict → Answers verdict result }
+    ensures verdict { (verdict : Verdict) → IsVerdict from to limits.now bytes.now verdict
+        → Answers verdict result }
 
     // An input that holds the same batches of Jaeger, in whichever protocol, is answered so, too.
-    ensures same { (other : Form) (others : List ℕ) → SameBatches limits.now from bytes.now other others
-        → (verdict : Verdict) → IsVerdict other to limits.now others verdict → Answers verdict result }
+    ensures same { (other : Form) (others : List ℕ)
+        → SameBatches limits.now from bytes.now other others
+        → (verdict : Verdict) → IsVerdict other to limits.now others verdict
+        → Answers verdict result }
 
     // So is an input in JSON, in the same form, whose value says the same.
     ensures same_document { (others : List ℕ) → SameDocuments limits.now from bytes.now others
-        → (verdict : Verdict) → IsVerdict from to limits.now others verdict → Answers verdict result }
+        → (verdict : Verdict) → IsVerdict from to limits.now others verdict
+        → Answers verdict result }
 
     // So is one that differs in members alone that the form doesn't know, at whatever depth.
     ensures free_members { (others : List ℕ) → AgreeingDocuments limits.now from bytes.now others
-        → (verdict : Verdict) → IsVerdict from to limits.now others verdict → Answers verdict result }
+        → (verdict : Verdict) → IsVerdict from to limits.now others verdict
+        → Answers verdict result }
 
     // Where an input of Jaeger ends too early, more bytes make its last batch whole.
-    ensures cut { (unit : ℕ) → result ≡ Err (Bad.Refused (record { unit = unit; cause = causes.Truncated }))
+    ensures cut { (unit : ℕ)
+        → result ≡ Err (Bad.Refused (record { unit = unit; cause = causes.Truncated }))
         → IfJaeger from (λ protocol. EndsInBatch protocol limits.now bytes.now unit) }
 
     // What is answered is read back as the normal form of the input's trace, which keeps all its spans. Where it fits it converts

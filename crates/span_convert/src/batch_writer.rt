@@ -9,7 +9,7 @@ ghost use Rattle.map_jaeger.specs.Writing.{batch_of};
 ghost use Rattle.span_io.specs.declared.form.Form.TheVariants as forms;
 ghost use Rattle.span_convert.specs.Targets.{form_target};
 ghost use Rattle.span_convert.specs.Pens.{StandsForAny};
-ghost use Rattle.span_convert.specs.Walks.{IfWhy};
+ghost use Rattle.span_convert.specs.private.WalkSteps.{IfWhy};
 ghost use Rattle.trace_model.specs.Soundness.{IsSoundGroup};
 
 use crate::batch_file::{Batches, BinaryBatches, CompactBatches};
@@ -29,7 +29,8 @@ use trace_model::{Fault, Group, Remark, proper_group};
 // The batch of a group.
 fn writable_batch(alloc: Global, group: Group) -> Result<Batch, Halt<Fault>>
     requires sound { IsSoundGroup group }
-    ensures value { IfOk result (λ batch. (batch ≡ batch_of group) × IsWritable batch × HasNoFault group) }
+    ensures value { IfOk result
+        (λ batch. (batch ≡ batch_of group) × IsWritable batch × HasNoFault group) }
     ensures why { IfWhy result (λ fault. IsFaultOf group (Some fault)) }
 {
     let batch = batch_of_group(alloc, group)?;

@@ -10,7 +10,8 @@ ghost use Rattle.span_convert.specs.Pens.{written_by};
 ghost use Rattle.span_convert.specs.Reports.{written_target};
 ghost use Rattle.span_convert.specs.Targets.{open_target};
 ghost use Rattle.span_convert.specs.Units.{document_input, open_document};
-ghost use Rattle.span_convert.specs.Walks.{DocumentTaken, EndsWalk, IsLookedAt, Reaches, StopsWalk};
+ghost use Rattle.span_convert.specs.Walks.{DocumentTaken, Reaches};
+ghost use Rattle.span_convert.specs.private.WalkSteps.{EndsWalk, IsLookedAt, StopsWalk};
 ghost use Rattle.span_convert.specs.declared.progress.Progress.{Progress};
 ghost use Rattle.span_convert.specs.declared.written.Written.{Written};
 
@@ -26,13 +27,19 @@ use trace_model::{Group, Remark};
 /// Takes a piece of a document, which has others behind it that aren't looked at, or hasn't.
 pub(crate) fn take_document(held: &mut Blob, piece: &[u8], too_long: bool) -> Result<(), WalkStop>
     ensures short { OnOk result (length held.new ≤ length held.old + length piece.now) }
-    ensures ok { OnOk result ((what : Written) (limits : Limits) (bytes more said : List ℕ) (progress : Progress) (now : Outlet)
-        → DocumentTaken what limits bytes said held.old progress → IsLookedAt limits.json bytes more piece.now too_long
-        → Reaches (λ text. DocumentTaken what limits (bytes ++ more) text held.new progress) said now now) }
-    ensures stop { IfErr result (λ stop. (what : Written) (limits : Limits) (bytes more said : List ℕ) (progress : Progress)
+    ensures ok { OnOk result
+        ((what : Written) (limits : Limits) (bytes more said : List ℕ) (progress : Progress)
+        (now : Outlet)
+        → DocumentTaken what limits bytes said held.old progress
+        → IsLookedAt limits.json bytes more piece.now too_long
+        → Reaches
+        (λ text. DocumentTaken what limits (bytes ++ more) text held.new progress) said now now) }
+    ensures stop { IfErr result
+        (λ stop. (what : Written) (limits : Limits) (bytes more said : List ℕ) (progress : Progress)
         (now : Outlet) → DocumentTaken what limits bytes said held.old progress
         → IsLookedAt limits.json bytes more piece.now too_long
-        → StopsWalk open_document (open_target (written_target what)) limits (bytes ++ more) stop said now now) }
+        → StopsWalk open_document (open_target (written_target what)) limits
+        (bytes ++ more) stop said now now) }
     ensures unwritten { result ≢ Err WalkStop.Write }
 {
     if too_long {
@@ -52,9 +59,12 @@ fn units_in<R: DocumentReader>(
     requires counted { length bytes.now < 2 ^ 32 }
     ensures whole { IfOk result (λ units. R.form.Reads bytes.now (map noted_group units)) }
     ensures sound { IfOk result (All (λ unit. IsSoundGroup unit.0)) }
-    ensures stop { IfErr result (λ stop. (what : Written) (limits : Limits) (said : List ℕ) (progress : Progress) (now : Outlet)
+    ensures stop { IfErr result
+        (λ stop. (what : Written) (limits : Limits) (said : List ℕ) (progress : Progress)
+        (now : Outlet)
         → DocumentTaken what limits bytes.now said bytes.now progress
-        → StopsWalk (document_input R.form) (written_target what) limits bytes.now stop said now now) }
+        → StopsWalk (document_input R.form)
+        (written_target what) limits bytes.now stop said now now) }
     ensures unwritten { result ≢ Err WalkStop.Write }
 {
     match R::read(alloc, bytes) {
@@ -75,8 +85,10 @@ fn write_groups<R: DocumentReader, K: Sink>(
     requires room { progress.old.tally.units ≤ 2 ^ 40 }
     ensures same { written_by progress.new.pen ≡ written_by progress.old.pen }
     ensures walk { (what : Written) (limits : Limits) (bytes said : List ℕ)
-        → DocumentTaken what limits bytes said bytes progress.old → IsDocument R.form limits bytes (map noted_group units)
-        → EndsWalk (document_input R.form) (written_target what) limits bytes result said (K.outlet out.old) (K.outlet out.new) }
+        → DocumentTaken what limits bytes said bytes progress.old
+        → IsDocument R.form limits bytes (map noted_group units)
+        → EndsWalk (document_input R.form) (written_target what) limits bytes result said
+        (K.outlet out.old) (K.outlet out.new) }
     ensures sink { SinkTold (result ≡ Err WalkStop.Write) (K.outlet out.old) (K.outlet out.new) }
 {
     gains_then();
@@ -98,7 +110,8 @@ pub(crate) fn walk_document<R: DocumentReader, K: Sink>(
     ensures same { written_by progress.new.pen ≡ written_by progress.old.pen }
     ensures walk { (what : Written) (limits : Limits) (bytes said : List ℕ)
         → DocumentTaken what limits bytes said held.now progress.old
-        → EndsWalk (document_input R.form) (written_target what) limits bytes result said (K.outlet out.old) (K.outlet out.new) }
+        → EndsWalk (document_input R.form) (written_target what) limits bytes result said
+        (K.outlet out.old) (K.outlet out.new) }
     ensures sink { SinkTold (result ≡ Err WalkStop.Write) (K.outlet out.old) (K.outlet out.new) }
 {
     gains_then();

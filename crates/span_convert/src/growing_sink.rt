@@ -6,9 +6,9 @@ ghost use Rattle.span_convert.specs.Units.{input_form};
 ghost use Rattle.span_convert.specs.Verdicts.{Verdict, Answers, IsGood, IsVerdict};
 
 use crate::bad::Bad;
-use crate::converter::Walker;
 use crate::laws::{one_verdict, outlook_lasts};
 use crate::tally::Tally;
+use crate::walker::Walker;
 use crate::written::Written;
 use span_io::{Blob, Failed, Form, Limits, OutOfMemory, Sink};
 use std::alloc::Global;
@@ -82,7 +82,8 @@ pub(crate) fn convert_into(
     ensures whole { IfOk result (λ tally.
         (is : IsGood (input_form from) (form_target to) limits.now bytes.now out.new.text tally)
         × All (form_target to).IsSized is.noted) }
-    ensures bad { IfErr result (λ bad. (verdict : Verdict) → IsVerdict from to limits.now bytes.now verdict
+    ensures bad { IfErr result
+        (λ bad. (verdict : Verdict) → IsVerdict from to limits.now bytes.now verdict
         → Answers verdict (Err bad)) }
 {
     one_verdict();

@@ -3,13 +3,15 @@ ghost use Rattle.std.specs.Prelude.{◌≡◌, ◌≤◌, ◌+◌, ◌<◌, ◌^
 ghost use Rattle.span_io.specs.Limits.{AreLimits};
 ghost use Rattle.span_io.specs.Outside.{last_count};
 ghost use Rattle.span_io.specs.declared.limits.Limits.{Limits};
-ghost use Rattle.span_convert.specs.Intakes.{CanBeRead, Taken, form_in, scanning_in};
+ghost use Rattle.span_convert.specs.private.TargetSteps.{CanBeRead};
+ghost use Rattle.span_convert.specs.Intakes.{Taken, form_in, scanning_in};
 ghost use Rattle.span_convert.specs.Outlooks.{IfDocument, SinkTold};
 ghost use Rattle.span_convert.specs.Pens.{written_by};
 ghost use Rattle.span_convert.specs.Reports.{written_target};
 ghost use Rattle.span_convert.specs.Targets.{open_target};
 ghost use Rattle.span_convert.specs.Units.{input_form, input_limit, open_form};
-ghost use Rattle.span_convert.specs.Walks.{EndsWalk, IsLookedAt, Reaches, StandsFor, StopsWalk};
+ghost use Rattle.span_convert.specs.private.WalkSteps.{EndsWalk, IsLookedAt, StopsWalk};
+ghost use Rattle.span_convert.specs.Walks.{Reaches, StandsFor};
 ghost use Rattle.span_convert.specs.declared.progress.Progress.{Progress};
 ghost use Rattle.span_convert.specs.declared.written.Written.{Written};
 
@@ -45,7 +47,8 @@ impl Intake {
         ensures form { form_in result ≡ from }
         ensures seen { (scanning_in result).seen [] }
         ensures limit { (scanning_in result).limit ≤ limits.now.unit }
-        ensures taken { (what : Written) (said : List ℕ) (progress : Progress) → StandsFor what [] progress
+        ensures taken { (what : Written) (said : List ℕ) (progress : Progress)
+            → StandsFor what [] progress
             → progress.unwritten ≡ [] → said ≡ (written_target what).partial_text [] → said ≡ []
             → Taken result what limits.now [] said [] progress }
     {
@@ -90,17 +93,21 @@ pub(crate) fn take_piece<K: Sink>(
     ensures unwritten { IfDocument (form_in intake.old) (out.new ≡ out.old) }
     ensures same { written_by progress.new.pen ≡ written_by progress.old.pen }
     ensures seen { OnOk result ∥ (scanning_in intake.new).seen held.new ∥₁ }
-    ensures units { OnOk result (progress.new.tally.units ≤ progress.old.tally.units + length piece.now) }
+    ensures units { OnOk result
+        (progress.new.tally.units ≤ progress.old.tally.units + length piece.now) }
     ensures short { OnOk result (length held.new ≤ length held.old + length piece.now) }
     ensures ok { OnOk result ((what : Written) (limits : Limits) (bytes more said : List ℕ)
         → Taken intake.old what limits bytes said held.old progress.old
         → IsLookedAt (input_limit (form_in intake.old) limits) bytes more piece.now too_long
-        → Reaches (λ text. Taken intake.new what limits (bytes ++ more) text held.new progress.new) said
+        → Reaches
+        (λ text. Taken intake.new what limits (bytes ++ more) text held.new progress.new) said
         (K.outlet out.old) (K.outlet out.new)) }
-    ensures stop { IfErr result (λ stop. (what : Written) (limits : Limits) (bytes more said : List ℕ)
+    ensures stop { IfErr result
+        (λ stop. (what : Written) (limits : Limits) (bytes more said : List ℕ)
         → Taken intake.old what limits bytes said held.old progress.old
         → IsLookedAt (input_limit (form_in intake.old) limits) bytes more piece.now too_long
-        → StopsWalk (open_form (form_in intake.old)) (open_target (written_target what)) limits (bytes ++ more) stop said
+        → StopsWalk (open_form (form_in intake.old)) (open_target (written_target what)) limits
+        (bytes ++ more) stop said
         (K.outlet out.old) (K.outlet out.new)) }
     ensures sink { SinkTold (result ≡ Err WalkStop.Write) (K.outlet out.old) (K.outlet out.new) }
 {

@@ -6,7 +6,7 @@ ghost use Rattle.span_io.specs.declared.cause.Cause.TheVariants as causes;
 ghost use Rattle.span_io.specs.declared.form.Form.{Form};
 ghost use Rattle.span_io.specs.declared.limits.Limits.{Limits};
 ghost use Rattle.trace_model.specs.OtlpParts.{NotedGroup};
-ghost use Rattle.trace_model.specs.declared.trace.Group.{Group};
+ghost use Rattle.trace_model.specs.declared.group.Group.{Group};
 ghost use Rattle.span_convert.specs.Canonical.{ConvertsToItself, Reads, ReadsNoted, ReadsPlainly, ReadsBack, Fits, IsHeldBy};
 ghost use Rattle.span_convert.specs.BatchFiles.{words};
 ghost use Rattle.span_convert.specs.Moves.{IsNormalTrace};
@@ -16,7 +16,8 @@ ghost use Rattle.span_convert.specs.SameBatches.{SameBatches};
 ghost use Rattle.span_convert.specs.SameDocuments.{AgreeingDocuments, SameDocuments};
 ghost use Rattle.span_convert.specs.Outlooks.{IsOutlookAs, IsLasting, IfFrames, EndsSo};
 ghost use Rattle.span_convert.specs.Reports.{IsVerdictAs, WritesFrontAs, report_target, written_target};
-ghost use Rattle.span_convert.specs.Targets.{TargetLaws, form_target, open_target};
+ghost use Rattle.span_convert.specs.private.TargetSteps.{TargetLaws};
+ghost use Rattle.span_convert.specs.Targets.{form_target, open_target};
 ghost use Rattle.span_convert.specs.Units.{groups_in, input_form, open_form, IsSizedGroup, normal_form, canonical_text, partial_text, closing_text, span_count};
 ghost use Rattle.span_convert.specs.Verdicts.{CanHoldTrace, Verdict, good, refused, IsFaultless, IsVerdict, IsVerdictOn, IsGood, IsTextSoFar, verdict_text};
 ghost use Rattle.span_convert.specs.declared.report.Report.{Report};
@@ -123,10 +124,13 @@ pub(crate) fn report_targets()
 /// Bytes have one verdict at most. What is written for the bytes begins with each text so far of their
 /// first groups.
 pub fn one_verdict()
-    ensures once { (from : Form) (what : Written) (limits : Limits) (bytes : List ℕ) (v w : Verdict) → AreLimits limits
+    ensures once { (from : Form) (what : Written) (limits : Limits) (bytes : List ℕ) (v w : Verdict)
+        → AreLimits limits
         → IsVerdictAs from what limits bytes v → IsVerdictAs from what limits bytes w → v ≡ w }
-    ensures so_far { (from : Form) (what : Written) (limits : Limits) (bytes text : List ℕ) (v : Verdict)
-        → AreLimits limits → IsTextSoFar (input_form from) (written_target what) limits bytes text → IsVerdictAs from what limits bytes v
+    ensures so_far { (from : Form) (what : Written) (limits : Limits) (bytes text : List ℕ)
+        (v : Verdict)
+        → AreLimits limits → IsTextSoFar (input_form from) (written_target what) limits bytes text
+        → IsVerdictAs from what limits bytes v
         → IsFront text (verdict_text v) }
 {
     input_laws();
@@ -136,9 +140,11 @@ pub fn one_verdict()
 /// Two inputs of Jaeger that hold the same batches have the same verdicts, whichever protocols they are
 /// in, and whatever free fields stand in the one and not in the other.
 pub fn same_batches()
-    ensures { (from other : Form) (what : Written) (limits : Limits) (bytes others : List ℕ) → AreLimits limits
+    ensures { (from other : Form) (what : Written) (limits : Limits) (bytes others : List ℕ)
+        → AreLimits limits
         → SameBatches limits from bytes other others → (verdict : Verdict)
-        → IsVerdictAs from what limits bytes verdict ↔ IsVerdictAs other what limits others verdict }
+        → IsVerdictAs from what limits bytes verdict
+        ↔ IsVerdictAs other what limits others verdict }
 {
     input_laws();
     tree_laws();
@@ -170,7 +176,8 @@ pub fn free_members()
 /// whole once a varint at its end that isn't ended is dropped.
 pub fn cut_batches()
     ensures { (from to : Form) (limits : Limits) (bytes text : List ℕ) (unit : ℕ)
-        → IsVerdict from to limits bytes (refused (record { unit = unit; cause = causes.Truncated }) text)
+        → IsVerdict from to limits bytes
+        (refused (record { unit = unit; cause = causes.Truncated }) text)
         → IfJaeger from (λ protocol. EndsInBatch protocol limits bytes unit) }
 {
     input_laws();
@@ -178,7 +185,8 @@ pub fn cut_batches()
 
 /// Bytes have a verdict.
 pub fn some_verdict()
-    ensures { (from : Form) (what : Written) (limits : Limits) (bytes : List ℕ) → All (λ b. b < 256) bytes
+    ensures { (from : Form) (what : Written) (limits : Limits) (bytes : List ℕ)
+        → All (λ b. b < 256) bytes
         → (verdict : Verdict) × IsVerdictAs from what limits bytes verdict }
 {
     input_laws();
@@ -191,9 +199,11 @@ pub fn some_verdict()
 
 /// Bytes have one outlook at most. Its text begins with each text so far of their first units.
 pub fn one_outlook()
-    ensures once { (from : Form) (what : Written) (limits : Limits) (bytes : List ℕ) (v w : Verdict) → AreLimits limits
+    ensures once { (from : Form) (what : Written) (limits : Limits) (bytes : List ℕ) (v w : Verdict)
+        → AreLimits limits
         → IsOutlookAs from what limits bytes v → IsOutlookAs from what limits bytes w → v ≡ w }
-    ensures so_far { (from : Form) (what : Written) (limits : Limits) (bytes text : List ℕ) (v : Verdict) → AreLimits limits
+    ensures so_far { (from : Form) (what : Written) (limits : Limits) (bytes text : List ℕ)
+        (v : Verdict) → AreLimits limits
         → IsTextSoFar (open_form from) (open_target (written_target what)) limits bytes text
         → IsOutlookAs from what limits bytes v → IsFront text (verdict_text v) }
 {
@@ -203,7 +213,8 @@ pub fn one_outlook()
 
 /// Bytes have an outlook.
 pub fn some_outlook()
-    ensures { (from : Form) (what : Written) (limits : Limits) (bytes : List ℕ) → All (λ b. b < 256) bytes
+    ensures { (from : Form) (what : Written) (limits : Limits) (bytes : List ℕ)
+        → All (λ b. b < 256) bytes
         → (outlook : Verdict) × IsOutlookAs from what limits bytes outlook }
 {
     input_laws();
@@ -226,11 +237,16 @@ pub fn outlook_at_first()
 /// A refusal or a fault that is the outlook on bytes is the outlook and the verdict on all that begins
 /// with them, and the verdict on them alone.
 pub fn outlook_lasts()
-    ensures stays { (from : Form) (what : Written) (limits : Limits) (bytes more : List ℕ) (outlook : Verdict)
-        → IsLasting outlook → IsOutlookAs from what limits bytes outlook → IsOutlookAs from what limits (bytes ++ more) outlook }
-    ensures comes_true { (from : Form) (what : Written) (limits : Limits) (bytes more : List ℕ) (outlook : Verdict)
-        → IsLasting outlook → IsOutlookAs from what limits bytes outlook → IsVerdictAs from what limits (bytes ++ more) outlook }
-    ensures at_end { (from : Form) (what : Written) (limits : Limits) (bytes : List ℕ) (outlook : Verdict) → IsLasting outlook
+    ensures stays { (from : Form) (what : Written) (limits : Limits) (bytes more : List ℕ)
+        (outlook : Verdict)
+        → IsLasting outlook → IsOutlookAs from what limits bytes outlook
+        → IsOutlookAs from what limits (bytes ++ more) outlook }
+    ensures comes_true { (from : Form) (what : Written) (limits : Limits) (bytes more : List ℕ)
+        (outlook : Verdict)
+        → IsLasting outlook → IsOutlookAs from what limits bytes outlook
+        → IsVerdictAs from what limits (bytes ++ more) outlook }
+    ensures at_end { (from : Form) (what : Written) (limits : Limits) (bytes : List ℕ)
+        (outlook : Verdict) → IsLasting outlook
         → IsOutlookAs from what limits bytes outlook → IsVerdictAs from what limits bytes outlook }
 {
     input_laws();
@@ -239,10 +255,12 @@ pub fn outlook_lasts()
 /// What was said of bytes that nothing stops is a front of what is written for all that begins with
 /// them.
 pub fn outlook_begins()
-    ensures so_far { (from : Form) (what : Written) (limits : Limits) (bytes more said : List ℕ) (tally : Tally) (v : Verdict)
+    ensures so_far { (from : Form) (what : Written) (limits : Limits) (bytes more said : List ℕ)
+        (tally : Tally) (v : Verdict)
         → AreLimits limits → IsOutlookAs from what limits bytes (good said tally)
         → IsOutlookAs from what limits (bytes ++ more) v → IsFront said (verdict_text v) }
-    ensures at_end { (from : Form) (what : Written) (limits : Limits) (bytes more said : List ℕ) (tally : Tally) (v : Verdict)
+    ensures at_end { (from : Form) (what : Written) (limits : Limits) (bytes more said : List ℕ)
+        (tally : Tally) (v : Verdict)
         → AreLimits limits → IsOutlookAs from what limits bytes (good said tally)
         → IsVerdictAs from what limits (bytes ++ more) v → IsFront said (verdict_text v) }
 {
@@ -299,18 +317,24 @@ pub fn text_read_back()
 /// as its trace. What is read has no fault of its own form, and is its own normal form; bytes are read
 /// as one trace at most, with one list of remarks on each group.
 pub fn normal_forms()
-    ensures held { (to : Form) (groups : List Group) → IsHeldBy to groups → IsHeldBy to (normal_form to groups) }
+    ensures held { (to : Form) (groups : List Group) → IsHeldBy to groups
+        → IsHeldBy to (normal_form to groups) }
     ensures again { (to : Form) (groups : List Group) → IsHeldBy to groups
         → normal_form to (normal_form to groups) ≡ normal_form to groups }
-    ensures can_hold { (to : Form) (groups : List Group) → CanHoldTrace to groups → CanHoldTrace to (normal_form to groups) }
+    ensures can_hold { (to : Form) (groups : List Group) → CanHoldTrace to groups
+        → CanHoldTrace to (normal_form to groups) }
     ensures itself { (to : Form) (groups : List Group) → CanHoldTrace to groups
         → normal_form to (normal_form to groups) ≡ normal_form to groups }
-    ensures spans { (to : Form) (groups : List Group) → span_count (normal_form to groups) ≡ span_count groups }
-    ensures no_fault { (from : Form) (bytes : List ℕ) (groups : List Group) → Reads from bytes groups → IsFaultless from groups }
+    ensures spans { (to : Form) (groups : List Group)
+        → span_count (normal_form to groups) ≡ span_count groups }
+    ensures no_fault { (from : Form) (bytes : List ℕ) (groups : List Group)
+        → Reads from bytes groups → IsFaultless from groups }
     ensures read { (from : Form) (bytes : List ℕ) (groups : List Group) → Reads from bytes groups
         → normal_form from groups ≡ groups }
-    ensures once { (from : Form) (bytes : List ℕ) (a b : List Group) → Reads from bytes a → Reads from bytes b → a ≡ b }
-    ensures remarks { (from : Form) (bytes : List ℕ) (a b : List NotedGroup) → ReadsNoted from bytes a → ReadsNoted from bytes b
+    ensures once { (from : Form) (bytes : List ℕ) (a b : List Group) → Reads from bytes a
+        → Reads from bytes b → a ≡ b }
+    ensures remarks { (from : Form) (bytes : List ℕ) (a b : List NotedGroup)
+        → ReadsNoted from bytes a → ReadsNoted from bytes b
         → a ≡ b }
 {
     input_laws();
@@ -321,7 +345,8 @@ pub fn normal_forms()
 /// What is read of bytes in any form can be held by that form, which leaves it as it is: it is sound and
 /// proper, has no fault, and is its own normal form.
 pub fn read_is_held()
-    ensures { (from : Form) (bytes : List ℕ) (groups : List Group) → All (λ b. b < 256) bytes → Reads from bytes groups
+    ensures { (from : Form) (bytes : List ℕ) (groups : List Group) → All (λ b. b < 256) bytes
+        → Reads from bytes groups
         → IsNormalTrace from groups }
 {
     input_laws();
@@ -343,8 +368,10 @@ pub fn equal_texts()
 
 /// Canonical text converts to itself, where it fits as an input of its form.
 pub fn converts_to_itself()
-    ensures { (to : Form) (limits : Limits) (groups : List Group) → AreLimits limits → IsHeldBy to groups
-        → Fits to limits (canonical_text to groups) → ConvertsToItself to limits (canonical_text to groups) groups }
+    ensures { (to : Form) (limits : Limits) (groups : List Group) → AreLimits limits
+        → IsHeldBy to groups
+        → Fits to limits (canonical_text to groups)
+        → ConvertsToItself to limits (canonical_text to groups) groups }
 {
     text_laws();
 }
@@ -354,12 +381,16 @@ pub fn converts_to_itself()
 /// converts to itself, and back to the input's form; that normal form keeps the spans of the trace.
 pub fn output_read_back()
     ensures read { (from to : Form) (limits : Limits) (bytes text : List ℕ) (tally : Tally)
-        → (h : IsGood (input_form from) (form_target to) limits bytes text tally) → All (IsSizedGroup to) (groups_in h.noted)
+        → (h : IsGood (input_form from) (form_target to) limits bytes text tally)
+        → All (IsSizedGroup to) (groups_in h.noted)
         → ReadsPlainly to text (normal_form to (groups_in h.noted)) }
-    ensures again { (from to : Form) (limits : Limits) (bytes text : List ℕ) (tally : Tally) → AreLimits limits
-        → (h : IsGood (input_form from) (form_target to) limits bytes text tally) → All (IsSizedGroup to) (groups_in h.noted)
+    ensures again { (from to : Form) (limits : Limits) (bytes text : List ℕ) (tally : Tally)
+        → AreLimits limits
+        → (h : IsGood (input_form from) (form_target to) limits bytes text tally)
+        → All (IsSizedGroup to) (groups_in h.noted)
         → Fits to limits text → ConvertsToItself to limits text (groups_in h.noted) }
-    ensures back { (from to : Form) (limits : Limits) (bytes text : List ℕ) (tally : Tally) → AreLimits limits
+    ensures back { (from to : Form) (limits : Limits) (bytes text : List ℕ) (tally : Tally)
+        → AreLimits limits
         → (h : IsGood (input_form from) (form_target to) limits bytes text tally)
         → All (IsSizedGroup to) (groups_in h.noted) → ReadsBack from to limits bytes text }
 {

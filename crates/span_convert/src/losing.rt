@@ -3,7 +3,7 @@ ghost use Rattle.std.specs.Prelude.{◌≡◌, ◌++◌, ◌∷◌, [], List, If
 ghost use Rattle.span_io.specs.declared.form.Form.{Form};
 ghost use Rattle.span_io.specs.declared.form.Form.TheVariants as forms;
 ghost use Rattle.trace_model.specs.Soundness.{IsSoundGroup};
-ghost use Rattle.trace_model.specs.declared.trace.Group.{Group};
+ghost use Rattle.trace_model.specs.declared.group.Group.{Group};
 ghost use Rattle.map_zipkin.specs.Faults.{HasNoZipkinFault};
 ghost use Rattle.map_zipkin.specs.Losses as zipkin;
 ghost use Rattle.span_convert.specs.Reports as told;
@@ -32,7 +32,8 @@ pub(crate) trait Losing: Drop {
     /// The fault of a group, or none where the form can hold it.
     fn fault_of(alloc: Global, group: &Group) -> Result<Option<Fault>, OutOfMemory>
         requires sound { IsSoundGroup group.now }
-        ensures { IfOk result (λ found. MatchOption found (CanHold form group.now) (FaultOf form group.now)) };
+        ensures { IfOk result
+            (λ found. MatchOption found (CanHold form group.now) (FaultOf form group.now)) };
 
     /// What is lost of the next group, which the form can hold.
     fn losses_of(&mut self, alloc: Global, group: &Group) -> Result<Items<Loss>, OutOfMemory>

@@ -1,7 +1,7 @@
 //! Laws of moves from one form to another, as contracts of functions that do nothing.
 ghost use Rattle.std.specs.Prelude.{List};
 ghost use Rattle.span_io.specs.declared.form.Form.{Form};
-ghost use Rattle.trace_model.specs.declared.trace.Group.{Group};
+ghost use Rattle.trace_model.specs.declared.group.Group.{Group};
 ghost use Rattle.span_moves.specs.Keeps.{EachSpan};
 ghost use Rattle.span_convert.specs.Moves.{IsKeptBy, IsNormalTrace};
 ghost use Rattle.span_convert.specs.Units.{normal_form};
@@ -11,7 +11,8 @@ ghost use Rattle.span_convert.specs.Verdicts.{CanHoldTrace};
 /// normal form that the one can hold and leaves as it is: a second move, back or there again, loses
 /// nothing more.
 pub fn there_and_back()
-    ensures { (from to : Form) (groups : List Group) → IsNormalTrace from groups → CanHoldTrace to groups
+    ensures { (from to : Form) (groups : List Group) → IsNormalTrace from groups
+        → CanHoldTrace to groups
         → IsNormalTrace from (normal_form to groups) }
 {
     map_jaeger::laws::normal_forms();
@@ -24,7 +25,8 @@ pub fn there_and_back()
 /// The normal form of each form has all spans of the trace in their order, each with what the form
 /// keeps of it.
 pub fn kept()
-    ensures { (to : Form) (groups : List Group) → EachSpan (IsKeptBy to) groups (normal_form to groups) }
+    ensures { (to : Form) (groups : List Group)
+        → EachSpan (IsKeptBy to) groups (normal_form to groups) }
 {
     span_moves::kept::spans_kept();
 }

@@ -4,13 +4,13 @@ ghost use Rattle.span_io.specs.Limits.{AreLimits};
 ghost use Rattle.span_io.specs.Outside.{Outlet, last_count};
 ghost use Rattle.span_io.specs.declared.limits.Limits.{Limits};
 ghost use Rattle.trace_model.specs.OtlpParts.{NotedGroup};
-ghost use Rattle.span_convert.specs.Converters.{bad_in, state_at};
+ghost use Rattle.span_convert.specs.private.States.{bad_in, state_at};
 ghost use Rattle.span_convert.specs.OneBatches.{ConvertsAll, IsOneBatch};
 ghost use Rattle.span_convert.specs.Reports.{written_target};
 ghost use Rattle.span_convert.specs.Targets.{open_target};
 ghost use Rattle.span_convert.specs.Units.{framed_input, input_form, open_form, open_frames};
 ghost use Rattle.span_convert.specs.Verdicts.{Verdict, IsVerdict, Answers};
-ghost use Rattle.span_convert.specs.Walks.{Converted, StopsWalk};
+ghost use Rattle.span_convert.specs.private.WalkSteps.{Converted, StopsWalk};
 ghost use Rattle.span_convert.specs.declared.written.Written.{Written};
 
 use crate::bad::Bad;
@@ -36,11 +36,16 @@ fn convert_whole<R: UnitReader, K: Sink>(
     requires whole { R.form.frames.Whole frame.now }
     requires counted { length frame.now < 2 ^ 32 }
     ensures ok { OnOk result ((what : Written) (limits : Limits) → length frame.now ≤ limits.unit
-        → length frame.now ≤ limits.binary → Converted what [] [] (K.outlet out.old) (K.outlet out.old) progress.old
-        → ConvertsAll (framed_input R.form) what limits frame.now (K.outlet out.old) (K.outlet out.new) progress.new) }
-    ensures stop { IfErr result (λ stop. (what : Written) (limits : Limits) → length frame.now ≤ limits.unit
-        → length frame.now ≤ limits.binary → Converted what [] [] (K.outlet out.old) (K.outlet out.old) progress.old
-        → StopsWalk (open_frames R.form) (open_target (written_target what)) limits frame.now stop []
+        → length frame.now ≤ limits.binary
+        → Converted what [] [] (K.outlet out.old) (K.outlet out.old) progress.old
+        → ConvertsAll (framed_input R.form) what limits frame.now (K.outlet out.old)
+        (K.outlet out.new) progress.new) }
+    ensures stop { IfErr result
+        (λ stop. (what : Written) (limits : Limits) → length frame.now ≤ limits.unit
+        → length frame.now ≤ limits.binary
+        → Converted what [] [] (K.outlet out.old) (K.outlet out.old) progress.old
+        → StopsWalk (open_frames R.form)
+        (open_target (written_target what)) limits frame.now stop []
         (K.outlet out.old) (K.outlet out.new)) }
 {
     R::held_by_frames();
@@ -59,10 +64,14 @@ fn convert_one<K: Sink>(
     requires one { IsOneBatch from batch.now }
     requires counted { length batch.now < 2 ^ 32 }
     ensures ok { OnOk result ((what : Written) (limits : Limits) → length batch.now ≤ limits.unit
-        → length batch.now ≤ limits.binary → Converted what [] [] (K.outlet out.old) (K.outlet out.old) progress.old
-        → ConvertsAll (input_form from) what limits batch.now (K.outlet out.old) (K.outlet out.new) progress.new) }
-    ensures stop { IfErr result (λ stop. (what : Written) (limits : Limits) → length batch.now ≤ limits.unit
-        → length batch.now ≤ limits.binary → Converted what [] [] (K.outlet out.old) (K.outlet out.old) progress.old
+        → length batch.now ≤ limits.binary
+        → Converted what [] [] (K.outlet out.old) (K.outlet out.old) progress.old
+        → ConvertsAll (input_form from) what limits batch.now (K.outlet out.old)
+        (K.outlet out.new) progress.new) }
+    ensures stop { IfErr result
+        (λ stop. (what : Written) (limits : Limits) → length batch.now ≤ limits.unit
+        → length batch.now ≤ limits.binary
+        → Converted what [] [] (K.outlet out.old) (K.outlet out.old) progress.old
         → StopsWalk (open_form from) (open_target (written_target what)) limits batch.now stop []
         (K.outlet out.old) (K.outlet out.new)) }
 {
@@ -87,7 +96,8 @@ fn bad_of(why: WalkStop) -> Bad
 // The whole text: what the sink took, and what isn't written yet.
 fn whole_text(progress: Progress, out: GrowingSink) -> Result<Blob, OutOfMemory>
     ensures { IfOk result (λ text. (what : Written) (units : List NotedGroup) (before now : Outlet)
-        → before.held ≡ Some [] → now.held ≡ Some out.text → Converted what units [] before now progress
+        → before.held ≡ Some [] → now.held ≡ Some out.text
+        → Converted what units [] before now progress
         → text ≡ (written_target what).whole_text units) }
 {
     let rest = progress.into_text()?;
@@ -110,7 +120,8 @@ pub fn convert_batch(
 
     // There is a verdict on the input, whatever is answered, and the answer is by it.
     ensures exists { (verdict : Verdict) × IsVerdict from to limits.now batch.now verdict }
-    ensures verdict { (verdict : Verdict) → IsVerdict from to limits.now batch.now verdict → Answers verdict result }
+    ensures verdict { (verdict : Verdict) → IsVerdict from to limits.now batch.now verdict
+        → Answers verdict result }
 {
     proper_bytes(batch);
     some_verdict();

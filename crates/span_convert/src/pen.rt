@@ -3,10 +3,11 @@ ghost use Rattle.std.specs.Prelude.{◌≡◌, ◌<◌, ◌++◌, IfOk, OnOk};
 ghost use Rattle.span_io.specs.Outside.{last_count};
 ghost use Rattle.trace_model.specs.Soundness.{IsSoundGroup};
 ghost use Rattle.map_zipkin.specs.NotedGroups.{noted_group};
-ghost use Rattle.span_convert.specs.Pens.{pen_stands, pen_target, written_by};
+ghost use Rattle.span_convert.specs.Pens.{pen_stands, written_by};
+ghost use Rattle.span_convert.specs.private.PenTargets.{pen_target};
 ghost use Rattle.span_convert.specs.SpanFiles.{left_text};
-ghost use Rattle.span_convert.specs.Targets.{TargetLaws};
-ghost use Rattle.span_convert.specs.Walks.{ClosesText, IfWhy, WritesUnit};
+ghost use Rattle.span_convert.specs.private.TargetSteps.{TargetLaws};
+ghost use Rattle.span_convert.specs.private.WalkSteps.{ClosesText, IfWhy, WritesUnit};
 
 use crate::laws::form_targets;
 use crate::span_file::{SpanFile, SpansLeft};
@@ -45,9 +46,12 @@ impl Pen {
         requires room { before.units < last_count }
         requires sound { IsSoundGroup unit.0 }
         ensures same { written_by self.new ≡ written_by self.old }
-        ensures ok { IfOk result (λ left. WritesUnit (pen_target self.old) pen_stands (noted_group unit) before
+        ensures ok { IfOk result
+            (λ left. WritesUnit (pen_target self.old) pen_stands (noted_group unit) before
             self.old self.new out.old (out.new ++ left_text left)) }
-        ensures why { IfWhy result (λ fault. (pen_target self.old).FaultOf (noted_group unit) fault × (out.new ≡ out.old)) }
+        ensures why { IfWhy result
+            (λ fault. (pen_target self.old).FaultOf (noted_group unit) fault
+            × (out.new ≡ out.old)) }
     {
         match self {
             Pen::Spans(writer) => writer.open(alloc, out, before, unit),
@@ -60,7 +64,8 @@ impl Pen {
 
     /// Appends what closes the text of so many units and spans.
     pub(crate) fn close(&self, out: &mut Blob, all: Tally) -> Result<(), OutOfMemory>
-        ensures { OnOk result (ClosesText (pen_target self.now) pen_stands self.now all out.old out.new) }
+        ensures { OnOk result
+            (ClosesText (pen_target self.now) pen_stands self.now all out.old out.new) }
     {
         match self {
             Pen::Spans(writer) => writer.close(out, all),

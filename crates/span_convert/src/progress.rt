@@ -6,12 +6,14 @@ ghost use Rattle.trace_model.specs.Soundness.{IsSoundGroup};
 ghost use Rattle.zipkin_json.specs.Canonical.{zspan_text};
 ghost use Rattle.map_zipkin.specs.NotedGroups.{noted_group};
 ghost use Rattle.span_convert.specs.Outlooks.{SinkTold};
-ghost use Rattle.span_convert.specs.Pens.{StartsAs, pen_target, written_by};
+ghost use Rattle.span_convert.specs.private.PenTargets.{StartsAs, pen_target};
+ghost use Rattle.span_convert.specs.Pens.{written_by};
 ghost use Rattle.span_convert.specs.Reports.{written_target};
 ghost use Rattle.span_convert.specs.SpanFiles.{left_text};
-ghost use Rattle.span_convert.specs.Targets.{TargetLaws};
+ghost use Rattle.span_convert.specs.private.TargetSteps.{TargetLaws};
 ghost use Rattle.span_convert.specs.Units.{span_count};
-ghost use Rattle.span_convert.specs.Walks.{AddsNothing, AddsUnit, Converted, EndsText, IfWhy, StandsFor, StopsText, WritesOut, with_text};
+ghost use Rattle.span_convert.specs.private.WalkSteps.{AddsNothing, AddsUnit, Converted, EndsText, IfWhy, StopsText, WritesOut, with_text};
+ghost use Rattle.span_convert.specs.Walks.{StandsFor};
 ghost use Rattle.span_convert.specs.declared.written.Written.{Written};
 
 use crate::pen::Pen;
@@ -80,9 +82,12 @@ impl Progress {
     pub(crate) fn flush<K: Sink>(&mut self, out: &mut K) -> Result<(), Failed>
         ensures tally { self.new.tally ≡ self.old.tally }
         ensures pen { self.new.pen ≡ self.old.pen }
-        ensures ok { OnOk result ((self.new.unwritten ≡ []) × Gains (K.outlet out.old) (K.outlet out.new) self.old.unwritten) }
+        ensures ok { OnOk result
+            ((self.new.unwritten ≡ [])
+            × Gains (K.outlet out.old) (K.outlet out.new) self.old.unwritten) }
         ensures failed { OnErr result (OutputFails (K.outlet out.old) (K.outlet out.new)) }
-        ensures within { OnErr result (FailsWithin (K.outlet out.old) (K.outlet out.new) self.old.unwritten) }
+        ensures within { OnErr result
+            (FailsWithin (K.outlet out.old) (K.outlet out.new) self.old.unwritten) }
         ensures holds { OnOk result (OutputHolds (K.outlet out.old) (K.outlet out.new)) }
     {
         write_all(out, self.unwritten.as_slice())?;
@@ -101,7 +106,8 @@ impl Progress {
     /// Writes the last text, behind which the input is refused.
     pub(crate) fn refuse<K: Sink>(&mut self, cause: Cause, out: &mut K) -> WalkStop
         requires { self.old.tally.units < last_count }
-        ensures written { WritesOut result (WalkStop.Refused (record { unit = self.old.tally.units + 1; cause = cause }))
+        ensures written { WritesOut result
+            (WalkStop.Refused (record { unit = self.old.tally.units + 1; cause = cause }))
             self.old.unwritten (K.outlet out.old) (K.outlet out.new) }
         ensures pen { self.new.pen ≡ self.old.pen }
         ensures sink { SinkTold (result ≡ WalkStop.Write) (K.outlet out.old) (K.outlet out.new) }
@@ -116,7 +122,8 @@ impl Progress {
     /// Writes the last text, behind which the target can't hold the next unit.
     pub(crate) fn stop_at_fault<K: Sink>(&mut self, fault: Fault, out: &mut K) -> WalkStop
         requires { self.old.tally.units < last_count }
-        ensures written { WritesOut result (WalkStop.Faulted (record { unit = self.old.tally.units + 1; fault = fault }))
+        ensures written { WritesOut result
+            (WalkStop.Faulted (record { unit = self.old.tally.units + 1; fault = fault }))
             self.old.unwritten (K.outlet out.old) (K.outlet out.new) }
         ensures pen { self.new.pen ≡ self.old.pen }
         ensures sink { SinkTold (result ≡ WalkStop.Write) (K.outlet out.old) (K.outlet out.new) }
@@ -130,7 +137,8 @@ impl Progress {
 
     /// Nothing was converted yet.
     pub(crate) fn new(alloc: Global, pen: Pen) -> Progress
-        ensures fresh { (what : Written) → StartsAs what pen → StandsFor what [] result × (result.unwritten ≡ []) }
+        ensures fresh { (what : Written) → StartsAs what pen
+            → StandsFor what [] result × (result.unwritten ≡ []) }
         ensures none { result.tally.units ≡ 0 }
         ensures pen { result.pen ≡ pen }
     {
@@ -158,8 +166,10 @@ impl Progress {
         requires room { self.old.tally.units < last_count }
         requires sound { IsSoundGroup unit.0 }
         ensures same { written_by self.new.pen ≡ written_by self.old.pen }
-        ensures ok { IfOk result (λ left. AddsUnit (noted_group unit) self.old (with_text self.new (left_text left))) }
-        ensures why { IfWhy result (λ fault. AddsNothing (noted_group unit) fault self.old self.new) }
+        ensures ok { IfOk result
+            (λ left. AddsUnit (noted_group unit) self.old (with_text self.new (left_text left))) }
+        ensures why { IfWhy result
+            (λ fault. AddsNothing (noted_group unit) fault self.old self.new) }
     {
         let spans = spans_in(&unit.0);
         let left = self
@@ -189,13 +199,16 @@ impl Progress {
     /// Writes the rest of the text of all units, and answers how much was converted.
     pub(crate) fn finish<K: Sink>(&mut self, out: &mut K) -> Result<Tally, WalkStop>
         ensures pen { self.new.pen ≡ self.old.pen }
-        ensures ok { IfOk result (λ tally. (what : Written) (units : List NotedGroup) (said : List ℕ) (before : Outlet)
+        ensures ok { IfOk result
+            (λ tally. (what : Written) (units : List NotedGroup) (said : List ℕ) (before : Outlet)
             → Converted what units said before (K.outlet out.old) self.old
             → EndsText (written_target what) units tally said before (K.outlet out.new)) }
-        ensures stop { IfErr result (λ stop. (what : Written) (units : List NotedGroup) (said : List ℕ) (before : Outlet)
+        ensures stop { IfErr result
+            (λ stop. (what : Written) (units : List NotedGroup) (said : List ℕ) (before : Outlet)
             → Converted what units said before (K.outlet out.old) self.old
             → StopsText (written_target what) units stop said before (K.outlet out.new)) }
-        ensures sink { SinkTold (result ≡ Err WalkStop.Write) (K.outlet out.old) (K.outlet out.new) }
+        ensures sink { SinkTold (result ≡ Err WalkStop.Write) (K.outlet out.old)
+            (K.outlet out.new) }
     {
         gains_then();
         self.pen.target_laws();
@@ -210,7 +223,9 @@ impl Progress {
 
     /// What isn't written yet of the text of all units, and what closes it.
     pub(crate) fn into_text(self) -> Result<Blob, OutOfMemory>
-        ensures { IfOk result (λ rest. (what : Written) (units : List NotedGroup) (said : List ℕ) (before now : Outlet)
+        ensures { IfOk result
+            (λ rest. (what : Written) (units : List NotedGroup) (said : List ℕ)
+            (before now : Outlet)
             → (w : Converted what units said before now self)
             → (written_target what).whole_text units ≡ said ++ (w.written ++ rest)) }
     {

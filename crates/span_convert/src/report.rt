@@ -1,3 +1,4 @@
+//! What a converter reports of an input.
 use span_io::Form;
 
 /// What is reported of an input.

@@ -6,7 +6,7 @@ ghost use Rattle.otlp_proto.specs.Rows.{bytes_in};
 ghost use Rattle.span_convert.specs.Targets.{form_target};
 ghost use Rattle.span_convert.specs.Units.{request_form};
 ghost use Rattle.span_convert.specs.Pens.{StandsForAny};
-ghost use Rattle.span_convert.specs.Walks.{lent_bytes};
+ghost use Rattle.span_convert.specs.private.WalkSteps.{lent_bytes};
 
 use crate::laws::form_targets;
 use crate::tally::Tally;

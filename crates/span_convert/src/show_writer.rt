@@ -25,7 +25,8 @@ fn show_spans(out: &mut Blob, spans: &[Span]) -> Result<(), OutOfMemory>
 
 // Appends a line for each span of these scopes.
 fn show_scopes(out: &mut Blob, scopes: &[Scope]) -> Result<(), OutOfMemory>
-    ensures { OnOk result (out.new ≡ out.old ++ flat_map (λ scope. spans_shown scope.spans) scopes.now) }
+    ensures { OnOk result
+        (out.new ≡ out.old ++ flat_map (λ scope. spans_shown scope.spans) scopes.now) }
 {
     'scopes: for scope in scopes {
         show_spans(out, scope.spans.as_slice())?;

@@ -7,7 +7,7 @@ ghost use Rattle.map_zipkin.specs.NotedGroups.{noted_group};
 ghost use Rattle.span_convert.specs.Pens.{StandsForAny};
 ghost use Rattle.span_convert.specs.SpanFiles.{left_text, span_document};
 ghost use Rattle.span_convert.specs.Targets.{form_target};
-ghost use Rattle.span_convert.specs.Walks.{ClosesText, IfWhy, WritesUnit};
+ghost use Rattle.span_convert.specs.private.WalkSteps.{ClosesText, IfWhy, WritesUnit};
 
 use crate::tally::Tally;
 use crate::units::{DocumentReader, append_if};
@@ -72,9 +72,12 @@ impl SpanFile {
         unit: (Group, Items<Remark>),
     ) -> Result<SpansLeft, Halt<Fault>>
         requires sound { IsSoundGroup unit.0 }
-        ensures ok { IfOk result (λ left. WritesUnit (form_target forms.ZipkinJson) StandsForAny (noted_group unit) before
+        ensures ok { IfOk result
+            (λ left. WritesUnit (form_target forms.ZipkinJson) StandsForAny
+            (noted_group unit) before
             self.now self.now out.old (out.new ++ left_text left)) }
-        ensures why { IfWhy result (λ fault. (form_target forms.ZipkinJson).FaultOf (noted_group unit) fault
+        ensures why { IfWhy result
+            (λ fault. (form_target forms.ZipkinJson).FaultOf (noted_group unit) fault
             × (out.new ≡ out.old)) }
     {
         zipkin_normal_forms();
@@ -89,7 +92,8 @@ impl SpanFile {
 
     /// Appends what closes the text of so many units.
     pub(crate) fn close(&self, out: &mut Blob, all: Tally) -> Result<(), OutOfMemory>
-        ensures { OnOk result (ClosesText (form_target forms.ZipkinJson) StandsForAny self.now all out.old out.new) }
+        ensures { OnOk result
+            (ClosesText (form_target forms.ZipkinJson) StandsForAny self.now all out.old out.new) }
     {
         append_if(out, all.units == 0, b"[")?;
         out.append(b"]")

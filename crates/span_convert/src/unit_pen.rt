@@ -3,8 +3,9 @@ ghost use Rattle.std.specs.Prelude.{◌≡◌, ◌<◌, OnOk};
 ghost use Rattle.span_io.specs.Outside.{last_count};
 ghost use Rattle.trace_model.specs.Soundness.{IsSoundGroup};
 ghost use Rattle.map_zipkin.specs.NotedGroups.{noted_group};
-ghost use Rattle.span_convert.specs.Pens.{unit_pen_stands, unit_pen_target, units_written_by};
-ghost use Rattle.span_convert.specs.Walks.{ClosesText, IfWhy, WritesUnit};
+ghost use Rattle.span_convert.specs.Pens.{unit_pen_stands, units_written_by};
+ghost use Rattle.span_convert.specs.private.PenTargets.{unit_pen_target};
+ghost use Rattle.span_convert.specs.private.WalkSteps.{ClosesText, IfWhy, WritesUnit};
 
 use crate::batch_file::{BinaryBatches, CompactBatches};
 use crate::check_writer::CheckWriter;
@@ -48,9 +49,12 @@ impl UnitPen {
         requires room { before.units < last_count }
         requires sound { IsSoundGroup unit.0 }
         ensures same { units_written_by self.new ≡ units_written_by self.old }
-        ensures ok { OnOk result (WritesUnit (unit_pen_target self.old) unit_pen_stands (noted_group unit) before
+        ensures ok { OnOk result
+            (WritesUnit (unit_pen_target self.old) unit_pen_stands (noted_group unit) before
             self.old self.new out.old out.new) }
-        ensures why { IfWhy result (λ fault. (unit_pen_target self.old).FaultOf (noted_group unit) fault × (out.new ≡ out.old)) }
+        ensures why { IfWhy result
+            (λ fault. (unit_pen_target self.old).FaultOf (noted_group unit) fault
+            × (out.new ≡ out.old)) }
     {
         match self {
             UnitPen::Request(writer) => writer.write(alloc, out, before, unit),
@@ -69,7 +73,8 @@ impl UnitPen {
 
     /// Appends what closes the text of so many units and spans.
     pub(crate) fn close(&self, out: &mut Blob, all: Tally) -> Result<(), OutOfMemory>
-        ensures { OnOk result (ClosesText (unit_pen_target self.now) unit_pen_stands self.now all out.old out.new) }
+        ensures { OnOk result
+            (ClosesText (unit_pen_target self.now) unit_pen_stands self.now all out.old out.new) }
     {
         match self {
             UnitPen::Request(writer) => writer.close(out, all),

@@ -9,9 +9,10 @@ ghost use Rattle.trace_model.specs.Soundness.{IsSoundGroup};
 ghost use Rattle.map_zipkin.specs.NotedGroups.{noted_group};
 ghost use Rattle.span_convert.specs.Documents.{DocumentForm};
 ghost use Rattle.span_convert.specs.FramedForms.{FramedForm};
-ghost use Rattle.span_convert.specs.Targets.{Target, TargetLaws};
+ghost use Rattle.span_convert.specs.Targets.{Target};
+ghost use Rattle.span_convert.specs.private.TargetSteps.{TargetLaws};
 ghost use Rattle.span_convert.specs.Units as told;
-ghost use Rattle.span_convert.specs.Walks.{lent_bytes, ClosesText, HeldByFrames, Scans, WritesUnit, IfWhy};
+ghost use Rattle.span_convert.specs.private.WalkSteps.{lent_bytes, ClosesText, HeldByFrames, Scans, WritesUnit, IfWhy};
 
 use crate::tally::Tally;
 use span_io::{Blob, Cause, Form, Halt, Items, Limits, OutOfMemory, Refusal, Scan, Step};
@@ -41,7 +42,8 @@ pub(crate) trait UnitReader {
 
     /// Takes a piece up to the end of a frame.
     fn push(scanner: &mut Self::Scanner, piece: &[u8]) -> Step
-        ensures { Scans form (Self.Scanner.scanning scanner.old) (Self.Scanner.scanning scanner.new) piece.now result };
+        ensures { Scans form (Self.Scanner.scanning scanner.old)
+            (Self.Scanner.scanning scanner.new) piece.now result };
 
     /// The unit in a frame, if it holds one.
     fn unit_in<'a>(frame: &'a [u8]) -> Option<&'a [u8]>
@@ -104,8 +106,10 @@ pub(crate) trait UnitWriter: Drop {
     ) -> Result<(), Halt<Fault>>
         requires room { before.units < last_count }
         requires sound { IsSoundGroup unit.0 }
-        ensures ok { OnOk result (WritesUnit target stands (noted_group unit) before self.old self.new out.old out.new) }
-        ensures why { IfWhy result (λ fault. target.FaultOf (noted_group unit) fault × (out.new ≡ out.old)) };
+        ensures ok { OnOk result
+            (WritesUnit target stands (noted_group unit) before self.old self.new out.old out.new) }
+        ensures why { IfWhy result
+            (λ fault. target.FaultOf (noted_group unit) fault × (out.new ≡ out.old)) };
 
     /// Appends what closes the text of so many units and spans.
     fn close(&self, out: &mut Blob, all: Tally) -> Result<(), OutOfMemory>

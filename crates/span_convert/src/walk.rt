@@ -13,7 +13,8 @@ ghost use Rattle.span_convert.specs.Reports.{written_target};
 ghost use Rattle.span_convert.specs.SpanFiles.{left_text};
 ghost use Rattle.span_convert.specs.Targets.{open_target};
 ghost use Rattle.span_convert.specs.Units.{framed_input, open_frames};
-ghost use Rattle.span_convert.specs.Walks.{Converted, EndsWalk, FramesTaken, IsLookedAt, Reaches, StandsFor, StopsUnit, StopsWalk, WaitsForMore, WalkedUnits, WalksOn, with_text};
+ghost use Rattle.span_convert.specs.private.WalkSteps.{Converted, EndsWalk, IsLookedAt, StopsUnit, StopsWalk, WaitsForMore, WalkedUnits, WalksOn, with_text};
+ghost use Rattle.span_convert.specs.Walks.{FramesTaken, Reaches, StandsFor};
 ghost use Rattle.span_convert.specs.declared.progress.Progress.{Progress};
 ghost use Rattle.span_convert.specs.declared.written.Written.{Written};
 
@@ -33,11 +34,15 @@ const FULL: usize = 65_536;
 // Writes what isn't written yet, once it is much, whatever text is left behind it.
 fn write_full<K: Sink>(progress: &mut Progress, out: &mut K) -> Result<(), WalkStop>
     ensures pen { progress.new.pen ≡ progress.old.pen }
-    ensures ok { OnOk result ((what : Written) (units : List NotedGroup) (left said : List ℕ) (before : Outlet)
+    ensures ok { OnOk result
+        ((what : Written) (units : List NotedGroup) (left said : List ℕ) (before : Outlet)
         → Converted what units said before (K.outlet out.old) (with_text progress.old left)
         → Converted what units said before (K.outlet out.new) (with_text progress.new left)) }
-    ensures stop { IfErr result (λ stop. (what : Written) (units : List NotedGroup) (unit : NotedGroup) (left said : List ℕ)
-        (before : Outlet) → Converted what (units ++ unit ∷ []) said before (K.outlet out.old) (with_text progress.old left)
+    ensures stop { IfErr result
+        (λ stop. (what : Written) (units : List NotedGroup) (unit : NotedGroup) (left said : List ℕ)
+        (before : Outlet)
+        → Converted what (units ++ unit ∷ []) said before (K.outlet out.old)
+        (with_text progress.old left)
         → StopsUnit (written_target what) units unit stop said before (K.outlet out.new)) }
     ensures units { OnOk result (progress.new.tally.units ≡ progress.old.tally.units) }
     ensures sink { SinkTold (result ≡ Err WalkStop.Write) (K.outlet out.old) (K.outlet out.new) }
@@ -76,12 +81,16 @@ fn write_spans<K: Sink>(
     out: &mut K,
 ) -> Result<(), WalkStop>
     ensures pen { progress.new.pen ≡ progress.old.pen }
-    ensures ok { OnOk result ((what : Written) (units : List NotedGroup) (said : List ℕ) (before : Outlet)
-        → Converted what units said before (K.outlet out.old) (with_text progress.old (left_text left))
+    ensures ok { OnOk result
+        ((what : Written) (units : List NotedGroup) (said : List ℕ) (before : Outlet)
+        → Converted what units said before (K.outlet out.old)
+        (with_text progress.old (left_text left))
         → Converted what units said before (K.outlet out.new) progress.new) }
-    ensures stop { IfErr result (λ stop. (what : Written) (units : List NotedGroup) (unit : NotedGroup) (said : List ℕ)
+    ensures stop { IfErr result
+        (λ stop. (what : Written) (units : List NotedGroup) (unit : NotedGroup) (said : List ℕ)
         (before : Outlet)
-        → Converted what (units ++ unit ∷ []) said before (K.outlet out.old) (with_text progress.old (left_text left))
+        → Converted what (units ++ unit ∷ []) said before (K.outlet out.old)
+        (with_text progress.old (left_text left))
         → StopsUnit (written_target what) units unit stop said before (K.outlet out.new)) }
     ensures units { OnOk result (progress.new.tally.units ≡ progress.old.tally.units) }
     ensures sink { SinkTold (result ≡ Err WalkStop.Write) (K.outlet out.old) (K.outlet out.new) }
@@ -109,12 +118,16 @@ pub(crate) fn convert_unit<K: Sink>(
     requires room { progress.old.tally.units < last_count }
     requires sound { IsSoundGroup unit.0 }
     ensures same { written_by progress.new.pen ≡ written_by progress.old.pen }
-    ensures ok { OnOk result ((what : Written) (units : List NotedGroup) (said : List ℕ) (before : Outlet)
+    ensures ok { OnOk result
+        ((what : Written) (units : List NotedGroup) (said : List ℕ) (before : Outlet)
         → Converted what units said before (K.outlet out.old) progress.old
-        → Converted what (units ++ noted_group unit ∷ []) said before (K.outlet out.new) progress.new) }
-    ensures stop { IfErr result (λ stop. (what : Written) (units : List NotedGroup) (said : List ℕ) (before : Outlet)
+        → Converted what (units ++ noted_group unit ∷ []) said before
+        (K.outlet out.new) progress.new) }
+    ensures stop { IfErr result
+        (λ stop. (what : Written) (units : List NotedGroup) (said : List ℕ) (before : Outlet)
         → Converted what units said before (K.outlet out.old) progress.old
-        → StopsUnit (written_target what) units (noted_group unit) stop said before (K.outlet out.new)) }
+        → StopsUnit (written_target what) units (noted_group unit) stop said before
+        (K.outlet out.new)) }
     ensures units { OnOk result (progress.new.tally.units ≡ progress.old.tally.units + 1) }
     ensures sink { SinkTold (result ≡ Err WalkStop.Write) (K.outlet out.old) (K.outlet out.new) }
 {
@@ -140,14 +153,19 @@ pub(crate) fn convert_frame<R: UnitReader, K: Sink>(
     requires whole { R.form.frames.Whole frame.now }
     requires counted { length frame.now < 2 ^ 32 }
     ensures same { written_by progress.new.pen ≡ written_by progress.old.pen }
-    ensures ok { OnOk result ((what : Written) (limits : Limits) (whole behind said : List ℕ) (before : Outlet)
+    ensures ok { OnOk result
+        ((what : Written) (limits : Limits) (whole behind said : List ℕ) (before : Outlet)
         → length frame.now ≤ limits.unit
-        → WalkedUnits R.form what limits whole (frame.now ++ behind) said before (K.outlet out.old) progress.old
+        → WalkedUnits R.form what limits whole (frame.now ++ behind) said before
+        (K.outlet out.old) progress.old
         → WalkedUnits R.form what limits whole behind said before (K.outlet out.new) progress.new) }
-    ensures stop { IfErr result (λ stop. (what : Written) (limits : Limits) (whole behind said : List ℕ) (before : Outlet)
+    ensures stop { IfErr result
+        (λ stop. (what : Written) (limits : Limits) (whole behind said : List ℕ) (before : Outlet)
         → length frame.now ≤ limits.unit
-        → WalkedUnits R.form what limits whole (frame.now ++ behind) said before (K.outlet out.old) progress.old
-        → StopsWalk (open_frames R.form) (open_target (written_target what)) limits whole stop said before (K.outlet out.new)) }
+        → WalkedUnits R.form what limits whole (frame.now ++ behind) said before
+        (K.outlet out.old) progress.old
+        → StopsWalk (open_frames R.form)
+        (open_target (written_target what)) limits whole stop said before (K.outlet out.new)) }
     ensures units { OnOk result (progress.new.tally.units ≤ progress.old.tally.units + 1) }
     ensures sink { SinkTold (result ≡ Err WalkStop.Write) (K.outlet out.old) (K.outlet out.new) }
 {
@@ -176,14 +194,19 @@ fn take_frame<R: UnitReader, K: Sink>(
     requires counted { length (held.old ++ last.now) < 2 ^ 32 }
     ensures same { written_by progress.new.pen ≡ written_by progress.old.pen }
     ensures cleared { OnOk result (held.new ≡ []) }
-    ensures ok { OnOk result ((what : Written) (limits : Limits) (whole behind said : List ℕ) (before : Outlet)
+    ensures ok { OnOk result
+        ((what : Written) (limits : Limits) (whole behind said : List ℕ) (before : Outlet)
         → length (held.old ++ last.now) ≤ limits.unit
-        → WalkedUnits R.form what limits whole ((held.old ++ last.now) ++ behind) said before (K.outlet out.old) progress.old
+        → WalkedUnits R.form what limits whole ((held.old ++ last.now) ++ behind) said before
+        (K.outlet out.old) progress.old
         → WalkedUnits R.form what limits whole behind said before (K.outlet out.new) progress.new) }
-    ensures stop { IfErr result (λ stop. (what : Written) (limits : Limits) (whole behind said : List ℕ) (before : Outlet)
+    ensures stop { IfErr result
+        (λ stop. (what : Written) (limits : Limits) (whole behind said : List ℕ) (before : Outlet)
         → length (held.old ++ last.now) ≤ limits.unit
-        → WalkedUnits R.form what limits whole ((held.old ++ last.now) ++ behind) said before (K.outlet out.old) progress.old
-        → StopsWalk (open_frames R.form) (open_target (written_target what)) limits whole stop said before (K.outlet out.new)) }
+        → WalkedUnits R.form what limits whole ((held.old ++ last.now) ++ behind) said before
+        (K.outlet out.old) progress.old
+        → StopsWalk (open_frames R.form)
+        (open_target (written_target what)) limits whole stop said before (K.outlet out.new)) }
     ensures units { OnOk result (progress.new.tally.units ≤ progress.old.tally.units + 1) }
     ensures sink { SinkTold (result ≡ Err WalkStop.Write) (K.outlet out.old) (K.outlet out.new) }
 {
@@ -204,7 +227,8 @@ pub(crate) fn new_scanner<R: UnitReader>(limits: &Limits) -> R::Scanner
     requires limits { AreLimits limits.now }
     ensures seen { (R.Scanner.scanning result).seen [] }
     ensures limit { (R.Scanner.scanning result).limit ≡ limits.now.unit }
-    ensures taken { (what : Written) (said : List ℕ) (progress : Progress) → StandsFor what [] progress
+    ensures taken { (what : Written) (said : List ℕ) (progress : Progress)
+        → StandsFor what [] progress
         → progress.unwritten ≡ [] → said ≡ (written_target what).partial_text []
         → FramesTaken R.form what limits.now [] said (R.Scanner.scanning result) [] progress }
 {
@@ -236,19 +260,24 @@ fn take_units<R: UnitReader, K: Sink>(
     requires limit { (R.Scanner.scanning scanner.old).limit < 2 ^ 32 }
     requires room { progress.old.tally.units + length piece.now < last_count }
     ensures seen { OnOk result ∥ (R.Scanner.scanning scanner.new).seen held.new ∥₁ }
-    ensures limit { (R.Scanner.scanning scanner.new).limit ≡ (R.Scanner.scanning scanner.old).limit }
+    ensures limit { (R.Scanner.scanning scanner.new).limit
+        ≡ (R.Scanner.scanning scanner.old).limit }
     ensures same { written_by progress.new.pen ≡ written_by progress.old.pen }
-    ensures units { OnOk result (progress.new.tally.units ≤ progress.old.tally.units + length piece.now) }
+    ensures units { OnOk result
+        (progress.new.tally.units ≤ progress.old.tally.units + length piece.now) }
     ensures short { OnOk result (length held.new ≤ length held.old + length piece.now) }
-    ensures ok { OnOk result ((what : Written) (limits : Limits) (whole said : List ℕ) (before : Outlet)
+    ensures ok { OnOk result
+        ((what : Written) (limits : Limits) (whole said : List ℕ) (before : Outlet)
         → WalksOn R.form what limits whole said before (K.outlet out.old)
         (R.Scanner.scanning scanner.old) held.old piece.now progress.old
         → WaitsForMore R.form what limits whole said before (K.outlet out.new)
         (R.Scanner.scanning scanner.new) held.new progress.new) }
-    ensures stop { IfErr result (λ stop. (what : Written) (limits : Limits) (whole said : List ℕ) (before : Outlet)
+    ensures stop { IfErr result
+        (λ stop. (what : Written) (limits : Limits) (whole said : List ℕ) (before : Outlet)
         → WalksOn R.form what limits whole said before (K.outlet out.old)
         (R.Scanner.scanning scanner.old) held.old piece.now progress.old
-        → StopsWalk (open_frames R.form) (open_target (written_target what)) limits whole stop said before (K.outlet out.new)) }
+        → StopsWalk (open_frames R.form)
+        (open_target (written_target what)) limits whole stop said before (K.outlet out.new)) }
     ensures sink { SinkTold (result ≡ Err WalkStop.Write) (K.outlet out.old) (K.outlet out.new) }
 {
     gains_then();
@@ -282,19 +311,26 @@ pub(crate) fn take_frames<R: UnitReader, K: Sink>(
     requires limit { (R.Scanner.scanning scanner.old).limit < 2 ^ 32 }
     requires room { progress.old.tally.units + length piece.now < last_count }
     ensures seen { OnOk result ∥ (R.Scanner.scanning scanner.new).seen held.new ∥₁ }
-    ensures limit { (R.Scanner.scanning scanner.new).limit ≡ (R.Scanner.scanning scanner.old).limit }
+    ensures limit { (R.Scanner.scanning scanner.new).limit
+        ≡ (R.Scanner.scanning scanner.old).limit }
     ensures same { written_by progress.new.pen ≡ written_by progress.old.pen }
-    ensures units { OnOk result (progress.new.tally.units ≤ progress.old.tally.units + length piece.now) }
+    ensures units { OnOk result
+        (progress.new.tally.units ≤ progress.old.tally.units + length piece.now) }
     ensures short { OnOk result (length held.new ≤ length held.old + length piece.now) }
     ensures ok { OnOk result ((what : Written) (limits : Limits) (bytes more said : List ℕ)
-        → FramesTaken R.form what limits bytes said (R.Scanner.scanning scanner.old) held.old progress.old
+        → FramesTaken R.form what limits bytes said
+        (R.Scanner.scanning scanner.old) held.old progress.old
         → IsLookedAt limits.binary bytes more piece.now too_long
         → Reaches (λ text. FramesTaken R.form what limits (bytes ++ more) text
-        (R.Scanner.scanning scanner.new) held.new progress.new) said (K.outlet out.old) (K.outlet out.new)) }
-    ensures stop { IfErr result (λ stop. (what : Written) (limits : Limits) (bytes more said : List ℕ)
-        → FramesTaken R.form what limits bytes said (R.Scanner.scanning scanner.old) held.old progress.old
+        (R.Scanner.scanning scanner.new) held.new progress.new) said (K.outlet out.old)
+        (K.outlet out.new)) }
+    ensures stop { IfErr result
+        (λ stop. (what : Written) (limits : Limits) (bytes more said : List ℕ)
+        → FramesTaken R.form what limits bytes said
+        (R.Scanner.scanning scanner.old) held.old progress.old
         → IsLookedAt limits.binary bytes more piece.now too_long
-        → StopsWalk (open_frames R.form) (open_target (written_target what)) limits (bytes ++ more) stop said
+        → StopsWalk (open_frames R.form) (open_target (written_target what)) limits
+        (bytes ++ more) stop said
         (K.outlet out.old) (K.outlet out.new)) }
     ensures sink { SinkTold (result ≡ Err WalkStop.Write) (K.outlet out.old) (K.outlet out.new) }
 {
@@ -320,7 +356,8 @@ pub(crate) fn end_frames<R: UnitReader, K: Sink>(
     ensures same { written_by progress.new.pen ≡ written_by progress.old.pen }
     ensures walk { (what : Written) (limits : Limits) (bytes said : List ℕ) (s : R.Scanner)
         → FramesTaken R.form what limits bytes said (R.Scanner.scanning s) held.now progress.old
-        → EndsWalk (framed_input R.form) (written_target what) limits bytes result said (K.outlet out.old) (K.outlet out.new) }
+        → EndsWalk (framed_input R.form) (written_target what) limits bytes result said
+        (K.outlet out.old) (K.outlet out.new) }
     ensures sink { SinkTold (result ≡ Err WalkStop.Write) (K.outlet out.old) (K.outlet out.new) }
 {
     gains_then();

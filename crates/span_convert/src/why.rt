@@ -1,3 +1,4 @@
+//! Why a unit has no text in the target form.
 use crate::target_fault::TargetFault;
 use span_io::Refusal;
 

@@ -1,5 +1,5 @@
 //! All that an input may be written as.
-ghost use Rattle.span_convert.specs.Pens.{StartsAs};
+ghost use Rattle.span_convert.specs.private.PenTargets.{StartsAs};
 
 use crate::batch_file::{BinaryBatches, CompactBatches};
 use crate::check_writer::CheckWriter;

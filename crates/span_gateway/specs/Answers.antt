@@ -32,9 +32,11 @@ IsAnswer to limits request bytes text = AnswersForm to limits request bytes requ
 abbrev pub Converts : Limits → Form → Request → List ℕ → List ℕ → Form → Type 0
 Converts limits to request bytes text now = IsAnswer to limits request bytes text × (now ≡ to)
 
+-- where memory is wanted for an answer, the form that the gateway converts to stays all the same
 abbrev pub Halts : Limits → Form → Request → List ℕ → Form → Type 0
 Halts limits to request bytes now = now ≡ to
 
+-- no call changes the form that the gateway converts to
 abbrev pub Stays : Form → Form → Type 0
 Stays to now = now ≡ to
 

@@ -21,7 +21,8 @@ pub(crate) fn answer_request(
 ) -> Result<(), OutOfMemory>
     requires limits { AreLimits limits.now }
     requires asked { IsAsked request.now bytes.now }
-    ensures { OnOk result (Appends (Converts limits.now) to to request.now bytes.now out.old out.new) }
+    ensures { OnOk result
+        (Appends (Converts limits.now) to to request.now bytes.now out.old out.new) }
 {
     match request.form {
         None => answer(out, request.verdict, "", b"", request.close),

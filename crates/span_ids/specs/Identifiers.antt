@@ -6,9 +6,11 @@ use Rattle.std.specs.Int.{w64, w128, from_be_bytes}
 abbrev pub IsIdText : ℕ → List ℕ → Type 0
 IsIdText size bytes = (length bytes ≡ size) × Any (λ b. b ≢ 0) bytes
 
+-- a trace identifier in binary: 16 bytes, not all zero (opentelemetry-proto trace.proto, message Span, `trace_id` = 1)
 abbrev pub IsTraceIdText : List ℕ → Type 0
 IsTraceIdText bytes = IsIdText 16 bytes
 
+-- a span identifier in binary: 8 bytes, not all zero (opentelemetry-proto trace.proto, message Span, `span_id` = 2)
 abbrev pub IsSpanIdText : List ℕ → Type 0
 IsSpanIdText bytes = IsIdText 8 bytes
 
@@ -16,6 +18,7 @@ IsSpanIdText bytes = IsIdText 8 bytes
 abbrev pub SpellsTraceId : List ℕ → ℕ → Type 0
 SpellsTraceId bytes id = IsTraceIdText bytes × (id ≡ from_be_bytes w128 bytes)
 
+-- the bytes are this span identifier, the most significant of the 8 first
 abbrev pub SpellsSpanId : List ℕ → ℕ → Type 0
 SpellsSpanId bytes id = IsSpanIdText bytes × (id ≡ from_be_bytes w64 bytes)
 

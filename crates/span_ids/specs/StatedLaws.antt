@@ -13,6 +13,8 @@ pub record IdentifiersReadBack : Type 0 where
   pub span_written : (id : ℕ) → 0 < id → id < 2 ^ 64 → SpellsSpanId (to_be_bytes w64 id) id
   pub span_once : (bytes : List ℕ) (a b : ℕ) → SpellsSpanId bytes a → SpellsSpanId bytes b → a ≡ b
   -- so do hexadecimal digits: all of them in lower case spell the identifier under each rule, and a text has one identifier, whatever its rule
-  pub trace_in_hex : (rule : IdRule) (id : ℕ) → 0 < id → id < 2 ^ 128 → SpellsInHex rule 32 (encode_lower (to_be_bytes w128 id)) id
+  pub trace_in_hex : (rule : IdRule) (id : ℕ) → 0 < id → id < 2 ^ 128
+      → SpellsInHex rule 32 (encode_lower (to_be_bytes w128 id)) id
   pub span_in_hex : (rule : IdRule) (id : ℕ) → 0 < id → id < 2 ^ 64 → SpellsInHex rule 16 (encode_lower (to_be_bytes w64 id)) id
-  pub hex_once : (rule other : IdRule) (full : ℕ) (text : List ℕ) (a b : ℕ) → SpellsInHex rule full text a → SpellsInHex other full text b → a ≡ b
+  pub hex_once : (rule other : IdRule) (full : ℕ) (text : List ℕ) (a b : ℕ) → SpellsInHex rule full text a
+      → SpellsInHex other full text b → a ≡ b

@@ -1,3 +1,4 @@
+//! Identifiers spelled in hexadecimal digits.
 ghost use Rattle.std.specs.Prelude.{◌≡◌, ◌<◌, ◌≤◌, ◌↔◌, ◌^◌, length, All, IsTrue, ◌⊎◌};
 ghost use Rattle.std.specs.Char.{IsAsciiHexdigit};
 ghost use Rattle.std.specs.Str.Parse.{digits_value};

@@ -1,3 +1,4 @@
+//! Times of a span, in nanoseconds.
 ghost use Rattle.std.specs.Prelude.{◌≡◌, ◌<◌, ◌≤◌, ◌↔◌, None, IfSome};
 ghost use Rattle.span_ids.specs.Times.{micros, floor, nanos, last_micros, IsWhole};
 

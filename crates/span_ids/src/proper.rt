@@ -1,3 +1,4 @@
+//! Which identifiers a span may have.
 ghost use Rattle.span_ids.specs.Proper.{IsProperParent};
 
 use crate::span_id::SpanId;

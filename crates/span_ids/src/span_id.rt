@@ -1,3 +1,4 @@
+//! The identifier of a span.
 ghost use Rattle.std.specs.Prelude.{◌≡◌, ℕ, List, ◌<◌, ◌^◌, ◌↔◌, IsOk, IfOk, IsErr, Ok, IsUtf8};
 ghost use Rattle.std.specs.Int.{w64, to_be_bytes};
 ghost use Rattle.hex.specs.Hex.{encode_lower};
@@ -97,7 +98,8 @@ impl SpanId {
         // So that each rule reads it back.
         ensures again { (rule : IdRule) → SpellsInHex rule 16 out.new self.now }
         // There is no other text of all digits in lower case.
-        ensures only { (text : List ℕ) → SpellsInHex IdRule.ExactLower 16 text self.now → text ≡ out.new }
+        ensures only { (text : List ℕ) → SpellsInHex IdRule.ExactLower 16 text self.now
+            → text ≡ out.new }
     {
         self.known();
         hex::encode_to_slice(self.to_bytes(), out).unwrap();

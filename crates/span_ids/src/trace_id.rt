@@ -1,3 +1,4 @@
+//! The identifier of a trace.
 ghost use Rattle.std.specs.Prelude.{◌≡◌, ℕ, List, ◌<◌, ◌^◌, ◌↔◌, IsOk, IfOk, IsErr, Ok, IsUtf8};
 ghost use Rattle.std.specs.Int.{w128, to_be_bytes};
 ghost use Rattle.hex.specs.Hex.{encode_lower};
@@ -69,7 +70,8 @@ impl TraceId {
     pub fn halves(&self) -> (u64, u64)
         ensures value { HasHalves self.now result.0 result.1 }
         // There are no other halves, so those that were joined are given back.
-        ensures only { (high low : ℕ) → HasHalves self.now high low → (result.0 ≡ high) × (result.1 ≡ low) }
+        ensures only { (high low : ℕ) → HasHalves self.now high low
+            → (result.0 ≡ high) × (result.1 ≡ low) }
     {
         ((self.number / HALF) as u64, (self.number % HALF) as u64)
     }
@@ -107,7 +109,8 @@ impl TraceId {
         // So that each rule reads it back.
         ensures again { (rule : IdRule) → SpellsInHex rule 32 out.new self.now }
         // There is no other text of all digits in lower case.
-        ensures only { (text : List ℕ) → SpellsInHex IdRule.ExactLower 32 text self.now → text ≡ out.new }
+        ensures only { (text : List ℕ) → SpellsInHex IdRule.ExactLower 32 text self.now
+            → text ≡ out.new }
     {
         self.known();
         hex::encode_to_slice(self.to_bytes(), out).unwrap();

@@ -2,7 +2,7 @@
 use Rattle.std.proofs.Common.{◌≡◌, ◌≤◌, ◌<◌, ◌^◌, ◌+◌, ◌-◌, ◌/◌, ◌%◌, ◌++◌, ◌∷◌, ℕ, List, [], length, take, set, ap, sym, ◌∙◌, subst, arith}
 use Rattle.std.proofs.lemmas.List.{append_assoc, take_more_set, length-set}
 use Rattle.span_io.specs.Varint.{shortest_within, varint_text}
-use Rattle.span_io.specs.laws.ShortestVarints.{text_within, group_end, group_last, group_more, below_room, room_step}
+use Rattle.span_io.proofs.ShortestVarints.{text_within, group_end, group_last, group_more, below_room, room_step}
 
 -- so many groups stand in front
 pub record Filled (bytes : List ℕ) (n passed rest : ℕ) : Type 0 where

@@ -4,7 +4,7 @@ use Rattle.std.proofs.Math.Nat.{pow-suc, pow-le-pow_right, mul-le-mul_left}
 use Rattle.span_io.specs.declared.cursor.Lack.{Lack}
 use Rattle.span_io.specs.declared.cursor.Lack.TheVariants.{Short, BadVarint}
 use Rattle.span_io.specs.Varint.{end_below, varint_within, varint_at, ◌>>=◌}
-use Rattle.span_io.specs.laws.VarintFacts.{after_high, within_end, within_more, within_above, within_none}
+use Rattle.span_io.proofs.VarintFacts.{after_high, within_end, within_more, within_above, within_none}
 
 -- what is behind the bytes that were passed adds its groups
 abbrev pub added : ℕ → ℕ → ℕ × List ℕ → Result (ℕ × List ℕ) Lack

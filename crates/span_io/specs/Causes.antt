@@ -3,6 +3,7 @@ use Rattle.std.specs.Prelude.{ℕ, List, codes}
 use Rattle.span_io.specs.declared.cause.Cause.{Cause}
 use Rattle.span_io.specs.declared.cause.Cause.TheVariants.{Truncated, BadVarint, BadWire, BadSize, TooDeep, UnitTooLong, FieldTwice, Missing, NotText, BadJson, BadShape, BadId, BadEnum, BadElement, DoubleInJson, BadTime, InputTooLong}
 
+-- the number of a cause, which never changes: notes print it, and of two offences at one place the one of lesser number counts
 abbrev pub cause_number : Cause → ℕ
 cause_number Truncated = 1
 cause_number BadVarint = 2
@@ -22,6 +23,7 @@ cause_number DoubleInJson = 15
 cause_number BadTime = 16
 cause_number InputTooLong = 17
 
+-- the name of a cause, which a note prints behind its number
 abbrev pub cause_name : Cause → List ℕ
 cause_name Truncated = codes "Truncated"
 cause_name BadVarint = codes "BadVarint"

@@ -6,11 +6,14 @@ use Rattle.span_io.specs.Memory.{SourceState, SinkState, inlet_of, outlet_of}
 use Rattle.span_io.specs.declared.course.DoorCourse.{DoorCourse}
 use Rattle.span_io.specs.declared.duplex.Mark.{Mark}
 
+-- a connection in memory: the source that gives bytes, the sink that takes bytes, and the mark: how many were still to come and
+-- how many were taken as the last read that gave any began, or, before any such read, as it was made
 pub record DuplexState : Type 0 where
   pub source : SourceState
   pub sink : SinkState
   pub mark : Mark
 
+-- a connection in memory as contracts see any connection: the bytes of both ends and the mark are told
 abbrev pub link_of : DuplexState → Link
 link_of state = record { inlet = inlet_of state.source; outlet = outlet_of state.sink; mark = Some state.mark }
 
@@ -38,6 +41,7 @@ pub record DoorState : Type 0 where
   pub closed : List DuplexState
   pub course : DoorCourse
 
+-- a door in memory as contracts see any door: all that a door may leave untold is told
 abbrev pub doorway_of : DoorState → Doorway
 doorway_of state = record {
   faults = state.faults;

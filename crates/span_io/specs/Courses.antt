@@ -32,6 +32,7 @@ write_next writes.Going (byte ∷ more) (Err e) = writes.Stopped byte
 write_next (writes.Stopped byte) piece result = writes.InVain
 write_next writes.InVain piece result = writes.InVain
 
+-- how the writes on a sink went, with one more of this piece that ended so; a sink that doesn't tell it stays untold
 abbrev pub course_of_writes : {E : Type 0} → Option WriteCourse → List ℕ → Result ℕ E → Option WriteCourse
 course_of_writes None piece result = None
 course_of_writes (Some course) piece result = Some (write_next course piece result)

@@ -8,6 +8,7 @@ use Rattle.span_io.specs.Outside.{last_count}
 use Rattle.span_io.specs.declared.course.DoorCourse.{DoorCourse}
 use Rattle.span_io.specs.declared.course.DoorCourse.TheVariants as doors
 
+-- a door as contracts see it: its count of faults and how many connections are out are told by every door, the rest by some
 pub record Doorway : Type 0 where
   pub faults : ℕ
   pub out : ℕ

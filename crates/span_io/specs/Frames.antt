@@ -7,6 +7,7 @@ use Rattle.span_io.specs.Varint.{IsInsideVarint, IsOverlong}
 abbrev pub AreBytes : List ℕ → Type 0
 AreBytes numbers = All (λ b. b < 256) numbers
 
+-- a wire format, as far as its items are found one after the other: what a whole item is, and what is known inside of one
 pub record Framing : Type 1 where
   -- the bytes are one item
   pub Whole : List ℕ → Type 0
@@ -126,7 +127,8 @@ IsRefusedIn F EndsIn bytes = IsRefused F bytes × EndsIn bytes
 -- the bytes are these items, in order, each of at most `limit` bytes, and then rest
 unfoldable pub ItemsThen : Framing → ℕ → List (List ℕ) → List ℕ → List ℕ → Type 0
 ItemsThen F limit [] rest bytes = bytes ≡ rest
-ItemsThen F limit (item ∷ more) rest bytes = F.Whole item × (length item ≤ limit) × (behind : List ℕ) × (bytes ≡ item ++ behind) × ItemsThen F limit more rest behind
+ItemsThen F limit (item ∷ more) rest bytes =
+    F.Whole item × (length item ≤ limit) × (behind : List ℕ) × (bytes ≡ item ++ behind) × ItemsThen F limit more rest behind
 
 -- the same, and the rest begins with no such item
 pub record IsFramed (F : Framing) (limit : ℕ) (items : List (List ℕ)) (rest bytes : List ℕ) : Type 0 where

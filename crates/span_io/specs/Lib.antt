@@ -8,7 +8,6 @@ pub mod Forms
 pub mod Frames
 pub mod Framings
 pub mod FreeItems
-pub mod Gathering
 pub mod Limits
 pub mod Links
 pub mod Memory
@@ -26,5 +25,5 @@ pub mod Varint
 pub mod VarintLaws
 pub mod Walks
 pub mod Zigzag
+pub mod private
 pub mod formers
-pub mod laws

@@ -35,13 +35,15 @@ pub record SinkState : Type 0 where
 
 -- before any call; a call takes at least one byte
 abbrev pub fresh_sink : ℕ → ℕ → List ℕ → SinkState
-fresh_sink room cut fail = record { held = []; room = room; cut = max cut 1; fail = fail; calls = 0; faults = 0; course = writes.Going }
+fresh_sink room cut fail =
+    record { held = []; room = room; cut = max cut 1; fail = fail; calls = 0; faults = 0; course = writes.Going }
 
 -- with no call that fails the room left is surely taken
 abbrev pub sure_of : List ℕ → ℕ → Sure
 sure_of [] left = so_many left
 sure_of (call ∷ calls) left = so_many 0
 
+-- a sink in memory as contracts see any sink: its bytes, their number and how its writes went are told
 abbrev pub outlet_of : SinkState → Outlet
 outlet_of s = record {
   held = Some s.held;

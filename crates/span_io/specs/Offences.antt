@@ -127,3 +127,24 @@ abbrev pub JudgesHere : {T : Type 0} → Result T (Halt Cause) → (ℕ → Type
 JudgesHere (Ok x) Offends = (n : ℕ) → ¬ Offends n
 JudgesHere (Err (halts.Why cause)) Offends = Offends (cause_number cause) × ((n : ℕ) → Offends n → cause_number cause ≤ n)
 JudgesHere (Err halts.OutOfMemory) Offends = Unit {0}
+
+-- what a wire format must keep
+pub record FormatLaws (F : Format) : Type 0 where
+  pub only : (r s : F.Item) (rest after other : F.Rest) → F.Begins r rest after → F.Begins s rest other
+      → (r ≡ s) × (after ≡ other)
+  pub room : (r : F.Item) (rest after : F.Rest) → F.Begins r rest after → F.size after + F.held r + F.beside ≤ F.size rest
+  pub some_beside : 1 ≤ F.beside
+  -- no item begins at the place of the message's end
+  pub end_room : (rest : F.Rest) → F.IsEnd rest → 2 ≤ F.size rest + F.beside
+  pub stuck : (r : F.Item) (rest after : F.Rest) (n : ℕ) → F.Unread rest n → F.Begins r rest after → ⊥
+  pub ended : (r : F.Item) (rest after : F.Rest) → F.IsEnd rest → F.Begins r rest after → ⊥
+  pub unended : (rest : F.Rest) (n : ℕ) → F.IsEnd rest → F.Unread rest n → ⊥
+  pub one_number : (rest : F.Rest) (n m : ℕ) → F.Unread rest n → F.Unread rest m → n ≡ m
+  pub some_left : (rest : F.Rest) (n : ℕ) → F.Unread rest n → 0 < F.size rest
+
+-- what the rules of a message must keep: an inner message offends behind the first byte of its item, and at its end at the latest,
+-- and there by no larger number than the end of the message around it, where the two ends share a place
+pub record RulesLaws (F : Format) (K : Rules F.Item) : Type 0 where
+  pub within : (r : F.Item) (place n : ℕ) → K.inside r place n → (2 ≤ place + F.beside) × (place ≤ F.held r)
+  pub last : (r : F.Item) (end : F.Rest) → F.IsEnd end → F.size end ≡ 0 → (place n : ℕ) → K.inside r place n → F.held r ≤ place
+      → (seen : List F.Item) (m : ℕ) → K.ends seen m → n ≤ m

@@ -19,6 +19,7 @@ pub data Sure : Type 0 where
   so_many : ℕ → Sure
   any_number : Sure
 
+-- a sink that is so sure takes n bytes more without a failure
 abbrev pub Takes : Sure → ℕ → Type 0
 Takes (so_many most) n = n ≤ most
 Takes any_number n = ⊤

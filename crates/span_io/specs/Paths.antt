@@ -12,6 +12,7 @@ use Rattle.span_io.specs.declared.refusal.Refusal.{Refusal}
 abbrev pub Offences : Type 1
 Offences = List ℕ → ℕ → Type 0
 
+-- nothing offends, at any path
 abbrev pub nothing : Offences
 nothing path number = ⊥
 
@@ -22,6 +23,7 @@ here Numbers (i ∷ path) number = ⊥
 
 -- a member or element, and then the others; what offends in the whole stands with the others
 infixr 5 ◌▹◌
+-- a path that begins with 0 goes on inside the first; one that begins with i + 1 is, among the others, one that begins with i
 unfoldable pub ◌▹◌ : Offences → Offences → Offences
 ◌▹◌ First Others [] number = Others [] number
 ◌▹◌ First Others (zero ∷ path) number = First path number
@@ -92,6 +94,7 @@ pub record Counts (Offends : Offences) (number : ℕ) : Type 0 where
   pub path : List ℕ
   pub is_least : IsLeast Offends path number
 
+-- A reader that halts for a cause tells the offence that counts. One that halts for want of memory says nothing of offences.
 abbrev pub Halts : Halt Cause → Offences → Type 0
 Halts (halts.Why cause) Offends = Counts Offends (cause_number cause)
 Halts halts.OutOfMemory Offends = Unit {0}
@@ -117,6 +120,7 @@ pub record RefusesInput (Offends : Offences) (refusal : Refusal) : Type 0 where
   pub is_least : IsLeast Offends path (cause_number refusal.cause)
   pub unit : refusal.unit ≡ unit_of path
 
+-- A refusal tells the offence that counts and the unit that it stands in. Want of memory says nothing of offences.
 abbrev pub HaltsInput : Halt Refusal → Offences → Type 0
 HaltsInput (halts.Why refusal) Offends = RefusesInput Offends refusal
 HaltsInput halts.OutOfMemory Offends = Unit {0}

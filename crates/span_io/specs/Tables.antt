@@ -2,7 +2,9 @@
 -- they offend. These words serve every wire format. An item of no row is free: it is passed over.
 use Rattle.std.specs.Prelude.{◌≡◌, ◌≢◌, ℕ, ◌<◌, List, [], ◌∷◌, ◌++◌, IsUtf8}
 use Rattle.std.specs.List.{flat_map}
-use Rattle.span_io.specs.Offences.{Rules}
+use Rattle.span_io.specs.Offences.{Rules, Format}
+use Rattle.span_io.specs.Causes.{cause_number}
+use Rattle.span_io.specs.declared.cause.Cause.{Cause}
 
 -- A row, over the items of a wire format.
 pub record Row (Item : Type 0) : Type 1 where
@@ -25,14 +27,17 @@ OfFirst [] Says Else = Else
 OfFirst (x ∷ more) Says Else = Says x
 
 module _ {Item : Type 0} where
+  -- this item, behind those seen, offends with this number by the first row that it belongs to; an item of no row doesn't offend
   abbrev pub table_here : List (Row Item) → List Item → Item → ℕ → Type 0
   table_here [] seen this number = ⊥
   table_here (row ∷ table) seen this number =
       OfFirst (row.given this) (λ x. row.here (flat_map row.given seen) x number) (table_here table seen this number)
 
+  -- the message that this item holds offends at this place in it with this number, by the first row that the item belongs to
   abbrev pub table_inside : List (Row Item) → Item → ℕ → ℕ → Type 0
   table_inside [] this place number = ⊥
-  table_inside (row ∷ table) this place number = OfFirst (row.given this) (λ x. row.inside x place number) (table_inside table this place number)
+  table_inside (row ∷ table) this place number =
+      OfFirst (row.given this) (λ x. row.inside x place number) (table_inside table this place number)
 
   -- the rules of a message with this table, which may offend at its end
   abbrev pub rules_by : List (Row Item) → (List Item → ℕ → Type 0) → Rules Item
@@ -53,14 +58,17 @@ module _ {Item : Type 0} where
 
   -- ---- what the items of a message give to its rows, and what that means
 
+  -- for each row of a table a list of the things that were given to it
   abbrev pub Givens : List (Row Item) → Type 0
   Givens [] = Unit {0}
   Givens (row ∷ table) = List row.Given × Givens table
 
+  -- what these items give to each row of the table, in the order of the items
   abbrev pub givens : (table : List (Row Item)) → List Item → Givens table
   givens [] items = tt
   givens (row ∷ table) items = (flat_map row.given items, givens table items)
 
+  -- for each row of a table one value: what its field means in a message
   abbrev pub Values : List (Row Item) → Type 0
   Values [] = Unit {0}
   Values (row ∷ table) = row.Value × Values table
@@ -73,7 +81,8 @@ module _ {Item : Type 0} where
 -- ---- what a message means
 
 -- the text has items that are those of this thing; `Are` says which items a text has
-pub record MeansByItems {Item Rest X : Type 0} (Are : List Item → Rest → Type 0) (Is : X → List Item → Type 0) (text : Rest) (x : X) : Type 0 where
+pub record MeansByItems {Item Rest X : Type 0} (Are : List Item → Rest → Type 0) (Is : X → List Item → Type 0) (text : Rest)
+    (x : X) : Type 0 where
   pub items : List Item
   pub are : Are items text
   pub is : Is x items
@@ -118,3 +127,18 @@ Above last n number = (number ≡ 13) × (last < n)
 -- nothing offends inside what the row holds
 abbrev pub nothing_inside : {A : Type 0} → A → ℕ → ℕ → Type 0
 nothing_inside held place number = ⊥
+
+-- ---- a message, item by item
+
+-- what stands at the front of what is left
+pub data Next (F : Format) (rest : F.Rest) : Type 0 where
+  ended : F.IsEnd rest → Next F rest
+  stopped : (cause : Cause) → F.Unread rest (cause_number cause) → Next F rest
+  begun : (this : F.Item) (after : F.Rest) → F.Begins this rest after → Next F rest
+
+-- ---- nothing offends in a message of which each item keeps the rules
+
+-- the message is these items, to its end
+unfoldable pub Whole : (F : Format) → List F.Item → F.Rest → Type 0
+Whole F [] text = F.IsEnd text
+Whole F (this ∷ more) text = (after : F.Rest) × F.Begins this text after × Whole F more after

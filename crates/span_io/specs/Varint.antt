@@ -15,7 +15,8 @@ unfoldable pub SpellsWithin : ℕ → List ℕ → ℕ → Type 0
 SpellsWithin zero bytes n = ⊥
 SpellsWithin (suc room) [] n = ⊥
 SpellsWithin (suc room) (b ∷ []) n = (b < end_below room) × (n ≡ b)
-SpellsWithin (suc room) (b ∷ c ∷ bytes) n = (128 ≤ b) × (high : ℕ) × (n + 128 ≡ b + 128 * high) × SpellsWithin room (c ∷ bytes) high
+SpellsWithin (suc room) (b ∷ c ∷ bytes) n =
+    (128 ≤ b) × (high : ℕ) × (n + 128 ≡ b + 128 * high) × SpellsWithin room (c ∷ bytes) high
 
 -- the bytes are a spelling of n
 unfoldable pub SpellsVarint : List ℕ → ℕ → Type 0
@@ -51,16 +52,21 @@ pub record BeginsOverlong (bytes : List ℕ) : Type 0 where
 -- ---- the same as a computation: the number at the front and the bytes after it, or what is lacking
 
 infixl 10 ◌>>=◌
+-- one reading, and then another by what it gave; where the first lacks something, nothing more is read and that is the answer
 abbrev pub ◌>>=◌ : {A B : Type 0} → Result A Lack → (A → Result B Lack) → Result B Lack
 (Ok x) >>= f = f x
 (Err e) >>= f = Err e
 
+-- the number at the front, in at most `room` bytes of which the last possible one is at most 1, and the bytes behind it;
+-- Short where the bytes end inside such a number, and BadVarint where they begin with none
 unfoldable pub varint_within : ℕ → List ℕ → Result (ℕ × List ℕ) Lack
 varint_within zero bytes = Err BadVarint
 varint_within (suc room) [] = Err Short
 varint_within (suc zero) (b ∷ rest) = if nat_lt b 2 then Ok (b, rest) else Err BadVarint
-varint_within (suc (suc room)) (b ∷ rest) = if nat_lt b 128 then Ok (b, rest) else (varint_within (suc room) rest >>= λ high. Ok (b - 128 + 128 * high.0, high.1))
+varint_within (suc (suc room)) (b ∷ rest) =
+    if nat_lt b 128 then Ok (b, rest) else (varint_within (suc room) rest >>= λ high. Ok (b - 128 + 128 * high.0, high.1))
 
+-- the number of the varint at the front, of at most ten bytes, and the bytes behind it, or what is lacking
 unfoldable pub varint_at : List ℕ → Result (ℕ × List ℕ) Lack
 varint_at bytes = varint_within 10 bytes
 

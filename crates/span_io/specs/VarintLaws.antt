@@ -16,4 +16,5 @@ pub record VarintLaws : Type 0 where
 pub record ShortestLaws : Type 0 where
   pub spelled : (n : ℕ) → n < 2 ^ 64 → SpellsVarint (varint_text n) n
   pub shortest : (n : ℕ) (text : List ℕ) → All (λ b. b < 256) text → SpellsVarint text n → length (varint_text n) ≤ length text
-  pub only : (n : ℕ) (text : List ℕ) → All (λ b. b < 256) text → SpellsVarint text n → length text ≤ length (varint_text n) → text ≡ varint_text n
+  pub only : (n : ℕ) (text : List ℕ) → All (λ b. b < 256) text → SpellsVarint text n → length text ≤ length (varint_text n)
+      → text ≡ varint_text n

@@ -2,6 +2,7 @@
 use Rattle.std.specs.Prelude.{◌≡◌, ℕ, ◌+◌, List, drop, Result, Ok, Err}
 use Rattle.span_io.specs.declared.cursor.Lack.{Lack}
 
+-- how many bytes a cursor has passed, and the bytes that are still before it
 pub record Walk : Type 0 where
   pub place : ℕ
   pub rest : List ℕ

@@ -1,3 +1,4 @@
+//! Growing lists of bytes.
 ghost use Rattle.std.specs.Prelude.{◌≡◌, ◌+◌, ◌<◌, ◌≤◌, [], ◌∷◌, ◌++◌, length, take, drop, IfOk, OnOk, OnErr};
 ghost use Rattle.span_io.specs.Varint.{varint_text};
 

@@ -1,3 +1,4 @@
+//! The bytes of a value.
 ghost use Rattle.std.specs.Prelude.{◌≡◌, ◌<◌, [], length, IfOk, MatchResult};
 ghost use Rattle.span_io.specs.Sizes.{IsShort, longest};
 
@@ -48,7 +49,8 @@ impl Bytes {
 
     /// The bytes of a vector, which is taken over. Too many count as want of memory.
     pub fn from_vec(bytes: Vec<u8>) -> Result<Bytes, OutOfMemory>
-        ensures { MatchResult result (λ held. held ≡ bytes.items) (λ _. longest < length bytes.items) }
+        ensures { MatchResult result (λ held. held ≡ bytes.items)
+            (λ _. longest < length bytes.items) }
     {
         if bytes.len() > LONGEST {
             return Err(OutOfMemory);

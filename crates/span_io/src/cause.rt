@@ -1,3 +1,4 @@
+//! Why an input is refused, each with its number.
 ghost use Rattle.std.specs.Prelude.{◌≡◌};
 ghost use Rattle.span_io.specs.Causes.{cause_number, cause_name};
 

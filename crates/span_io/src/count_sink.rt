@@ -1,3 +1,4 @@
+//! A sink that counts what it takes.
 ghost use Rattle.std.specs.Prelude.{◌≡◌, ◌+◌, ◌<◌, ◌≤◌, [], length, take, min, IfOk, OnErr, IsOk, Ok};
 ghost use Rattle.span_io.specs.Courses.{course_of_writes};
 ghost use Rattle.span_io.specs.Outside.{Rose, Takes, Gains, last_count};
@@ -44,12 +45,18 @@ impl Sink for CountSink {
     fn write(&mut self, piece: &[u8]) -> Result<usize, Failed>
         ensures bound { IfOk result (λ n. n ≤ length piece.now) }
         ensures some { IfOk result (λ n. 0 < length piece.now → 0 < n) }
-        ensures ok { IfOk result (λ n. Gains (counting_outlet self.old) (counting_outlet self.new) (take n piece.now)) }
-        ensures err { OnErr result (Gains (counting_outlet self.old) (counting_outlet self.new) []) }
-        ensures failed { OnErr result (Rose (counting_outlet self.old).faults (counting_outlet self.new).faults) }
-        ensures quiet { IfOk result (λ _. (counting_outlet self.new).faults ≡ (counting_outlet self.old).faults) }
-        ensures answers { 0 < length piece.now → Takes (counting_outlet self.old).sure (length piece.now) → IsOk result }
-        ensures course { (counting_outlet self.new).course ≡ course_of_writes (counting_outlet self.old).course piece.now result }
+        ensures ok { IfOk result
+            (λ n. Gains (counting_outlet self.old) (counting_outlet self.new) (take n piece.now)) }
+        ensures err { OnErr result
+            (Gains (counting_outlet self.old) (counting_outlet self.new) []) }
+        ensures failed { OnErr result
+            (Rose (counting_outlet self.old).faults (counting_outlet self.new).faults) }
+        ensures quiet { IfOk result
+            (λ _. (counting_outlet self.new).faults ≡ (counting_outlet self.old).faults) }
+        ensures answers { 0 < length piece.now
+            → Takes (counting_outlet self.old).sure (length piece.now) → IsOk result }
+        ensures course { (counting_outlet self.new).course
+            ≡ course_of_writes (counting_outlet self.old).course piece.now result }
 
         // It takes all, and counts it.
         ensures takes { result ≡ Ok (length piece.now) }

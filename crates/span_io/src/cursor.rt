@@ -1,3 +1,4 @@
+//! A place in bytes, from which parts are read.
 ghost use Rattle.std.specs.Prelude.{◌≡◌, ◌+◌, ◌<◌, ◌≤◌, ◌↔◌, ℕ, ℤ, List, length, take, IfOk, OnErr, IsErr, MatchResult, Ok, Err, ◌∷◌};
 ghost use Rattle.std.specs.Int.{w16, w32, w64, from_be_bytes, from_le_bytes};
 ghost use Rattle.span_io.specs.Varint.{BeginsVarint, IsInsideVarint, BeginsOverlong, varint_at};
@@ -192,12 +193,14 @@ impl<'a> Cursor<'a> {
     pub fn varint(&mut self) -> Result<u64, Lack>
         // What is read is spelled so, and what is spelled so is read, whatever follows.
         ensures found { IfOk result (λ n. BeginsVarint n self.old.rest self.new.rest) }
-        ensures only { (n : ℕ) (rest : List ℕ) → BeginsVarint n self.old.rest rest → (result ≡ Ok n) × (self.new.rest ≡ rest) }
+        ensures only { (n : ℕ) (rest : List ℕ) → BeginsVarint n self.old.rest rest
+            → (result ≡ Ok n) × (self.new.rest ≡ rest) }
         ensures exact { Gives result self.new.rest (varint_at self.old.rest) }
         ensures short { (result ≡ Err Lack.Short) ↔ IsInsideVarint self.old.rest }
         ensures bad { (result ≡ Err Lack.BadVarint) ↔ BeginsOverlong self.old.rest }
 
-        ensures place { self.new.place + length self.new.rest ≡ self.old.place + length self.old.rest }
+        ensures place { self.new.place + length self.new.rest
+            ≡ self.old.place + length self.old.rest }
         ensures err { OnErr result (self.new ≡ self.old) }
     {
         if let Some((byte, rest)) = self.rest.split_first() {
@@ -219,10 +222,12 @@ impl<'a> Cursor<'a> {
     #[inline(always)]
     pub fn zigzag(&mut self) -> Result<i64, Lack>
         ensures found { IfOk result (λ z. BeginsZigzag z self.old.rest self.new.rest) }
-        ensures only { (z : ℤ) (rest : List ℕ) → BeginsZigzag z self.old.rest rest → (result ≡ Ok z) × (self.new.rest ≡ rest) }
+        ensures only { (z : ℤ) (rest : List ℕ) → BeginsZigzag z self.old.rest rest
+            → (result ≡ Ok z) × (self.new.rest ≡ rest) }
         ensures exact { Gives result self.new.rest (zigzag_at self.old.rest) }
 
-        ensures place { self.new.place + length self.new.rest ≡ self.old.place + length self.old.rest }
+        ensures place { self.new.place + length self.new.rest
+            ≡ self.old.place + length self.old.rest }
         ensures err { OnErr result (self.new ≡ self.old) }
     {
         match self.varint() {

@@ -1,3 +1,4 @@
+//! What gives connections, and what its calls promise.
 ghost use Rattle.std.specs.Prelude.{◌≡◌, ◌<◌, ◌≤◌, IfOk, OnOk, OnErr};
 ghost use Rattle.span_io.specs.Doors.{Accepts, Doorway, IsAt, IsListening, TellsAstray, given_back, listened, not_listened, refused};
 ghost use Rattle.span_io.specs.Outside.{Rose};
@@ -18,15 +19,19 @@ pub trait Door {
     fn listen(&mut self, address: &str) -> Result<(), Failed>
         ensures ok { OnOk result (doorway self.new ≡ listened (doorway self.old) address.now) }
         ensures right { OnOk result (IsAt (doorway self.old) address.now) }
-        ensures err { OnErr result (doorway self.new ≡ not_listened (doorway self.old) address.now (doorway self.new).faults) }
+        ensures err { OnErr result
+            (doorway self.new
+            ≡ not_listened (doorway self.old) address.now (doorway self.new).faults) }
         ensures failed { OnErr result (Rose (doorway self.old).faults (doorway self.new).faults) }
         ensures counted { (doorway self.old).faults ≤ (doorway self.new).faults };
 
     /// Accepts the next connection, which is out until it is given back.
     fn accept(&mut self) -> Result<Self::Conn, Failed>
         requires { IsListening (doorway self.old) }
-        ensures ok { IfOk result (λ conn. Accepts (doorway self.old) (doorway self.new) (Self.Conn.link conn)) }
-        ensures err { OnErr result (doorway self.new ≡ refused (doorway self.old) (doorway self.new).faults) }
+        ensures ok { IfOk result
+            (λ conn. Accepts (doorway self.old) (doorway self.new) (Self.Conn.link conn)) }
+        ensures err { OnErr result
+            (doorway self.new ≡ refused (doorway self.old) (doorway self.new).faults) }
         ensures failed { OnErr result (Rose (doorway self.old).faults (doorway self.new).faults) }
         ensures counted { (doorway self.old).faults ≤ (doorway self.new).faults };
 

@@ -1,3 +1,4 @@
+//! The forms of spans, and their words.
 ghost use Rattle.std.specs.Prelude.{◌≡◌, ◌↔◌, Some};
 ghost use Rattle.span_io.specs.Forms.{form_word};
 ghost use Rattle.span_io.specs.declared.form.Form.{Form};

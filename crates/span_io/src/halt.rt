@@ -1,3 +1,4 @@
+//! Want of memory, and why a reader stopped.
 ghost use Rattle.std.specs.Prelude.{◌≡◌};
 ghost use Rattle.span_io.specs.Paths.{in_unit};
 ghost use Rattle.span_io.specs.declared.halt.Halt.TheVariants as halts;

@@ -1,3 +1,4 @@
+//! Growing lists.
 ghost use Rattle.std.specs.Prelude.{◌≡◌, [], ◌∷◌, ◌++◌, length, IfOk, OnOk, OnErr};
 ghost use Rattle.span_io.specs.Clones.{ClonesEqual};
 ghost use Rattle.span_io.specs.Sizes.{IsShort};

@@ -1,3 +1,4 @@
+//! How large units, inputs and requests may be, in bytes.
 ghost use Rattle.std.specs.Prelude.{◌≡◌, ◌^◌};
 ghost use Rattle.span_io.specs.Limits.{AreLimits};
 

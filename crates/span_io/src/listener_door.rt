@@ -1,3 +1,4 @@
+//! A door over a listener of TCP.
 ghost use Rattle.std.specs.Prelude.{◌≡◌, ◌<◌, None, IsSome};
 ghost use Rattle.span_io.specs.Outside.{last_count};
 

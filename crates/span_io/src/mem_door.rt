@@ -1,3 +1,4 @@
+//! A door in memory, for tests and rows.
 ghost use Rattle.std.specs.Prelude.{◌≡◌, ◌≢◌, ◌<◌, ◌≤◌, ◌↔◌, ◌⊎◌, [], ◌∷◌, ◌++◌, false, length, Contains, IfOk, OnErr, OnOk, IsErr, refl};
 ghost use Rattle.span_io.specs.Connections.{HaveNoFault, doorway_of, link_of};
 ghost use Rattle.span_io.specs.Doors.{Accepts, IsAt, IsListening, given_back, listened, not_listened, refused};
@@ -124,11 +125,13 @@ impl Door for MemDoor {
 
     #[tactic(auto, using(crate::proofs::Addresses::elsewhere))]
     fn listen(&mut self, address: &str) -> Result<(), Failed>
-        ensures ok { OnOk result (doorway_of self.new ≡ listened (doorway_of self.old) address.now) }
+        ensures ok { OnOk result
+            (doorway_of self.new ≡ listened (doorway_of self.old) address.now) }
         ensures right { OnOk result (IsAt (doorway_of self.old) address.now) }
         ensures err { OnErr result (doorway_of self.new
             ≡ not_listened (doorway_of self.old) address.now (doorway_of self.new).faults) }
-        ensures failed { OnErr result (Rose (doorway_of self.old).faults (doorway_of self.new).faults) }
+        ensures failed { OnErr result
+            (Rose (doorway_of self.old).faults (doorway_of self.new).faults) }
         ensures counted { (doorway_of self.old).faults ≤ (doorway_of self.new).faults }
 
         // It fails exactly on the listed calls, and at another address.
@@ -154,9 +157,12 @@ impl Door for MemDoor {
 
     fn accept(&mut self) -> Result<MemDuplex, Failed>
         requires { IsListening (doorway_of self.old) }
-        ensures ok { IfOk result (λ conn. Accepts (doorway_of self.old) (doorway_of self.new) (link_of conn)) }
-        ensures err { OnErr result (doorway_of self.new ≡ refused (doorway_of self.old) (doorway_of self.new).faults) }
-        ensures failed { OnErr result (Rose (doorway_of self.old).faults (doorway_of self.new).faults) }
+        ensures ok { IfOk result
+            (λ conn. Accepts (doorway_of self.old) (doorway_of self.new) (link_of conn)) }
+        ensures err { OnErr result
+            (doorway_of self.new ≡ refused (doorway_of self.old) (doorway_of self.new).faults) }
+        ensures failed { OnErr result
+            (Rose (doorway_of self.old).faults (doorway_of self.new).faults) }
         ensures counted { (doorway_of self.old).faults ≤ (doorway_of self.new).faults }
 
         // It fails exactly on the listed calls, and where no connection is left.

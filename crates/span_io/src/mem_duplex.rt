@@ -1,3 +1,4 @@
+//! A connection in memory, for tests and rows.
 ghost use Rattle.std.specs.Prelude.{◌≡◌, ◌<◌, ◌≤◌, ◌↔◌, [], length, min, take, Contains, IfOk, OnErr, IsErr, IsOk, IsTrue, refl};
 ghost use Rattle.std.specs.Io.{ReadsAtMost};
 ghost use Rattle.std.specs.Io.KnownBytes.{ReadConsumes};
@@ -65,22 +66,30 @@ impl Duplex for MemDuplex {
 
     fn read(&mut self, buf: &mut [u8]) -> Result<usize, Failed>
         ensures bound { ReadsAtMost result buf.new }
-        ensures bytes { ReadConsumes (link_of self.old).inlet.left (link_of self.new).inlet.left result buf.new }
+        ensures bytes { ReadConsumes (link_of self.old).inlet.left
+            (link_of self.new).inlet.left result buf.new }
         ensures counted { (link_of self.old).inlet.faults ≤ (link_of self.new).inlet.faults }
-        ensures failed { OnErr result (InputFails (link_of self.old).inlet (link_of self.new).inlet) }
-        ensures quiet { IfOk result (λ _. (link_of self.new).inlet.faults ≡ (link_of self.old).inlet.faults) }
+        ensures failed { OnErr result
+            (InputFails (link_of self.old).inlet (link_of self.new).inlet) }
+        ensures quiet { IfOk result
+            (λ _. (link_of self.new).inlet.faults ≡ (link_of self.old).inlet.faults) }
         ensures answers { IsTrue (link_of self.old).inlet.steady → IsOk result }
         ensures steady { (link_of self.new).inlet.steady ≡ (link_of self.old).inlet.steady }
-        ensures course { (link_of self.new).inlet.course ≡ course_of_reads (link_of self.old).inlet.course result }
+        ensures course { (link_of self.new).inlet.course
+            ≡ course_of_reads (link_of self.old).inlet.course result }
         ensures outlet { (link_of self.new).outlet ≡ (link_of self.old).outlet }
         ensures mark { (link_of self.new).mark ≡ mark_of_reads (link_of self.old) result }
 
         // It answers as its source does, and its sink stays.
-        ensures fails { IsErr result ↔ Contains self.old.source.fail (counted self.old.source.calls) }
-        ensures gives { IfOk result (λ n. n ≡ min (min self.old.source.cut (length buf.old)) (length self.old.source.left)) }
+        ensures fails { IsErr result
+            ↔ Contains self.old.source.fail (counted self.old.source.calls) }
+        ensures gives { IfOk result
+            (λ n. n
+            ≡ min (min self.old.source.cut (length buf.old)) (length self.old.source.left)) }
         ensures calls { self.new.source.calls ≡ counted self.old.source.calls }
         ensures faults { CountsFault result self.old.source.faults self.new.source.faults }
-        ensures stays { (self.new.source.fail ≡ self.old.source.fail) × (self.new.source.cut ≡ self.old.source.cut) }
+        ensures stays { (self.new.source.fail ≡ self.old.source.fail)
+            × (self.new.source.cut ≡ self.old.source.cut) }
         ensures sink { self.new.sink ≡ self.old.sink }
     {
         let mark = mark_of(&self.source, &self.sink);
@@ -94,11 +103,15 @@ impl Duplex for MemDuplex {
     fn write(&mut self, piece: &[u8]) -> Result<usize, Failed>
         ensures bound { IfOk result (λ n. n ≤ length piece.now) }
         ensures some { IfOk result (λ n. 0 < length piece.now → 0 < n) }
-        ensures ok { IfOk result (λ n. Gains (link_of self.old).outlet (link_of self.new).outlet (take n piece.now)) }
+        ensures ok { IfOk result
+            (λ n. Gains (link_of self.old).outlet (link_of self.new).outlet (take n piece.now)) }
         ensures err { OnErr result (Gains (link_of self.old).outlet (link_of self.new).outlet []) }
-        ensures failed { OnErr result (Rose (link_of self.old).outlet.faults (link_of self.new).outlet.faults) }
-        ensures quiet { IfOk result (λ _. (link_of self.new).outlet.faults ≡ (link_of self.old).outlet.faults) }
-        ensures answers { 0 < length piece.now → Takes (link_of self.old).outlet.sure (length piece.now) → IsOk result }
+        ensures failed { OnErr result
+            (Rose (link_of self.old).outlet.faults (link_of self.new).outlet.faults) }
+        ensures quiet { IfOk result
+            (λ _. (link_of self.new).outlet.faults ≡ (link_of self.old).outlet.faults) }
+        ensures answers { 0 < length piece.now
+            → Takes (link_of self.old).outlet.sure (length piece.now) → IsOk result }
         ensures course { (link_of self.new).outlet.course
             ≡ course_of_writes (link_of self.old).outlet.course piece.now result }
         ensures inlet { (link_of self.new).inlet ≡ (link_of self.old).inlet }
@@ -109,7 +122,8 @@ impl Duplex for MemDuplex {
         ensures takes { IfOk result (λ n. n ≡ min self.old.sink.cut (length piece.now)) }
         ensures calls { self.new.sink.calls ≡ counted self.old.sink.calls }
         ensures faults { CountsFault result self.old.sink.faults self.new.sink.faults }
-        ensures stays { (self.new.sink.fail ≡ self.old.sink.fail) × (self.new.sink.room ≡ self.old.sink.room)
+        ensures stays { (self.new.sink.fail ≡ self.old.sink.fail)
+            × (self.new.sink.room ≡ self.old.sink.room)
             × (self.new.sink.cut ≡ self.old.sink.cut) }
         ensures source { self.new.source ≡ self.old.source }
     {

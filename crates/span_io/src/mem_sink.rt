@@ -1,3 +1,4 @@
+//! A sink in memory, for tests and rows.
 ghost use Rattle.std.specs.Prelude.{◌≡◌, ◌<◌, ◌≤◌, ◌↔◌, [], length, min, take, IfOk, OnErr, IsOk, IsErr, Ok, Err};
 ghost use Rattle.span_io.specs.Courses.{course_of_writes, write_next};
 ghost use Rattle.span_io.specs.Outside.{Rose, Takes, Gains, counted};
@@ -99,12 +100,17 @@ impl Sink for MemSink {
     fn write(&mut self, piece: &[u8]) -> Result<usize, Failed>
         ensures bound { IfOk result (λ n. n ≤ length piece.now) }
         ensures some { IfOk result (λ n. 0 < length piece.now → 0 < n) }
-        ensures ok { IfOk result (λ n. Gains (outlet_of self.old) (outlet_of self.new) (take n piece.now)) }
+        ensures ok { IfOk result
+            (λ n. Gains (outlet_of self.old) (outlet_of self.new) (take n piece.now)) }
         ensures err { OnErr result (Gains (outlet_of self.old) (outlet_of self.new) []) }
-        ensures failed { OnErr result (Rose (outlet_of self.old).faults (outlet_of self.new).faults) }
-        ensures quiet { IfOk result (λ _. (outlet_of self.new).faults ≡ (outlet_of self.old).faults) }
-        ensures answers { 0 < length piece.now → Takes (outlet_of self.old).sure (length piece.now) → IsOk result }
-        ensures course { (outlet_of self.new).course ≡ course_of_writes (outlet_of self.old).course piece.now result }
+        ensures failed { OnErr result
+            (Rose (outlet_of self.old).faults (outlet_of self.new).faults) }
+        ensures quiet { IfOk result
+            (λ _. (outlet_of self.new).faults ≡ (outlet_of self.old).faults) }
+        ensures answers { 0 < length piece.now → Takes (outlet_of self.old).sure (length piece.now)
+            → IsOk result }
+        ensures course { (outlet_of self.new).course
+            ≡ course_of_writes (outlet_of self.old).course piece.now result }
 
         // It fails exactly on the listed calls and where what it would take doesn't fit, and else
         // takes as many bytes as its cut allows.
@@ -112,7 +118,8 @@ impl Sink for MemSink {
         ensures takes { IfOk result (λ n. n ≡ min self.old.cut (length piece.now)) }
         ensures calls { self.new.calls ≡ counted self.old.calls }
         ensures faults { CountsFault result self.old.faults self.new.faults }
-        ensures stays { (self.new.fail ≡ self.old.fail) × (self.new.room ≡ self.old.room) × (self.new.cut ≡ self.old.cut) }
+        ensures stays { (self.new.fail ≡ self.old.fail) × (self.new.room ≡ self.old.room)
+            × (self.new.cut ≡ self.old.cut) }
     {
         self.calls = self.calls.saturating_add(1);
         let listed = self.fail.as_slice().contains(&self.calls);

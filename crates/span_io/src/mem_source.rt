@@ -1,3 +1,4 @@
+//! A source in memory, for tests and rows.
 ghost use Rattle.std.specs.Prelude.{◌≡◌, ◌-◌, ◌≤◌, ◌↔◌, length, min, max, Contains, IfOk, OnErr, IsOk, IsErr, IsTrue, Some};
 ghost use Rattle.std.specs.Io.{ReadsAtMost};
 ghost use Rattle.std.specs.Io.KnownBytes.{ReadConsumes};
@@ -66,18 +67,21 @@ impl Source for MemSource {
 
     fn read(&mut self, buf: &mut [u8]) -> Result<usize, Failed>
         ensures bound { ReadsAtMost result buf.new }
-        ensures bytes { ReadConsumes (inlet_of self.old).left (inlet_of self.new).left result buf.new }
+        ensures bytes { ReadConsumes (inlet_of self.old).left
+            (inlet_of self.new).left result buf.new }
         ensures counted { (inlet_of self.old).faults ≤ (inlet_of self.new).faults }
         ensures failed { OnErr result (InputFails (inlet_of self.old) (inlet_of self.new)) }
         ensures quiet { IfOk result (λ _. (inlet_of self.new).faults ≡ (inlet_of self.old).faults) }
         ensures answers { IsTrue (inlet_of self.old).steady → IsOk result }
         ensures steady { (inlet_of self.new).steady ≡ (inlet_of self.old).steady }
-        ensures course { (inlet_of self.new).course ≡ course_of_reads (inlet_of self.old).course result }
+        ensures course { (inlet_of self.new).course
+            ≡ course_of_reads (inlet_of self.old).course result }
 
         // It fails exactly on the listed calls, and else gives as many bytes as its cut, the room and
         // its rest allow.
         ensures fails { IsErr result ↔ Contains self.old.fail (counted self.old.calls) }
-        ensures gives { IfOk result (λ n. n ≡ min (min self.old.cut (length buf.old)) (length self.old.left)) }
+        ensures gives { IfOk result
+            (λ n. n ≡ min (min self.old.cut (length buf.old)) (length self.old.left)) }
         ensures calls { self.new.calls ≡ counted self.old.calls }
         ensures faults { CountsFault result self.old.faults self.new.faults }
         ensures stays { (self.new.fail ≡ self.old.fail) × (self.new.cut ≡ self.old.cut) }

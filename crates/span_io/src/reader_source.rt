@@ -1,3 +1,4 @@
+//! A source over a reader of std.
 ghost use Rattle.std.specs.Prelude.{◌≡◌, None, false};
 
 use crate::interrupted::read_again;

@@ -1,3 +1,4 @@
+//! Where an input was refused, and why.
 use crate::cause::Cause;
 
 /// Why an input has no reading: the unit that it stands in, counted from 1, or 0 for the input as a

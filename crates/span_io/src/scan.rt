@@ -1,3 +1,4 @@
+//! A scanner of frames, and what its calls promise.
 ghost use Rattle.std.specs.Prelude.{◌≡◌, ℕ, List, Some};
 ghost use Rattle.span_io.specs.Frames.{Framing};
 ghost use Rattle.span_io.specs.Scans.{Scanning, IsNew, PushIs, FrameIs, StandsBehind, EndsWithin};

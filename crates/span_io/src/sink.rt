@@ -1,3 +1,4 @@
+//! What takes bytes, and what its calls promise.
 ghost use Rattle.std.specs.Prelude.{◌≡◌, ◌<◌, ◌≤◌, [], length, take, IfOk, OnOk, OnErr, IsOk};
 ghost use Rattle.span_io.specs.Courses.{course_of_writes};
 ghost use Rattle.span_io.specs.Outside.{Outlet, Rose, Takes, Gains, OutputFails, OutputHolds, FailsWithin, FailsAt};
@@ -15,14 +16,17 @@ pub trait Sink {
     fn write(&mut self, piece: &[u8]) -> Result<usize, Failed>
         ensures bound { IfOk result (λ n. n ≤ length piece.now) }
         ensures some { IfOk result (λ n. 0 < length piece.now → 0 < n) }
-        ensures ok { IfOk result (λ n. Gains (outlet self.old) (outlet self.new) (take n piece.now)) }
+        ensures ok { IfOk result
+            (λ n. Gains (outlet self.old) (outlet self.new) (take n piece.now)) }
         ensures err { OnErr result (Gains (outlet self.old) (outlet self.new) []) }
         ensures failed { OnErr result (Rose (outlet self.old).faults (outlet self.new).faults) }
         ensures quiet { IfOk result (λ _. (outlet self.new).faults ≡ (outlet self.old).faults) }
 
         // A piece that it is sure to take doesn't fail.
-        ensures answers { 0 < length piece.now → Takes (outlet self.old).sure (length piece.now) → IsOk result }
-        ensures course { (outlet self.new).course ≡ course_of_writes (outlet self.old).course piece.now result };
+        ensures answers { 0 < length piece.now → Takes (outlet self.old).sure (length piece.now)
+            → IsOk result }
+        ensures course { (outlet self.new).course
+            ≡ course_of_writes (outlet self.old).course piece.now result };
 }
 
 /// Writes a whole piece, in as many writes as it takes.

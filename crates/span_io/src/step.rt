@@ -1,3 +1,4 @@
+//! What is known of the next frame.
 use crate::cause::Cause;
 
 /// What is known of the next frame of a binary form once some bytes are there.

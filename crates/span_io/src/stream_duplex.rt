@@ -1,3 +1,4 @@
+//! A connection over a stream of TCP.
 ghost use Rattle.std.specs.Prelude.{◌≡◌, None, false};
 ghost use Rattle.span_io.specs.Outside.{so_many};
 

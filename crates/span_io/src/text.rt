@@ -1,3 +1,4 @@
+//! Texts: bytes in UTF-8 that a value holds.
 ghost use Rattle.std.specs.Prelude.{◌≡◌, ◌<◌, [], ◌++◌, length, IfOk, MatchResult, OnOk, OnErr, IsUtf8, string_bytes};
 ghost use Rattle.span_io.specs.Sizes.{IsShort, longest};
 
@@ -75,7 +76,8 @@ impl Text {
 
     /// The text of a string, which is taken over. One too long counts as want of memory.
     pub fn from_string(text: String) -> Result<Text, OutOfMemory>
-        ensures { MatchResult result (λ held. held ≡ string_bytes text) (λ _. longest < length (string_bytes text)) }
+        ensures { MatchResult result (λ held. held ≡ string_bytes text)
+            (λ _. longest < length (string_bytes text)) }
     {
         if text.len() > LONGEST {
             return Err(OutOfMemory);

@@ -1,3 +1,4 @@
+//! Varints of protobuf, and their shortest spelling.
 ghost use Rattle.std.specs.Prelude.{◌≡◌};
 ghost use Rattle.span_io.specs.Varint.{varint_text};
 ghost use Rattle.span_io.specs.Zigzag as zigzags;

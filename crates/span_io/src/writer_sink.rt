@@ -1,3 +1,4 @@
+//! A sink over a writer of std.
 ghost use Rattle.std.specs.Prelude.{◌≡◌, None};
 ghost use Rattle.span_io.specs.Outside.{so_many};
 

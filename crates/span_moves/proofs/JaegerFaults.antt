@@ -11,10 +11,10 @@ use Rattle.trace_model.specs.declared.fault.Fault.TheVariants.{EndBeforeStart, O
 use Rattle.trace_model.specs.declared.span.Event.{Event}
 use Rattle.trace_model.specs.declared.span.Span.{Span}
 use Rattle.trace_model.specs.declared.value.Value.{Value, Text, List', Map'}
-use Rattle.span_tags.specs.laws.LeastRows.{any_none}
+use Rattle.span_tags.proofs.LeastRows.{any_none}
 use Rattle.span_tags.specs.TagKeys.{service_key}
 use Rattle.span_tags.specs.TagWords.{Pairs}
-use Rattle.span_tags.specs.laws.FaultLaws.{plain_span}
+use Rattle.span_tags.specs.FoundFaults.{plain_span}
 use Rattle.map_jaeger.specs.ColumnWords.{flags_in}
 use Rattle.map_jaeger.specs.Faults.{IsOwnParent, HasDoubleInside, HasDouble, HasDoubleAt, IsSpanFault, IsResourceFault}
 use Rattle.map_jaeger.specs.Keys.{flags_key}

@@ -10,11 +10,12 @@ use Rattle.trace_model.specs.EventTexts.{holds_double, with_texts}
 use Rattle.trace_model.specs.ValueTexts.{has_double}
 use Rattle.trace_model.specs.declared.span.Link.{Link}
 use Rattle.trace_model.specs.declared.span.Span.{Span}
-use Rattle.trace_model.specs.declared.trace.Group.{Group}
-use Rattle.trace_model.specs.declared.trace.Scope.{Scope}
+use Rattle.trace_model.specs.declared.group.Group.{Group}
+use Rattle.trace_model.specs.declared.group.Scope.{Scope}
 use Rattle.trace_model.specs.declared.value.Value.{Value, Text, List', Map', Nothing}
-use Rattle.span_tags.specs.laws.AttributeLaws.{all_attrs}
-use Rattle.span_tags.specs.laws.RunLaws.{IsPlain, scoped_all, scoped_each, runs_each}
+use Rattle.span_tags.proofs.AttributeLaws.{all_attrs}
+use Rattle.span_tags.specs.Runs.{IsPlain}
+use Rattle.span_tags.proofs.RunLaws.{scoped_all, scoped_each, runs_each}
 use Rattle.span_tags.specs.Runs.{Scoped, under, spans_of, scoped}
 use Rattle.span_tags.specs.TagKeys.{service_key}
 use Rattle.span_tags.specs.TagWords.{Pairs, row, text_given, without, text_or_none}

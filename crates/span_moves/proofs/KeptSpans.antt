@@ -4,16 +4,16 @@ use Rattle.std.specs.List.{AllZip, flat_map}
 use Rattle.std.proofs.lemmas.Grind.{flat_map-append}
 use Rattle.std.proofs.lemmas.List.{map-append, length-map}
 use Rattle.span_ids.specs.Times.{micros, floor}
-use Rattle.span_io.specs.laws.RowLaws.{all_zip_self}
+use Rattle.span_io.proofs.RowLaws.{all_zip_self}
 use Rattle.trace_model.specs.Flat.{flat}
 use Rattle.trace_model.specs.declared.span.Code.{Code}
 use Rattle.trace_model.specs.declared.span.Code.TheVariants as statuses
 use Rattle.trace_model.specs.declared.span.Event.{Event}
 use Rattle.trace_model.specs.declared.span.Link.{Link}
 use Rattle.trace_model.specs.declared.span.Span.{Span}
-use Rattle.trace_model.specs.declared.trace.Group.{Group}
-use Rattle.trace_model.specs.declared.trace.Scope.{Scope}
-use Rattle.span_tags.specs.laws.RunLaws.{scoped_runs}
+use Rattle.trace_model.specs.declared.group.Group.{Group}
+use Rattle.trace_model.specs.declared.group.Scope.{Scope}
+use Rattle.span_tags.proofs.RunLaws.{scoped_runs}
 use Rattle.span_tags.specs.Runs.{Scoped, under, spans_of, scoped}
 use Rattle.span_tags.specs.TagWords.{Pairs}
 use Rattle.map_jaeger.specs.Normal.{normal_status, normal_event, normal_link, normal_span, normal_scoped, normal_group, normal}

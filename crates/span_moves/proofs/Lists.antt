@@ -2,7 +2,7 @@
 use Rattle.std.proofs.Common.{◌≡◌, List, [], ◌∷◌, map, get_or, All, refl, ⊎_elim}
 use Rattle.std.specs.Prelude.{Any}
 use Rattle.std.proofs.lemmas.List.{get_or_default}
-use Rattle.span_tags.specs.laws.LeastRows.{any_none, any_here, any_behind, any_cases}
+use Rattle.span_tags.proofs.LeastRows.{any_none, any_here, any_behind, any_cases}
 
 -- what stays of each member, stays of the list
 pub third_stays : {A B C D : Type 0} → (f : C → D) (g : B → C) (h : A → B) (k : B → D) → ((x : A) → f (g (h x)) ≡ k (h x)) → (xs : List A)

@@ -4,11 +4,11 @@ use Rattle.std.proofs.lemmas.List.Elements.{All-nil, All-head, All-tail, All-app
 use Rattle.trace_model.specs.Attributes.{Rise, keys}
 use Rattle.trace_model.specs.Soundness.{IsSoundSpan, IsSoundScope}
 use Rattle.trace_model.specs.declared.span.Span.{Span}
-use Rattle.trace_model.specs.declared.trace.Group.{Group}
-use Rattle.trace_model.specs.declared.trace.Scope.{Scope}
-use Rattle.span_tags.specs.laws.RunLaws.{scoped_runs, scoped_all}
+use Rattle.trace_model.specs.declared.group.Group.{Group}
+use Rattle.trace_model.specs.declared.group.Scope.{Scope}
+use Rattle.span_tags.proofs.RunLaws.{scoped_runs, scoped_all}
 use Rattle.span_tags.specs.Runs.{Scoped, under, scoped}
-use Rattle.span_tags.specs.laws.FaultLaws.{plain_resource, plain_spans, none_counts}
+use Rattle.span_tags.proofs.FaultLaws.{plain_resource, plain_spans, none_counts}
 use Rattle.map_jaeger.specs.Faults.{IsResourceFault, IsSpanFault, HasNoFault}
 use Rattle.map_jaeger.specs.StatedLaws.{IsHeld, NormalForms}
 use Rattle.map_jaeger.specs.Normal.{normal_scoped, normal_group, normal}

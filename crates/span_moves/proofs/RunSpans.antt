@@ -5,9 +5,9 @@ use Rattle.std.specs.Prelude.{if◌then◌else◌}
 use Rattle.std.specs.List.{flat_map}
 use Rattle.std.proofs.lemmas.List.{map-append}
 use Rattle.std.proofs.lemmas.List.Elements.{All-nil, All-cons, All-head, All-tail}
-use Rattle.trace_model.specs.declared.trace.Group.{Group}
+use Rattle.trace_model.specs.declared.group.Group.{Group}
 use Rattle.trace_model.specs.declared.span.Span.{Span}
-use Rattle.span_tags.specs.laws.RunLaws.{in_front_spans, scoped_runs}
+use Rattle.span_tags.proofs.RunLaws.{in_front_spans, scoped_runs}
 use Rattle.span_tags.specs.Runs.{Scoped, scoped, in_front, runs}
 use Rattle.span_tags.specs.TagKeys.{service_key}
 use Rattle.span_tags.specs.TagWords.{Pairs}

@@ -9,8 +9,8 @@ use Rattle.std.specs.Str.{bytes_eq}
 use Rattle.std.proofs.lemmas.List.Elements.{All-nil, All-cons, All-append, All-contains, All-filter, All-map, All-weaker}
 use Rattle.std.proofs.lemmas.List.Folds.{map_fixed}
 use Rattle.std.proofs.lemmas.Map.Entries.{All-lookup}
-use Rattle.span_tags.specs.laws.AttributeLaws.{last_at, key_itself, same_key, other_way, option_or-none, key_of_some, some_of_key, last_at-append, last_at-rising, at_attrs, all_attrs, attrs_rise, at_map, map_attrs, same_pairs}
-use Rattle.span_tags.specs.laws.RowLaws.{last_at-row, last_at-filter}
+use Rattle.span_tags.proofs.AttributeLaws.{last_at, key_itself, same_key, other_way, option_or-none, key_of_some, some_of_key, last_at-append, last_at-rising, at_attrs, all_attrs, attrs_rise, at_map, map_attrs, same_pairs}
+use Rattle.span_tags.proofs.RowLaws.{last_at-row, last_at-filter}
 use Rattle.span_tags.specs.TagKeys.{service_key}
 use Rattle.span_tags.specs.TagWords.{Pairs, row, without, text_given, text_or_none}
 use Rattle.trace_model.specs.Attributes.{Rise, keys, attrs, at}

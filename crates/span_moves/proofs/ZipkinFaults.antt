@@ -10,11 +10,11 @@ use Rattle.trace_model.specs.declared.fault.Fault.TheVariants.{EndBeforeStart, O
 use Rattle.trace_model.specs.declared.span.Event.{Event}
 use Rattle.trace_model.specs.declared.span.Span.{Span}
 use Rattle.trace_model.specs.declared.value.Value.{Value, Text, Eight}
-use Rattle.span_tags.specs.laws.AttributeLaws.{all_attrs, at_map}
-use Rattle.span_tags.specs.laws.LeastRows.{any_none}
+use Rattle.span_tags.proofs.AttributeLaws.{all_attrs, at_map}
+use Rattle.span_tags.proofs.LeastRows.{any_none}
 use Rattle.span_tags.specs.TagKeys.{service_key}
 use Rattle.span_tags.specs.TagWords.{Pairs, row, without, text_given, text_or_none}
-use Rattle.span_tags.specs.laws.FaultLaws.{plain_span}
+use Rattle.span_tags.specs.FoundFaults.{plain_span}
 use Rattle.map_jaeger.specs.Normal.{normal_attributes, normal_resource, normal_event, normal_span}
 use Rattle.map_jaeger.specs.TagValues.{normal_value, normal_attribute}
 use Rattle.map_zipkin.specs.Faults.{IsOutOfForm, HasOwnKey, IsToldWrong, HasDoubleIn, IsZipkinSpanFault, IsZipkinResourceFault}

@@ -8,13 +8,14 @@ use Rattle.trace_model.specs.declared.span.Code.TheVariants.{Fail}
 use Rattle.trace_model.specs.declared.span.Event.{Event}
 use Rattle.trace_model.specs.declared.span.Link.{Link}
 use Rattle.trace_model.specs.declared.span.Span.{Span}
-use Rattle.trace_model.specs.declared.trace.Group.{Group}
+use Rattle.trace_model.specs.declared.group.Group.{Group}
 use Rattle.map_jaeger.specs.Normal.{normal}
 use Rattle.map_zipkin.specs.Normal.{zipkin_normal}
 use Rattle.otlp_json.specs.Held.{IsJsonFaultOf}
 
 -- ---- of a span
 
+-- the names of events, in the order of the events
 abbrev pub names_of : List Event → List (List ℕ)
 names_of events = map (λ event. event.name) events
 

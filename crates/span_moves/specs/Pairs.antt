@@ -1,7 +1,7 @@
 -- Moves between Jaeger and Zipkin, there and back. A trace that was read of the one is its own normal form there. Moved to the
 -- other it becomes its normal form of that, which the first can hold, and of which a move back changes nothing.
 use Rattle.std.specs.Prelude.{◌≡◌, List, All}
-use Rattle.trace_model.specs.declared.trace.Group.{Group}
+use Rattle.trace_model.specs.declared.group.Group.{Group}
 use Rattle.map_jaeger.specs.StatedLaws.{IsHeld}
 use Rattle.map_jaeger.specs.Normal.{normal}
 use Rattle.map_zipkin.specs.StatedLaws.{IsHeldByZipkin}

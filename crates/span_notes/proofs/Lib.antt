@@ -1,3 +1,5 @@
+pub mod NoteLaws
 pub mod NumberLemmas
 pub mod PairLemmas
 pub mod PieceLemmas
+pub mod WordLaws

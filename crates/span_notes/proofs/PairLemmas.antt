@@ -5,7 +5,7 @@ use Rattle.std.proofs.lemmas.Fmt.{decimal_injective}
 use Rattle.span_io.specs.Forms.{form_word}
 use Rattle.span_io.specs.declared.form.Form.{Form}
 use Rattle.span_notes.specs.Pairs.{CountStands, FormStands, HasOption, IsDecimal, IsPair, PlaceStands}
-use Rattle.span_notes.specs.laws.WordLaws.{one_word, there_within}
+use Rattle.span_notes.proofs.WordLaws.{one_word, there_within}
 
 -- of two numbers below another one
 before_or_at : (b k : ℕ) → b ≤ k → (b < k) ⊎ (b ≡ k)

@@ -1,4 +1,3 @@
 pub mod Notes
 pub mod Pairs
 pub mod Pieces
-pub mod laws

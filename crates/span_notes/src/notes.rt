@@ -25,7 +25,8 @@ pub fn note_pieces<N: Sink>(notes: &mut N, pieces: &[&[u8]])
 
 /// Notes pieces one after the other, where no note has failed, and answers whether none has then.
 pub fn note_more<N: Sink>(notes: &mut N, holds: bool, pieces: &[&[u8]]) -> bool
-    ensures { NotesMore holds result (N.outlet notes.old) (N.outlet notes.new) (pieces_text pieces.now) }
+    ensures { NotesMore holds result (N.outlet notes.old) (N.outlet notes.new)
+        (pieces_text pieces.now) }
 {
     gains_then();
     if !holds {
@@ -45,7 +46,8 @@ pub fn note_numbered<N: Sink>(
     number: u32,
     said: &[u8],
 ) -> bool
-    ensures { NotesMore holds result (N.outlet notes.old) (N.outlet notes.new) (what.now ++ decimal number ++ said.now) }
+    ensures { NotesMore holds result (N.outlet notes.old) (N.outlet notes.new)
+        (what.now ++ decimal number ++ said.now) }
 {
     let mut digits = Buffer::new();
     note_more(
@@ -57,9 +59,11 @@ pub fn note_numbered<N: Sink>(
 
 // Writes pieces one after the other, up to the first that fails.
 fn write_pieces<N: Sink>(notes: &mut N, pieces: &[&[u8]]) -> Result<(), Failed>
-    ensures ok { OnOk result (Gains (N.outlet notes.old) (N.outlet notes.new) (pieces_text pieces.now)) }
+    ensures ok { OnOk result
+        (Gains (N.outlet notes.old) (N.outlet notes.new) (pieces_text pieces.now)) }
     ensures holds { OnOk result (OutputHolds (N.outlet notes.old) (N.outlet notes.new)) }
-    ensures at { OnErr result (FailsAt (N.outlet notes.old) (N.outlet notes.new) (pieces_text pieces.now)) }
+    ensures at { OnErr result
+        (FailsAt (N.outlet notes.old) (N.outlet notes.new) (pieces_text pieces.now)) }
 {
     gains_then();
     'pieces: for piece in pieces {

@@ -9,7 +9,8 @@ use span_io::Form;
 /// The place of the word of an option, in pairs that begin at `first`, where the option stands in one of them.
 pub fn word_place(words: &[String], first: usize, option: &[u8]) -> Option<usize>
     requires { first ≤ length words.now }
-    ensures { (place : ℕ) → (result ≡ Some place) ↔ PlaceStands (texts words.now) first option.now place }
+    ensures { (place : ℕ)
+        → (result ≡ Some place) ↔ PlaceStands (texts words.now) first option.now place }
 {
     let mut found = None;
     let mut at = first;
@@ -28,7 +29,8 @@ pub fn word_place(words: &[String], first: usize, option: &[u8]) -> Option<usize
 /// The form that the word of such an option names.
 pub fn form_at(words: &[String], first: usize, option: &[u8]) -> Option<Form>
     requires { first ≤ length words.now }
-    ensures { (form : Form) → (result ≡ Some form) ↔ FormStands (texts words.now) first option.now form }
+    ensures { (form : Form)
+        → (result ≡ Some form) ↔ FormStands (texts words.now) first option.now form }
 {
     let place = word_place(words, first, option)?;
     Form::of_word(words[place].as_bytes())
@@ -37,7 +39,8 @@ pub fn form_at(words: &[String], first: usize, option: &[u8]) -> Option<Form>
 /// The count that the word of such an option tells, from 1 on, without leading zeros.
 pub fn count_at(words: &[String], first: usize, option: &[u8]) -> Option<u32>
     requires { first ≤ length words.now }
-    ensures { (count : ℕ) → (result ≡ Some count) ↔ CountStands (texts words.now) first option.now count }
+    ensures { (count : ℕ)
+        → (result ≡ Some count) ↔ CountStands (texts words.now) first option.now count }
 {
     let place = word_place(words, first, option)?;
     let count = decimal_of(words[place].as_str())?;

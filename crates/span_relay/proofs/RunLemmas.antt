@@ -11,9 +11,9 @@ use Rattle.span_io.specs.declared.limits.Limits.{Limits}
 use Rattle.conn_service.specs.declared.ended.ServeFault.{ServeFault}
 use Rattle.conn_service.specs.declared.ended.ServeFault.TheVariants as whys
 use Rattle.span_notes.specs.Notes.{NotesMore}
-use Rattle.span_notes.specs.laws.NoteLaws.{notes_all, notes_as, notes_both, notes_nothing}
+use Rattle.span_notes.proofs.NoteLaws.{notes_all, notes_as, notes_both, notes_nothing}
 use Rattle.span_spool.specs.Spools.{Spool}
-use Rattle.conn_service.specs.DoorRuns.{GivesEach}
+use Rattle.conn_service.specs.private.DoorSteps.{GivesEach}
 use Rattle.span_relay.specs.Forwards.{CountsFlow, Delivery, Forwards}
 use Rattle.span_relay.specs.Peers.{Wire}
 use Rattle.span_relay.specs.RelayConnections.{AddsRows, kept_rows, outcomes_in}
@@ -30,7 +30,7 @@ use Rattle.span_relay.specs.declared.round.Round.{Round}
 use Rattle.span_relay.specs.declared.run.RunEnd.{RunEnd}
 use Rattle.span_relay.specs.declared.run.RunEnd.TheVariants as ends
 use Rattle.span_relay.specs.declared.run.Turned.{Turned}
-use Rattle.conn_service.specs.laws.DoorLaws.{gives_all, gives_failed, gives_more, gives_none, gives_one, leaves_listening, leaves_refused}
+use Rattle.conn_service.proofs.DoorLaws.{gives_all, gives_failed, gives_more, gives_none, gives_one, leaves_listening, leaves_refused}
 use Rattle.span_relay.proofs.TurnLemmas.{keeper_rose, leaves_for, peer_rose, rose_none, turns_make, turns_more}
 
 -- ---- one round

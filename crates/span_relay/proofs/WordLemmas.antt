@@ -3,7 +3,7 @@ use Rattle.std.proofs.Common.{◌≡◌, ◌↔◌, ℕ, ◌<◌, List, length, 
 use Rattle.std.specs.Prelude.{codes, slice_get}
 use Rattle.span_io.specs.declared.form.Form.{Form}
 use Rattle.span_notes.specs.Pairs.{CountStands, FormStands, PlaceStands, texts}
-use Rattle.span_notes.specs.laws.WordLaws.{one_word, place_within}
+use Rattle.span_notes.proofs.WordLaws.{one_word, place_within}
 use Rattle.span_relay.specs.Peers.{IsPeerAddress}
 use Rattle.span_relay.specs.RelayWords.{CanRelay, SpellsOptions}
 use Rattle.span_relay.specs.declared.options.Options.{Options}

@@ -20,10 +20,12 @@ pub record Delivery : Type 0 where
 abbrev pub IsTaken : ℕ → Type 0
 IsTaken status = (200 ≤ status) × (status ≤ 299)
 
+-- the peer took all of these bodies (statuses 200 to 299)
 abbrev pub AreTaken : List Delivery → Type 0
 AreTaken [] = Unit {0}
 AreTaken (delivery ∷ deliveries) = IsTaken delivery.status × AreTaken deliveries
 
+-- the kept bodies of these deliveries, without the statuses
 abbrev pub rows_of : List Delivery → List Kept
 rows_of = map (λ (delivery : Delivery). delivery.row)
 

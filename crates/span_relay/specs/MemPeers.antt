@@ -18,6 +18,7 @@ pub record PeerState : Type 0 where
 abbrev pub fresh_peer : List ℕ → List ℕ → PeerState
 fresh_peer statuses fail = record { statuses = statuses; fail = fail; calls = 0; faults = 0; sent = [] }
 
+-- what contracts see of it: all that was sent, and its count of failures
 abbrev pub wire_of : PeerState → Wire
 wire_of s = record { sent = Some s.sent; faults = s.faults }
 

@@ -8,6 +8,7 @@ use Rattle.span_relay.specs.declared.peer.PeerFault.{PeerFault}
 use Rattle.span_relay.specs.declared.peer.PeerFault.TheVariants as faults
 use Rattle.span_relay.specs.declared.peer.Sent.{Sent}
 
+-- what was sent, in order, where that is told, and a count of failures, which stands still at the end of 64 bits
 pub record Wire : Type 0 where
   pub sent : Option (List Sent)
   pub faults : ℕ

@@ -113,18 +113,22 @@ pub record RelaysToWant (to : Form) (limits : Limits) (before now : Link) (outco
   pub quiet : now.inlet.faults ≡ before.inlet.faults
   pub holds : OutputHolds before.outlet now.outlet
 
+-- the fact holds of how the connection ended, where it was served to its end
 abbrev pub IfServed : Result Served RelayFault → (Ended → Type 0) → Type 0
 IfServed (Ok served) P = P served.end
 IfServed (Err fault) P = ⊤
 
+-- the fact holds, where a failed read ended it
 abbrev pub IfReadFailed : Result Served RelayFault → Type 0 → Type 0
 IfReadFailed (Ok served) P = ⊤
 IfReadFailed (Err fault) P = fault.why ≡ faults.Read → P
 
+-- the fact holds, where a failed write ended it
 abbrev pub IfWriteFailed : Result Served RelayFault → Type 0 → Type 0
 IfWriteFailed (Ok served) P = ⊤
 IfWriteFailed (Err fault) P = fault.why ≡ faults.Write → P
 
+-- the fact holds, where want of memory ended it
 abbrev pub IfMemoryWanted : Result Served RelayFault → Type 0 → Type 0
 IfMemoryWanted (Ok served) P = ⊤
 IfMemoryWanted (Err fault) P = fault.why ≡ faults.OutOfMemory → P
@@ -143,6 +147,7 @@ CauseRose before now fault =
     (fault.why ≡ faults.Read → Rose before.inlet.faults now.inlet.faults)
     × (fault.why ≡ faults.Write → Rose before.outlet.faults now.outlet.faults)
 
+-- the same by what a call answered: of one that served the connection to its end nothing is asked
 abbrev pub HasCause : Link → Link → Result Served RelayFault → Type 0
 HasCause before now (Ok served) = ⊤
 HasCause before now (Err fault) = CauseRose before now fault
@@ -169,5 +174,6 @@ MarksRelayed to limits outcomes now (Some left) None = ⊤
 MarksRelayed to limits outcomes now (Some left) (Some held) =
     now.inlet.left ≢ Some left → RelayedAtMark to limits outcomes now left held
 
+-- the same from the connection before the call: the bytes that were to come, and those that were written to it
 abbrev pub KeepsRelayMark : Form → Limits → List Bool → Link → Link → Type 0
 KeepsRelayMark to limits outcomes before now = MarksRelayed to limits outcomes now before.inlet.left before.outlet.held

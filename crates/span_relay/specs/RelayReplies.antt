@@ -34,6 +34,7 @@ pub record Offer : Type 0 where
   pub text : List ℕ
   pub kept : Bool
 
+-- the outcomes of these good requests, in order
 abbrev pub outcomes_of : List Offer → List Bool
 outcomes_of offers = map (λ (offer : Offer). offer.kept) offers
 
@@ -80,11 +81,13 @@ module _ {S : Type 0} (takes : S → Offer → S → Type 0) (to : Form) (limits
 abbrev pub TakesNext : List Offer → Offer → List Offer → Type 0
 TakesNext first offer last = first ≡ offer ∷ last
 
+-- a request is answered so, where the outcome of a good one is that of the next offer
 abbrev pub ByOffers : Form → Limits → List Offer → Request → List ℕ → List ℕ → List Offer → Type 0
 ByOffers to limits = RelayAnswers TakesNext to limits
 
 -- the text is the replies to a stream whose good requests have these outcomes, one each
-pub record RelayReplies (to : Form) (limits : Limits) (stream : List ℕ) (outcomes : List Bool) (text : List ℕ) (ended : Ended) : Type 0 where
+pub record RelayReplies (to : Form) (limits : Limits) (stream : List ℕ) (outcomes : List Bool) (text : List ℕ) (ended : Ended)
+    : Type 0 where
   pub offers : List Offer
   pub told : outcomes ≡ outcomes_of offers
   pub replies : IsReplies (ByOffers to limits) limits offers stream text ended []

@@ -73,6 +73,7 @@ abbrev pub why_in : Result Served RelayFault → Option ServeFault
 why_in (Ok served) = None
 why_in (Err fault) = Some fault.why
 
+-- want of memory ended the connection
 abbrev pub WantsMemory : Result Served RelayFault → Type 0
 WantsMemory ended = why_in ended ≡ Some whys.OutOfMemory
 
@@ -91,6 +92,7 @@ pub record SendsSome (peer : List ℕ) (ended : Result Served RelayFault) (answe
   pub enough : WantsMemory ended → ⊥
   pub sends : SendsOn peer most_sent answer gone more between last wire_first wire_last
 
+-- what was sent on behind the connection: nothing where no answer is told, and else bodies with this answer
 abbrev pub SendsAfter : List ℕ → Result Served RelayFault → Option (Result Flow FlowFault) → List Delivery → Option Delivery
     → Spool → Spool → Wire → Wire → Type 0
 SendsAfter peer ended None gone more between last wire_first wire_last =
@@ -107,6 +109,7 @@ abbrev pub keeper_failures : Option (Result Flow FlowFault) → ℕ
 keeper_failures (Some (Err faults.Keeper)) = 1
 keeper_failures other = 0
 
+-- how often the peer failed as bodies were sent on: once where that ended it, and else never
 abbrev pub peer_failures : Option (Result Flow FlowFault) → ℕ
 peer_failures (Some (Err faults.Peer)) = 1
 peer_failures other = 0
@@ -125,6 +128,8 @@ pub data LeavesFor (flow : Option (Result Flow FlowFault)) (gone : List Delivery
   peer_failed : peer_failures flow ≡ 1 → LeavesFor flow gone more
   halted : Halts flow → LeavesFor flow gone more
 
+-- The connection was served, and bodies were sent on to the peer at this address. Where some are left there is a reason, and the
+-- counts rose where the keeper or the peer failed.
 pub record IsTurn (to : Form) (peer : List ℕ) (turn : Turn) : Type 0 where
   pub serves : ServesLink to shipped_limits turn.link turn.back turn.ended turn.kept turn.first turn.between
   pub sends : SendsAfter peer turn.ended turn.flow turn.gone turn.more turn.between turn.last turn.wire_first turn.wire_last
@@ -138,15 +143,18 @@ round_of turn = record { outcomes = outcomes_in turn.ended; gone = length turn.g
 
 -- ---- its lines
 
+-- a line on the connection of this number: its number, and then what is said
 abbrev pub line_of : ℕ → List ℕ → List ℕ
 line_of number said = codes "connection " ++ decimal number ++ said
 
+-- the line of a read or a write of the connection that failed, and else none
 abbrev pub link_line : ℕ → Option ServeFault → List ℕ
 link_line number None = []
 link_line number (Some whys.Read) = line_of number (codes ": read failed\n")
 link_line number (Some whys.Write) = line_of number (codes ": write failed\n")
 link_line number (Some whys.OutOfMemory) = []
 
+-- the line of how sending on ended: the status of a body that wasn't taken, or that the keeper or the peer failed, and else none
 abbrev pub flow_line : ℕ → Result Flow FlowFault → List ℕ
 flow_line number (Ok flows.Empty) = []
 flow_line number (Ok (flows.Held status)) = line_of number (codes ": peer answered " ++ decimal status ++ codes "\n")
@@ -155,10 +163,12 @@ flow_line number (Err faults.Keeper) = line_of number (codes ": keeper failed\n"
 flow_line number (Err faults.Peer) = line_of number (codes ": peer failed\n")
 flow_line number (Err faults.OutOfMemory) = []
 
+-- the same, and none where nothing was sent on
 abbrev pub sent_line : ℕ → Option (Result Flow FlowFault) → List ℕ
 sent_line number None = []
 sent_line number (Some answer) = flow_line number answer
 
+-- the lines of a turn: first that of its connection, then that of what was sent on, each if there is one
 abbrev pub turn_line : ℕ → Turn → List ℕ
 turn_line number turn = link_line number (why_in turn.ended) ++ sent_line number turn.flow
 
@@ -194,10 +204,12 @@ abbrev pub kept_in : List Turn → List Kept
 kept_in [] = []
 kept_in (turn ∷ turns) = turn.kept ++ kept_in turns
 
+-- how many bodies left the spool in these turns
 abbrev pub gone_in : List Turn → ℕ
 gone_in [] = 0
 gone_in (turn ∷ turns) = length turn.gone + gone_in turns
 
+-- what a peer at this address saw in these turns, in order: in each the bodies that left, and then the one more, if there is one
 abbrev pub sent_in : List ℕ → List Turn → List Sent
 sent_in peer [] = []
 sent_in peer (turn ∷ turns) = sent_to peer (turn.gone ++ option_to_list turn.more) ++ sent_in peer turns
@@ -209,6 +221,7 @@ keeper_causes [] = 0
 keeper_causes (turn ∷ turns) =
     refused_from turn.first 0 (outcomes_in turn.ended) + keeper_failures turn.flow + keeper_causes turns
 
+-- in how many of these turns the peer failed
 abbrev pub peer_causes : List Turn → ℕ
 peer_causes [] = 0
 peer_causes (turn ∷ turns) = peer_failures turn.flow + peer_causes turns
@@ -222,6 +235,7 @@ end_status (ends.Left left) = 8
 end_status ends.DoorFailed = 5
 end_status ends.NoMemory = 7
 
+-- the last line: how many bodies are left, or that the door failed or memory was wanted, and none where all were sent
 abbrev pub end_line : RunEnd → List ℕ
 end_line ends.AllSent = []
 end_line (ends.Left left) = codes "left " ++ decimal left ++ codes "\n"
@@ -240,9 +254,11 @@ Reaches (ends.Left left) count turns now = (length turns ≡ count) × NoneHalts
 Reaches ends.DoorFailed count turns now = (length turns < count) × NoneHalts turns
 Reaches ends.NoMemory count turns now = (length turns ≤ count) × (NoneHalts turns ⊎ LastHalts turns)
 
+-- the connections of these turns as they were accepted
 abbrev pub links_of : List Turn → List Link
 links_of turns = map (λ (turn : Turn). turn.link) turns
 
+-- the same as they were given back
 abbrev pub backs_of : List Turn → List Link
 backs_of turns = map (λ (turn : Turn). turn.back) turns
 

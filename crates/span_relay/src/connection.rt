@@ -78,11 +78,13 @@ pub fn relay_connection<C: Duplex, K: Keeper>(
         (RelaysToWant to limits.now (C.link conn.old) (C.link conn.new) (outcomes_in result)) }
 
     // Each standard answer was written after its body was kept.
-    ensures answers { AnswersOutcomes to limits.now (C.link conn.old) (C.link conn.new) (outcomes_in result) }
+    ensures answers { AnswersOutcomes to limits.now (C.link conn.old) (C.link conn.new)
+        (outcomes_in result) }
     ensures causes { HasCause (C.link conn.old) (C.link conn.new) result }
 
     // Whole requests have their answers before more bytes come.
-    ensures mark { KeepsRelayMark to limits.now (outcomes_in result) (C.link conn.old) (C.link conn.new) }
+    ensures mark { KeepsRelayMark to limits.now (outcomes_in result) (C.link conn.old)
+        (C.link conn.new) }
     ensures counted { (K.spool keeper.old).faults ≤ (K.spool keeper.new).faults }
     ensures sound { IsSpool (K.spool keeper.old) × IsSpool (K.spool keeper.new) }
 {

@@ -50,11 +50,13 @@ pub fn forward<K: Keeper, P: Peer>(
     ensures empty { IsOk result → (result ≡ Ok Flow.Empty) ↔ ((K.spool keeper.new).held ≡ 0) }
 
     // The keeper and the peer fail only where their counts rose.
-    ensures counts { CountsFlow result (K.spool keeper.old) (K.spool keeper.new) (P.wire peer.old) (P.wire peer.new) }
+    ensures counts { CountsFlow result (K.spool keeper.old) (K.spool keeper.new) (P.wire peer.old)
+        (P.wire peer.new) }
 
     // Where neither count rose, the flow came to its end, or memory was wanted.
     ensures complete { ¬ Rose (K.spool keeper.old).faults (K.spool keeper.new).faults
-        → ¬ Rose (P.wire peer.old).faults (P.wire peer.new).faults → IsOk result ⊎ (result ≡ Err FlowFault.OutOfMemory) }
+        → ¬ Rose (P.wire peer.old).faults (P.wire peer.new).faults
+        → IsOk result ⊎ (result ≡ Err FlowFault.OutOfMemory) }
     ensures counted { (K.spool keeper.old).faults ≤ (K.spool keeper.new).faults }
     ensures wire_counted { (P.wire peer.old).faults ≤ (P.wire peer.new).faults }
     ensures sound { IsSpool (K.spool keeper.old) × IsSpool (K.spool keeper.new) }

@@ -1,3 +1,4 @@
+//! A peer in memory, for tests and rows.
 ghost use Rattle.std.specs.Prelude.{◌≡◌, ◌≤◌, ◌↔◌, ◌⊎◌, [], ◌∷◌, Err, Contains, IfOk};
 ghost use Rattle.span_io.specs.Outside.{counted};
 ghost use Rattle.span_relay.specs.MemPeers.{CountsRefusal, fresh_peer, wire_of};
@@ -83,7 +84,8 @@ impl Peer for MemPeer {
 
     fn send(&mut self, address: &str, form: Form, body: &[u8]) -> Result<u16, PeerFault>
         requires address { IsPeerAddress address.now }
-        ensures sends { Sends address.now form body.now (wire_of self.old) (wire_of self.new) result }
+        ensures sends { Sends address.now form body.now (wire_of self.old)
+            (wire_of self.new) result }
         ensures counted { (wire_of self.old).faults ≤ (wire_of self.new).faults }
 
         // It fails exactly on the listed calls, and where no status is left.

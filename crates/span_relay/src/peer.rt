@@ -1,3 +1,4 @@
+//! Whom a relay forwards to, and what a call of it promises.
 ghost use Rattle.std.specs.Prelude.{◌≤◌};
 ghost use Rattle.span_relay.specs.Peers.{IsPeerAddress, Sends, Wire};
 

@@ -51,7 +51,8 @@ impl<'a, K: Keeper> Relaying<'a, K> {
         ensures same_keeper { self.new.keeper.ghost_name ≡ self.old.keeper.ghost_name }
         ensures same_outcomes { self.new.outcomes.ghost_name ≡ self.old.outcomes.ghost_name }
         ensures points { Points self.old.to limits.now (C.link conn.old) (C.link conn.new)
-            (K.spool self.old.keeper.now) (K.spool self.new.keeper.now) self.new.outcomes.now.items result }
+            (K.spool self.old.keeper.now)
+            (K.spool self.new.keeper.now) self.new.outcomes.now.items result }
     {
         serve(alloc, conn, self, limits)
     }
@@ -99,7 +100,8 @@ impl<'a, K: Keeper> Relaying<'a, K> {
         ensures same_form { self.new.to ≡ self.old.to }
         ensures ok { OnOk result (AppendsOffer self.old.to from close
             (state_of (K.spool self.old.keeper.now) self.old.outcomes.now.items)
-            (state_of (K.spool self.new.keeper.now) self.new.outcomes.now.items) text.now out.old out.new) }
+            (state_of
+            (K.spool self.new.keeper.now) self.new.outcomes.now.items) text.now out.old out.new) }
         ensures err { OnErr result (HaltsOffer self.old.to from close
             (state_of (K.spool self.old.keeper.now) self.old.outcomes.now.items)
             (state_of (K.spool self.new.keeper.now) self.new.outcomes.now.items) text.now) }
@@ -173,7 +175,8 @@ fn take_room(outcomes: &mut Vec<bool>) -> Result<(), OutOfMemory>
 
 // Whether the keeper kept a text.
 fn keep<K: Keeper>(keeper: &mut K, to: Form, text: &[u8]) -> Result<bool, OutOfMemory>
-    ensures ok { IfOk result (λ kept. KeepsOr to text.now (K.spool keeper.old) (K.spool keeper.new) kept) }
+    ensures ok { IfOk result
+        (λ kept. KeepsOr to text.now (K.spool keeper.old) (K.spool keeper.new) kept) }
     ensures err { OnErr result (K.spool keeper.new ≡ K.spool keeper.old) }
     ensures counted { (K.spool keeper.old).faults ≤ (K.spool keeper.new).faults }
     ensures sound { IsSpool (K.spool keeper.old) × IsSpool (K.spool keeper.new) }

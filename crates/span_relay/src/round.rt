@@ -1,3 +1,4 @@
+//! What became of one connection of a relay.
 use span_io::Items;
 
 /// What became of one connection of a relay.

@@ -79,8 +79,10 @@ pub fn relay_run<K: Keeper, P: Peer, N: Sink, D: Door>(
     rounds: &mut Items<Round>,
 ) -> u8
     // Other words are answered at once: nothing is accepted, kept or sent, and nothing written but a note.
-    ensures usage { (result ≡ 2) ↔ ((options : Options) → ¬ SpellsOptions options (texts words.now)) }
-    ensures untouched { result ≡ 2 → (keeper.new ≡ keeper.old) × (peer.new ≡ peer.old) × (door.new ≡ door.old)
+    ensures usage { (result ≡ 2)
+        ↔ ((options : Options) → ¬ SpellsOptions options (texts words.now)) }
+    ensures untouched { result ≡ 2
+        → (keeper.new ≡ keeper.old) × (peer.new ≡ peer.old) × (door.new ≡ door.old)
         × (rounds.new ≡ rounds.old) }
     ensures usage_noted { result ≡ 2 → Notes (N.outlet notes.old) (N.outlet notes.new) usage_line }
 
@@ -88,7 +90,8 @@ pub fn relay_run<K: Keeper, P: Peer, N: Sink, D: Door>(
     ensures relays { OnOptions (texts words.now) (λ address peer_address to count.
         RelaysConnections address peer_address to count result
         (K.spool keeper.old) (K.spool keeper.new) (P.wire peer.old) (P.wire peer.new)
-        (D.doorway door.old) (D.doorway door.new) (N.outlet notes.old) (N.outlet notes.new) rounds.old rounds.new) }
+        (D.doorway door.old) (D.doorway door.new) (N.outlet notes.old)
+        (N.outlet notes.new) rounds.old rounds.new) }
 {
     match read_options(words) {
         Some(options) => relay(
@@ -127,7 +130,8 @@ fn relay<K: Keeper, P: Peer, N: Sink, D: Door>(
     requires some { 1 ≤ count }
     ensures { RelaysConnections address.now target.now to count result
         (K.spool keeper.old) (K.spool keeper.new) (P.wire peer.old) (P.wire peer.new)
-        (D.doorway door.old) (D.doorway door.new) (N.outlet notes.old) (N.outlet notes.new) rounds.old rounds.new }
+        (D.doorway door.old) (D.doorway door.new) (N.outlet notes.old)
+        (N.outlet notes.new) rounds.old rounds.new }
 {
     gains_then();
     let mut holds = true;
@@ -261,7 +265,8 @@ fn relay_next<K: Keeper, D: Door>(
     requires { IsListening (D.doorway door.old) }
     ensures ok { IfOk result (λ ended. RelaysNext to ended (K.spool keeper.old) (K.spool keeper.new)
         (D.doorway door.old) (D.doorway door.new)) }
-    ensures err { OnErr result (D.doorway door.new ≡ refused (D.doorway door.old) (D.doorway door.new).faults) }
+    ensures err { OnErr result
+        (D.doorway door.new ≡ refused (D.doorway door.old) (D.doorway door.new).faults) }
     ensures failed { OnErr result (Rose (D.doorway door.old).faults (D.doorway door.new).faults) }
     ensures same { OnErr result (keeper.new ≡ keeper.old) }
 {
@@ -347,7 +352,8 @@ fn wants_memory(flow: Result<Flow, FlowFault>) -> bool
 
 // Notes that a call of a connection was refused, where it was, and answers whether no note has failed.
 fn note_link<N: Sink>(notes: &mut N, holds: bool, number: u32, why: Option<RelayWhy>) -> bool
-    ensures { NotesMore holds result (N.outlet notes.old) (N.outlet notes.new) (link_line number why) }
+    ensures { NotesMore holds result (N.outlet notes.old) (N.outlet notes.new)
+        (link_line number why) }
 {
     match why {
         None | Some(RelayWhy::OutOfMemory) => holds,
@@ -375,7 +381,8 @@ fn note_flow<N: Sink>(
     number: u32,
     flow: Result<Flow, FlowFault>,
 ) -> bool
-    ensures { NotesMore holds result (N.outlet notes.old) (N.outlet notes.new) (flow_line number flow) }
+    ensures { NotesMore holds result (N.outlet notes.old) (N.outlet notes.new)
+        (flow_line number flow) }
 {
     match flow {
         Ok(Flow::Empty | Flow::Spent) | Err(FlowFault::OutOfMemory) => holds,
@@ -399,7 +406,8 @@ fn note_flow<N: Sink>(
 
 // Notes the status that the peer answered the first body with.
 fn note_status<N: Sink>(notes: &mut N, holds: bool, number: u32, status: u16) -> bool
-    ensures { NotesMore holds result (N.outlet notes.old) (N.outlet notes.new) (flow_line number (Ok (Flow.Held status))) }
+    ensures { NotesMore holds result (N.outlet notes.old) (N.outlet notes.new)
+        (flow_line number (Ok (Flow.Held status))) }
 {
     let mut place = Buffer::new();
     let mut digits = Buffer::new();

@@ -1,3 +1,4 @@
+//! A peer over a stream of TCP.
 ghost use Rattle.std.specs.Prelude.{◌≡◌, None};
 ghost use Rattle.span_relay.specs.Peers.{IsPeerAddress};
 

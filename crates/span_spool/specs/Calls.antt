@@ -32,6 +32,8 @@ pub record KeepsRow (form : Form) (body : List ℕ) (before now : Spool) (n : �
   pub number : n ≡ before.next
   pub grows : now ≡ grown before (record { number = n; form = form; body = body }) now.faults
 
+-- what a call to keep a body answers: the number that it got, or a fault, and then no row was added: the outside refused the
+-- call (Failed), there is no room (Full), or there is room but no number left (Spent), or memory is wanted (OutOfMemory)
 abbrev pub Keeps : Form → List ℕ → Spool → Spool → Result ℕ KeepFault → Type 0
 Keeps form body before now (Ok n) = KeepsRow form body before now n
 Keeps form body before now (Err faults.Failed) = Rose before.faults now.faults × (now ≡ stays before now.faults)
@@ -57,6 +59,7 @@ pub record IsFirst (s : Spool) (row : Kept) : Type 0 where
   pub number : row.number ≡ s.next - s.held
   pub first : IfSome s.rows (λ rows. BeginWith rows row)
 
+-- what a call for the first row answers: a copy of it, or none where no row is held; the rows stay as they were
 abbrev pub GivesFirst : Spool → Spool → Result (Option Kept) KeepFault → Type 0
 GivesFirst before now (Ok None) = (before.held ≡ 0) × (now ≡ stays before now.faults)
 GivesFirst before now (Ok (Some row)) = IsFirst before row × (now ≡ stays before now.faults)
@@ -68,6 +71,8 @@ pub record DropsRow (number : ℕ) (before now : Spool) : Type 0 where
   pub is_first : number ≡ before.next - before.held
   pub shrinks : now ≡ shrunk before now.faults
 
+-- what a call to drop the row of this number answers: true where it was the first and went, false where no row is held or the
+-- first has another number, and then the rows stay as they were
 abbrev pub DropsFirst : ℕ → Spool → Spool → Result Bool KeepFault → Type 0
 DropsFirst number before now (Ok true) = DropsRow number before now
 DropsFirst number before now (Ok false) =

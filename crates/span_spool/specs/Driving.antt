@@ -43,6 +43,7 @@ pub record Stops (orders : List Order) (before now : Spool) (halted : Halted) : 
   pub failed : halted.failed ≡ true → Rose between.faults now.faults
   pub quiet : halted.failed ≡ false → now.faults ≡ between.faults
 
+-- how a list of orders ends: all took effect and have their replies, or it stopped at one of them
 abbrev pub Drives : List Order → Spool → Spool → Result (List Reply) Halted → Type 0
 Drives orders before now (Ok replies) = Runs orders replies before now
 Drives orders before now (Err halted) = Stops orders before now halted

@@ -19,6 +19,7 @@ pub record MemState : Type 0 where
 abbrev pub fresh_keeper : ℕ → List ℕ → MemState
 fresh_keeper room fail = record { rows = []; room = room; next = 1; fail = fail; calls = 0; faults = 0 }
 
+-- the spool of a keeper in memory, which tells its rows
 abbrev pub spool_of : MemState → Spool
 spool_of s = record { rows = Some s.rows; room = s.room; held = length s.rows; next = s.next; faults = s.faults }
 

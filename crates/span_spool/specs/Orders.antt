@@ -23,9 +23,11 @@ gathered by [] replies = []
 gathered by (order ∷ orders) [] = []
 gathered by (order ∷ orders) (reply ∷ replies) = option_to_list (by order reply) ++ gathered by orders replies
 
+-- the bodies that were accepted, with their numbers, in the order in which they were
 abbrev pub accepted : List Order → List Reply → List Kept
 accepted = gathered body_of
 
+-- the numbers that were acknowledged, those of the rows that a call dropped, in the order in which they were
 abbrev pub acknowledged : List Order → List Reply → List ℕ
 acknowledged = gathered number_of
 

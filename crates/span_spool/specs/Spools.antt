@@ -3,6 +3,8 @@
 use Rattle.std.specs.Prelude.{◌≡◌, ℕ, ◌+◌, ◌-◌, ◌<◌, ◌≤◌, List, [], ◌∷◌, length, Option, IfSome}
 use Rattle.span_spool.specs.declared.kept.Kept.{Kept}
 
+-- the bodies that are kept, where they are told, the oldest first; how many rows there is room for, how many are held,
+-- the number that the next one gets, and how often the outside refused a call
 pub record Spool : Type 0 where
   pub rows : Option (List Kept)
   pub room : ℕ

@@ -13,5 +13,6 @@ pub record TableState : Type 0 where
 abbrev pub fresh_table : ℕ → TableState
 fresh_table room = record { room = room; held = 0; next = 1; faults = 0 }
 
+-- the spool of a keeper over a table, which doesn't tell its rows
 abbrev pub spool_of_table : TableState → Spool
 spool_of_table s = record { rows = None; room = s.room; held = s.held; next = s.next; faults = s.faults }

@@ -14,6 +14,7 @@ pub record Leaves (orders : List Order) (replies : List Reply) (before now : Spo
   pub rows : now.rows ≡ option_map (λ _. left orders replies) before.rows
   pub acknowledged : acknowledged orders replies ≡ range_with_len 1 (now.next - now.held - 1)
 
+-- a spool that began empty holds what is left of the orders that it carried out and of their replies, whatever they are
 abbrev pub LeftOver : Type 0
 LeftOver = (orders : List Order) (replies : List Reply) (before now : Spool) → IsEmpty before → Runs orders replies before now
     → Leaves orders replies before now

@@ -18,7 +18,8 @@ pub fn drive<K: Keeper>(
 ) -> Result<Items<Reply>, Halted>
     ensures drives { Drives orders.now (K.spool keeper.old) (K.spool keeper.new) result }
     ensures sound { IsSpool (K.spool keeper.old) × IsSpool (K.spool keeper.new) }
-    ensures leaves { IsEmpty (K.spool keeper.old) → LeavesBy orders.now (K.spool keeper.old) (K.spool keeper.new) result }
+    ensures leaves { IsEmpty (K.spool keeper.old)
+        → LeavesBy orders.now (K.spool keeper.old) (K.spool keeper.new) result }
 {
     let _held = keeper.size();
     let _count = orders.len();
@@ -43,7 +44,8 @@ pub fn drive<K: Keeper>(
 // Where a list of orders stopped that has these replies.
 fn halted(replies: Vec<Reply>, failed: bool) -> Halted
     requires { IsShort replies.items }
-    ensures { result ≡ record { done = length replies.items; replies = replies.items; failed = failed } }
+    ensures { result
+        ≡ record { done = length replies.items; replies = replies.items; failed = failed } }
 {
     Halted {
         done: replies.len() as u64,

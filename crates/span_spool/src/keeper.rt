@@ -1,3 +1,4 @@
+//! What keeps bodies until they are forwarded, and what its calls promise.
 ghost use Rattle.std.specs.Prelude.{◌≡◌, ◌≤◌};
 ghost use Rattle.span_spool.specs.Calls.{DropsFirst, GivesFirst, Keeps};
 ghost use Rattle.span_spool.specs.Spools.{IsSpool, Spool};

@@ -1,3 +1,4 @@
+//! A body that a spool keeps.
 use span_io::{Blob, Form};
 
 /// A body that was accepted, with its number and the form of its spans.

@@ -1,3 +1,4 @@
+//! A keeper in memory, for tests and rows.
 ghost use Rattle.std.specs.Prelude.{◌≡◌, ◌<◌, ◌≤◌, ◌↔◌, ◌≢◌, Err, IfOk, IsTrue, Contains, cond, length};
 ghost use Rattle.span_io.specs.Outside.{counted};
 ghost use Rattle.span_spool.specs.Calls.{DropsFirst, GivesFirst, Keeps};
@@ -154,7 +155,8 @@ impl Keeper for MemKeeper {
         ensures sound { IsSpool (spool_of self.old) × IsSpool (spool_of self.new) }
 
         // It fails exactly on the listed calls.
-        ensures fails { (result ≡ Err faults.Failed) ↔ Contains self.old.fail (counted self.old.calls) }
+        ensures fails { (result ≡ Err faults.Failed)
+            ↔ Contains self.old.fail (counted self.old.calls) }
         ensures calls { self.new.calls ≡ counted self.old.calls }
         ensures faults { CountsFailure result self.old.faults self.new.faults }
         ensures stays { self.new.fail ≡ self.old.fail }
@@ -171,7 +173,8 @@ impl Keeper for MemKeeper {
         ensures sound { IsSpool (spool_of self.old) × IsSpool (spool_of self.new) }
 
         // It fails exactly on the listed calls.
-        ensures fails { (result ≡ Err faults.Failed) ↔ Contains self.old.fail (counted self.old.calls) }
+        ensures fails { (result ≡ Err faults.Failed)
+            ↔ Contains self.old.fail (counted self.old.calls) }
         ensures calls { self.new.calls ≡ counted self.old.calls }
         ensures faults { CountsFailure result self.old.faults self.new.faults }
         ensures stays { self.new.fail ≡ self.old.fail }
@@ -195,7 +198,8 @@ impl Keeper for MemKeeper {
         ensures sound { IsSpool (spool_of self.old) × IsSpool (spool_of self.new) }
 
         // It fails exactly on the listed calls.
-        ensures fails { (result ≡ Err faults.Failed) ↔ Contains self.old.fail (counted self.old.calls) }
+        ensures fails { (result ≡ Err faults.Failed)
+            ↔ Contains self.old.fail (counted self.old.calls) }
         ensures calls { self.new.calls ≡ counted self.old.calls }
         ensures faults { CountsFailure result self.old.faults self.new.faults }
         ensures stays { self.new.fail ≡ self.old.fail }

@@ -1,3 +1,4 @@
+//! The orders that a keeper takes.
 use crate::kept::Kept;
 use span_io::{Blob, Form, Items};
 

@@ -1,3 +1,4 @@
+//! The rows that a keeper in memory holds, in their order.
 ghost use Rattle.std.specs.Prelude.{◌≡◌, ◌<◌, [], ◌∷◌, ◌++◌, length, drop, OnOk, OnErr};
 
 use crate::kept::Kept;

@@ -1,3 +1,4 @@
+//! A keeper over a file of SQLite.
 ghost use Rattle.std.specs.Prelude.{◌≡◌, ◌≤◌, IfOk};
 ghost use Rattle.span_spool.specs.Calls.{DropsFirst, GivesFirst, Halts, Keeps};
 ghost use Rattle.span_spool.specs.Spools.{IsSpool, last_number, most_room};
@@ -78,7 +79,8 @@ impl Keeper for SqlKeeper {
     ghost spool = { spool_of_table };
 
     fn keep(&mut self, form: Form, body: &[u8]) -> Result<u64, KeepFault>
-        ensures keeps { Keeps form body.now (spool_of_table self.old) (spool_of_table self.new) result }
+        ensures keeps { Keeps form body.now (spool_of_table self.old)
+            (spool_of_table self.new) result }
         ensures counted { (spool_of_table self.old).faults ≤ (spool_of_table self.new).faults }
         ensures sound { IsSpool (spool_of_table self.old) × IsSpool (spool_of_table self.new) }
     {
@@ -114,7 +116,8 @@ impl Keeper for SqlKeeper {
     }
 
     fn drop_first(&mut self, number: u64) -> Result<bool, KeepFault>
-        ensures drops { DropsFirst number (spool_of_table self.old) (spool_of_table self.new) result }
+        ensures drops { DropsFirst number (spool_of_table self.old)
+            (spool_of_table self.new) result }
         ensures counted { (spool_of_table self.old).faults ≤ (spool_of_table self.new).faults }
         ensures sound { IsSpool (spool_of_table self.old) × IsSpool (spool_of_table self.new) }
     {

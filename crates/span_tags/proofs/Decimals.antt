@@ -4,7 +4,7 @@ use Rattle.std.specs.Str.{bytes_eq}
 use Rattle.std.specs.Str.Parse.{digits_value, ParsesUnsigned}
 use Rattle.std.proofs.lemmas.Bool.{le-leb, leb-true}
 use Rattle.std.proofs.lemmas.Fmt.{parse-decimal, decimal_is_IsNumeral}
-use Rattle.span_tags.specs.laws.AttributeLaws.{same_key}
+use Rattle.span_tags.proofs.AttributeLaws.{same_key}
 use Rattle.span_tags.specs.TagWords.{at_most, decimal_in}
 
 -- what is read of a text, by the tests

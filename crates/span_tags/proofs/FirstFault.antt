@@ -10,15 +10,16 @@ use Rattle.trace_model.specs.Soundness.{IsSoundSpan, IsSoundScope, IsSoundGroup}
 use Rattle.trace_model.specs.declared.fault.Fault.{Fault}
 use Rattle.trace_model.specs.declared.fault.Fault.TheVariants.{EndBeforeStart, OwnKey, EventText, ChildOfLink, DoubleInText}
 use Rattle.trace_model.specs.declared.span.Span.{Span}
-use Rattle.trace_model.specs.declared.trace.Group.{Group}
-use Rattle.trace_model.specs.declared.trace.Scope.{Scope}
+use Rattle.trace_model.specs.declared.group.Group.{Group}
+use Rattle.trace_model.specs.declared.group.Scope.{Scope}
 use Rattle.span_tags.specs.FaultTables.{FaultTable, if_so, doubles_in_span, doubles_in_resource, fault_of_span, fault_of_spans, fault_of_scopes, found_fault}
 use Rattle.span_tags.specs.PlacedFaults.{Placed, key_in, KeyAtMost, FaultAtMost, Counts, IsFaultBy, in_resource, CountsBy}
 use Rattle.span_tags.specs.PlacedFaults as faults
 use Rattle.span_tags.specs.TagWords.{Pairs}
-use Rattle.span_tags.specs.laws.AttributeLaws.{option_or-assoc}
-use Rattle.span_tags.specs.laws.FaultLaws.{FindsRows, plain_span, FindsFaults, none_plain}
-use Rattle.span_tags.specs.laws.LeastRows.{least_same, least_if, not_above_itself}
+use Rattle.span_tags.proofs.AttributeLaws.{option_or-assoc}
+use Rattle.span_tags.specs.FoundFaults.{FindsRows, plain_span, FindsFaults}
+use Rattle.span_tags.proofs.FaultLaws.{none_plain}
+use Rattle.span_tags.proofs.LeastRows.{least_same, least_if, not_above_itself}
 use Rattle.span_tags.specs.Runs.{Scoped, under, scoped}
 
 -- ---- the least of two kinds

@@ -1,7 +1,7 @@
 -- What stands behind the front of a key, and the key without all copies of it.
 use Rattle.std.proofs.Common.{◌≡◌, ℕ, ◌<◌, Bool, true, false, if◌then◌else◌, List, length, drop, Some, None, is_some, refl, sym, ap, ◌∙◌, true≢false, arith}
 use Rattle.span_tags.specs.Escapes.{has_front, base}
-use Rattle.span_tags.specs.laws.EscapeLaws.{base_behind, base_plain, front_split}
+use Rattle.span_tags.proofs.EscapeLaws.{base_behind, base_plain, front_split}
 
 -- a key that has something behind the front
 pub some_behind : (k rest : List ℕ) → Some rest ≡ (if has_front k then Some (drop 10 k) else None) → (has_front k ≡ true) × (rest ≡ drop 10 k)

@@ -1,5 +1,17 @@
+pub mod AttributeLaws
+pub mod BeginLaws
+pub mod ColumnLaws
+pub mod EscapeLaws
 pub mod Examples
+pub mod FaultLaws
 pub mod KeysBehind
+pub mod LeastRows
+pub mod LossSteps
+pub mod MeaningLaws
+pub mod Moved
+pub mod QuietLaws
+pub mod RowLaws
+pub mod RunLaws
 pub mod RunsAtBack
 pub mod Decimals
 pub mod PlacedRows

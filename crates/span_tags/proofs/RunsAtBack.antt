@@ -2,8 +2,8 @@
 use Rattle.std.proofs.Common.{◌≡◌, ℕ, Bool, true, false, ◌&&◌, List, [], ◌∷◌, ◌++◌, refl, sym, ap, ◌∙◌, append_assoc}
 use Rattle.std.specs.Str.{bytes_eq}
 use Rattle.trace_model.specs.declared.span.Span.{Span}
-use Rattle.trace_model.specs.declared.trace.Scope.{Scope}
-use Rattle.span_tags.specs.laws.AttributeLaws.{same_key, key_itself}
+use Rattle.trace_model.specs.declared.group.Scope.{Scope}
+use Rattle.span_tags.proofs.AttributeLaws.{same_key, key_itself}
 use Rattle.span_tags.specs.Runs.{Scoped, plain_scope, is_of, in_front}
 use Rattle.span_tags.specs.ReadRuns.{joined}
 

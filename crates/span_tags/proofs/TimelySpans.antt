@@ -7,7 +7,7 @@ use Rattle.std.proofs.lemmas.Bool.{ltb-false}
 use Rattle.trace_model.specs.declared.fault.Fault.{Fault}
 use Rattle.trace_model.specs.declared.fault.Fault.TheVariants.{EndBeforeStart}
 use Rattle.trace_model.specs.declared.span.Span.{Span}
-use Rattle.trace_model.specs.declared.trace.Scope.{Scope}
+use Rattle.trace_model.specs.declared.group.Scope.{Scope}
 use Rattle.span_tags.specs.FaultTables.{FaultTable, IsTimely, BeginsWith, if_so, fault_of_span, fault_of_spans, fault_of_scopes}
 use Rattle.span_tags.specs.Runs.{Scoped, under, scoped}
 

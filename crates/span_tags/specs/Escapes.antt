@@ -10,9 +10,11 @@ use Rattle.std.specs.Str.{bytes_eq}
 use Rattle.trace_model.specs.Attributes.{attrs}
 use Rattle.span_tags.specs.TagWords.{Pairs}
 
+-- what is put before a key that is reserved, and before one that would be read back as such
 abbrev pub front : List ℕ
 front = codes "otel.attr."
 
+-- the key begins with the front, which has 10 bytes
 abbrev pub has_front : List ℕ → Bool
 has_front key = bytes_eq (take 10 key) front
 
@@ -30,9 +32,11 @@ abbrev pub rekeyed : (List ℕ → List ℕ) → Pairs → Pairs
 rekeyed other_key pairs = map (λ pair. (other_key pair.0, pair.1)) pairs
 
 module _ (is_reserved : List ℕ → Bool) where
+  -- the key is a reserved one, once all copies of the front that it begins with are taken away
   abbrev pub is_touched : List ℕ → Bool
   is_touched key = is_reserved (base key)
 
+  -- the key under which an attribute of this key is written: with one more front where it is touched, else the same
   abbrev pub esc : List ℕ → List ℕ
   esc key = if is_touched key then front ++ key else key
 
@@ -40,12 +44,15 @@ module _ (is_reserved : List ℕ → Bool) where
   abbrev pub is_escaped : List ℕ → Bool
   is_escaped key = has_front key && is_touched key
 
+  -- the key of the attribute that a tag of this key is: without one front where it is touched and begins with one, else the same
   abbrev pub unesc : List ℕ → List ℕ
   unesc key = if is_escaped key then drop 10 key else key
 
+  -- the attributes under the keys that are written, in the order of those keys
   abbrev pub escaped : Pairs → Pairs
   escaped attributes = attrs (rekeyed esc attributes)
 
+  -- the attributes that these tags are, in the order of their keys; of two tags that give one key the last counts
   abbrev pub unescaped : Pairs → Pairs
   unescaped tags = attrs (rekeyed unesc tags)
 
@@ -57,3 +64,7 @@ module _ (is_reserved : List ℕ → Bool) where
     pub stays : (key : List ℕ) → is_touched key ≡ false → esc key ≡ key
     pub back : (key : List ℕ) → unesc (esc key) ≡ key
     pub again : (key : List ℕ) → is_reserved key ≡ false → esc (unesc key) ≡ key
+
+-- no key behind the front is reserved
+abbrev pub IsApart : (List ℕ → Bool) → Type 0
+IsApart is_reserved = (key : List ℕ) → is_reserved (front ++ key) ≡ false

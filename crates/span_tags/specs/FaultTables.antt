@@ -6,11 +6,12 @@ use Rattle.trace_model.specs.declared.fault.Fault.{Fault}
 use Rattle.trace_model.specs.declared.fault.Fault.TheVariants.{EndBeforeStart, OwnKey, EventText, ChildOfLink, DoubleInText}
 use Rattle.trace_model.specs.declared.span.Event.{Event}
 use Rattle.trace_model.specs.declared.span.Span.{Span}
-use Rattle.trace_model.specs.declared.trace.Group.{Group}
-use Rattle.trace_model.specs.declared.trace.Scope.{Scope}
+use Rattle.trace_model.specs.declared.group.Group.{Group}
+use Rattle.trace_model.specs.declared.group.Scope.{Scope}
 use Rattle.trace_model.specs.declared.value.Value.{Value}
 use Rattle.span_tags.specs.TagWords.{Pairs}
 
+-- how a target finds each kind of fault; an end before the start is found alike for every target, and has no field here
 pub record FaultTable : Type 0 where
   -- the first key of the target's own under which an attribute isn't of its form
   pub own_key : Pairs → Option (List ℕ)
@@ -34,12 +35,15 @@ abbrev pub if_so : {A : Type 0} → Bool → A → Option A
 if_so so found = cond so (Some found) None
 
 module _ (table : FaultTable) where
+  -- a double stands in one of these attributes where the target wants a text
   abbrev pub doubles_in : Pairs → Bool
   doubles_in attributes = list_any (λ pair. table.has_double pair.1) attributes
 
+  -- the same of the attributes of a span and of its events
   abbrev pub doubles_in_span : Span → Bool
   doubles_in_span span = doubles_in span.attributes || list_any (λ event. doubles_in event.attributes) span.events
 
+  -- the same of a resource, of which the target may ask more
   abbrev pub doubles_in_resource : Pairs → Bool
   doubles_in_resource resource = table.has_double_besides resource || doubles_in resource
 
@@ -51,10 +55,12 @@ module _ (table : FaultTable) where
       (option_or (if_so (table.has_link_fault span) ChildOfLink)
       (if_so (doubles_in_span span) DoubleInText))))
 
+  -- the fault of the first of these spans that has one
   abbrev pub fault_of_spans : List Span → Option Fault
   fault_of_spans [] = None
   fault_of_spans (span ∷ spans) = option_or (fault_of_span span) (fault_of_spans spans)
 
+  -- the fault of the first span that has one, from scope to scope
   abbrev pub fault_of_scopes : List Scope → Option Fault
   fault_of_scopes [] = None
   fault_of_scopes (scope ∷ scopes) = option_or (fault_of_spans scope.spans) (fault_of_scopes scopes)

@@ -2,6 +2,7 @@ pub mod Columns
 pub mod Doubles
 pub mod Escapes
 pub mod FaultTables
+pub mod FoundFaults
 pub mod LossMeanings
 pub mod Losses
 pub mod PlacedFaults
@@ -9,5 +10,4 @@ pub mod ReadRuns
 pub mod Runs
 pub mod TagKeys
 pub mod TagWords
-pub mod laws
 pub mod private

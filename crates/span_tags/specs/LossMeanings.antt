@@ -16,13 +16,14 @@ use Rattle.trace_model.specs.declared.span.Event.{Event}
 use Rattle.trace_model.specs.declared.span.Kind.TheVariants as kinds
 use Rattle.trace_model.specs.declared.span.Link.{Link}
 use Rattle.trace_model.specs.declared.span.Span.{Span}
-use Rattle.trace_model.specs.declared.trace.Group.{Group}
-use Rattle.trace_model.specs.declared.trace.Scope.{Scope}
+use Rattle.trace_model.specs.declared.group.Group.{Group}
+use Rattle.trace_model.specs.declared.group.Scope.{Scope}
 use Rattle.trace_model.specs.declared.value.Value.{Value}
 use Rattle.span_tags.specs.TagWords.{Pairs}
 
 -- ---- attributes
 
+-- the attribute of the key stands in the part and in its normal form, but with another value
 pub record StaysOther (key : List ℕ) (part normal : Pairs) : Type 0 where
   pub value : Value
   pub other : Value
@@ -30,6 +31,7 @@ pub record StaysOther (key : List ℕ) (part normal : Pairs) : Type 0 where
   pub stands : at key normal ≡ Some other
   pub differ : value ≢ other
 
+-- the attribute of the key stands in the part, and not in its normal form
 pub record Goes (key : List ℕ) (part normal : Pairs) : Type 0 where
   pub value : Value
   pub stood : at key part ≡ Some value
@@ -37,6 +39,8 @@ pub record Goes (key : List ℕ) (part normal : Pairs) : Type 0 where
 
 -- ---- the rows
 
+-- a loss of a group's resource, whose normal form has these attributes: a value, the count of dropped attributes, the schema URL
+-- of the group, or an attribute that goes
 abbrev pub OfResource : Group → Pairs → LossRow → List ℕ → Type 0
 OfResource group normal rows.Value key = StaysOther key group.resource normal
 OfResource group normal rows.DroppedCount key = (key ≡ []) × (group.dropped ≢ 0)
@@ -53,6 +57,7 @@ OfScope scope Joins rows.ScopeEmpty key = (key ≡ []) × (scope.spans ≡ [])
 OfScope scope Joins rows.ScopeJoined key = (key ≡ []) × Joins
 OfScope scope Joins other key = ⊥
 
+-- a loss of a span itself, against the span in its place: an attribute, a time, an unspecified kind, its message or its flags
 abbrev pub OfSpan : LossRow → List ℕ → Span → Span → Type 0
 OfSpan rows.Value key span normal = StaysOther key span.attributes normal.attributes
 OfSpan rows.Empty key span normal = Goes key span.attributes normal.attributes
@@ -63,6 +68,7 @@ OfSpan rows.Message key span normal = (key ≡ []) × ((span.status.message ≢ 
 OfSpan rows.Flags key span normal = (key ≡ []) × (span.flags ≢ normal.flags)
 OfSpan other key span normal = ⊥
 
+-- a loss of an event, against the event in its place: a value of an attribute, the count of dropped attributes, or its time
 abbrev pub OfEvent : LossRow → List ℕ → Event → Event → Type 0
 OfEvent rows.Value key event normal = StaysOther key event.attributes normal.attributes
 OfEvent rows.DroppedCount key event normal = (key ≡ []) × (event.dropped ≢ 0)
@@ -80,10 +86,12 @@ OfLink other key link normal = ⊥
 
 -- ---- parts by their numbers
 
+-- the member of this number, counted from 1, if there is one; none has the number 0
 abbrev pub numbered : {A : Type 0} → ℕ → List A → Option A
 numbered zero xs = None
 numbered (suc n) xs = slice_get xs n
 
+-- both lists have a part of this number, and the two of them are such
 pub record InPlace {A : Type 0} (n : ℕ) (parts normal : List A) (Such : A → A → Type 0) : Type 0 where
   pub part : A
   pub in_place : A
@@ -91,9 +99,11 @@ pub record InPlace {A : Type 0} (n : ℕ) (parts normal : List A) (Such : A → 
   pub stands : numbered n normal ≡ Some in_place
   pub such : Such part in_place
 
+-- the span of this number has a loss of this row and key, against the span of the same number in the normal form
 abbrev pub InSpan : ℕ → List Span → List Span → LossRow → List ℕ → Type 0
 InSpan n spans normal row key = InPlace n spans normal (OfSpan row key)
 
+-- in the span of the first number, the event of the second has a loss of this row and key
 abbrev pub InEvent : ℕ → ℕ → List Span → List Span → LossRow → List ℕ → Type 0
 InEvent n e spans normal row key = InPlace n spans normal (λ span other. InPlace e span.events other.events (OfEvent row key))
 
@@ -103,14 +113,17 @@ pub record IsLinkLoss (l : ℕ) (row : LossRow) (key : List ℕ) (span normal : 
   pub stood : numbered l span.links ≡ Some link
   pub such : OfLink row key link (numbered l normal.links)
 
+-- in the span of the first number, the link of the second has a loss of this row and key
 abbrev pub InLink : ℕ → ℕ → List Span → List Span → LossRow → List ℕ → Type 0
 InLink n l spans normal row key = InPlace n spans normal (IsLinkLoss l row key)
 
 -- ---- scopes
 
+-- all spans of these scopes, in order
 abbrev pub spans_in : List Scope → List Span
 spans_in scopes = flat_map (λ scope. scope.spans) scopes
 
+-- one of these scopes has n spans before it, in all the scopes before it together
 pub record Begins (n : ℕ) (scopes : List Scope) : Type 0 where
   pub before : List Scope
   pub scope : Scope

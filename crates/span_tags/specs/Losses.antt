@@ -15,39 +15,47 @@ use Rattle.trace_model.specs.declared.place.Place.TheVariants as places
 use Rattle.trace_model.specs.declared.span.Kind.{Kind}
 use Rattle.trace_model.specs.declared.span.Kind.TheVariants as kinds
 use Rattle.trace_model.specs.declared.span.Span.{Span}
-use Rattle.trace_model.specs.declared.trace.Scope.{Scope}
+use Rattle.trace_model.specs.declared.group.Scope.{Scope}
 use Rattle.trace_model.specs.declared.value.Value.{Value, Text}
 use Rattle.span_tags.specs.TagWords.{Pairs}
 
 -- ---- tests
 
+-- nothing stands in the list or text
 abbrev pub is_empty : {A : Type 0} → List A → Bool
 is_empty [] = true
 is_empty (x ∷ xs) = false
 
+-- the two numbers aren't the same
 abbrev pub differ : ℕ → ℕ → Bool
 differ m n = not (m == n)
 
+-- the value is a text
 abbrev pub is_text : Value → Bool
 is_text (Text text) = true
 is_text other = false
 
+-- the kind is unspecified (opentelemetry-proto trace.proto, SpanKind: `SPAN_KIND_UNSPECIFIED` = 0)
 abbrev pub is_unspecified : Kind → Bool
 is_unspecified kinds.Unspecified = true
 is_unspecified other = false
 
 -- ---- words
 
+-- a loss of this row at the place, of the attribute of this key, if it is told, else none
 abbrev pub lost_key : Place → LossRow → List ℕ → Bool → List Loss
 lost_key place row key told = if told then record { place = place; row = row; key = key } ∷ [] else []
 
+-- a loss of this row at the place that is of no single attribute, if it is told, else none
 abbrev pub lost : Place → LossRow → Bool → List Loss
 lost place row told = lost_key place row [] told
 
+-- for each of these pairs that is such, a loss of this row at the place, with the key of the pair
 abbrev pub lost_keys : Place → LossRow → (List ℕ × Value → Bool) → Pairs → List Loss
 lost_keys place row such [] = []
 lost_keys place row such (pair ∷ pairs) = lost_key place row pair.0 (such pair) ++ lost_keys place row such pairs
 
+-- the losses of the members of a list, in order, of which the first has the number n
 abbrev pub losses_of : {A : Type 0} → (ℕ → A → List Loss) → ℕ → List A → List Loss
 losses_of losses n [] = []
 losses_of losses n (x ∷ xs) = losses n x ++ losses_of losses (suc n) xs
@@ -59,9 +67,11 @@ pub record Names : Type 0 where
   pub name : List ℕ
   pub version : List ℕ
 
+-- this name with this version
 abbrev pub named : List ℕ → List ℕ → Names
 named name version = record { name = name; version = version }
 
+-- the name and version that a scope has
 abbrev pub names_of : Scope → Names
 names_of scope = named scope.name scope.version
 
@@ -78,6 +88,8 @@ joins before scope = not (is_empty scope.spans) && are_names_of before scope
 abbrev pub names_behind : Option Names → Scope → Option Names
 names_behind before scope = if is_empty scope.spans then before else Some (names_of scope)
 
+-- the losses of a scope itself: what it has beside its name, version and spans; that it has no spans; and, where it is told,
+-- that it joins the scope of the span before
 abbrev pub scope_losses : Place → Bool → Scope → List Loss
 scope_losses place joined scope =
     lost place rows.DroppedCount (differ scope.dropped 0)
@@ -86,6 +98,8 @@ scope_losses place joined scope =
     ++ (lost place rows.ScopeEmpty (is_empty scope.spans)
     ++ lost place rows.ScopeJoined joined)))
 
+-- the losses of scopes and of their spans, in order: the first scope has the number c, the first span the number s, and the span
+-- before it stands in a scope of these names, if there is one
 abbrev pub scopes_losses : (ℕ → Span → List Loss) → ℕ → ℕ → Option Names → List Scope → List Loss
 scopes_losses span_losses c s before [] = []
 scopes_losses span_losses c s before (scope ∷ scopes) =

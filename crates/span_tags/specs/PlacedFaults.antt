@@ -11,11 +11,12 @@ use Rattle.trace_model.specs.LeastOf.{IsLeastOf}
 use Rattle.trace_model.specs.declared.fault.Fault.{Fault}
 use Rattle.trace_model.specs.declared.fault.Fault.TheVariants.{OwnKey}
 use Rattle.trace_model.specs.declared.span.Span.{Span}
-use Rattle.trace_model.specs.declared.trace.Group.{Group}
+use Rattle.trace_model.specs.declared.group.Group.{Group}
 use Rattle.trace_model.specs.declared.value.Value.{Value}
 use Rattle.span_tags.specs.FaultTables.{IsTimely, BeginsWith}
 use Rattle.span_tags.specs.Runs.{scoped}
 
+-- a fault and where it is: 0 is the resource, and other places are spans, counted from 1 through all scopes of the group
 pub record Placed : Type 0 where
   pub place : ℕ
   pub fault : Fault
@@ -25,6 +26,7 @@ abbrev pub key_in : Fault → List ℕ
 key_in (OwnKey key) = key
 key_in other = []
 
+-- the first key is the second or comes before it, byte by byte
 abbrev pub KeyAtMost : List ℕ → List ℕ → Type 0
 KeyAtMost a b = slice_cmp nat_cmp a b ≢ Greater
 
@@ -42,9 +44,11 @@ Counts Told None = (found : Placed) → Told found → ⊥
 Counts Told (Some fault) = (place : ℕ) × IsLeastOf AtMost Told (Some (record { place = place; fault = fault }))
 
 module _ (IsResourceFault : List (List ℕ × Value) → Fault → Type 0) (IsSpanFault : Span → Fault → Type 0) where
+  -- the group has this fault at this place: the resource has it, at 0, or the span of that number
   pub data IsFaultBy (group : Group) (found : Placed) : Type 0 where
     in_resource : found.place ≡ 0 → IsResourceFault group.resource found.fault → IsFaultBy group found
-    in_span : (n : ℕ) → found.place ≡ n + 1 → HoldsAt (λ one. IsSpanFault one.span found.fault) (scoped group.scopes) n → IsFaultBy group found
+    in_span : (n : ℕ) → found.place ≡ n + 1 → HoldsAt (λ one. IsSpanFault one.span found.fault) (scoped group.scopes) n
+        → IsFaultBy group found
 
   -- memory may be wanted to find the fault: nothing of the resource is one, and there are spans, the first of which doesn't end
   -- before its start
@@ -52,6 +56,7 @@ module _ (IsResourceFault : List (List ℕ × Value) → Fault → Type 0) (IsSp
     pub resource : (fault : Fault) → ¬ IsResourceFault group.resource fault
     pub timely : BeginsWith (λ one. IsTimely one.span) (scoped group.scopes)
 
+  -- the fault of the group that counts, the least by place, number and key, or none where the group has none
   abbrev pub CountsBy : Group → Option Fault → Type 0
   CountsBy group fault = Counts (IsFaultBy group) fault
 

@@ -9,6 +9,7 @@ use Rattle.trace_model.specs.declared.span.Code.{Code}
 use Rattle.trace_model.specs.declared.span.Code.TheVariants as statuses
 use Rattle.trace_model.specs.declared.value.Value.{Value, Text, Number}
 
+-- tags or attributes, each a key with its value
 abbrev pub Pairs : Type 0
 Pairs = List (List ℕ × Value)
 
@@ -46,6 +47,7 @@ count_in other = None
 abbrev pub code_named : List ℕ → Option Code
 code_named text = if bytes_eq text (codes "OK") then Some statuses.Okay else (if bytes_eq text (codes "ERROR") then Some statuses.Fail else None)
 
+-- the code that a value of `otel.status_code` says, if it is the text `OK` or `ERROR`
 abbrev pub code_in : Option Value → Option Code
 code_in value = option_and_then code_named (text_in value)
 
@@ -55,6 +57,7 @@ name_in newer older = unwrap_or (option_or (text_in newer) (text_in older)) []
 
 -- ---- what is said, unless it is the default
 
+-- a text as a value; an empty text is no value
 abbrev pub text_given : List ℕ → Option Value
 text_given [] = None
 text_given (x ∷ more) = Some (Text (x ∷ more))
@@ -82,5 +85,6 @@ is_idle_library value None newer = is_some value
 is_idle_library value (Some text) None = false
 is_idle_library value (Some text) (Some newer) = not (bytes_eq text newer)
 
+-- the key of a tag that is left out, and no key of one that isn't
 abbrev pub if_left : List ℕ → Bool → List (List ℕ)
 if_left key left = if left then key ∷ [] else []

@@ -28,7 +28,8 @@ fn may_have_front(key: &str) -> bool
 
 // What stands behind the front of a key that begins with it.
 fn behind_front(key: &str) -> Option<&str>
-    ensures { option_map (λ rest. rest.now) result ≡ (if told.has_front key.now then Some (drop 10 key.now) else None) }
+    ensures { option_map (λ rest. rest.now) result
+        ≡ (if told.has_front key.now then Some (drop 10 key.now) else None) }
 {
     if may_have_front(key) {
         return key.strip_prefix("otel.attr.");
@@ -138,7 +139,8 @@ fn unescaped_pairs<R: Reserves>(alloc: Global, tags: Attrs) -> Result<Attrs, Out
 pub fn escaped<R: Reserves>(alloc: Global, attributes: Attrs) -> Result<Attrs, OutOfMemory>
     requires rising { Rise (keys attributes) }
     ensures value { IfOk result (λ written. written ≡ told.escaped R.reserved attributes) }
-    ensures wants { OnErr result (list_any (λ pair. told.is_touched R.reserved pair.0) attributes ≡ true) }
+    ensures wants { OnErr result
+        (list_any (λ pair. told.is_touched R.reserved pair.0) attributes ≡ true) }
 {
     if !has_touched::<R>(&attributes) {
         return Ok(attributes);
@@ -153,7 +155,8 @@ pub fn escaped<R: Reserves>(alloc: Global, attributes: Attrs) -> Result<Attrs, O
 pub fn unescaped<R: Reserves>(alloc: Global, tags: Attrs) -> Result<Attrs, OutOfMemory>
     requires rising { Rise (keys tags) }
     ensures value { IfOk result (λ attributes. attributes ≡ told.unescaped R.reserved tags) }
-    ensures wants { OnErr result (list_any (λ pair. told.is_escaped R.reserved pair.0) tags ≡ true) }
+    ensures wants { OnErr result
+        (list_any (λ pair. told.is_escaped R.reserved pair.0) tags ≡ true) }
 {
     if !has_escaped::<R>(&tags) {
         return Ok(tags);

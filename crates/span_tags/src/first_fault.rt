@@ -7,10 +7,10 @@ ghost use Rattle.trace_model.specs.declared.fault.Fault.{Fault};
 ghost use Rattle.trace_model.specs.declared.span.Span.{Span};
 ghost use Rattle.span_tags.specs.FaultTables as told;
 ghost use Rattle.span_tags.specs.FaultTables.{FaultTable, IsTimely, BeginsWith};
+ghost use Rattle.span_tags.specs.FoundFaults.{FindsFaults};
 ghost use Rattle.span_tags.specs.PlacedFaults.{CountsBy, MayWantMemory};
 ghost use Rattle.span_tags.specs.Runs.{scoped};
 ghost use Rattle.span_tags.specs.TagWords.{Pairs};
-ghost use Rattle.span_tags.specs.laws.FaultLaws.{FindsFaults};
 
 use span_io::{Items, OutOfMemory, Text};
 use std::alloc::Global;
@@ -153,7 +153,8 @@ pub fn fault_in_group<F: Faults>(alloc: Global, group: &Group) -> Result<Option<
     requires lawful { FindsFaults F.table F.of_resource F.of_span }
     requires sound { IsSoundGroup group.now }
     ensures judged { IfOk result (λ fault. CountsBy F.of_resource F.of_span group.now fault) }
-    ensures none { IfOk result (λ fault. (fault ≡ None) ↔ CountsBy F.of_resource F.of_span group.now None) }
+    ensures none { IfOk result
+        (λ fault. (fault ≡ None) ↔ CountsBy F.of_resource F.of_span group.now None) }
     // A double in the resource, or a first span that ends before its start, takes no memory.
     ensures wants { OnErr result (MayWantMemory F.of_resource F.of_span group.now) }
 {

@@ -2,11 +2,11 @@
 ghost use Rattle.std.specs.Prelude.{Option};
 ghost use Rattle.trace_model.specs.Soundness.{IsSoundGroup};
 ghost use Rattle.trace_model.specs.declared.fault.Fault.{Fault};
-ghost use Rattle.trace_model.specs.declared.trace.Group.{Group};
+ghost use Rattle.trace_model.specs.declared.group.Group.{Group};
 ghost use Rattle.span_tags.specs.Escapes.{KeysReadBack};
 ghost use Rattle.span_tags.specs.PlacedFaults.{CountsBy};
-ghost use Rattle.span_tags.specs.laws.EscapeLaws.{IsApart};
-ghost use Rattle.span_tags.specs.laws.FaultLaws.{FindsFaults};
+ghost use Rattle.span_tags.specs.Escapes.{IsApart};
+ghost use Rattle.span_tags.specs.FoundFaults.{FindsFaults};
 
 use crate::escapes::Reserves;
 use crate::first_fault::Faults;

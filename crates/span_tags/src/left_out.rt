@@ -18,7 +18,8 @@ pub fn remark_if(
     key: &str,
     left: bool,
 ) -> Result<(), OutOfMemory>
-    ensures { OnOk result (remarks.new ≡ remarks.old ++ tags_dropped place (told.if_left key.now left)) }
+    ensures { OnOk result
+        (remarks.new ≡ remarks.old ++ tags_dropped place (told.if_left key.now left)) }
 {
     if !left {
         return Ok(());

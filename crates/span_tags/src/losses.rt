@@ -103,7 +103,9 @@ pub fn spans_behind(spans: u32, scope: &Scope) -> Result<u32, OutOfMemory>
 
 /// Whether the scope has spans, and the name and version of that of the span before.
 pub fn joins(before: Option<(&str, &str)>, scope: &Scope) -> bool
-    ensures { result ≡ meant.joins (option_map (λ last. meant.named last.0.now last.1.now) before.entry) scope.now }
+    ensures { result
+        ≡ meant.joins
+        (option_map (λ last. meant.named last.0.now last.1.now) before.entry) scope.now }
 {
     let Some((name, version)) = before else {
         return false;
@@ -117,7 +119,8 @@ pub fn names_behind<'a>(
     scope: &'a Scope,
 ) -> Option<(&'a str, &'a str)>
     ensures { option_map (λ last. meant.named last.0.now last.1.now) result
-        ≡ meant.names_behind (option_map (λ last. meant.named last.0.now last.1.now) before.entry) scope.now }
+        ≡ meant.names_behind
+        (option_map (λ last. meant.named last.0.now last.1.now) before.entry) scope.now }
 {
     if has_items(&scope.spans) {
         return Some((scope.name.as_str(), scope.version.as_str()));

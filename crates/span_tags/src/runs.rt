@@ -1,7 +1,7 @@
 //! The scopes of spans: runs of equal name and version.
 ghost use Rattle.std.specs.Prelude.{◌≡◌, [], ◌∷◌, ◌++◌, ◌&&◌, List, IfOk};
 ghost use Rattle.std.specs.Str.{bytes_eq};
-ghost use Rattle.trace_model.specs.declared.trace.Scope as model;
+ghost use Rattle.trace_model.specs.declared.group.Scope as model;
 ghost use Rattle.span_tags.specs.Runs.{in_front, plain_scope};
 ghost use Rattle.span_tags.specs.ReadRuns.{joined, one_of, with_behind};
 
@@ -42,7 +42,8 @@ impl Run {
 
     // Whether the span has the name and version of the run.
     fn is_of(&self, one: &ReadSpan) -> bool
-        ensures { result ≡ (bytes_eq self.now.name one.now.name && bytes_eq self.now.version one.now.version) }
+        ensures { result
+            ≡ (bytes_eq self.now.name one.now.name && bytes_eq self.now.version one.now.version) }
     {
         self.name.as_str() == one.name.as_str() && self.version.as_str() == one.version.as_str()
     }
@@ -120,7 +121,9 @@ impl Runs {
 
 // A run of one span, behind these scopes.
 fn begin(alloc: Global, done: Items<Scope>, one: ReadSpan) -> Result<Runs, OutOfMemory>
-    ensures { IfOk result (λ runs. (scopes : List model.Scope) → with_behind runs scopes ≡ done ++ in_front (one_of one) scopes) }
+    ensures { IfOk result
+        (λ runs. (scopes : List model.Scope)
+        → with_behind runs scopes ≡ done ++ in_front (one_of one) scopes) }
 {
     let first = Run::of(alloc, one)?;
     Ok(Runs {
@@ -132,7 +135,8 @@ fn begin(alloc: Global, done: Items<Scope>, one: ReadSpan) -> Result<Runs, OutOf
 // One more span, behind these scopes and that run.
 fn behind(alloc: Global, done: Items<Scope>, run: Run, one: ReadSpan) -> Result<Runs, OutOfMemory>
     ensures { IfOk result (λ runs. (scopes : List model.Scope)
-        → with_behind runs scopes ≡ done ++ joined run.name run.version run.spans (in_front (one_of one) scopes)) }
+        → with_behind runs scopes
+        ≡ done ++ joined run.name run.version run.spans (in_front (one_of one) scopes)) }
 {
     let mut done = done;
     if run.is_of(&one) {

@@ -12,7 +12,8 @@ use trace_model::{Code, Value, value_text};
 
 /// The text that a value is.
 pub fn text_in<'a>(value: Option<&'a Value>) -> Option<&'a str>
-    ensures { option_map (λ text. text.now) result ≡ told.text_in (option_map (λ v. v.now) value.entry) }
+    ensures { option_map (λ text. text.now) result
+        ≡ told.text_in (option_map (λ v. v.now) value.entry) }
 {
     let value = value?;
     text_of(value)
@@ -29,7 +30,8 @@ fn text_of(value: &Value) -> Option<&str>
 
 /// The text that a value is, else an empty one.
 pub fn text_or_empty(alloc: Global, value: Option<&Value>) -> Result<Text, OutOfMemory>
-    ensures { IfOk result (λ text. text ≡ unwrap_or (told.text_in (option_map (λ v. v.now) value.entry)) []) }
+    ensures { IfOk result
+        (λ text. text ≡ unwrap_or (told.text_in (option_map (λ v. v.now) value.entry)) []) }
 {
     match text_in(value) {
         Some(text) => Text::of(alloc, text),
@@ -44,7 +46,8 @@ pub fn name_in(
     older: Option<&Value>,
 ) -> Result<Text, OutOfMemory>
     ensures { IfOk result (λ text.
-        text ≡ told.name_in (option_map (λ v. v.now) newer.entry) (option_map (λ v. v.now) older.entry)) }
+        text ≡ told.name_in (option_map (λ v. v.now) newer.entry)
+        (option_map (λ v. v.now) older.entry)) }
 {
     match text_in(newer) {
         Some(text) => Text::of(alloc, text),
@@ -116,7 +119,8 @@ pub fn text_told(alloc: Global, value: &Value) -> Result<Text, OutOfMemory>
 /// The text of a value, or no text where it is absent.
 pub fn text_or_none(alloc: Global, value: Option<&Value>) -> Result<Text, OutOfMemory>
     requires { double_at (option_map (λ value. value.now) value) ≡ false }
-    ensures { IfOk result (λ text. text ≡ told.text_or_none (option_map (λ value. value.now) value.entry)) }
+    ensures { IfOk result
+        (λ text. text ≡ told.text_or_none (option_map (λ value. value.now) value.entry)) }
 {
     match value {
         Some(value) => text_told(alloc, value),

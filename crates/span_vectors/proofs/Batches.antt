@@ -16,7 +16,7 @@ use Rattle.trace_model.specs.declared.span.Code.TheVariants as statuses
 use Rattle.trace_model.specs.declared.span.Kind.{Kind}
 use Rattle.trace_model.specs.declared.span.Kind.TheVariants as kinds
 use Rattle.trace_model.specs.declared.value.Value.{Value, Text}
-use Rattle.span_tags.specs.laws.AttributeLaws.{all_attrs}
+use Rattle.span_tags.proofs.AttributeLaws.{all_attrs}
 use Rattle.span_tags.specs.Runs.{scoped, under}
 use Rattle.span_tags.specs.TagWords.{Pairs, row, code_given}
 use Rattle.map_jaeger.specs.ColumnWords.{error_given, description_given, kind_given}

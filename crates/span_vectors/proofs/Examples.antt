@@ -3,10 +3,10 @@ use Rattle.std.proofs.Common.{◌≡◌, ℕ, List, [], ◌∷◌, length, map, 
 use Rattle.std.specs.List.{flat_map}
 use Rattle.trace_model.specs.OtlpParts.{kind_number, code_number}
 use Rattle.trace_model.specs.declared.span.Span.{Span}
-use Rattle.trace_model.specs.declared.trace.Group.{Group}
+use Rattle.trace_model.specs.declared.group.Group.{Group}
 use Rattle.span_io.specs.Varint.{varint_text, shortest_within}
 use Rattle.proto_wire.specs.Wire.{record_text}
-use Rattle.otlp_proto.specs.Texts.{group_text, scope_text, instrumentation_scope_text, resource_text, span_text, list_text}
+use Rattle.otlp_proto.specs.Canonical.{group_text, scope_text, instrumentation_scope_text, resource_text, span_text, list_text}
 use Rattle.span_convert.specs.Requests.{request_text}
 use Rattle.span_vectors.specs.Gauge.{gauge, first_groups, gauge_group, gauge_spans, gauge_span}
 

@@ -11,10 +11,10 @@ use Rattle.trace_model.specs.ValueTexts.{has_double}
 use Rattle.trace_model.specs.declared.fault.Fault.{Fault}
 use Rattle.trace_model.specs.declared.fault.Fault.TheVariants.{EndBeforeStart, OwnKey, EventText, ChildOfLink, DoubleInText}
 use Rattle.trace_model.specs.declared.span.Span.{Span}
-use Rattle.trace_model.specs.declared.trace.Scope.{Scope}
+use Rattle.trace_model.specs.declared.group.Scope.{Scope}
 use Rattle.trace_model.specs.declared.value.Value.{Value}
 use Rattle.span_tags.specs.PlacedFaults.{Placed, IsFaultBy, in_resource, in_span, CountsBy}
-use Rattle.span_tags.specs.laws.RunLaws.{scoped_all}
+use Rattle.span_tags.proofs.RunLaws.{scoped_all}
 use Rattle.span_tags.specs.Runs.{Scoped, scoped, spans_of, under}
 use Rattle.otlp_json.specs.Doubles.{double_in_span, double_in_group}
 use Rattle.map_jaeger.specs.Faults as jaeger

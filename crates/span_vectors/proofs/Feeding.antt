@@ -7,13 +7,13 @@ use Rattle.span_io.specs.Limits.{AreLimits, shipped_limits}
 use Rattle.span_io.specs.Outside.{Gains, GainLaws, IsFront, OutputFails, Rises, last_count}
 use Rattle.span_io.specs.declared.form.Form.{Form}
 use Rattle.span_io.specs.declared.form.Form.TheVariants.{OtlpProto}
-use Rattle.otlp_proto.specs.Texts.{group_record}
+use Rattle.otlp_proto.specs.Canonical.{group_record}
 use Rattle.span_convert.specs.Converters.{Feeds, work_of}
 use Rattle.span_convert.specs.Outlooks.{IsLasting, IsOutlookAs, EndsFrom, GainsFrom, StopsFrom}
 use Rattle.span_convert.specs.Reports.{IsVerdictAs}
 use Rattle.span_convert.specs.Units.{canonical_text}
 use Rattle.span_convert.specs.Verdicts.{Verdict, good, refused, faulted, tally_of}
-use Rattle.span_convert.specs.declared.converter.Walker.{Walker}
+use Rattle.span_convert.specs.declared.walker.Walker.{Walker}
 use Rattle.span_convert.specs.declared.stop.Stop.{Stop}
 use Rattle.span_convert.specs.declared.stop.Stop.TheVariants as stops
 use Rattle.span_convert.specs.declared.tally.Tally.{Tally}

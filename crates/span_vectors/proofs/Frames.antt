@@ -9,8 +9,8 @@ use Rattle.span_io.specs.Frames.{ItemsThen}
 use Rattle.proto_wire.specs.StatedLaws.{ShortestRecord}
 use Rattle.proto_wire.specs.Records.{Record, bytes}
 use Rattle.proto_wire.specs.Wire.{SpellsRecord, records}
-use Rattle.trace_model.specs.declared.trace.Group.{Group}
-use Rattle.otlp_proto.specs.Texts.{group_text, group_record}
+use Rattle.trace_model.specs.declared.group.Group.{Group}
+use Rattle.otlp_proto.specs.Canonical.{group_text, group_record}
 use Rattle.span_vectors.specs.Gauge.{gauge, gauge_group, first_groups, group_count}
 use Rattle.span_vectors.proofs.Sizes.{IsWithin, list_size}
 use Rattle.span_vectors.proofs.Spans.{all_first_groups}

@@ -8,8 +8,8 @@ use Rattle.std.proofs.lemmas.Grind.{flat_map-append}
 use Rattle.trace_model.specs.Flat.{flat}
 use Rattle.trace_model.specs.OtlpParts.{kind_number, code_number}
 use Rattle.trace_model.specs.declared.span.Span.{Span}
-use Rattle.trace_model.specs.declared.trace.Group.{Group}
-use Rattle.trace_model.specs.declared.trace.Scope.{Scope}
+use Rattle.trace_model.specs.declared.group.Group.{Group}
+use Rattle.trace_model.specs.declared.group.Scope.{Scope}
 use Rattle.span_vectors.specs.Gauge.{kind_numbered, code_numbered, gauge_span, gauge_spans, first_span, group_size, gauge_group, first_groups, group_count, gauge}
 
 -- ---- spans

@@ -8,7 +8,7 @@ use Rattle.proto_wire.specs.Wire.{record_text, key_of}
 use Rattle.trace_model.specs.OtlpParts.{kind_number, code_number}
 use Rattle.trace_model.specs.declared.span.Code.{Code}
 use Rattle.trace_model.specs.declared.span.Span.{Span}
-use Rattle.otlp_proto.specs.Texts.{bytes_field, filled_field, count_field, time_field, flags_field, trace_field, span_field, parent_field, list_text, key_value_text, attributes_text, status_text, otlp_event_text, link_text, span_text, instrumentation_scope_text, scope_text, resource_text, group_text, group_record}
+use Rattle.otlp_proto.specs.Canonical.{bytes_field, filled_field, count_field, time_field, flags_field, trace_field, span_field, parent_field, list_text, key_value_text, attributes_text, status_text, otlp_event_text, link_text, span_text, instrumentation_scope_text, scope_text, resource_text, group_text, group_record}
 use Rattle.span_vectors.specs.Gauge.{group_number, gauge_parent, kind_numbered, code_numbered, gauge_attributes, gauge_span, gauge_spans, gauge_scope, gauge_resource, gauge_group, first_span, group_size}
 use Rattle.span_vectors.proofs.Held.{number_pair, text_pair, service_pair}
 use Rattle.span_vectors.proofs.Sizes.{IsWithin, wider, none, one_behind, varint_size, number_size, bytes_size, list_size}

@@ -10,8 +10,8 @@ use Rattle.proto_wire.specs.StatedLaws.{ShortestRecord}
 use Rattle.trace_model.specs.OtlpParts.{NotedGroup}
 use Rattle.trace_model.specs.Proper.{IsProperGroup}
 use Rattle.trace_model.specs.Soundness.{IsSoundTrace}
-use Rattle.trace_model.specs.declared.trace.Group.{Group}
-use Rattle.otlp_proto.specs.Texts.{group_record}
+use Rattle.trace_model.specs.declared.group.Group.{Group}
+use Rattle.otlp_proto.specs.Canonical.{group_record}
 use Rattle.span_convert.specs.Canonical.{ConvertsToItself, Fits, IsHeldBy}
 use Rattle.span_convert.specs.Requests.{request_text}
 use Rattle.span_convert.specs.Targets.{form_target}

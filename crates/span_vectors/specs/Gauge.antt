@@ -7,8 +7,8 @@ use Rattle.trace_model.specs.declared.span.Code.TheVariants as statuses
 use Rattle.trace_model.specs.declared.span.Kind.{Kind}
 use Rattle.trace_model.specs.declared.span.Kind.TheVariants as kinds
 use Rattle.trace_model.specs.declared.span.Span.{Span}
-use Rattle.trace_model.specs.declared.trace.Group.{Group}
-use Rattle.trace_model.specs.declared.trace.Scope.{Scope}
+use Rattle.trace_model.specs.declared.group.Group.{Group}
+use Rattle.trace_model.specs.declared.group.Scope.{Scope}
 use Rattle.trace_model.specs.declared.value.Value.{Value, Text, Number}
 
 -- ---- a span, by its number
@@ -30,6 +30,7 @@ kind_numbered n =
 abbrev pub code_numbered : ℕ → Code
 code_numbered n = if n == 0 then statuses.Unset else (if n == 1 then statuses.Okay else statuses.Fail)
 
+-- the attributes of the span of this number: the number under `n`, and the text `x` under `t`
 abbrev pub gauge_attributes : ℕ → List (List ℕ × Value)
 gauge_attributes i = (codes "n", Number (pos i)) ∷ (codes "t", Text (codes "x")) ∷ []
 
@@ -68,12 +69,15 @@ group_size spans group = min 100 (spans + 1 - first_span group)
 unfoldable pub gauge_spans : ℕ → ℕ → List Span
 gauge_spans first count = map gauge_span (range_with_len first count)
 
+-- the one scope of a group: these spans under the name `gauge`, and nothing else
 abbrev pub gauge_scope : List Span → Scope
 gauge_scope list = record { name = codes "gauge"; version = []; attributes = []; dropped = 0; schema_url = []; spans = list }
 
+-- the resource of each group: its `service.name` is `gauge`
 abbrev pub gauge_resource : List (List ℕ × Value)
 gauge_resource = (codes "service.name", Text (codes "gauge")) ∷ []
 
+-- in the gauge of so many spans the group of this number, counted from 1: its resource, and its spans in one scope
 unfoldable pub gauge_group : ℕ → ℕ → Group
 gauge_group spans group = record {
   resource = gauge_resource;
@@ -97,5 +101,6 @@ pub record HasGroup (spans group : ℕ) : Type 0 where
 unfoldable pub first_groups : ℕ → ℕ → List Group
 first_groups spans count = map (gauge_group spans) (range_with_len 1 count)
 
+-- the gauge of so many spans: all its groups, in order
 abbrev pub gauge : ℕ → List Group
 gauge spans = first_groups spans (group_count spans)

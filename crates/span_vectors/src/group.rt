@@ -1,7 +1,7 @@
 //! The groups of the gauge.
 ghost use Rattle.std.specs.Prelude.{◌≡◌, ◌+◌, ◌++◌, ◌<◌, ◌≤◌, ◌^◌, IfOk, OnOk, OnErr};
 ghost use Rattle.span_io.specs.Outside.{GrowsFront};
-ghost use Rattle.otlp_proto.specs.Texts.{group_record};
+ghost use Rattle.otlp_proto.specs.Canonical.{group_record};
 ghost use Rattle.span_vectors.specs.Gauge.{HasGroup, gauge_spans, gauge_scope, gauge_resource, gauge_group, group_count};
 
 use crate::span::{GROUP, span_of};
@@ -82,7 +82,8 @@ pub fn write_gauge_group(
 ) -> Result<(), OutOfMemory>
     requires { HasGroup spans group }
     ensures ok { OnOk result (out.new ≡ out.old ++ group_record (gauge_group spans group)) }
-    ensures err { OnErr result (GrowsFront out.old out.new (group_record (gauge_group spans group))) }
+    ensures err { OnErr result
+        (GrowsFront out.old out.new (group_record (gauge_group spans group))) }
 {
     let made = group_of(alloc, spans, group)?;
     write_group(out, &made)

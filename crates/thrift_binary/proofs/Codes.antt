@@ -2,8 +2,8 @@
 use Rattle.std.proofs.Common.{◌≡◌, ◌↔◌, ◌∷◌, ℕ, List, [], Bool, true, false, cond, Option, Some, refl, ap, ◌∙◌, eqb}
 use Rattle.std.proofs.lemmas.Bool.{eqb-true}
 use Rattle.thrift_core.specs.declared.type_code.TypeCode.{TypeCode}
-use Rattle.thrift_binary.specs.TypeCodes.{binary_code_of, kind_among, binary_kind_of_code, all_kinds}
-use Rattle.thrift_binary.specs.laws.ProtocolLaws.{binary_code_known}
+use Rattle.thrift_spellings.specs.BinaryTypeCodes.{binary_code_of, kind_among, binary_kind_of_code, all_kinds}
+use Rattle.thrift_spellings.proofs.BinaryLaws.{binary_code_known}
 
 found_by : (first kind : TypeCode) (more : Option TypeCode) (code : ℕ) (b : Bool) → eqb code (binary_code_of first) ≡ b → (more ≡ Some kind → code ≡ binary_code_of kind) → cond b (Some first) more ≡ Some kind → code ≡ binary_code_of kind
 found_by first kind more code true same later e = (let is : first ≡ kind = cc in eqb-true code (binary_code_of first) same ∙ ap binary_code_of is)

@@ -7,9 +7,9 @@ use Rattle.thrift_core.specs.declared.stack.Level.TheVariants as levels
 use Rattle.thrift_core.specs.Places.{levels_on, Place, at_part, in_binary}
 use Rattle.thrift_core.specs.Walks.{opened_by_header, opened_by_size, Turns, outer_struct}
 use Rattle.thrift_core.specs.Parts.{header, truth, byte, int, long, size, list_head, map_head}
-use Rattle.thrift_binary.specs.TypeCodes.{kind_among, binary_kind_of_code}
-use Rattle.thrift_binary.specs.Spelling.{binary_spells, binary_writes}
-use Rattle.thrift_binary.specs.Reading.{binary_reads, binary_size_at, binary_header_at, binary_list_at, binary_map_at}
+use Rattle.thrift_spellings.specs.BinaryTypeCodes.{kind_among, binary_kind_of_code}
+use Rattle.thrift_spellings.specs.BinarySpelling.{binary_spells, binary_writes}
+use Rattle.thrift_spellings.specs.BinaryReading.{binary_reads, binary_size_at, binary_header_at, binary_list_at, binary_map_at}
 
 -- ---- fields
 

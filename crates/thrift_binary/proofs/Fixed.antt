@@ -2,7 +2,7 @@
 use Rattle.std.proofs.Common.{◌≡◌, ◌≤◌, ◌<◌, ◌∷◌, ℕ, List, [], length, take, drop, Ok, Err, refl, arith}
 use Rattle.std.proofs.lemmas.Bool.{lt-ltb, le-ltb}
 use Rattle.span_io.specs.declared.cause.Cause.TheVariants as causes
-use Rattle.thrift_binary.specs.Reading.{fixed_at}
+use Rattle.thrift_spellings.specs.BinaryReading.{fixed_at}
 
 pub fixed_short : (A : Type 0) (many : ℕ) (value : List ℕ → A) (text : List ℕ) → length text < many → fixed_at A many value text ≡ Err causes.Truncated
 fixed_short A many value text less = rw (lt-ltb (length text) many less) refl

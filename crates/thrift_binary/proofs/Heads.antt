@@ -5,9 +5,9 @@ use Rattle.span_io.specs.declared.cause.Cause.{Cause}
 use Rattle.span_io.specs.declared.cause.Cause.TheVariants as causes
 use Rattle.thrift_core.specs.declared.type_code.TypeCode.{TypeCode}
 use Rattle.thrift_core.specs.Levels.{why_none, why_no_pair}
-use Rattle.thrift_binary.specs.TypeCodes.{binary_kind_of_code}
-use Rattle.thrift_binary.specs.Spelling.{signed}
-use Rattle.thrift_binary.specs.Reading.{fixed_at, binary_size_at, binary_header_at, binary_list_at, binary_map_at}
+use Rattle.thrift_spellings.specs.BinaryTypeCodes.{binary_kind_of_code}
+use Rattle.thrift_spellings.specs.BinarySpelling.{signed}
+use Rattle.thrift_spellings.specs.BinaryReading.{fixed_at, binary_size_at, binary_header_at, binary_list_at, binary_map_at}
 
 -- ---- fields
 

@@ -6,7 +6,7 @@ use Rattle.std.specs.List.{slice_get}
 use Rattle.std.specs.Int.{w32, from_be_bytes}
 use Rattle.span_io.specs.declared.cause.Cause.{Cause}
 use Rattle.span_io.specs.declared.cause.Cause.TheVariants as causes
-use Rattle.thrift_binary.specs.Reading.{why_first, why_later, binary_size_at}
+use Rattle.thrift_spellings.specs.BinaryReading.{why_first, why_later, binary_size_at}
 
 -- the number at the front, the most significant byte first
 abbrev pub number_of : List ℕ → ℕ

@@ -1,8 +1,9 @@
-ghost use Rattle.thrift_binary.specs.Spelling as spelling;
-ghost use Rattle.thrift_binary.specs.Reading as reading;
-ghost use Rattle.thrift_binary.specs.laws.ProtocolLaws as binary_laws;
-ghost use Rattle.thrift_binary.specs.laws.Unfinished as unfinished;
-ghost use Rattle.thrift_binary.specs.laws.ProperWords as proper_words;
+//! The binary protocol as a protocol of Thrift.
+ghost use Rattle.thrift_spellings.specs.BinarySpelling as spelling;
+ghost use Rattle.thrift_spellings.specs.BinaryReading as reading;
+ghost use Rattle.thrift_spellings.proofs.BinaryLaws as binary_laws;
+ghost use Rattle.thrift_spellings.proofs.BinaryUnfinished as unfinished;
+ghost use Rattle.thrift_spellings.proofs.BinaryProperWords as proper_words;
 ghost use Rattle.thrift_core.specs.Values.{finds_own};
 
 use crate::reading::{

@@ -1,6 +1,6 @@
 //! Laws of the protocol, as contracts of functions that do nothing.
-ghost use Rattle.thrift_binary.specs.Reading.{binary_reads};
-ghost use Rattle.thrift_binary.specs.TypeCodes.{BinaryCodes};
+ghost use Rattle.thrift_spellings.specs.BinaryReading.{binary_reads};
+ghost use Rattle.thrift_spellings.specs.BinaryTypeCodes.{BinaryCodes};
 ghost use Rattle.thrift_core.specs.Protocols.{UnfinishedWithin};
 
 /// Each type has one code, and no two types share one.

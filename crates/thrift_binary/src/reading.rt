@@ -1,8 +1,9 @@
+//! The parts of a text in the binary protocol, read.
 ghost use Rattle.std.specs.Prelude.{◌≡◌, ◌+◌, ◌<◌, ◌≤◌, ℕ, ℤ, Bool, Option, Some, None, List, length, OnErr, Err, Any, true, ◌↔◌, ◌≢◌};
 ghost use Rattle.std.specs.Int.{w8, w16, w32, w64};
 ghost use Rattle.thrift_core.specs.Reading.{GivesWord, Stays};
-ghost use Rattle.thrift_binary.specs.Spelling.{signed, binary_is_true, as_they_are};
-ghost use Rattle.thrift_binary.specs.Reading.{fixed_at, binary_size_at, binary_header_at, binary_list_at, binary_map_at};
+ghost use Rattle.thrift_spellings.specs.BinarySpelling.{signed, binary_is_true, as_they_are};
+ghost use Rattle.thrift_spellings.specs.BinaryReading.{fixed_at, binary_size_at, binary_header_at, binary_list_at, binary_map_at};
 
 use crate::type_codes::type_of;
 use span_io::{Cause, Cursor, Short};

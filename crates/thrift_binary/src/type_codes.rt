@@ -1,11 +1,12 @@
+//! The codes of types in the binary protocol.
 ghost use Rattle.std.specs.Prelude.{◌≡◌};
-ghost use Rattle.thrift_binary.specs.TypeCodes.{binary_code_of, binary_kind_of_code};
+ghost use Rattle.thrift_spellings.specs.BinaryTypeCodes.{binary_code_of, binary_kind_of_code};
 
 use thrift_core::TypeCode;
 
 // The type that has this code.
 #[inline(always)]
-#[tactic(auto, unfolding(crate::specs::TypeCodes::binary_kind_of_code, crate::specs::TypeCodes::kind_among))]
+#[tactic(auto, unfolding(thrift_spellings::specs::BinaryTypeCodes::binary_kind_of_code, thrift_spellings::specs::BinaryTypeCodes::kind_among))]
 pub(crate) fn type_of(code: u8) -> Option<TypeCode>
     ensures { result ≡ binary_kind_of_code code }
 {

@@ -3,8 +3,8 @@ use Rattle.std.proofs.Common.{◌≡◌, ◌↔◌, ◌⊎◌, inl, inr, ℕ, Bo
 use Rattle.std.proofs.lemmas.Bool.{eqb-true}
 use Rattle.thrift_core.specs.declared.type_code.TypeCode.{TypeCode}
 use Rattle.thrift_core.specs.declared.type_code.TypeCode.TheVariants as kinds
-use Rattle.thrift_compact.specs.laws.ProtocolLaws.{compact_code_known}
-use Rattle.thrift_compact.specs.TypeCodes.{compact_code_of, compact_kind_of_code, held_by_code, field_code}
+use Rattle.thrift_spellings.proofs.CompactLaws.{compact_code_known}
+use Rattle.thrift_spellings.specs.CompactTypeCodes.{compact_code_of, compact_kind_of_code, held_by_code, field_code}
 
 abbrev IsCode : TypeCode → ℕ → Type 0
 IsCode kind code = (code ≡ compact_code_of kind) ⊎ ((code ≡ 2) × (kind ≡ kinds.Truth))

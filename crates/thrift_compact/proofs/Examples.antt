@@ -5,9 +5,9 @@ use Rattle.span_io.specs.Varint.{varint_within, varint_at, shortest_within, vari
 use Rattle.span_io.specs.Zigzag.{zigzag_at}
 use Rattle.thrift_core.specs.declared.type_code.TypeCode.TheVariants as kinds
 use Rattle.thrift_core.specs.Parts.{header, truth, byte, int, long, eight, size, list_head, map_head}
-use Rattle.thrift_compact.specs.TypeCodes.{compact_kind_of_code, held_by_code}
-use Rattle.thrift_compact.specs.Spelling.{compact_writes}
-use Rattle.thrift_compact.specs.Reading.{compact_reads, signed_at, compact_size_at, compact_header_at, compact_list_at, compact_map_at}
+use Rattle.thrift_spellings.specs.CompactTypeCodes.{compact_kind_of_code, held_by_code}
+use Rattle.thrift_spellings.specs.CompactSpelling.{compact_writes}
+use Rattle.thrift_spellings.specs.CompactReading.{compact_reads, signed_at, compact_size_at, compact_header_at, compact_list_at, compact_map_at}
 
 -- ---- fields
 

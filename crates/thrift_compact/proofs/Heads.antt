@@ -7,8 +7,8 @@ use Rattle.span_io.specs.declared.cause.Cause.TheVariants as causes
 use Rattle.thrift_core.specs.declared.type_code.TypeCode.{TypeCode}
 use Rattle.thrift_core.specs.Levels.{why_none, why_no_pair}
 use Rattle.thrift_core.specs.Reading.{GivesWord, unless}
-use Rattle.thrift_compact.specs.TypeCodes.{compact_kind_of_code, held_by_code}
-use Rattle.thrift_compact.specs.Reading.{signed_at, is_signed, why_size, compact_size_at, id_at, compact_header_at, list_size_at, compact_list_at, compact_map_at}
+use Rattle.thrift_spellings.specs.CompactTypeCodes.{compact_kind_of_code, held_by_code}
+use Rattle.thrift_spellings.specs.CompactReading.{signed_at, is_signed, why_size, compact_size_at, id_at, compact_header_at, list_size_at, compact_list_at, compact_map_at}
 
 -- ---- ids
 

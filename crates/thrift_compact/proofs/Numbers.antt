@@ -8,7 +8,7 @@ use Rattle.span_io.specs.declared.cursor.Lack.{Lack}
 use Rattle.span_io.specs.Varint.{varint_at}
 use Rattle.span_io.specs.Zigzag.{zigzag_at}
 use Rattle.thrift_core.specs.Reading.{unless}
-use Rattle.thrift_compact.specs.Reading.{lack_cause, told, byte_at, is_signed, signed_at, why_size, compact_size_at, eight_at}
+use Rattle.thrift_spellings.specs.CompactReading.{lack_cause, told, byte_at, is_signed, signed_at, why_size, compact_size_at, eight_at}
 
 -- ---- bytes
 

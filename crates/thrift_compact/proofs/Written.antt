@@ -3,7 +3,7 @@ use Rattle.std.proofs.Common.{◌≡◌, ◌<◌, ◌≤◌, ◌<ℤ◌, ◌-ℤ
 use Rattle.std.specs.Int.{w16, w32, w64}
 use Rattle.std.proofs.lemmas.Bool.{lt-ltb, le-ltb}
 use Rattle.std.proofs.lemmas.Int.{ints}
-use Rattle.span_io.specs.laws.ShortestVarints.{one_byte}
+use Rattle.span_io.proofs.ShortestVarints.{one_byte}
 
 pub ruleset of_varint = (one_byte, lt-ltb)
 

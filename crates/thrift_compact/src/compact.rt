@@ -1,9 +1,10 @@
-ghost use Rattle.thrift_compact.specs.Spelling as spelling;
-ghost use Rattle.thrift_compact.specs.Reading as reading;
-ghost use Rattle.thrift_compact.specs.laws.ProtocolLaws as compact_laws;
-ghost use Rattle.thrift_compact.specs.laws.ReadsExactly as exactly;
-ghost use Rattle.thrift_compact.specs.laws.Unfinished as unfinished;
-ghost use Rattle.thrift_compact.specs.laws.ProperWords as proper_words;
+//! The compact protocol as a protocol of Thrift.
+ghost use Rattle.thrift_spellings.specs.CompactSpelling as spelling;
+ghost use Rattle.thrift_spellings.specs.CompactReading as reading;
+ghost use Rattle.thrift_spellings.proofs.CompactLaws as compact_laws;
+ghost use Rattle.thrift_spellings.proofs.CompactExactly as exactly;
+ghost use Rattle.thrift_spellings.proofs.CompactUnfinished as unfinished;
+ghost use Rattle.thrift_spellings.proofs.CompactProperWords as proper_words;
 ghost use Rattle.thrift_core.specs.Values.{finds_own};
 
 use crate::reading::{

@@ -1,10 +1,11 @@
+//! The parts of a text in the compact protocol, read.
 ghost use Rattle.std.specs.Prelude.{◌≡◌, ◌+◌, ◌<◌, length, OnErr};
 ghost use Rattle.std.specs.Int.{w8, cast_signed};
 ghost use Rattle.span_io.specs.Zigzag.{zigzag_at};
 ghost use Rattle.span_io.specs.declared.cause.Cause.TheVariants as causes;
 ghost use Rattle.thrift_core.specs.Reading.{GivesWord, Stays, unless};
-ghost use Rattle.thrift_compact.specs.Spelling.{compact_is_true};
-ghost use Rattle.thrift_compact.specs.Reading as parts;
+ghost use Rattle.thrift_spellings.specs.CompactSpelling.{compact_is_true};
+ghost use Rattle.thrift_spellings.specs.CompactReading as parts;
 
 use crate::type_codes::{held_of, type_of};
 use span_io::{Cause, Cursor, Lack, Short};

@@ -1,11 +1,12 @@
+//! The codes of types in the compact protocol.
 ghost use Rattle.std.specs.Prelude.{◌≡◌, ◌≤◌};
-ghost use Rattle.thrift_compact.specs.TypeCodes as codes_of_types;
+ghost use Rattle.thrift_spellings.specs.CompactTypeCodes as codes_of_types;
 
 use thrift_core::TypeCode;
 
 // The type that has this code.
 #[inline(always)]
-#[tactic(auto, unfolding(crate::specs::TypeCodes::compact_kind_of_code))]
+#[tactic(auto, unfolding(thrift_spellings::specs::CompactTypeCodes::compact_kind_of_code))]
 pub(crate) fn type_of(code: u8) -> Option<TypeCode>
     ensures { result ≡ codes_of_types.compact_kind_of_code code }
 {
@@ -27,7 +28,7 @@ pub(crate) fn type_of(code: u8) -> Option<TypeCode>
 
 // The truth value that the head of a field of this code holds.
 #[inline(always)]
-#[tactic(auto, unfolding(crate::specs::TypeCodes::held_by_code))]
+#[tactic(auto, unfolding(thrift_spellings::specs::CompactTypeCodes::held_by_code))]
 pub(crate) fn held_of(code: u8) -> Option<bool>
     ensures { result ≡ codes_of_types.held_by_code code }
 {

@@ -1,8 +1,9 @@
+//! The parts of a text in the compact protocol, written.
 ghost use Rattle.std.specs.Prelude.{◌≡◌, ◌≤◌, ◌<ℤ◌, ◌++◌, ◌∷◌, length, OnOk, OnErr};
 ghost use Rattle.span_io.specs.Varint.{varint_text};
 ghost use Rattle.thrift_core.specs.Protocols.{last_size, list_of_type};
-ghost use Rattle.thrift_compact.specs.TypeCodes as codes_of_types;
-ghost use Rattle.thrift_compact.specs.Spelling as spelling;
+ghost use Rattle.thrift_spellings.specs.CompactTypeCodes as codes_of_types;
+ghost use Rattle.thrift_spellings.specs.CompactSpelling as spelling;
 
 use crate::type_codes::code;
 use span_io::{Blob, OutOfMemory, Varint, zigzag};
@@ -41,7 +42,8 @@ pub(crate) fn append_header(out: &mut Blob, last: i16, id: i16, code: u8) -> Res
 #[tactic(auto, using(crate::proofs::Written::of_list))]
 pub(crate) fn append_list(out: &mut Blob, element: TypeCode, many: u32) -> Result<(), OutOfMemory>
     requires { many ≤ last_size }
-    ensures ok { OnOk result (out.new ≡ out.old ++ spelling.list_head_text (list_of_type element many)) }
+    ensures ok { OnOk result
+        (out.new ≡ out.old ++ spelling.list_head_text (list_of_type element many)) }
     ensures err { OnErr result (out.new ≡ out.old) }
 {
     if many < 15 {

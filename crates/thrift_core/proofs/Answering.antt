@@ -4,9 +4,9 @@ use Rattle.std.proofs.lemmas.List.{append-nil, length-append}
 use Rattle.std.proofs.Math.Seq.{take-append_seam, drop-append_seam}
 use Rattle.span_io.specs.declared.cause.Cause.{Cause}
 use Rattle.span_io.specs.declared.cause.Cause.TheVariants as causes
-use Rattle.span_io.specs.laws.Cuts.{two_cuts}
+use Rattle.span_io.proofs.Cuts.{two_cuts}
 use Rattle.span_io.specs.Frames.{Framing, IsOpen, IsRefused, IsRefusedAt}
-use Rattle.span_io.specs.laws.FramingLaws.{FrontsAreOpen, open_front}
+use Rattle.span_io.proofs.FramingLaws.{FrontsAreOpen, open_front}
 use Rattle.thrift_core.specs.declared.passing.Halted.{Halted}
 use Rattle.thrift_core.specs.declared.passing.Halted.TheVariants as halts
 use Rattle.thrift_core.specs.declared.type_code.TypeCode.{TypeCode}
@@ -15,7 +15,8 @@ use Rattle.thrift_core.specs.Reading.{ReadingOf}
 use Rattle.thrift_core.specs.Protocols.{ReadsExactly, PartLaws}
 use Rattle.thrift_core.specs.Trees.{BinaryThen}
 use Rattle.thrift_core.specs.Walks.{Open, in_value, Passes, texts_from, RefusedFrom}
-use Rattle.thrift_core.specs.Stops.{StopsFor, HaltsAs, cause_of}
+use Rattle.thrift_core.specs.Stops.{StopsFor}
+use Rattle.thrift_core.specs.private.Halting.{HaltsAs, cause_of}
 use Rattle.thrift_core.specs.Values.{AnswersRefusals, BeginsValue}
 use Rattle.thrift_core.proofs.Determined.{one_word, one_end}
 use Rattle.thrift_core.proofs.Halts.{is_truncated, stop_not_whole, lack_not_whole}

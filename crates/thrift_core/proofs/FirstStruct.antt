@@ -6,7 +6,7 @@ use Rattle.span_io.specs.declared.cause.Cause.TheVariants as causes
 use Rattle.span_io.specs.declared.step.Step.{Step}
 use Rattle.span_io.specs.declared.step.Step.TheVariants as steps
 use Rattle.span_io.specs.Steps.{StepIs}
-use Rattle.span_io.specs.laws.FramingLaws.{FramingLaws, item_first, refused_first, refused_step, needs_more, too_long_first}
+use Rattle.span_io.proofs.FramingLaws.{FramingLaws, item_first, refused_first, refused_step, needs_more, too_long_first}
 use Rattle.thrift_core.specs.Parts.{Part, Spelling}
 use Rattle.thrift_core.specs.Reading.{ReadingOf}
 use Rattle.thrift_core.specs.Protocols.{ReadsExactly, PartLaws}

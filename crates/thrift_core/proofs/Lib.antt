@@ -2,8 +2,13 @@ pub mod Determined
 pub mod Completed
 pub mod Ends
 pub mod Halts
+pub mod Judged
+pub mod JudgedSteps
+pub mod OneReading
+pub mod Standing
 pub mod Stopping
 pub mod Meanings
+pub mod StructLaws
 pub mod TextsFrom
 pub mod WalkSteps
 pub mod OpenStructs
@@ -16,3 +21,4 @@ pub mod StackSteps
 pub mod Resuming
 pub mod StructPushes
 mod Examples
+pub mod WrittenLaws

@@ -2,9 +2,9 @@
 use Rattle.std.proofs.Common.{◌≡◌, ◌++◌, ◌∷◌, ◌⊎◌, inl, inr, ℕ, zero, suc, ℤ, pos, Bool, List, [], Option, Some, None, refl, ap, sym, ◌∙◌, subst, arith}
 use Rattle.std.proofs.lemmas.List.{append-nil}
 use Rattle.span_io.specs.declared.cause.Cause.{Cause}
-use Rattle.span_io.specs.laws.Cuts.{append_empty_right}
+use Rattle.span_io.proofs.Cuts.{append_empty_right}
 use Rattle.span_io.specs.Frames.{Framing, IsProperFront, IsOpen, BeginsWhole, IsRefusedAt, CanBeCompleted}
-use Rattle.span_io.specs.laws.FramingLaws.{Place, is_open, is_begun, is_refused, open_front}
+use Rattle.span_io.proofs.FramingLaws.{Place, is_open, is_begun, is_refused, open_front}
 use Rattle.thrift_core.specs.declared.field.Field.{Field}
 use Rattle.thrift_core.specs.Parts.{Part, Spelling}
 use Rattle.thrift_core.specs.Reading.{ReadingOf}
@@ -16,7 +16,7 @@ use Rattle.thrift_core.specs.StatedLaws.{OneReading, PartsReadBack, OpenFronts}
 use Rattle.thrift_core.proofs.Determined.{front_of, one_turn, one_word, one_end, passes_more, passes_on, ended_there}
 use Rattle.thrift_core.proofs.Completed.{stack_filled, walk_suits}
 use Rattle.thrift_core.proofs.Meanings.{whole_walk, fields_on}
-use Rattle.thrift_core.specs.laws.OneReading.{one_value, one_fields}
+use Rattle.thrift_core.proofs.OneReading.{one_value, one_fields}
 use Rattle.thrift_core.proofs.TextsFrom as texts
 use Rattle.thrift_core.proofs.TextsFrom.{no_header}
 

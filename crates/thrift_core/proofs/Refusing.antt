@@ -8,7 +8,8 @@ use Rattle.thrift_core.specs.Parts.{Part, WordOf, Spelling}
 use Rattle.thrift_core.specs.Reading.{ReadingOf}
 use Rattle.thrift_core.specs.Protocols.{ReadsExactly, PartLaws}
 use Rattle.thrift_core.specs.Walks.{Open, First, a_part, first_of, texts_from, RefusedFrom, Passes}
-use Rattle.thrift_core.specs.Stops.{StopsBy, HaltsAs, cause_of}
+use Rattle.thrift_core.specs.Stops.{StopsBy}
+use Rattle.thrift_core.specs.private.Halting.{HaltsAs, cause_of}
 use Rattle.thrift_core.specs.Values.{AnswersRefusals}
 use Rattle.thrift_core.proofs.Answering.{passed_answers, halted_answers}
 use Rattle.thrift_core.proofs.Ends.{Fate, begins_whole, stops_for, lacks_some, fate}

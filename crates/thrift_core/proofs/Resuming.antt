@@ -11,7 +11,8 @@ use Rattle.thrift_core.specs.declared.position.Position.{Position}
 use Rattle.thrift_core.specs.declared.stack.Stack.{Stack}
 use Rattle.thrift_core.specs.Parts.{Part, Spelling}
 use Rattle.thrift_core.specs.Places.{StackLacks, at_part, in_binary}
-use Rattle.thrift_core.specs.Positions.{unfinished_part, PlaceOf, IsAtPart, IsEnough, KeepsOf, Halting, Resumed, Joined}
+use Rattle.thrift_core.specs.private.Halting.{unfinished_part, IsAtPart, IsEnough, KeepsOf, Halting, Resumed, Joined}
+use Rattle.thrift_core.specs.Positions.{PlaceOf}
 use Rattle.thrift_core.specs.Protocols.{ReadsExactly, UnfinishedWithin, most_unfinished}
 use Rattle.thrift_core.specs.Reading.{ReadingOf}
 use Rattle.thrift_core.specs.private.StackWalks.{open_of, HaltsThere}

@@ -3,7 +3,7 @@ use Rattle.std.proofs.Common.{◌≡◌, ◌+◌, ◌-◌, ◌*◌, ◌≤◌, �
 use Rattle.std.proofs.lemmas.List.{length-append, length-take, take-append-drop}
 use Rattle.std.specs.Result.{IsErrAnd}
 use Rattle.std.proofs.lemmas.Result.{err_from_is_err_and}
-use Rattle.span_io.specs.laws.Cuts.{some_length}
+use Rattle.span_io.proofs.Cuts.{some_length}
 use Rattle.span_io.specs.Walks.{Walk}
 use Rattle.span_io.specs.declared.cause.Cause.{Cause}
 use Rattle.thrift_core.specs.declared.field.Field.{Field}
@@ -20,7 +20,8 @@ use Rattle.thrift_core.specs.Places.{open_level, around, stack_of}
 use Rattle.thrift_core.specs.Protocols.{ReadsExactly, PartLaws, HasBytes}
 use Rattle.thrift_core.specs.Reading.{ReadingOf, Stays}
 use Rattle.thrift_core.specs.private.StackWalks.{open_of, still_open, levels_in, list_first, map_first, IsLeaf, weight, ComesFirst, steps_left, IsNearer, ValueStepped, HaltsThere, Stepped, Walked}
-use Rattle.thrift_core.specs.Stops.{StopsBy, StopsFor, Lacks, HaltsAs}
+use Rattle.thrift_core.specs.Stops.{StopsBy, StopsFor, Lacks}
+use Rattle.thrift_core.specs.private.Halting.{HaltsAs}
 use Rattle.thrift_core.specs.Trees.{outer_levels}
 use Rattle.thrift_core.specs.Walks.{Open, in_struct, in_value, in_elements, in_pairs, in_bytes, a_part, some_bytes, made_of, nothing_more, opened_by_header, first_of, first_of_value, first_of_list, first_of_map, Turn, Turns, Passes}
 use Rattle.thrift_core.proofs.Determined.{no_turns, one_turn, passes_on}

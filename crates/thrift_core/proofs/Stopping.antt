@@ -4,7 +4,7 @@ use Rattle.std.proofs.lemmas.List.{append_assoc, append-nil, length-append, leng
 use Rattle.std.proofs.lemmas.List.Elements.{All-append, All-replicate}
 use Rattle.span_io.specs.declared.cause.Cause.{Cause}
 use Rattle.span_io.specs.declared.cause.Cause.TheVariants as causes
-use Rattle.span_io.specs.laws.Cuts.{append_empty_right}
+use Rattle.span_io.proofs.Cuts.{append_empty_right}
 use Rattle.span_io.specs.Frames.{Framing, AreBytes, IsProperFront, IsOpen, IsRefused, IsRefusedAt}
 use Rattle.thrift_core.specs.declared.type_code.TypeCode.{TypeCode}
 use Rattle.thrift_core.specs.declared.type_code.TypeCode.TheVariants as kinds

@@ -7,16 +7,18 @@ use Rattle.span_io.specs.declared.cause.Cause.TheVariants as causes
 use Rattle.span_io.specs.declared.step.Step.{Step}
 use Rattle.span_io.specs.declared.step.Step.TheVariants as steps
 use Rattle.span_io.specs.Frames.{BeginsFrame, NeedsMore}
-use Rattle.span_io.specs.laws.FramingLaws.{of_front}
-use Rattle.span_io.specs.Pieces.{PieceLaws, piece_laws}
+use Rattle.span_io.proofs.FramingLaws.{of_front}
+use Rattle.span_io.specs.Pieces.{PieceLaws}
+use Rattle.span_io.proofs.PieceSteps.{piece_laws}
 use Rattle.span_io.specs.Steps.{behind}
 use Rattle.thrift_core.specs.declared.passing.Halted.{Halted}
 use Rattle.thrift_core.specs.declared.position.Position.{Position}
 use Rattle.thrift_core.specs.Parts.{Part, Spelling}
-use Rattle.thrift_core.specs.Positions.{PlaceOf, IsAtStart, Halting, Joined, Seen, step_of}
+use Rattle.thrift_core.specs.Positions.{PlaceOf, Seen}
+use Rattle.thrift_core.specs.private.Halting.{IsAtStart, Halting, Joined, step_of}
 use Rattle.thrift_core.specs.Protocols.{ReadsExactly, PartLaws}
 use Rattle.thrift_core.specs.Reading.{ReadingOf}
-use Rattle.thrift_core.specs.Stops.{HaltsAs, cause_of}
+use Rattle.thrift_core.specs.private.Halting.{HaltsAs, cause_of}
 use Rattle.thrift_core.specs.Values.{struct_frames, RefusedStruct, FirstStructIs}
 use Rattle.thrift_core.specs.Walks.{outer_struct}
 use Rattle.thrift_core.proofs.FirstStruct.{passed_first}

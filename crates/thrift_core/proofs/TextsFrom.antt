@@ -5,7 +5,7 @@ use Rattle.std.proofs.lemmas.List.{append-nil, length-append}
 use Rattle.span_io.specs.declared.cause.Cause.{Cause}
 use Rattle.span_io.specs.declared.cause.Cause.TheVariants as causes
 use Rattle.span_io.specs.Frames.{Framing, EndsInVarint, IsOpen, IsRefused, IsRefusedAt}
-use Rattle.span_io.specs.laws.FramingLaws.{Place, is_open, is_begun, is_refused, FrontsAreOpen, FramingLaws}
+use Rattle.span_io.proofs.FramingLaws.{Place, is_open, is_begun, is_refused, FrontsAreOpen, FramingLaws}
 use Rattle.thrift_core.specs.Parts.{Part, header, WordOf, Spelling, Begins, BeginsNone, texts_of}
 use Rattle.thrift_core.specs.Reading.{ReadingOf}
 use Rattle.thrift_core.specs.Protocols.{ReadsExactly, PartLaws}

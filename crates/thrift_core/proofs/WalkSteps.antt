@@ -3,7 +3,7 @@ use Rattle.std.proofs.Common.{◌≡◌, ◌≢◌, ◌+◌, ◌-◌, ◌≤◌,
 use Rattle.std.proofs.lemmas.List.{length-append, length-take, take-append-drop}
 use Rattle.std.specs.Result.{IsErrAnd}
 use Rattle.std.proofs.lemmas.Result.{err_from_is_err_and}
-use Rattle.span_io.specs.laws.Cuts.{some_length}
+use Rattle.span_io.proofs.Cuts.{some_length}
 use Rattle.span_io.specs.Walks.{Walk}
 use Rattle.span_io.specs.declared.cause.Cause.{Cause}
 use Rattle.span_io.specs.declared.cause.Cause.TheVariants as causes
@@ -16,7 +16,8 @@ use Rattle.thrift_core.specs.declared.passing.Halted.TheVariants as halts
 use Rattle.thrift_core.specs.Parts.{Part, header, list_head, map_head, WordOf, Spelling, Begins}
 use Rattle.thrift_core.specs.Reading.{ReadingOf, Stays}
 use Rattle.thrift_core.specs.Walks.{Open, opened_by_header, opened_elements, opened_pairs, first_of_list, first_of_map, in_struct, in_value, in_elements, in_pairs, in_bytes, First, a_part, some_bytes, made_of, no_level, first_of, Turn, Turns, Passes}
-use Rattle.thrift_core.specs.Stops.{StopsBy, HaltsAs, Passed}
+use Rattle.thrift_core.specs.Stops.{StopsBy}
+use Rattle.thrift_core.specs.private.Halting.{HaltsAs, Passed}
 use Rattle.thrift_core.proofs.Determined.{no_turns, one_turn, passes_on, passes_above}
 
 -- a cursor walked from what is open here to what is open there

@@ -7,26 +7,32 @@ abbrev pub truth_in : Tree → List Bool
 truth_in (leaf (truth_value b)) = b ∷ []
 truth_in other = []
 
+-- the number that a value holds, if it is an i32
 abbrev pub i32_in : Tree → List ℤ
 i32_in (leaf (i32 n)) = n ∷ []
 i32_in other = []
 
+-- the number that a value holds, if it is an i64
 abbrev pub i64_in : Tree → List ℤ
 i64_in (leaf (i64 n)) = n ∷ []
 i64_in other = []
 
+-- the eight bytes that a value holds, the most significant first, if it is a double
 abbrev pub double_in : Tree → List (List ℕ)
 double_in (leaf (double bytes)) = bytes ∷ []
 double_in other = []
 
+-- the bytes that a value holds, if it is a binary, which a string is too
 abbrev pub binary_in : Tree → List (List ℕ)
 binary_in (binary bytes) = bytes ∷ []
 binary_in other = []
 
+-- the fields that a value holds, if it is a struct
 abbrev pub struct_in : Tree → List Fields
 struct_in (structure inner) = inner ∷ []
 struct_in other = []
 
+-- the elements that a value holds, if it is a list; a set is none
 abbrev pub list_in : Tree → List Trees
 list_in (list_of inner) = inner ∷ []
 list_in other = []
@@ -36,6 +42,7 @@ abbrev pub IsStructOf : (Fields → Type 0) → Tree → Type 0
 IsStructOf Says (structure inner) = Says inner
 IsStructOf Says other = ⊥
 
+-- the second number, a field's id, is the first; a negative id never is
 abbrev pub has_id : ℕ → ℤ → Bool
 has_id id (pos n) = n == id
 has_id id (negsuc n) = false

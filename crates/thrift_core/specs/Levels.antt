@@ -15,6 +15,7 @@ turn_of causes.BadWire = 3
 turn_of causes.BadSize = 4
 turn_of other = 5
 
+-- the cause is one of these four: TooDeep, BadVarint, BadWire or BadSize
 abbrev pub RefusesPart : Cause → Type 0
 RefusesPart cause = turn_of cause ≤ 4
 

@@ -13,5 +13,4 @@ pub mod Unfinished
 pub mod Values
 pub mod Walks
 pub mod Written
-pub mod laws
 pub mod private

@@ -1,8 +1,6 @@
 -- Structs as messages whose fields may offend. Places are counted in the struct's own bytes, its stop byte among them.
 use Rattle.std.specs.Prelude.{◌≡◌, ℕ, ℤ, pos, Bool, Option, Some, None, List, [], ◌∷◌, ◌++◌, length}
 use Rattle.span_io.specs.Offences.{Format}
-use Rattle.span_io.specs.laws.TableLaws.{Whole}
-use Rattle.thrift_core.specs.declared.field.Field.{Field}
 use Rattle.thrift_core.specs.Parts.{header, Spelling, Begins}
 use Rattle.thrift_core.specs.Trees.{Tree, Fields, no_fields, field_then, kind_of, ValueThen}
 
@@ -17,6 +15,7 @@ pub record StructRest : Type 0 where
   pub last : ℤ
   pub bytes : List ℕ
 
+-- a struct of which no field is read yet: 0 stands for the id of a field before the first
 abbrev pub whole_struct : List ℕ → StructRest
 whole_struct text = record { last = pos 0; bytes = text }
 
@@ -40,21 +39,7 @@ structs Spells left = record {
   beside = 1;
 }
 
--- ---- for a reader that goes on field by field
-
--- the field of this head stands at the front by its value, and then rest
-pub record FieldStands (Spells : Spelling) (left : ℕ) (found : Field) (item : FieldItem) (whole rest : List ℕ) : Type 0 where
-  pub id : item.id ≡ found.id
-  pub kind : kind_of item.tree ≡ found.kind
-  pub value : ValueThen Spells item.tree left found.held item.text []
-  pub parts : whole ≡ item.text ++ rest
-
 -- the fields that these are
 unfoldable pub fields_of : List FieldItem → Fields
 fields_of [] = no_fields
 fields_of (item ∷ items) = field_then item.id item.tree (fields_of items)
-
--- they are those of the struct, to its end
-pub record AreFields (Spells : Spelling) (left : ℕ) (fields : Fields) (items : List FieldItem) (rest : StructRest) : Type 0 where
-  pub same : fields_of items ≡ fields
-  pub whole : Whole (structs Spells left) items rest

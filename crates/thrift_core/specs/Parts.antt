@@ -62,6 +62,7 @@ texts_of Spells ThenVarint part = record {
   EndsPast = λ limit text. ⊥;
 }
 
+-- a type whose values hold others, and take a level of containers: struct, map, set or list
 abbrev pub IsContainer : TypeCode → Type 0
 IsContainer kinds.Struct = Unit {0}
 IsContainer kinds.Map = Unit {0}

@@ -41,8 +41,13 @@ pub record StackLacks (Spells : Spelling) (before : List Open) (text : List ℕ)
   pub missing : held ≡ length rest + many
   pub some : 1 ≤ many
 
-pub data Place (Spells : Spelling) (start : Open) (whole : List ℕ) (top : Level) (below : List Level) (carry : List ℕ) (missing : ℕ) : Type 0 where
+-- A scan that began in front of `start` stands behind the bytes `whole`, in the container `top` with those of `below` around it.
+-- Of the bytes it keeps `carry`, and it knows that `missing` bytes of a binary are to come.
+pub data Place (Spells : Spelling) (start : Open) (whole : List ℕ) (top : Level) (below : List Level) (carry : List ℕ)
+    (missing : ℕ) : Type 0 where
   -- in front of a part, or in it: the carry has what came of it
-  at_part : missing ≡ 0 → Passes Spells (start ∷ []) whole (stack_of top below) carry → length carry ≤ most_unfinished → Place Spells start whole top below carry missing
+  at_part : missing ≡ 0 → Passes Spells (start ∷ []) whole (stack_of top below) carry → length carry ≤ most_unfinished
+      → Place Spells start whole top below carry missing
   -- so many bytes of a binary are to come
-  in_binary : carry ≡ [] → StackLacks Spells (start ∷ []) whole missing (stack_of top below) → Place Spells start whole top below carry missing
+  in_binary : carry ≡ [] → StackLacks Spells (start ∷ []) whole missing (stack_of top below)
+      → Place Spells start whole top below carry missing

@@ -15,14 +15,19 @@ use Rattle.thrift_core.specs.Reading.{ReadingOf}
 
 -- Each reader answers exactly: a word where a spelling of it stands there, Truncated where the bytes are open as that part, else the
 -- cause that refuses them.
-pub record ReadsExactly (Spells : Spelling) (reads : ReadingOf) (ThenVarint : Part → List ℕ → Type 0) (Refuses : Part → Cause → List ℕ → Type 0) : Type 0 where
-  pub found : (part : Part) (word : WordOf part) (bytes rest : List ℕ) → reads part bytes ≡ Ok (word, rest) → Begins Spells part word bytes rest
-  pub only : (part : Part) (word : WordOf part) (bytes rest : List ℕ) → Begins Spells part word bytes rest → reads part bytes ≡ Ok (word, rest)
-  pub short : (part : Part) (bytes : List ℕ) → (reads part bytes ≡ Err causes.Truncated) ↔ IsOpen (texts_of Spells ThenVarint part) bytes
+pub record ReadsExactly (Spells : Spelling) (reads : ReadingOf) (ThenVarint : Part → List ℕ → Type 0)
+    (Refuses : Part → Cause → List ℕ → Type 0) : Type 0 where
+  pub found : (part : Part) (word : WordOf part) (bytes rest : List ℕ) → reads part bytes ≡ Ok (word, rest)
+      → Begins Spells part word bytes rest
+  pub only : (part : Part) (word : WordOf part) (bytes rest : List ℕ) → Begins Spells part word bytes rest
+      → reads part bytes ≡ Ok (word, rest)
+  pub short : (part : Part) (bytes : List ℕ)
+      → (reads part bytes ≡ Err causes.Truncated) ↔ IsOpen (texts_of Spells ThenVarint part) bytes
   pub bad : (part : Part) (bytes : List ℕ) (cause : Cause) → cause ≢ causes.Truncated
       → (reads part bytes ≡ Err cause) ↔ IsRefusedAt (texts_of Spells ThenVarint part) (Refuses part cause) bytes
   -- there is no other cause
-  pub refused_for : (part : Part) (bytes : List ℕ) (cause : Cause) → reads part bytes ≡ Err cause → (cause ≡ causes.Truncated) ⊎ RefusesPart cause
+  pub refused_for : (part : Part) (bytes : List ℕ) (cause : Cause) → reads part bytes ≡ Err cause
+      → (cause ≡ causes.Truncated) ⊎ RefusesPart cause
 
 -- A part that isn't whole yet has at most so many bytes.
 abbrev pub UnfinishedWithin : ℕ → ReadingOf → Type 0
@@ -44,19 +49,23 @@ pub record SpelledInBytes (Spells : Spelling) (part : Part) (word : WordOf part)
   pub spelled : Spells part word text
 
 -- What words stand where, and that each part can be spelled.
-pub record PartLaws (Spells : Spelling) (ThenVarint : Part → List ℕ → Type 0) (Refuses : Part → Cause → List ℕ → Type 0) : Type 0 where
+pub record PartLaws (Spells : Spelling) (ThenVarint : Part → List ℕ → Type 0) (Refuses : Part → Cause → List ℕ → Type 0)
+    : Type 0 where
   pub some : (part : Part) (word : WordOf part) (text : List ℕ) → HasBytes part → Spells part word text → text ≢ []
   -- what a head opens has a level, and a list or map that isn't empty has its types
-  pub field_level : (left : ℕ) (last : ℤ) (f : Field) (text : List ℕ) → Spells (header left last) (Some f) text → HasLevel left f.kind
+  pub field_level : (left : ℕ) (last : ℤ) (f : Field) (text : List ℕ) → Spells (header left last) (Some f) text
+      → HasLevel left f.kind
   pub list_level : (left : ℕ) (head : ListHead) (text : List ℕ) → Spells (list_head left) head text → 1 ≤ head.size
       → (kind : TypeCode) × (head.element ≡ Some kind) × HasLevel left kind
   pub map_level : (left : ℕ) (head : MapHead) (text : List ℕ) → Spells (map_head left) head text → 1 ≤ head.size
       → (key : TypeCode) × (value : TypeCode) × (head.key ≡ Some key) × (head.value ≡ Some value) × HasLevel left key × HasLevel left value
   -- behind the front of a part that a varint follows the part isn't whole
-  pub varint_front : (part : Part) (front : List ℕ) → ThenVarint part front → IsProperFront (texts_of Spells ThenVarint part) front
+  pub varint_front : (part : Part) (front : List ℕ) → ThenVarint part front
+      → IsProperFront (texts_of Spells ThenVarint part) front
   -- what refuses a part has one cause, of these
   pub refused_by : (part : Part) (bytes : List ℕ) (cause : Cause) → Refuses part cause bytes → RefusesPart cause
-  pub one_cause : (part : Part) (bytes : List ℕ) (a b : Cause) → IsRefused (texts_of Spells ThenVarint part) bytes → Refuses part a bytes → Refuses part b bytes → a ≡ b
+  pub one_cause : (part : Part) (bytes : List ℕ) (a b : Cause) → IsRefused (texts_of Spells ThenVarint part) bytes
+      → Refuses part a bytes → Refuses part b bytes → a ≡ b
   -- each part can be spelled, and what opens others so that it opens nothing
   pub spellable : (part : Part) → (word : WordOf part) × SpelledInBytes Spells part word
   pub stop : (left : ℕ) (last : ℤ) → SpelledInBytes Spells (header left last) None
@@ -111,11 +120,13 @@ MayWrite keeps int word = FitsSigned w32 word
 MayWrite keeps long word = FitsSigned w64 word
 MayWrite keeps eight word = (length word ≡ 8) × All (λ b. b < 256) word
 MayWrite keeps size word = word ≤ last_size
-MayWrite keeps (list_head left) head = (kind : TypeCode) × (head.element ≡ Some kind) × (head.size ≤ last_size) × (1 ≤ head.size → HasLevel left kind)
+MayWrite keeps (list_head left) head =
+    (kind : TypeCode) × (head.element ≡ Some kind) × (head.size ≤ last_size) × (1 ≤ head.size → HasLevel left kind)
 MayWrite keeps (map_head left) head = ⊥
 
 -- What is written is a spelling, and none is shorter.
 pub record WritesShortest (Spells : Spelling) (keeps : Option Bool → Option Bool) (writes : WritingOf) : Type 0 where
   pub spelled : (part : Part) (word : WordOf part) → MayWrite keeps part word → Spells part word (writes part word)
-  pub shortest : (part : Part) (word : WordOf part) (text : List ℕ) → MayWrite keeps part word → All (λ b. b < 256) text → Spells part word text
+  pub shortest : (part : Part) (word : WordOf part) (text : List ℕ) → MayWrite keeps part word → All (λ b. b < 256) text
+      → Spells part word text
       → length (writes part word) ≤ length text

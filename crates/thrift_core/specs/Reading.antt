@@ -7,6 +7,7 @@ use Rattle.span_io.specs.Walks.{Walk}
 use Rattle.thrift_core.specs.declared.type_code.TypeCode.{TypeCode}
 use Rattle.thrift_core.specs.Parts.{Part, size, WordOf}
 
+-- how a protocol reads: the word of this part at the front and the bytes behind it, or the cause
 abbrev pub ReadingOf : Type 0
 ReadingOf = (part : Part) → List ℕ → Result (WordOf part × List ℕ) Cause
 
@@ -28,6 +29,7 @@ abbrev pub binary_behind : Result (ℕ × List ℕ) Cause → Result (List ℕ �
 binary_behind (Ok read) = bytes_at read.0 read.1
 binary_behind (Err cause) = Err cause
 
+-- a binary at the front: the number of its bytes, and then so many bytes
 abbrev pub binary_at : ReadingOf → List ℕ → Result (List ℕ × List ℕ) Cause
 binary_at reads text = binary_behind (reads size text)
 
@@ -44,6 +46,7 @@ IsLent (Err cause) bytes = ⊥
 -- ---- one step after the other
 
 infixl 10 ◌>>=◌
+-- what is read first goes on to the second step; where it failed, its cause is the answer
 abbrev pub ◌>>=◌ : {A B : Type 0} → Result A Cause → (A → Result B Cause) → Result B Cause
 (Ok x) >>= f = f x
 (Err e) >>= f = Err e

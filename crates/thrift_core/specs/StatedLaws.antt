@@ -32,7 +32,8 @@ pub record PartsReadBack (reads : ReadingOf) (keeps : Option Bool → Option Boo
 -- is dropped at their end. The framing is that of structs, and EndsIn says what refuses them.
 pub record OpenFronts (Spells : Spelling) (reads : ReadingOf) (F : Framing) (EndsIn : Cause → List ℕ → Type 0) : Type 0 where
   -- the walk stands behind all bytes, and something is open
-  pub between : (text : List ℕ) (top : Open) (below : List Open) → Passes Spells (outer_struct ∷ []) text (top ∷ below) [] → CanBeCompleted F text
+  pub between : (text : List ℕ) (top : Open) (below : List Open) → Passes Spells (outer_struct ∷ []) text (top ∷ below) []
+      → CanBeCompleted F text
   -- it stands in front of a part that isn't all there
   pub inside : (text : List ℕ) → StopsFor Spells reads outer_struct text causes.Truncated → CanBeCompleted F text
   -- it stands in a binary that isn't all there

@@ -16,6 +16,7 @@ pub data Leaf : Type 0 where
   i64 : ℤ → Leaf
   double : List ℕ → Leaf
 
+-- the type of a value that is one part
 abbrev pub leaf_kind : Leaf → TypeCode
 leaf_kind (truth_value b) = kinds.Truth
 leaf_kind (i8 n) = kinds.I8
@@ -46,6 +47,7 @@ mutual
     no_pairs : Pairs
     pair_then : Tree → Tree → Pairs → Pairs
 
+-- the type of a value, as the head of its field, list, set or map names it
 abbrev pub kind_of : Tree → TypeCode
 kind_of (leaf x) = leaf_kind x
 kind_of (binary bytes) = kinds.Binary
@@ -54,10 +56,12 @@ kind_of (map_of inner) = kinds.Map
 kind_of (set_of inner) = kinds.Set
 kind_of (list_of inner) = kinds.List
 
+-- how many elements a list or set has
 unfoldable pub tree_count : Trees → ℕ
 tree_count no_trees = zero
 tree_count (tree_then tree more) = suc (tree_count more)
 
+-- how many pairs of a key and a value a map has
 unfoldable pub pair_count : Pairs → ℕ
 pair_count no_pairs = zero
 pair_count (pair_then key value more) = suc (pair_count more)

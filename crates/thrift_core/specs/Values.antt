@@ -19,14 +19,16 @@ abbrev pub values : Spelling → (Part → List ℕ → Type 0) → ℕ → Type
 values Spells ThenVarint left kind held = texts_from Spells ThenVarint (in_value left kind held)
 
 -- The answer is Truncated exactly where the bytes are open as such an item, and another cause exactly where it refuses them.
-pub record AnswersRefusals {A : Type 0} (F : Framing) (EndsIn : Cause → List ℕ → Type 0) (result : Result A Cause) (bytes : List ℕ) : Type 0 where
+pub record AnswersRefusals {A : Type 0} (F : Framing) (EndsIn : Cause → List ℕ → Type 0) (result : Result A Cause)
+    (bytes : List ℕ) : Type 0 where
   pub short : (result ≡ Err causes.Truncated) ↔ IsOpen F bytes
   pub bad : (cause : Cause) → cause ≢ causes.Truncated → (result ≡ Err cause) ↔ IsRefusedAt F (EndsIn cause) bytes
   -- no value is refused for the length of its unit
   pub within : result ≢ Err causes.UnitTooLong
 
 -- the same of a value
-abbrev pub RefusesValue : {A : Type 0} → Spelling → (Part → List ℕ → Type 0) → (Part → Cause → List ℕ → Type 0) → ℕ → TypeCode → Option Bool → Result A Cause → List ℕ → Type 0
+abbrev pub RefusesValue : {A : Type 0} → Spelling → (Part → List ℕ → Type 0) → (Part → Cause → List ℕ → Type 0) → ℕ → TypeCode
+    → Option Bool → Result A Cause → List ℕ → Type 0
 RefusesValue Spells ThenVarint Refuses left kind held result bytes =
     AnswersRefusals (values Spells ThenVarint left kind held) (RefusedFrom Spells Refuses (in_value left kind held)) result bytes
 
@@ -42,13 +44,18 @@ RefusedStruct Spells Refuses = RefusedFrom Spells Refuses outer_struct
 
 -- what the answer says of the struct at the front of the bytes
 abbrev pub FirstStructIs : Spelling → (Part → List ℕ → Type 0) → (Part → Cause → List ℕ → Type 0) → ℕ → List ℕ → Step → Type 0
-FirstStructIs Spells ThenVarint Refuses limit bytes step = StepIs (struct_frames Spells ThenVarint) (RefusedStruct Spells Refuses) limit bytes step
+FirstStructIs Spells ThenVarint Refuses limit bytes step =
+    StepIs (struct_frames Spells ThenVarint) (RefusedStruct Spells Refuses) limit bytes step
 
 -- The steps of a scanner are those over structs, and its frames are structs.
-pub record FindsStructs (F : Framing) (EndsIn : Cause → List ℕ → Type 0) (Spells : Spelling) (ThenVarint : Part → List ℕ → Type 0) (Refuses : Part → Cause → List ℕ → Type 0) : Type 0 where
-  pub steps : (limit : ℕ) (bytes : List ℕ) (step : Step) → StepIs F EndsIn limit bytes step ↔ FirstStructIs Spells ThenVarint Refuses limit bytes step
-  pub frames : (limit n : ℕ) (bytes : List ℕ) → BeginsFrame F limit n bytes ↔ BeginsFrame (struct_frames Spells ThenVarint) limit n bytes
+pub record FindsStructs (F : Framing) (EndsIn : Cause → List ℕ → Type 0) (Spells : Spelling) (ThenVarint : Part → List ℕ → Type 0)
+    (Refuses : Part → Cause → List ℕ → Type 0) : Type 0 where
+  pub steps : (limit : ℕ) (bytes : List ℕ) (step : Step)
+      → StepIs F EndsIn limit bytes step ↔ FirstStructIs Spells ThenVarint Refuses limit bytes step
+  pub frames : (limit n : ℕ) (bytes : List ℕ)
+      → BeginsFrame F limit n bytes ↔ BeginsFrame (struct_frames Spells ThenVarint) limit n bytes
 
 -- So it is where its framing and its refusals are those of structs.
-pub finds_own : {Spells : Spelling} {ThenVarint : Part → List ℕ → Type 0} {Refuses : Part → Cause → List ℕ → Type 0} → FindsStructs (struct_frames Spells ThenVarint) (RefusedStruct Spells Refuses) Spells ThenVarint Refuses
+pub finds_own : {Spells : Spelling} {ThenVarint : Part → List ℕ → Type 0} {Refuses : Part → Cause → List ℕ → Type 0}
+    → FindsStructs (struct_frames Spells ThenVarint) (RefusedStruct Spells Refuses) Spells ThenVarint Refuses
 finds_own = record { steps = λ limit bytes step. (λ h. h, λ h. h); frames = λ limit n bytes. (λ h. h, λ h. h) }

@@ -10,6 +10,7 @@ use Rattle.thrift_core.specs.declared.type_code.TypeCode.TheVariants as kinds
 use Rattle.thrift_core.specs.Parts.{Part, header, truth, byte, short, int, long, eight, size, list_head, map_head, WordOf, Spelling, Begins, BeginsNone}
 use Rattle.thrift_core.specs.Trees.{Tree, Fields, kind_of, ValueThen, FieldsThen, outer_levels}
 
+-- what is still to come of something that a text has begun; the number before a type or an id is how many levels are left
 pub data Open : Type 0 where
   -- fields behind one of this id, up to the stop byte, where so many levels are left
   in_struct : ℕ → ℤ → Open
@@ -32,13 +33,16 @@ pub data First : Type 0 where
 
 -- ---- what a word opens
 
+-- behind this word nothing more of its value is to come
 abbrev pub nothing_more : {A : Type 0} → A → List Open
 nothing_more word = []
 
+-- behind the head of a field its value is to come, and then the other fields; behind the stop byte nothing of the struct is
 abbrev pub opened_by_header : ℕ → Option Field → List Open
 opened_by_header left None = []
 opened_by_header left (Some f) = in_value left f.kind f.held ∷ in_struct left f.id ∷ []
 
+-- behind the size of a binary so many bytes are to come
 abbrev pub opened_by_size : ℕ → List Open
 opened_by_size many = in_bytes many ∷ []
 
@@ -47,21 +51,27 @@ abbrev pub opened_elements : ℕ → Option TypeCode → ℕ → List Open
 opened_elements left None many = []
 opened_elements left (Some kind) many = in_elements left kind many ∷ []
 
+-- so many pairs of these types; an empty map may lack them
 abbrev pub opened_pairs : ℕ → Option TypeCode → Option TypeCode → ℕ → List Open
 opened_pairs left (Some key) (Some value) many = in_pairs left key value many ∷ []
 opened_pairs left key value many = []
 
 -- ---- what comes first
 
+-- a binary begins with the number of its bytes
 abbrev pub first_of_binary : First
 first_of_binary = a_part size opened_by_size
 
+-- a list or set in which so many levels are left begins with its head, and behind that its elements are to come
 abbrev pub first_of_list : ℕ → First
 first_of_list left = a_part (list_head left) (λ head. opened_elements left head.element head.size)
 
+-- a map in which so many levels are left begins with its head, and behind that its pairs are to come
 abbrev pub first_of_map : ℕ → First
 first_of_map left = a_part (map_head left) (λ head. opened_pairs left head.key head.value head.size)
 
+-- a value begins with a part of its type, or with the fields of a struct; a container takes one of the levels that are left,
+-- and can't begin where none is
 abbrev pub first_of_value : ℕ → TypeCode → Option Bool → First
 first_of_value left kinds.Truth held = a_part (truth held) nothing_more
 first_of_value left kinds.I8 held = a_part byte nothing_more
@@ -76,21 +86,26 @@ first_of_value (suc left) kinds.Set held = first_of_list left
 first_of_value (suc left) kinds.List held = first_of_list left
 first_of_value zero container held = no_level
 
+-- what comes first of what is open: of fields a head or the stop byte; elements and pairs are made of the values of the next one
+-- and of the others, and are over where none is left
 abbrev pub first_of : Open → First
 first_of (in_struct left last) = a_part (header left last) (opened_by_header left)
 first_of (in_value left kind held) = first_of_value left kind held
 first_of (in_elements left kind zero) = made_of []
 first_of (in_elements left kind (suc many)) = made_of (in_value left kind None ∷ in_elements left kind many ∷ [])
 first_of (in_pairs left key value zero) = made_of []
-first_of (in_pairs left key value (suc many)) = made_of (in_value left key None ∷ in_value left value None ∷ in_pairs left key value many ∷ [])
+first_of (in_pairs left key value (suc many)) =
+    made_of (in_value left key None ∷ in_value left value None ∷ in_pairs left key value many ∷ [])
 first_of (in_bytes many) = some_bytes many
 
 -- ---- the walk
 
 -- what comes first is passed; it leaves this open in its place, and these bytes
 abbrev pub Turn : Spelling → First → List ℕ → List Open → List ℕ → Type 0
-Turn Spells (a_part part opens) whole opened rest = (word : WordOf part) × Begins Spells part word whole rest × (opened ≡ opens word)
-Turn Spells (some_bytes many) whole opened rest = (bytes : List ℕ) × (whole ≡ bytes ++ rest) × (length bytes ≡ many) × (opened ≡ [])
+Turn Spells (a_part part opens) whole opened rest =
+    (word : WordOf part) × Begins Spells part word whole rest × (opened ≡ opens word)
+Turn Spells (some_bytes many) whole opened rest =
+    (bytes : List ℕ) × (whole ≡ bytes ++ rest) × (length bytes ≡ many) × (opened ≡ [])
 Turn Spells (made_of opens) whole opened rest = (opened ≡ opens) × (whole ≡ rest)
 Turn Spells no_level whole opened rest = ⊥
 
@@ -143,6 +158,7 @@ WholeOf Spells (in_struct left last) text = (fields : Fields) × FieldsThen Spel
 WholeOf Spells (in_value left kind held) text = (tree : Tree) × (kind_of tree ≡ kind) × ValueThen Spells tree left held text []
 WholeOf Spells other text = Passes Spells (other ∷ []) text [] []
 
+-- The texts of what is open, as items of a wire format: whole ones, and what is known inside of one.
 abbrev pub texts_from : Spelling → (Part → List ℕ → Type 0) → Open → Framing
 texts_from Spells ThenVarint start = record {
   Whole = λ text. WholeOf Spells start text;

@@ -21,6 +21,7 @@ abbrev pub element_type : Trees → TypeCode
 element_type no_trees = kinds.Struct
 element_type (tree_then tree more) = kind_of tree
 
+-- what is written of a value that is one part, of which the field's head may hold a truth value already
 abbrev pub leaf_written : WritingOf → Leaf → Option Bool → List ℕ
 leaf_written writes (truth_value b) held = writes (truth held) b
 leaf_written writes (i8 n) held = writes byte n
@@ -50,10 +51,12 @@ unfoldable mutual
 
   pub elements_written : Keeping → WritingOf → Trees → ℕ → List ℕ
   elements_written keeps writes no_trees left = []
-  elements_written keeps writes (tree_then tree more) left = value_written keeps writes tree left None ++ elements_written keeps writes more left
+  elements_written keeps writes (tree_then tree more) left =
+      value_written keeps writes tree left None ++ elements_written keeps writes more left
 
 -- ---- what may be so written: each part may, ids rise, and all elements of a list have its type
 
+-- a value that is one part may be written: the part may, and the field's head holds a truth value just as the protocol keeps it
 abbrev pub MayWriteLeaf : Keeping → Leaf → Option Bool → Type 0
 MayWriteLeaf keeps (truth_value b) held = MayWrite keeps (truth held) b
 MayWriteLeaf keeps (i8 n) held = MayWrite keeps byte n
@@ -85,26 +88,19 @@ unfoldable mutual
 
   pub MayWriteElements : Keeping → Trees → TypeCode → ℕ → Type 0
   MayWriteElements keeps no_trees kind left = Unit {0}
-  MayWriteElements keeps (tree_then tree more) kind left = (kind ≡ kind_of tree) × MayWriteValue keeps tree left None × MayWriteElements keeps more kind left
+  MayWriteElements keeps (tree_then tree more) kind left =
+      (kind ≡ kind_of tree) × MayWriteValue keeps tree left None × MayWriteElements keeps more kind left
 
 -- ---- fields as a list of ids and values
 
+-- a field's id, and its value
 abbrev pub FieldRow : Type 0
 FieldRow = ℤ × Tree
 
+-- the fields of these rows, in their order
 unfoldable pub fields_of_rows : List FieldRow → Fields
 fields_of_rows [] = no_fields
 fields_of_rows (row ∷ rows) = field_then row.0 row.1 (fields_of_rows rows)
-
--- one field behind the field of id `last`
-abbrev pub field_written : Keeping → WritingOf → ℤ → Tree → ℕ → ℤ → List ℕ
-field_written keeps writes id tree left last =
-    writes (header left last) (field_head keeps id (kind_of tree) (given tree)) ++ value_written keeps writes tree left (keeps (given tree))
-
--- some, without a stop byte
-unfoldable pub rows_written : Keeping → WritingOf → List FieldRow → ℕ → ℤ → List ℕ
-rows_written keeps writes [] left last = []
-rows_written keeps writes (row ∷ rows) left last = field_written keeps writes row.0 row.1 left last ++ rows_written keeps writes rows left row.0
 
 -- a list of structs
 unfoldable pub struct_trees : {A : Type 0} → (A → List FieldRow) → List A → Trees

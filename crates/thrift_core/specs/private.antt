@@ -1,1 +1,4 @@
+pub mod Halting
 pub mod StackWalks
+pub mod StandingFields
+pub mod WrittenParts

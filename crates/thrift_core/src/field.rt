@@ -1,3 +1,4 @@
+//! The heads of fields, lists and maps.
 use crate::type_code::TypeCode;
 
 /// The head of a field: its id, its type, and the truth value that the head itself holds (compact protocol).

@@ -44,7 +44,8 @@ pub fn pieces<P: Parts>()
 /// Where a walk over a struct has neither ended nor refused the bytes, they can be completed to a
 /// struct once a varint that isn't ended is dropped at their end.
 pub fn open_fronts<P: Parts>()
-    ensures { OpenFronts P.spells P.reads (struct_frames P.spells P.then_varint) (RefusedStruct P.spells P.refuses) }
+    ensures { OpenFronts P.spells P.reads (struct_frames P.spells P.then_varint)
+        (RefusedStruct P.spells P.refuses) }
 {}
 
 /// A part that isn't whole yet has at most ten bytes.

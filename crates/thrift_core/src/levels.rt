@@ -1,3 +1,4 @@
+//! How deep values may be nested.
 ghost use Rattle.std.specs.Prelude.{◌≡◌, Some};
 ghost use Rattle.thrift_core.specs.Levels as order;
 ghost use Rattle.thrift_core.specs.Levels.{why_none, why_no_pair};

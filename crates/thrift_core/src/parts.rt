@@ -1,3 +1,4 @@
+//! The parts of a text that a protocol spells.
 ghost use Rattle.std.specs.Prelude.{◌≡◌, ◌≤◌, ◌<ℤ◌, ℕ, ℤ, Bool, Option, Some, None, List, ◌+◌, ◌++◌, length, OnOk, OnErr};
 ghost use Rattle.span_io.specs.declared.cause.Cause.{Cause};
 ghost use Rattle.thrift_core.specs.Parts.{Part, Spelling, header, truth, byte, short, int, long, eight, size, list_head, map_head};
@@ -90,11 +91,14 @@ pub trait Parts {
     ) -> Result<(), OutOfMemory>
         requires rises { last <ℤ id }
         requires given { IsGiven kind held }
-        ensures ok { (left : ℕ) → OnOk result (out.new ≡ out.old ++ writes (header left last) (field_head keeps id kind held)) }
+        ensures ok { (left : ℕ)
+            → OnOk result
+            (out.new ≡ out.old ++ writes (header left last) (field_head keeps id kind held)) }
         ensures err { OnErr result (out.new ≡ out.old) };
 
     fn put_stop(out: &mut Blob) -> Result<(), OutOfMemory>
-        ensures ok { (left : ℕ) (last : ℤ) → OnOk result (out.new ≡ out.old ++ writes (header left last) None) }
+        ensures ok { (left : ℕ) (last : ℤ)
+            → OnOk result (out.new ≡ out.old ++ writes (header left last) None) }
         ensures err { OnErr result (out.new ≡ out.old) };
 
     /// The truth value of a field, behind the field's head.
@@ -117,13 +121,16 @@ pub trait Parts {
     /// The number of a binary's bytes, and then they.
     fn put_bytes(out: &mut Blob, value: &[u8]) -> Result<(), OutOfMemory>
         requires small { length value.now ≤ last_size }
-        ensures ok { OnOk result (out.new ≡ out.old ++ (writes size (length value.now) ++ value.now)) }
+        ensures ok { OnOk result
+            (out.new ≡ out.old ++ (writes size (length value.now) ++ value.now)) }
         ensures err { OnErr result (out.new ≡ out.old) };
 
     /// The head of a list.
     fn put_list(out: &mut Blob, element: TypeCode, many: u32) -> Result<(), OutOfMemory>
         requires small { many ≤ last_size }
-        ensures ok { (left : ℕ) → OnOk result (out.new ≡ out.old ++ writes (list_head left) (list_of_type element many)) }
+        ensures ok { (left : ℕ)
+            → OnOk result
+            (out.new ≡ out.old ++ writes (list_head left) (list_of_type element many)) }
         ensures err { OnErr result (out.new ≡ out.old) };
 
     ghost reads_exactly: { ReadsExactly spells reads then_varint refuses };

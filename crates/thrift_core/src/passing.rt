@@ -1,9 +1,10 @@
+//! One part of a struct, passed over.
 ghost use Rattle.std.specs.Prelude.{◌≡◌, ◌+◌, ℕ, pos, Bool, Option, IfOk, IfErr, OnErr};
 ghost use Rattle.thrift_core.specs.Parts.{list_head, map_head};
 ghost use Rattle.thrift_core.specs.Reading.{Stays};
 ghost use Rattle.thrift_core.specs.Walks.{Open, in_struct, in_value, in_elements, in_pairs, first_of, first_of_binary, first_of_list, first_of_map};
 ghost use Rattle.thrift_core.specs.private.StackWalks.{IsLeaf};
-ghost use Rattle.thrift_core.specs.Stops.{Passed, PassedAs, cause_of};
+ghost use Rattle.thrift_core.specs.private.Halting.{Passed, PassedAs, cause_of};
 ghost use Rattle.thrift_core.specs.declared.passing.Halted.TheVariants as halts;
 ghost use Rattle.thrift_core.specs.declared.type_code.TypeCode.TheVariants as kinds;
 
@@ -58,7 +59,8 @@ pub(crate) fn pass_leaf<P: Parts>(
     held: Option<bool>,
 ) -> Result<(), Halted>
     requires leaf { IsLeaf kind }
-    ensures passed { (left : ℕ) → Passed P.spells P.reads (in_value left kind held) result c.old.rest c.new.rest }
+    ensures passed { (left : ℕ)
+        → Passed P.spells P.reads (in_value left kind held) result c.old.rest c.new.rest }
     ensures place { Stays c.old c.new }
     ensures err { OnErr result (c.new ≡ c.old) }
 {
@@ -99,7 +101,8 @@ pub(crate) fn pass_value<P: Parts>(
     held: Option<bool>,
     left: u8,
 ) -> Result<(), Halted>
-    ensures passed { Passed P.spells P.reads (in_value left kind held) result c.old.rest c.new.rest }
+    ensures passed { Passed P.spells P.reads
+        (in_value left kind held) result c.old.rest c.new.rest }
     ensures place { Stays c.old c.new }
 {
     match kind {
@@ -158,7 +161,8 @@ fn pass_elements<P: Parts>(
     many: u32,
     left: u8,
 ) -> Result<(), Halted>
-    ensures passed { Passed P.spells P.reads (in_elements left kind many) result c.old.rest c.new.rest }
+    ensures passed { Passed P.spells P.reads
+        (in_elements left kind many) result c.old.rest c.new.rest }
     ensures place { Stays c.old c.new }
 {
     'elements: for _element in 0..many {
@@ -189,7 +193,8 @@ fn pass_pairs<P: Parts>(
     many: u32,
     left: u8,
 ) -> Result<(), Halted>
-    ensures passed { Passed P.spells P.reads (in_pairs left key value many) result c.old.rest c.new.rest }
+    ensures passed { Passed P.spells P.reads
+        (in_pairs left key value many) result c.old.rest c.new.rest }
     ensures place { Stays c.old c.new }
 {
     'pairs: for _pair in 0..many {

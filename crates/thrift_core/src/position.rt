@@ -1,7 +1,8 @@
 //! Where a scan over a struct stands whose bytes come in pieces, and how it goes on with the next piece.
 ghost use Rattle.std.specs.Prelude.{◌≡◌, ◌≤◌, ◌++◌, ℕ, List, [], length, take, IfOk};
-ghost use Rattle.thrift_core.specs.Positions.{PlaceOf, IsAtStart, IsAtPart, StandsBefore, HaltsOver, Resumed, Joined};
-ghost use Rattle.thrift_core.specs.Positions.{unfinished_part, IsEnough, KeepsOf};
+ghost use Rattle.thrift_core.specs.Positions.{PlaceOf};
+ghost use Rattle.thrift_core.specs.private.Halting.{IsAtStart, IsAtPart, StandsBefore, HaltsOver, Resumed, Joined};
+ghost use Rattle.thrift_core.specs.private.Halting.{unfinished_part, IsEnough, KeepsOf};
 ghost use Rattle.thrift_core.specs.Protocols.{most_unfinished};
 
 use crate::parts::Parts;
@@ -66,7 +67,8 @@ impl Position {
 // Walks on over these bytes from in front of a part. It counts from where they begin.
 fn walk_on<P: Parts>(at: &mut Position, piece: &[u8]) -> Result<usize, Halted>
     ensures within { IfOk result (λ n. n ≤ length piece.now) }
-    ensures resumed { (whole : List ℕ) → IsAtPart at.old → StandsBefore P.spells whole at.old.stack piece.now
+    ensures resumed { (whole : List ℕ) → IsAtPart at.old
+        → StandsBefore P.spells whole at.old.stack piece.now
         → Resumed P.spells P.reads whole (length piece.now) result at.new }
 {
     let mut c = Cursor::new(piece);
@@ -107,7 +109,8 @@ fn unfinished<P: Parts>(
 ) -> Result<usize, Halted>
     requires taken { taken ≤ length piece.now }
     ensures { (bytes : List ℕ) → IsAtPart at.old → IsEnough taken piece.now
-        → HaltsOver P.spells P.reads (bytes ++ take taken piece.now) unfinished_part at.old.stack rest.now
+        → HaltsOver P.spells P.reads
+        (bytes ++ take taken piece.now) unfinished_part at.old.stack rest.now
         → Resumed P.spells P.reads (bytes ++ piece.now) (length piece.now) result at.new }
 {
     if rest.len() > taken {

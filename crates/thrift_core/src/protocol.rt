@@ -1,3 +1,4 @@
+//! What a protocol of Thrift is.
 ghost use Rattle.thrift_core.specs.Values.{FindsStructs};
 
 use crate::parts::Parts;

@@ -1,3 +1,4 @@
+//! A scanner that finds where a struct ends.
 ghost use Rattle.span_io.specs.Scans.{IsNew, PushIs, FrameIs, StandsBehind, EndsWithin};
 ghost use Rattle.thrift_core.specs.Positions.{scanning_of};
 ghost use Rattle.thrift_core.specs.Values.{struct_frames, RefusedStruct};

@@ -1,3 +1,4 @@
+//! Values that no row reads, passed over.
 ghost use Rattle.std.specs.Prelude.{◌≡◌, ◌↔◌, ◌<◌, ◌≤◌, ℕ, List, length, None, IfOk, OnErr};
 ghost use Rattle.std.specs.Result.{IsOk};
 ghost use Rattle.thrift_core.specs.Reading.{Stays, Lends, IsLent, binary_at};
@@ -14,7 +15,8 @@ use span_io::{Cause, Cursor, Short};
 pub fn bytes<'a, P: Parts>(c: &mut Cursor<'a>) -> Result<&'a [u8], Cause>
     // What is lent begins the bytes, and what begins the bytes is lent, whatever follows.
     ensures found { IfOk result (λ lent. BinaryThen P.spells lent.now c.old.rest c.new.rest) }
-    ensures only { (held rest : List ℕ) → BinaryThen P.spells held c.old.rest rest → IsLent result held × (c.new.rest ≡ rest) }
+    ensures only { (held rest : List ℕ) → BinaryThen P.spells held c.old.rest rest
+        → IsLent result held × (c.new.rest ≡ rest) }
     ensures exact { Lends result c.new.rest (binary_at P.reads c.old.rest) }
     ensures refused { RefusesValue P.spells P.then_varint P.refuses 0 kinds.Binary None result c.old.rest }
 
@@ -45,7 +47,9 @@ pub fn skip<P: Parts>(
     requires levels { left ≤ all_levels }
 
     // A value that begins the bytes is passed over, whatever follows.
-    ensures value { (rest : List ℕ) → (IsOk result × (c.new.rest ≡ rest)) ↔ BeginsValue P.spells left kind held c.old.rest rest }
+    ensures value { (rest : List ℕ)
+        → (IsOk result × (c.new.rest ≡ rest))
+        ↔ BeginsValue P.spells left kind held c.old.rest rest }
     ensures refused { RefusesValue P.spells P.then_varint P.refuses left kind held result c.old.rest }
 
     ensures onward { length c.new.rest ≤ length c.old.rest }

@@ -79,7 +79,8 @@ impl Stack {
     // Leaves the innermost container. The answer says whether there is one around it.
     pub(crate) fn leave(&mut self) -> bool
         ensures open { around self.old.below.items ≡ still_open result self.new }
-        ensures fewer { result ≡ true → length self.new.below.items + 1 ≡ length self.old.below.items }
+        ensures fewer { result ≡ true
+            → length self.new.below.items + 1 ≡ length self.old.below.items }
     {
         match self.below.pop() {
             None => false,

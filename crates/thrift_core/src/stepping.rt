@@ -80,7 +80,8 @@ fn list_step<P: Parts>(stack: &mut Stack, c: &mut Cursor<'_>, behind: Level) -> 
 
 // What is to come of a map behind its head: nothing where it has no types.
 fn pairs_of(head: MapHead) -> Option<Level>
-    ensures { (left : ℕ) → opened_pairs left head.key head.value head.size ≡ open_of_level left result }
+    ensures { (left : ℕ)
+        → opened_pairs left head.key head.value head.size ≡ open_of_level left result }
 {
     match (head.key, head.value) {
         (Some(key), Some(value)) => Some(Level::Pairs(key, value, head.size)),

@@ -6,7 +6,7 @@ use Rattle.std.proofs.lemmas.List.Elements.{All-head, All-tail}
 use mathlib.Core.Former.{Count}
 use Rattle.trace_model.specs.declared.value.Value.{Value, Text, Bytes, List as Several, Map as Named, List', Map', Row_of-Value, end_of-Value, more_of-Value, Row_of-Value-Map-0-2, end_of-Value-Map-0-2, more_of-Value-Map-0-2, items-the_row-Value, items-the_row-Value-Map-0-2, items_hidden-the_row-Value-0, items_hidden-the_row-Value-Map-0-2-1}
 use Rattle.trace_model.specs.EventTexts.{has_bytes, bytes_in_each, bytes_in_pairs, bytes_as_texts, with_texts}
-use Rattle.trace_model.specs.laws.PartLaws.{by_variant, some_depth}
+use Rattle.trace_model.proofs.PartLaws.{by_variant, some_depth}
 use Rattle.trace_model.specs.Values.{depth}
 use Rattle.trace_model.proofs.EventBytes.{list_texts, map_texts}
 use Rattle.trace_model.proofs.Rows.{list_depth, map_depth}

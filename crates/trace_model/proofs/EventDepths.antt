@@ -6,7 +6,7 @@ use Rattle.serde_json.specs.Find.{as_i64}
 use Rattle.trace_model.specs.declared.value.Value.{Value, Text, Truth, Number, List as Several, Map as Named, Nothing}
 use Rattle.trace_model.specs.EventReading.{value_within, values_within, pairs_within}
 use Rattle.trace_model.specs.EventTexts.{value_of_json, values_of_json, pairs_of_json}
-use Rattle.trace_model.specs.laws.PartLaws.{some_depth}
+use Rattle.trace_model.proofs.PartLaws.{some_depth}
 use Rattle.trace_model.specs.Values.{depth}
 use Rattle.trace_model.proofs.EventOptions.{map_some, then_some}
 use Rattle.trace_model.proofs.Rows.{list_depth, map_depth}

@@ -19,8 +19,11 @@ pub mod JsonValues
 pub mod KeysRise
 pub mod LeastOf
 pub mod Order
+pub mod OtlpEnums
+pub mod PartLaws
 pub mod Places
 pub mod ProperRows
+pub mod RemarkLaws
 pub mod Rising
 pub mod RisingAttributes
 pub mod RisingGathered
@@ -32,3 +35,4 @@ pub mod JsonContent
 pub mod JsonTokens
 pub mod JsonData
 pub mod EventProper
+pub mod ToldLaws

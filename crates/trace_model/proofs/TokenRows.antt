@@ -9,7 +9,7 @@ use Rattle.json.specs.Tree.{items_tokens, members_tokens}
 use Rattle.json.specs.Written.{Written}
 use Rattle.trace_model.specs.declared.value.Value.{Value, List as Several, Map as Named, List', Map', Row_of-Value, end_of-Value, more_of-Value, Row_of-Value-Map-0-2, end_of-Value-Map-0-2, more_of-Value-Map-0-2, items-the_row-Value, items-the_row-Value-Map-0-2, items_hidden-the_row-Value-0, items_hidden-the_row-Value-Map-0-2-1}
 use Rattle.trace_model.specs.ValueTexts.{json_of_each, json_of_pairs}
-use Rattle.trace_model.specs.WrittenTokens.{Wrote, tokens_of, pair_tokens, list_tokens, map_tokens}
+use Rattle.trace_model.specs.private.WrittenTokens.{Wrote, tokens_of, pair_tokens, list_tokens, map_tokens}
 
 abbrev row_of : Value → (n : Count) × Row_of-Value n
 row_of (List' _ row) = (_, row)

@@ -19,6 +19,7 @@ use Rattle.std.specs.Str.{bytes_eq}
 abbrev pub Rise : List (List ℕ) → Type 0
 Rise keys = IsStrictlySortedBy (slice_cmp nat_cmp) keys
 
+-- one of three, by how a comparison came out: less, equal or greater
 abbrev pub by_order : {A : Type 0} → Ordering → A → A → A → A
 by_order Less less equal greater = less
 by_order Equal less equal greater = equal
@@ -30,6 +31,7 @@ pub record AreKeysInOrder (keys all : List (List ℕ)) : Type 0 where
   pub same : (key : List ℕ) → Contains keys key ↔ Contains all key
 
 module _ {V : Type 0} where
+  -- the keys of the pairs, one for each pair, in the order of the pairs
   abbrev pub keys : List (List ℕ × V) → List (List ℕ)
   keys pairs = map (λ pair. pair.0) pairs
 
@@ -40,6 +42,7 @@ module _ {V : Type 0} where
     pub split : pairs ≡ before ++ pair ∷ behind
     pub last : All (λ other. other.0 ≢ pair.0) behind
 
+  -- the key stands in two of the pairs at least
   pub record StandsTwice (key : List ℕ) (pairs : List (List ℕ × V)) : Type 0 where
     pub before : List (List ℕ × V)
     pub one : V
@@ -69,5 +72,6 @@ module _ {V : Type 0} where
   attrs [] = []
   attrs (pair ∷ pairs) = placed pair (attrs pairs)
 
+  -- the value of the first pair of this key, if there is one
   abbrev pub at : List ℕ → List (List ℕ × V) → Option V
   at key pairs = lookup (bytes_eq key) pairs

@@ -23,17 +23,20 @@ abbrev mutual
 
   pub values_within : ℕ → Items → Option (List Value)
   values_within left no_items = Some []
-  values_within left (item json rest) = option_and_then (λ value. option_map (λ values. value ∷ values) (values_within left rest)) (value_within left json)
+  values_within left (item json rest) =
+      option_and_then (λ value. option_map (λ values. value ∷ values) (values_within left rest)) (value_within left json)
 
   pub pairs_within : ℕ → Members → Option (List (List ℕ × Value))
   pairs_within left no_members = Some []
   pairs_within left (member key json rest) =
       option_and_then (λ value. option_map (λ pairs. (key, value) ∷ pairs) (pairs_within left rest)) (value_within left json)
 
+-- a value as reading gives it: the keys of each map in it rise, and it is proper
 pub record IsRead (value : Value) : Type 0 where
   pub rising : MapsRise value
   pub proper : IsProperValue value
 
+-- the same of attributes: their own keys rise, so do those of the maps inside, and each pair is proper
 pub record AreRead (pairs : List (List ℕ × Value)) : Type 0 where
   pub keys_rise : Rise (keys pairs)
   pub rising : All (λ pair. MapsRise pair.1) pairs

@@ -2,7 +2,7 @@
 --     event_text name attributes     what is written: the name alone where there are no attributes, else the name as a JSON string,
 --                                    a colon, and the attributes as a JSON object without spaces (RFC 8259)
 --     IsEventText text name attributes    what is read: braces round the text make an object with this one member, an object that
---                                    isn't empty
+--                                    isn't empty, whose values are attributes with rising keys, 24 levels deep at most
 --     value_of_json json                  the value that a JSON value stands for, unless a number in it isn't whole, or has more than
 --                                    64 bits with its sign
 --     has_bytes value                bytes stand in it, at any depth
@@ -21,9 +21,12 @@ use Rattle.trace_model.specs.declared.value.Value.{Value, Text, Truth, Number, B
 
 -- ---- written
 
+-- a double stands in one of the values, at any depth
 abbrev pub holds_double : List (List ℕ × Value) → Bool
 holds_double attributes = list_any (λ pair. has_double pair.1) attributes
 
+-- the text that stands for an event: its name alone where it has no attributes, else the name as a JSON string, a colon (58),
+-- and the attributes as a JSON object without spaces
 abbrev pub event_text : List ℕ → List (List ℕ × Value) → List ℕ
 event_text name [] = name
 event_text name (pair ∷ pairs) = quoted name ++ 58 ∷ json_text (Named (pair ∷ pairs))
@@ -41,11 +44,13 @@ abbrev mutual
 
   pub values_of_json : Items → Option (List Value)
   values_of_json no_items = Some []
-  values_of_json (item json rest) = option_and_then (λ value. option_map (λ values. value ∷ values) (values_of_json rest)) (value_of_json json)
+  values_of_json (item json rest) =
+      option_and_then (λ value. option_map (λ values. value ∷ values) (values_of_json rest)) (value_of_json json)
 
   pub pairs_of_json : Members → Option (List (List ℕ × Value))
   pairs_of_json no_members = Some []
-  pairs_of_json (member key json rest) = option_and_then (λ value. option_map (λ pairs. (key, value) ∷ pairs) (pairs_of_json rest)) (value_of_json json)
+  pairs_of_json (member key json rest) =
+      option_and_then (λ value. option_map (λ pairs. (key, value) ∷ pairs) (pairs_of_json rest)) (value_of_json json)
 
 -- a JSON object with one member, whose name is the name and whose value is the object of the attributes
 pub record IsEventJson (json : Data) (name : List ℕ) (attributes : List (List ℕ × Value)) : Type 0 where
@@ -55,9 +60,12 @@ pub record IsEventJson (json : Data) (name : List ℕ) (attributes : List (List 
   pub some : attributes ≢ []
   pub sound : AreSound attributes
 
+-- the text between `{` (123) and `}` (125), so that members of a JSON object become an object
 abbrev pub in_braces : List ℕ → List ℕ
 in_braces text = 123 ∷ (text ++ 125 ∷ [])
 
+-- in braces the text is JSON, an object of one member: the event's name, and as its value an object that holds the event's
+-- attributes, of which there is one at least, and which are sound
 pub record IsEventText (text name : List ℕ) (attributes : List (List ℕ × Value)) : Type 0 where
   pub json : Data
   pub reading : read (in_braces text) ≡ Some json
@@ -95,5 +103,6 @@ abbrev mutual
   texts_in_pairs end_of-Value-Map-0-2 = []
   texts_in_pairs (more_of-Value-Map-0-2 key value rest) = (key, bytes_as_texts value) ∷ texts_in_pairs rest
 
+-- the attributes with a base64 text (RFC 4648, section 4) in the place of all bytes, at any depth of their values
 abbrev pub with_texts : List (List ℕ × Value) → List (List ℕ × Value)
 with_texts attributes = map (λ pair. (pair.0, bytes_as_texts pair.1)) attributes

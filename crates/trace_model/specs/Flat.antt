@@ -2,7 +2,7 @@
 use Rattle.std.specs.Prelude.{List}
 use Rattle.std.specs.List.{flat_map}
 use Rattle.trace_model.specs.declared.span.Span.{Span}
-use Rattle.trace_model.specs.declared.trace.Group.{Group}
+use Rattle.trace_model.specs.declared.group.Group.{Group}
 
 -- all spans of all scopes of all groups, in order
 abbrev pub flat : List Group → List Span

@@ -11,9 +11,12 @@ use Rattle.trace_model.specs.Notes.{SpanNotes, ScopeNotes}
 abbrev pub event_remarks : ℕ → List Keys → List Remark
 event_remarks span events = numbered (λ n keys. equal_keys (places.Event span n) keys) 1 events
 
+-- the same of its links, without those that were dropped, which have no number
 abbrev pub link_remarks : ℕ → List Keys → List Remark
 link_remarks span links = numbered (λ n keys. equal_keys (places.Link span n) keys) 1 links
 
+-- on the span of this number: its own keys that stand more than once, that a link of it was dropped, and what is noted of
+-- its events and then of its links
 abbrev pub span_remarks : ℕ → SpanNotes → List Remark
 span_remarks span notes =
     equal_keys (places.Span span) notes.keys ++ (link_dropped (places.Span span) notes.dropped ++ (event_remarks span notes.events ++ link_remarks span notes.links))
@@ -25,7 +28,9 @@ scope_remarks scope span notes = equal_keys (places.Scope scope) notes.keys ++ n
 -- of scopes, of which the first has this number, and their first span that one
 unfoldable pub scopes_remarks : ℕ → ℕ → List ScopeNotes → List Remark
 scopes_remarks scope span [] = []
-scopes_remarks scope span (notes ∷ more) = scope_remarks scope span notes ++ scopes_remarks (suc scope) (span + length notes.spans) more
+scopes_remarks scope span (notes ∷ more) =
+    scope_remarks scope span notes ++ scopes_remarks (suc scope) (span + length notes.spans) more
 
+-- on a whole group: the keys of its resource, then its scopes with their spans, both numbered from 1
 abbrev pub group_remarks : Keys → List ScopeNotes → List Remark
 group_remarks keys scopes = equal_keys places.Resource keys ++ scopes_remarks 1 1 scopes

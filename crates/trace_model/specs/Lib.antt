@@ -9,13 +9,10 @@ pub mod LeastOf
 pub mod Losses
 pub mod Notes
 pub mod OtlpParts
-pub mod OtlpTold
 pub mod Proper
 pub mod Remarks
 pub mod Soundness
 pub mod StatedLaws
 pub mod ValueTexts
 pub mod Values
-pub mod WrittenTokens
-pub mod laws
 pub mod private

@@ -3,6 +3,7 @@ use Rattle.std.specs.Prelude.{ℕ, List, codes}
 use Rattle.trace_model.specs.declared.loss.LossRow.{LossRow}
 use Rattle.trace_model.specs.declared.loss.LossRow.TheVariants as rows
 
+-- the word by which a report names a row of losses, which says what a move to another form takes from a trace
 abbrev pub row_name : LossRow → List ℕ
 row_name rows.Value = codes "value"
 row_name rows.DroppedCount = codes "dropped-count"

@@ -20,8 +20,8 @@ use Rattle.trace_model.specs.declared.span.Kind.TheVariants as kinds
 use Rattle.trace_model.specs.declared.span.Link.{Link}
 use Rattle.trace_model.specs.declared.span.Span.{Span}
 use Rattle.trace_model.specs.declared.span.Status.{Status}
-use Rattle.trace_model.specs.declared.trace.Group.{Group}
-use Rattle.trace_model.specs.declared.trace.Scope.{Scope}
+use Rattle.trace_model.specs.declared.group.Group.{Group}
+use Rattle.trace_model.specs.declared.group.Scope.{Scope}
 use Rattle.trace_model.specs.Values.{most_levels}
 use Rattle.trace_model.specs.declared.value.Value.{Value}
 use Rattle.trace_model.specs.declared.value.Value.TheVariants as values
@@ -36,6 +36,7 @@ levels_below = most_levels - 1
 abbrev pub NotedValue : Type 0
 NotedValue = Noted Value Keys
 
+-- a value with no key noted inside it
 abbrev pub leaf : Value → NotedValue
 leaf v = record { means = v; notes = [] }
 
@@ -43,6 +44,7 @@ leaf v = record { means = v; notes = [] }
 abbrev pub entry : KeyValue → List ℕ × Value
 entry p = (p.key, p.value.means)
 
+-- the keys that are noted inside the values of these pairs, in the order of the pairs
 abbrev pub keys_inside : List KeyValue → Keys
 keys_inside pairs = flat_map (λ p. p.value.notes) pairs
 
@@ -63,7 +65,8 @@ pub record IsNotedMap (pairs : List (List ℕ × Value)) (inside : Keys) (r : No
 
 -- the attributes of these pairs: the last value of each key, in the order of the keys; and the keys that are noted, in their order:
 -- those that stand more than once, and those inside the values
-pub record AreNotedAttributes (pairs : List (List ℕ × Value)) (inside : Keys) (attributes : List (List ℕ × Value)) (keys : Keys) : Type 0 where
+pub record AreNotedAttributes (pairs : List (List ℕ × Value)) (inside : Keys) (attributes : List (List ℕ × Value)) (keys : Keys)
+    : Type 0 where
   pub kept : AreAttributes attributes pairs
   pub rising : Rise keys
   pub noted : (key : List ℕ) → Contains keys key ↔ (StandsTwice key pairs ⊎ Contains inside key)
@@ -95,6 +98,7 @@ abbrev pub kept_link : Option (Noted Link Keys) → List (Noted Link Keys)
 kept_link None = []
 kept_link (Some link) = link ∷ []
 
+-- of a span's links, in their order, those that aren't dropped
 abbrev pub kept_links : List (Option (Noted Link Keys)) → List (Noted Link Keys)
 kept_links links = flat_map kept_link links
 
@@ -122,7 +126,8 @@ abbrev pub no_instrumentation_scope : Noted InstrumentationScope Keys
 no_instrumentation_scope = record { means = record { name = []; version = []; attributes = []; dropped = 0 }; notes = [] }
 
 -- the scope of these spans, which has this instrumentation and this schema's URL, and what is noted of it
-pub record IsScopeOfParts (instrumentation : Noted InstrumentationScope Keys) (spans : List (Noted Span SpanNotes)) (url : List ℕ) (s : Noted Scope ScopeNotes) : Type 0 where
+pub record IsScopeOfParts (instrumentation : Noted InstrumentationScope Keys) (spans : List (Noted Span SpanNotes)) (url : List ℕ)
+    (s : Noted Scope ScopeNotes) : Type 0 where
   pub scope : s.means ≡ record {
     name = instrumentation.means.name;
     version = instrumentation.means.version;
@@ -142,12 +147,14 @@ abbrev pub NotedGroup : Type 0
 NotedGroup = Noted Group (List Remark)
 
 -- the group of these scopes, which has this resource and this schema's URL, and the remarks on it
-pub record IsGroupOfParts (resource : Noted Resource Keys) (scopes : List (Noted Scope ScopeNotes)) (url : List ℕ) (g : NotedGroup) : Type 0 where
+pub record IsGroupOfParts (resource : Noted Resource Keys) (scopes : List (Noted Scope ScopeNotes)) (url : List ℕ)
+    (g : NotedGroup) : Type 0 where
   pub group : g.means ≡ record { resource = resource.means.attributes; dropped = resource.means.dropped; schema_url = url; scopes = map (λ x. x.means) scopes }
   pub remarks : g.notes ≡ group_remarks resource.notes (map (λ x. x.notes) scopes)
 
 -- ---- enums (trace.proto)
 
+-- `Span.SpanKind` by its numbers, from SPAN_KIND_UNSPECIFIED 0 to SPAN_KIND_CONSUMER 5
 abbrev pub kind_number : Kind → ℕ
 kind_number kinds.Unspecified = 0
 kind_number kinds.Internal = 1
@@ -156,6 +163,7 @@ kind_number kinds.Client = 3
 kind_number kinds.Producer = 4
 kind_number kinds.Consumer = 5
 
+-- `Status.StatusCode` by its numbers: STATUS_CODE_UNSET 0, STATUS_CODE_OK 1 and STATUS_CODE_ERROR 2
 abbrev pub code_number : Code → ℕ
 code_number codes.Unset = 0
 code_number codes.Okay = 1

@@ -6,8 +6,8 @@ use Rattle.trace_model.specs.declared.span.Status.{Status}
 use Rattle.trace_model.specs.declared.span.Event.{Event}
 use Rattle.trace_model.specs.declared.span.Link.{Link}
 use Rattle.trace_model.specs.declared.span.Span.{Span}
-use Rattle.trace_model.specs.declared.trace.Scope.{Scope}
-use Rattle.trace_model.specs.declared.trace.Group.{Group}
+use Rattle.trace_model.specs.declared.group.Scope.{Scope}
+use Rattle.trace_model.specs.declared.group.Group.{Group}
 use Rattle.trace_model.specs.declared.value.Value.{Value, Text, Number, Eight, Bytes, Row_of-Value, end_of-Value, more_of-Value, Row_of-Value-Map-0-2, end_of-Value-Map-0-2, more_of-Value-Map-0-2, List', Map'}
 
 abbrev mutual
@@ -29,22 +29,28 @@ abbrev mutual
   IsProperEachPair end_of-Value-Map-0-2 = ⊤
   IsProperEachPair (more_of-Value-Map-0-2 key value rest) = IsUtf8 key × IsProperValue value × IsProperEachPair rest
 
+-- OTLP `KeyValue`: the key is UTF-8, and the value is proper
 pub record IsProperPair (pair : List ℕ × Value) : Type 0 where
   pub key : IsUtf8 pair.0
   pub value : IsProperValue pair.1
 
+-- each pair of the attributes is proper
 abbrev pub AreProper : List (List ℕ × Value) → Type 0
 AreProper attributes = All IsProperPair attributes
 
+-- OTLP `Status`: its message is UTF-8, and its code, one of three, is in range anyway
 pub record IsProperStatus (status : Status) : Type 0 where
   pub message : IsUtf8 status.message
 
+-- OTLP `Span.Event`: a time in nanoseconds of 64 bits, and a count of dropped attributes of 32 bits
 pub record IsProperEvent (event : Event) : Type 0 where
   pub time : event.time < 2 ^ 64
   pub name : IsUtf8 event.name
   pub attributes : AreProper event.attributes
   pub dropped : event.dropped < 2 ^ 32
 
+-- OTLP `Span.Link`: the trace's identifier has 128 bits and the span's 64, and neither is zero; the count of dropped attributes
+-- and the flags have 32 bits
 pub record IsProperLink (link : Link) : Type 0 where
   pub trace : IsProperTraceId link.trace
   pub span : IsProperSpanId link.span
@@ -53,6 +59,8 @@ pub record IsProperLink (link : Link) : Type 0 where
   pub dropped : link.dropped < 2 ^ 32
   pub flags : link.flags < 2 ^ 32
 
+-- OTLP `Span`: identifiers of 128 and 64 bits that aren't zero, a parent's too where there is one, start and end in nanoseconds
+-- of 64 bits, counts and flags of 32 bits. The end may be before the start
 pub record IsProperSpan (span : Span) : Type 0 where
   pub trace : IsProperTraceId span.trace
   pub id : IsProperSpanId span.id
@@ -70,6 +78,8 @@ pub record IsProperSpan (span : Span) : Type 0 where
   pub status : IsProperStatus span.status
   pub flags : span.flags < 2 ^ 32
 
+-- OTLP `ScopeSpans` with its `InstrumentationScope`: name, version and schema URL are UTF-8, the count of dropped attributes
+-- has 32 bits, and attributes and spans are proper
 pub record IsProperScope (scope : Scope) : Type 0 where
   pub name : IsUtf8 scope.name
   pub version : IsUtf8 scope.version
@@ -78,6 +88,8 @@ pub record IsProperScope (scope : Scope) : Type 0 where
   pub schema_url : IsUtf8 scope.schema_url
   pub spans : All IsProperSpan scope.spans
 
+-- OTLP `ResourceSpans` with its `Resource`: the schema URL is UTF-8, the count of dropped attributes has 32 bits, and attributes
+-- and scopes are proper
 pub record IsProperGroup (group : Group) : Type 0 where
   pub resource : AreProper group.resource
   pub dropped : group.dropped < 2 ^ 32

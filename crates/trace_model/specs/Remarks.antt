@@ -7,6 +7,7 @@ use Rattle.trace_model.specs.declared.place.Place.{Place}
 use Rattle.trace_model.specs.declared.remark.Remark.{Remark}
 use Rattle.trace_model.specs.declared.remark.RemarkKind.TheVariants as kinds
 
+-- keys that stand more than once where each key should stand once; each key by its bytes
 abbrev pub Keys : Type 0
 Keys = List (List ℕ)
 

@@ -48,6 +48,7 @@ abbrev mutual
   json_of_pairs end_of-Value-Map-0-2 = json.no_members
   json_of_pairs (more_of-Value-Map-0-2 key value rest) = json.member key (json_of value) (json_of_pairs rest)
 
+-- the word `true` or `false`, as JSON spells it
 abbrev pub truth_text : Bool → List ℕ
 truth_text true = codes "true"
 truth_text false = codes "false"
@@ -56,6 +57,8 @@ truth_text false = codes "false"
 abbrev pub json_text : Value → List ℕ
 json_text value = print (json_tokens (json_of value))
 
+-- the value of an attribute in a form whose values are texts: a text is itself, and an integer is decimal, with a minus sign
+-- below zero. A double has no text, and the empty one stands here
 abbrev pub value_text : Value → List ℕ
 value_text (Text text) = text
 value_text (Truth truth) = truth_text truth

@@ -22,6 +22,7 @@ abbrev mutual
   deepest_of_pairs end_of-Value-Map-0-2 = 0
   deepest_of_pairs (more_of-Value-Map-0-2 key value rest) = max (depth value) (deepest_of_pairs rest)
 
+-- the keys of a map's pairs, in the order of the pairs
 abbrev pub keys_of_row : {n : _} → Row_of-Value-Map-0-2 n → List (List ℕ)
 keys_of_row end_of-Value-Map-0-2 = []
 keys_of_row (more_of-Value-Map-0-2 key value rest) = key ∷ keys_of_row rest
@@ -41,6 +42,7 @@ abbrev mutual
   MapsRiseInPairs end_of-Value-Map-0-2 = ⊤
   MapsRiseInPairs (more_of-Value-Map-0-2 key value rest) = MapsRise value × MapsRiseInPairs rest
 
+-- the value has 24 levels at most, its own counted, and the keys of each map in it rise, so that none stands twice
 pub record IsSound (value : Value) : Type 0 where
   pub shallow : depth value ≤ most_levels
   pub rising : MapsRise value

@@ -1,2 +1,4 @@
 pub mod EventBegins
 pub mod Gathering
+pub mod OtlpTold
+pub mod WrittenTokens

@@ -1,3 +1,4 @@
+//! Attributes, with their keys in order.
 ghost use Rattle.std.specs.Prelude.{◌≡◌, All, IfOk, OnOk, IsSortedBy, IsTrue};
 ghost use Rattle.std.specs.List.Sorted.{IsStableBy};
 ghost use Rattle.span_io.specs.Sizes.{IsShort};

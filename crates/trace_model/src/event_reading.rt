@@ -35,8 +35,10 @@ impl EventReader {
     /// name, a colon, and an object that isn't empty. `None` where the text is no such member, as a
     /// name alone.
     pub fn read(&mut self, alloc: Global, text: &Text) -> Result<Option<(Text, Attrs)>, OutOfMemory>
-        ensures found { IfOk result (λ o. IfSome o (λ parts. IsEventText text.now parts.0 parts.1)) }
-        ensures none { IfOk result (λ o. IfNone o ((name : List ℕ) (attributes : List (List ℕ × Val))
+        ensures found { IfOk result
+            (λ o. IfSome o (λ parts. IsEventText text.now parts.0 parts.1)) }
+        ensures none { IfOk result
+            (λ o. IfNone o ((name : List ℕ) (attributes : List (List ℕ × Val))
             → ¬ IsEventText text.now name attributes)) }
         ensures proper { IfOk result (λ o. IfSome o (λ parts. IsUtf8 parts.0 × AreProper parts.1)) }
     {
@@ -87,7 +89,8 @@ fn braced(alloc: Global, text: &str) -> Result<Text, OutOfMemory>
 
 /// The event that a JSON value holds.
 fn event_in(alloc: Global, json: &Lent<'_, '_>) -> Result<Option<(Text, Attrs)>, OutOfMemory>
-    ensures found { IfOk result (λ o. IfSome o (λ parts. IsEventJson (view json.now) parts.0 parts.1)) }
+    ensures found { IfOk result
+        (λ o. IfSome o (λ parts. IsEventJson (view json.now) parts.0 parts.1)) }
     ensures none { IfOk result (λ o. IfNone o ((name : List ℕ) (attributes : List (List ℕ × Val))
         → ¬ IsEventJson (view json.now) name attributes)) }
     ensures proper { IfOk result (λ o. IfSome o (λ parts. IsUtf8 parts.0 × AreProper parts.1)) }
@@ -188,7 +191,8 @@ fn list_of(
 #[cycle(reads)]
 fn map_of(alloc: Global, members: Members<'_, '_>, left: u8) -> Result<Option<Value>, OutOfMemory>
     ensures value { IfOk result (λ o. o
-        ≡ option_map values.Map (pairs_within left (put_all (members_left members.entry) no_members))) }
+        ≡ option_map values.Map
+        (pairs_within left (put_all (members_left members.entry) no_members))) }
     ensures read { IfOk result (λ o. IfSome o IsRead) }
 {
     let Some(pairs) = pairs_of(alloc, members, left)? else {
@@ -199,7 +203,8 @@ fn map_of(alloc: Global, members: Members<'_, '_>, left: u8) -> Result<Option<Va
 
 #[cycle(reads)]
 fn pairs_of(alloc: Global, members: Members<'_, '_>, left: u8) -> Result<Option<Attrs>, OutOfMemory>
-    ensures value { IfOk result (λ o. o ≡ pairs_within left (put_all (members_left members.entry) no_members)) }
+    ensures value { IfOk result
+        (λ o. o ≡ pairs_within left (put_all (members_left members.entry) no_members)) }
     ensures read { IfOk result (λ o. IfSome o AreRead) }
 {
     let named = members.by_name(alloc)?;

@@ -38,7 +38,8 @@ fn joined(alloc: Global, name: &Text, attributes: &Attrs) -> Result<Text, OutOfM
 const EACH: usize = 48;
 
 fn member_text(alloc: Global, name: &Text, attributes: &Attrs) -> Result<Text, OutOfMemory>
-    ensures { IfOk result (λ text. text ≡ quoted name.now ++ 58 ∷ json_text (values.Map attributes.now)) }
+    ensures { IfOk result
+        (λ text. text ≡ quoted name.now ++ 58 ∷ json_text (values.Map attributes.now)) }
 {
     let room = name
         .len()

@@ -1,3 +1,4 @@
+//! What a target form can't hold, each with its number.
 ghost use Rattle.std.specs.Prelude.{◌≡◌};
 ghost use Rattle.trace_model.specs.Faults.{fault_number, fault_name};
 

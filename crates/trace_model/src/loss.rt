@@ -1,3 +1,4 @@
+//! What a move to another form loses.
 ghost use Rattle.std.specs.Prelude.{◌≡◌};
 ghost use Rattle.trace_model.specs.Losses.{row_name};
 

@@ -3,8 +3,8 @@
 ghost use Rattle.std.specs.Prelude.{◌≡◌, ◌<◌, ◌^◌, length, All};
 ghost use Rattle.trace_model.specs.Proper.{IsProperValue, AreProper, IsProperEvent, IsProperLink, IsProperSpan, IsProperScope, IsProperGroup};
 
+use crate::group::{Group, Scope};
 use crate::span::{Event, Link, Span};
-use crate::trace::{Group, Scope};
 use crate::value::{Attrs, Value};
 use span_ids::{Nanos, proper_parent};
 use span_io::Items;

@@ -1,3 +1,4 @@
+//! What was left out on reading.
 use crate::place::Place;
 use span_io::Text;
 

@@ -1,3 +1,4 @@
+//! A span of OTLP, with its status, events and links.
 ghost use Rattle.std.specs.Prelude.{◌≡◌, ◌<◌, ◌↔◌, None, IfSome};
 ghost use Rattle.trace_model.specs.OtlpParts.{code_number, kind_number};
 

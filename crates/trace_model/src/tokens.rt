@@ -5,7 +5,7 @@ ghost use Rattle.base64.specs.GeneralPurpose.{encode_of};
 ghost use Rattle.base64.specs.Engines.{standard};
 ghost use Rattle.json.specs.Token.{number, string};
 ghost use Rattle.trace_model.specs.ValueTexts.{json_text};
-ghost use Rattle.trace_model.specs.WrittenTokens.{Wrote, tokens_of, list_tokens, map_tokens};
+ghost use Rattle.trace_model.specs.private.WrittenTokens.{Wrote, tokens_of, list_tokens, map_tokens};
 
 use crate::value::Value;
 use base64::engine::general_purpose::STANDARD;

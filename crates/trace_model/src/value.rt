@@ -1,3 +1,4 @@
+//! The values of attributes.
 ghost use Rattle.std.specs.Prelude.{◌≡◌, IfOk};
 ghost use Rattle.std.specs.List.{list_any};
 ghost use Rattle.trace_model.specs.EventTexts.{has_bytes};

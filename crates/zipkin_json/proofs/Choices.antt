@@ -5,8 +5,8 @@ use Rattle.std.specs.Char.{IsAsciiHexdigit}
 use Rattle.std.specs.Str.Parse.{digits_value}
 use Rattle.span_ids.specs.HexTexts.{SpellsInHex}
 use Rattle.span_ids.specs.declared.hex_text.IdRule.TheVariants.{Padded}
-use Rattle.json_members.specs.laws.ChoiceLaws.{Choice, at_most_chosen, both, all_of, hex_digit, zero_digit, same_text_chosen, SpellsOne, apart}
-use Rattle.json_members.specs.laws.ChoiceLaws.{zeros_value}
+use Rattle.json_members.proofs.ChoiceLaws.{Choice, at_most_chosen, both, all_of, hex_digit, zero_digit, same_text_chosen, SpellsOne, apart}
+use Rattle.json_members.proofs.ChoiceLaws.{zeros_value}
 use Rattle.zipkin_json.specs.Identifiers.{SpellsTrace, SpellsSpan, AreZeros, SpellsParent}
 use Rattle.zipkin_json.specs.Span.{SpellsKind}
 use Rattle.zipkin_json.specs.declared.span.ZKind.{ZKind}

@@ -7,10 +7,10 @@ use Rattle.span_io.specs.Causes.{cause_number}
 use Rattle.span_io.specs.declared.cause.Cause.{Cause}
 use Rattle.span_io.specs.declared.cause.Cause.TheVariants as causes
 use Rattle.span_io.specs.Paths.{Offences, here, ◌▹◌, required, optional, each, valued, Given, Never, Quiet}
-use Rattle.span_io.specs.laws.PathLaws.{clean_nothing, clean_here, counts_here, counts_only, least_here, first_of_parts, quiet_each}
-use Rattle.span_io.specs.laws.PathDecisions.{IsSettled, one, none, decided_as, also, no_more, decided_required, decided_optional, decided_valued, pair}
-use Rattle.json_members.specs.laws.ChoiceLaws.{either_side, SpellsOne}
-use Rattle.json_members.specs.laws.DecisionLaws.{◌&◌, text_decided, truth_decided, spelled_decided, last, next, next_by, object_settled, elements_settled, array_settled, text_settled}
+use Rattle.span_io.proofs.PathLaws.{clean_nothing, clean_here, counts_here, counts_only, least_here, first_of_parts, quiet_each}
+use Rattle.span_io.proofs.PathDecisions.{IsSettled, one, none, decided_as, also, no_more, decided_required, decided_optional, decided_valued, pair}
+use Rattle.json_members.proofs.ChoiceLaws.{either_side, SpellsOne}
+use Rattle.json_members.proofs.DecisionLaws.{◌&◌, text_decided, truth_decided, spelled_decided, last, next, next_by, object_settled, elements_settled, array_settled, text_settled}
 use Rattle.json_members.specs.Members.{member, member_values, IsText, text_offends, IsTruth, truth_offends, IsCount, Spelled, unspelled}
 use Rattle.zipkin_json.specs.Members.{IsPort, port_offends, count_offends, count_or_zero}
 use Rattle.zipkin_json.specs.Identifiers.{SpellsTrace, SpellsSpan, SpellsParent}

@@ -3,8 +3,8 @@ use Rattle.std.proofs.Common.{◌≡◌, [], false, Option, None, sym, ◌∙◌
 use Rattle.serde_json.specs.Data.{Data}
 use Rattle.span_io.specs.Paths.{required, optional, Never}
 use Rattle.json_members.specs.Agreement.{same, both_or_neither, objects_agree}
-use Rattle.json_members.specs.laws.AgreementLaws.{AgreesBothWays, same_turns, objects_turn, arrays_turn, found_same, MeanAlike, given_same, array_alike, OffendAlike, OffencesAlike, no_parts_alike, parts_alike, same_alike, array_offends_alike, by_parts_alike, object_alike, list_alike, object_offence_alike, list_offence_alike}
-use Rattle.json_members.specs.laws.DecisionLaws.{◌&◌}
+use Rattle.json_members.proofs.AgreementLaws.{AgreesBothWays, same_turns, objects_turn, arrays_turn, found_same, MeanAlike, given_same, array_alike, OffendAlike, OffencesAlike, no_parts_alike, parts_alike, same_alike, array_offends_alike, by_parts_alike, object_alike, list_alike, object_offence_alike, list_offence_alike}
+use Rattle.json_members.proofs.DecisionLaws.{◌&◌}
 use Rattle.json_members.specs.Members.{IsText, text_offends, IsTruth, truth_offends, IsCount, Spelled}
 use Rattle.zipkin_json.specs.Identifiers.{SpellsTrace, SpellsSpan, SpellsParent}
 use Rattle.zipkin_json.specs.Known.{endpoint_known, annotation_known, span_known, spans_agree}

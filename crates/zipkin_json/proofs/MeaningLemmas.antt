@@ -11,7 +11,7 @@ use Rattle.span_io.specs.Paths.{Given, Never}
 use Rattle.json_members.specs.Canonical.{text_data, count_data, truth_data, members_given, trace_id_text, span_id_text}
 use Rattle.zipkin_json.specs.Canonical.{endpoint_rows, endpoint_data, annotation_json, annotations_data, tag_members, tags_data, kind_data, zspan_rows, span_json, spans_json}
 use Rattle.zipkin_json.specs.Identifiers.{SpellsTrace, SpellsSpan, SpellsParent}
-use Rattle.json_members.specs.laws.MeaningLaws.{given_row, text_again, count_again, truth_again}
+use Rattle.json_members.proofs.MeaningLaws.{given_row, text_again, count_again, truth_again}
 use Rattle.json_members.specs.Members.{unless_null, member, elements, IsText, IsTruth, IsCount, Spelled}
 use Rattle.zipkin_json.specs.Members.{IsPort}
 use Rattle.span_ids.specs.Proper.{IsProperTraceId, IsProperSpanId, IsProperParent}

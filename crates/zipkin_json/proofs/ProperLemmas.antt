@@ -9,8 +9,8 @@ use Rattle.std.specs.Ordering.{nat_cmp}
 use Rattle.serde_json.specs.Data.{Data, null, boolean, number, string, array, object, Items, no_items, item, Members, no_members, member as has}
 use Rattle.span_ids.specs.Times.{last_micros, nanos, IsWhole}
 use Rattle.span_io.specs.Paths.{Given, Never}
-use Rattle.json_members.specs.laws.SoundLaws.{Sound, ItemsSound, MembersSound, before_behind, read_sound, member_sound, given_text, needed_text, array_sound, object_sound}
-use Rattle.json_members.specs.laws.TextLaws.{number_below}
+use Rattle.json_members.proofs.SoundLaws.{Sound, ItemsSound, MembersSound, before_behind, read_sound, member_sound, given_text, needed_text, array_sound, object_sound}
+use Rattle.json_members.proofs.TextLaws.{number_below}
 use Rattle.zipkin_json.specs.Identifiers.{SpellsTrace, SpellsSpan, SpellsParent}
 use Rattle.zipkin_json.specs.StatedLaws.{ReadsWritable}
 use Rattle.json_members.specs.Members.{member, elements, Spelled}
@@ -20,8 +20,8 @@ use Rattle.zipkin_json.specs.Proper.{IsProperEndpoint, IsProperAnnotation, IsPro
 use Rattle.zipkin_json.specs.Span.{IsEndpoint, no_endpoint, IsAnnotation, AreAnnotations, texts_in, AreTags, IsZSpan, HasRisingTags, TagsRise}
 use Rattle.zipkin_json.specs.declared.span.Endpoint.{Endpoint}
 use Rattle.zipkin_json.specs.declared.span.ZSpan.{ZSpan}
-use Rattle.json_members.specs.laws.ReadBackLaws.{Follow}
-use Rattle.json_members.specs.laws.Utf8Laws.{HoldsOf}
+use Rattle.json_members.proofs.ReadBackLaws.{Follow}
+use Rattle.json_members.proofs.Utf8Laws.{HoldsOf}
 
 -- ---- identifiers
 

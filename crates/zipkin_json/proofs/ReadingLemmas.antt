@@ -11,9 +11,9 @@ use Rattle.span_io.specs.declared.refusal.Refusal.{Refusal}
 use Rattle.span_io.specs.Paths.{JudgesInput}
 use Rattle.span_io.specs.Offences.{OnlyReads}
 use Rattle.json_members.specs.Counted.{values_in}
-use Rattle.json_members.specs.laws.CountedLaws.{listed_within}
-use Rattle.json_members.specs.laws.CountedTexts.{values_within}
-use Rattle.json_members.specs.laws.ReadingLaws.{same_value, no_value}
+use Rattle.json_members.proofs.CountedLaws.{listed_within}
+use Rattle.json_members.proofs.CountedTexts.{values_within}
+use Rattle.json_members.proofs.ReadingLaws.{same_value, no_value}
 use Rattle.zipkin_json.specs.StatedLaws.{OneList}
 use Rattle.zipkin_json.specs.Span.{IsZSpan, AreSpans, spans_offend}
 use Rattle.json_members.specs.Texts.{IsJsonText, IsUnread}

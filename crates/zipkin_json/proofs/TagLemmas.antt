@@ -15,7 +15,7 @@ use Rattle.json_nodes.specs.declared.lent.Lent.{Lent}
 use Rattle.span_io.specs.declared.cause.Cause.{Cause}
 use Rattle.span_io.specs.declared.halt.Halt.{Halt}
 use Rattle.span_io.specs.Paths.{each, valued, NothingOffends, Halts, OfKind}
-use Rattle.span_io.specs.laws.PathLaws.{clean_nothing, clean_one_more, halts_at}
+use Rattle.span_io.proofs.PathLaws.{clean_nothing, clean_one_more, halts_at}
 use Rattle.json_members.specs.Members.{member_values, text_offends}
 use Rattle.zipkin_json.specs.Span.{texts_in, tag_offends, TagsRise}
 use Rattle.zipkin_json.specs.private.Tags.{listed, pairs_in, NamesRise, AddsTag}

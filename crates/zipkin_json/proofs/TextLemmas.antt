@@ -10,7 +10,7 @@ use Rattle.serde_json.specs.View.{items_of}
 use Rattle.serde_json.specs.Written.{compact_text}
 use Rattle.span_ids.specs.StatedLaws.{IdentifiersReadBack}
 use Rattle.span_ids.specs.Times.{micros}
-use Rattle.json_members.specs.laws.TextLaws.{text_back, number_back, true_back, trace_back, id_back, parent_back, items_joined}
+use Rattle.json_members.proofs.TextLaws.{text_back, number_back, true_back, trace_back, id_back, parent_back, items_joined}
 use Rattle.zipkin_json.specs.Canonical.{endpoint_rows, endpoint_data, annotation_json, annotations_data, tag_members, kind_data, zspan_rows, span_json, zspan_text, spans_json, spans_text}
 use Rattle.zipkin_json.specs.StatedLaws.{OneList, SpansWrittenAgain, EqualSpansTexts}
 use Rattle.zipkin_json.specs.Proper.{IsProperEndpoint, IsProperAnnotation, IsProperZTag, IsWritableZSpan}
@@ -22,7 +22,7 @@ use Rattle.zipkin_json.specs.declared.span.ZKind.TheVariants as kinds
 use Rattle.zipkin_json.specs.declared.span.ZSpan.{ZSpan}
 use Rattle.json.proofs.Printed.Utf8.{IsUtf8-are_ascii}
 use Rattle.zipkin_json.proofs.MeaningLemmas.{span_again, spans_again}
-use Rattle.json_members.specs.laws.ReadBackLaws.{GivesBack, ItemsGiveBack, MembersGiveBack, GivenGivesBack, Follow, gives_deeper, reads_back, string_back, count_back, no_items_back, item_back, array_back, no_members_back, member_back, object_back, rows_back, unless_empty_back, behind_before}
+use Rattle.json_members.proofs.ReadBackLaws.{GivesBack, ItemsGiveBack, MembersGiveBack, GivenGivesBack, Follow, gives_deeper, reads_back, string_back, count_back, no_items_back, item_back, array_back, no_members_back, member_back, object_back, rows_back, unless_empty_back, behind_before}
 
 -- ---- members
 

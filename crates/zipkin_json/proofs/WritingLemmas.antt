@@ -8,9 +8,10 @@ use Rattle.serde_json.specs.Data.{object}
 use Rattle.serde_json.specs.View.{items_of}
 use Rattle.serde_json.specs.Written.{members_outline, items_outline}
 use Rattle.json_members.specs.Canonical.{members_given}
-use Rattle.json_members.specs.laws.WritingLaws.{nothing_written, member_rows_written, object_tokens, text_ok, text_front}
+use Rattle.json_members.proofs.WritingLaws.{nothing_written, member_rows_written, object_tokens, text_ok, text_front}
 use Rattle.zipkin_json.specs.Canonical.{endpoint_rows, endpoint_data, annotation_json, tag_members, annotations_data, tags_data, zspan_rows, zspan_text}
-use Rattle.json_members.specs.Writing.{Appends, GrewFront, given_tokens, rows_tokens, pieces}
+use Rattle.json_members.specs.Writing.{Appends, GrewFront, given_tokens}
+use Rattle.json_members.specs.private.Pieces.{rows_tokens, pieces}
 use Rattle.zipkin_json.specs.private.Writing.{tag_piece, annotation_piece}
 use Rattle.zipkin_json.specs.declared.span.Endpoint.{Endpoint}
 use Rattle.zipkin_json.specs.declared.span.ZSpan.{ZSpan}

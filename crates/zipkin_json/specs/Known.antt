@@ -2,12 +2,16 @@
 use Rattle.std.specs.Prelude.{List, [], ◌∷◌, codes}
 use Rattle.json_members.specs.Agreement.{Agreement, same, KnownMember, objects_agree, arrays_agree}
 
+-- the members of `Endpoint`, each of which agrees where it is the same
 abbrev pub endpoint_known : List KnownMember
 endpoint_known = (codes "serviceName", same) ∷ (codes "ipv4", same) ∷ (codes "ipv6", same) ∷ (codes "port", same) ∷ []
 
+-- the members of `Annotation`, each of which agrees where it is the same
 abbrev pub annotation_known : List KnownMember
 annotation_known = (codes "timestamp", same) ∷ (codes "value", same) ∷ []
 
+-- the members of `Span`: endpoints and annotations agree by the members that are known of them, and each other one where it is
+-- the same
 abbrev pub span_known : List KnownMember
 span_known = (codes "traceId", same) ∷ (codes "id", same) ∷ (codes "parentId", same) ∷ (codes "name", same) ∷ (codes "kind", same)
     ∷ (codes "timestamp", same) ∷ (codes "duration", same) ∷ (codes "debug", same) ∷ (codes "shared", same)

@@ -6,6 +6,7 @@ use Rattle.span_ids.specs.Times.{last_micros}
 use Rattle.span_io.specs.Paths.{Offences, here, valued}
 use Rattle.json_members.specs.Members.{IsCount}
 
+-- `port` of an `Endpoint`: a whole number from 0 to 65535
 abbrev pub IsPort : ℕ → Data → Type 0
 IsPort port d = IsCount port d × (port ≤ 65535)
 
@@ -19,6 +20,7 @@ micros_offends start (unsigned count) = here (λ number. (number ≡ 16) × (las
 micros_offends start (negative z) = here (λ number. number ≡ 16)
 micros_offends start (float x) = here (λ number. number ≡ 11)
 
+-- BadShape: no number; else how a count of microseconds offends that is counted from `start`
 abbrev pub count_offends : ℕ → Data → Offences
 count_offends start d = valued (micros_offends start) (as_number d)
 

@@ -7,6 +7,7 @@ use Rattle.zipkin_json.specs.Span.{HasRisingTags}
 use Rattle.zipkin_json.specs.declared.span.Endpoint.{Endpoint}
 use Rattle.zipkin_json.specs.declared.span.ZSpan.{ZSpan}
 
+-- an endpoint: its texts are UTF-8, and its port is a number of 16 bits
 pub record IsProperEndpoint (e : Endpoint) : Type 0 where
   pub service : IsUtf8 e.service
   pub ipv4 : IsUtf8 e.ipv4
@@ -17,9 +18,11 @@ pub record IsProperEndpoint (e : Endpoint) : Type 0 where
 abbrev pub IsProperAnnotation : ℕ × List ℕ → Type 0
 IsProperAnnotation a = (a.0 < 2 ^ 64) × IsUtf8 a.1
 
+-- a tag: its key and its text are UTF-8
 abbrev pub IsProperZTag : List ℕ × List ℕ → Type 0
 IsProperZTag tag = IsUtf8 tag.0 × IsUtf8 tag.1
 
+-- a span: its identifiers are not zero and fit 128 and 64 bits, its texts are UTF-8, and its times are below 2 ^ 64 nanoseconds
 pub record IsProperZSpan (s : ZSpan) : Type 0 where
   pub trace : IsProperTraceId s.trace
   pub id : IsProperSpanId s.id
@@ -36,6 +39,7 @@ pub record IsProperZSpan (s : ZSpan) : Type 0 where
 abbrev pub IsTimelyAnnotation : ℕ × List ℕ → Type 0
 IsTimelyAnnotation a = IsWhole a.0
 
+-- a span: its times and its annotations' are whole microseconds, it doesn't end before its start, and its tags' keys rise
 pub record IsTimelyZSpan (s : ZSpan) : Type 0 where
   pub start : IsWhole s.start
   pub end : IsWhole s.end
@@ -43,6 +47,7 @@ pub record IsTimelyZSpan (s : ZSpan) : Type 0 where
   pub annotations : All IsTimelyAnnotation s.annotations
   pub rising : HasRisingTags s
 
+-- a span that can be written so that it is read back: it is proper and timely
 pub record IsWritableZSpan (s : ZSpan) : Type 0 where
   pub proper : IsProperZSpan s
   pub timely : IsTimelyZSpan s

@@ -18,7 +18,8 @@ pub record OneList : Type 0 where
 
 -- a value has a list of spans, or an offence in it counts, and it has a cause
 abbrev pub SomeList : Type 0
-SomeList = (d : Data) → ((spans : List ZSpan) × AreSpans spans d) ⊎ ((cause : Cause) × Counts (spans_offend d) (cause_number cause))
+SomeList =
+    (d : Data) → ((spans : List ZSpan) × AreSpans spans d) ⊎ ((cause : Cause) × Counts (spans_offend d) (cause_number cause))
 
 -- what is written of spans means these spans: as a value, as a list of values, and as bytes
 pub record SpansWrittenAgain : Type 0 where
@@ -37,4 +38,5 @@ ReadsWritable = (spans : List ZSpan) (bytes : List ℕ) → AreSpansText spans b
 -- unknown members change nothing: values whose known members agree mean the same spans, and the same offends in them
 pub record FreeMembers : Type 0 where
   pub means : (v w : Data) → spans_agree v w → (spans : List ZSpan) → AreSpans spans v ↔ AreSpans spans w
-  pub offends : (v w : Data) → spans_agree v w → (path : List ℕ) (number : ℕ) → spans_offend v path number ↔ spans_offend w path number
+  pub offends : (v w : Data) → spans_agree v w → (path : List ℕ) (number : ℕ)
+      → spans_offend v path number ↔ spans_offend w path number

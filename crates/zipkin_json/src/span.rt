@@ -1,3 +1,4 @@
+//! A span of Zipkin, with its endpoints and annotations.
 use span_ids::{Nanos, SpanId, TraceId};
 use span_io::{Items, Text};
 

@@ -4,7 +4,8 @@ ghost use Rattle.json.specs.Token.{begin_object, end_object, begin_array, end_ar
 ghost use Rattle.serde_json.specs.Data.{number, string, unsigned};
 ghost use Rattle.span_ids.specs.Times.{micros};
 ghost use Rattle.json_members.specs.Canonical.{count_data};
-ghost use Rattle.json_members.specs.Writing.{Appends, GrewFront, given_tokens, rows_tokens, pieces};
+ghost use Rattle.json_members.specs.Writing.{Appends, GrewFront, given_tokens};
+ghost use Rattle.json_members.specs.private.Pieces.{rows_tokens, pieces};
 ghost use Rattle.zipkin_json.specs.Canonical.{kind_data, endpoint_rows, endpoint_data, annotations_data, tags_data, zspan_rows, zspan_text};
 ghost use Rattle.zipkin_json.specs.private.Writing.{tag_piece, annotation_piece};
 

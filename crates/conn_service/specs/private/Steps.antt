@@ -90,6 +90,8 @@ module _ {S : Type 0} (answers : S → Request → List ℕ → List ℕ → S �
     pub stands : (last ≡ between) ⊎ HaltsAt halts limits between rest last
     pub writes : Writes before now (texts replies)
 
+  -- The whole requests among the bytes were answered, and the connection goes on or ends; or a write failed, or memory was
+  -- wanted. No read takes place.
   abbrev pub AnswersWhole : S → S → Link → Link → List ℕ → List ℕ → Result (Option Ended) ServeFault → Type 0
   AnswersWhole first last before now old new (Ok None) = AnswersAll answers limits first last before now old new
   AnswersWhole first last before now old new (Ok (Some ended)) = AnswersLast answers limits first last before now old ended
@@ -128,6 +130,7 @@ pub record ReadsMore (before now : Link) (old new : List ℕ) (most given : ℕ)
   pub appends : new ≡ old ++ piece
   pub ends : given ≡ 0 → (most ≡ 0) ⊎ IsAtEnd now.inlet.left
 
+-- a read failed, of a source that isn't steady: it took no bytes, and neither what was written nor the mark changed
 pub record ReadFails (before now : Link) : Type 0 where
   pub gave : Consumes before.inlet.left now.inlet.left []
   pub failed : InputFails before.inlet now.inlet
@@ -136,6 +139,8 @@ pub record ReadFails (before now : Link) : Type 0 where
   pub mark : now.mark ≡ before.mark
   pub in_vain : before.inlet.course ≡ Some reads.Going → now.inlet.course ≡ Some reads.InVain → ⊥
 
+-- A read gave a piece behind the bytes that waited, or failed; or memory was wanted, and a piece was read all the same, which
+-- may be empty. Nothing is written.
 abbrev pub Reads : Link → Link → List ℕ → List ℕ → ℕ → Result ℕ ServeFault → Type 0
 Reads before now old new most (Ok given) = ReadsMore before now old new most given
 Reads before now old new most (Err faults.Read) = ReadFails before now

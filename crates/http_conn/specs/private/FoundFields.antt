@@ -15,9 +15,11 @@ HoldsOnce Missing values = values ≡ []
 HoldsOnce (At value) values = values ≡ value.now ∷ []
 HoldsOnce Twice values = (a b : List ℕ) × (more : List (List ℕ)) × (values ≡ a ∷ b ∷ more)
 
+-- whether a line "Connection" stands there whose whole value is "close", in any case of its letters
 abbrev pub has_close : List Line → Bool
 has_close lines = list_any (λ v. str_eq_ignore_ascii_case v (codes "close")) (values connection lines)
 
+-- whether a line "Content-Encoding" stands there whose whole value is another than "identity", in any case of its letters
 abbrev pub has_coding : List Line → Bool
 has_coding lines = list_any (λ v. not (str_eq_ignore_ascii_case v (codes "identity"))) (values content_encoding lines)
 

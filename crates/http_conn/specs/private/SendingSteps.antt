@@ -16,6 +16,7 @@ pub record WritesAll (before now : Link) (text : List ℕ) : Type 0 where
   pub inlet : now.inlet ≡ before.inlet
   pub mark : now.mark ≡ before.mark
 
+-- this text was written, or a write failed within it; nothing was read
 abbrev pub Writes : {T : Type 0} → Link → Link → List ℕ → Result T Failed → Type 0
 Writes before now text (Ok x) = WritesAll before now text
 Writes before now text (Err e) = FailsToWrite before now text
@@ -36,6 +37,7 @@ pub record ReadsMore (before now : Link) (old new : List ℕ) (given : ℕ) : Ty
   pub goes : 1 ≤ given → before.inlet.course ≡ Some reads.Going → now.inlet.course ≡ Some reads.Going
   pub in_vain : before.inlet.course ≡ Some reads.Going → now.inlet.course ≡ Some reads.InVain → ⊥
 
+-- a read failed, of a source that isn't steady: it took no bytes, and neither what was written nor the mark changed
 pub record ReadFails (before now : Link) : Type 0 where
   pub gave : Consumes before.inlet.left now.inlet.left []
   pub failed : InputFails before.inlet now.inlet
@@ -49,6 +51,7 @@ pub record ReadsBehind (before now : Link) (old new : List ℕ) (count given : �
   pub reads : ReadsMore before now (take count old) (take (count + given) new) given
   pub fits : count + given ≤ length new
 
+-- a read gave bytes behind the first ones of a buffer, or it failed
 abbrev pub Reads : Link → Link → List ℕ → List ℕ → ℕ → Result ℕ Failed → Type 0
 Reads before now old new count (Ok given) = ReadsBehind before now old new count given
 Reads before now old new count (Err e) = ReadFails before now

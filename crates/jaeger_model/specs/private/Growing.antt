@@ -3,7 +3,8 @@ use Rattle.std.specs.Prelude.{◌≡◌, ℕ, ℤ, pos, List, ◌++◌, Result, 
 use Rattle.span_io.specs.Outside.{GrowsFront}
 use Rattle.thrift_core.specs.Protocols.{WritingOf}
 use Rattle.thrift_core.specs.Trees.{Tree}
-use Rattle.thrift_core.specs.Written.{Keeping, FieldRow, fields_of_rows, field_written, rows_written, fields_written}
+use Rattle.thrift_core.specs.Written.{Keeping, FieldRow, fields_of_rows, fields_written}
+use Rattle.thrift_core.specs.private.WrittenParts.{field_written, rows_written}
 
 -- this text is appended, and after want of memory a front of it
 abbrev pub GrowsBy : {T E : Type 0} → Result T E → List ℕ → List ℕ → List ℕ → Type 0
@@ -12,7 +13,8 @@ GrowsBy (Err refused) old new text = GrowsFront old new text
 
 -- a field, behind the field of id `last`
 abbrev pub WritesField : {T E : Type 0} → Keeping → WritingOf → Result T E → List ℕ → List ℕ → ℤ → ℤ → Tree → Type 0
-WritesField keeps writes result old new last id tree = (left : ℕ) → GrowsBy result old new (field_written keeps writes id tree left last)
+WritesField keeps writes result old new last id tree =
+    (left : ℕ) → GrowsBy result old new (field_written keeps writes id tree left last)
 
 -- some fields, without a stop byte
 abbrev pub WritesRows : {T E : Type 0} → Keeping → WritingOf → Result T E → List ℕ → List ℕ → ℤ → List FieldRow → Type 0
@@ -20,4 +22,5 @@ WritesRows keeps writes result old new last rows = (left : ℕ) → GrowsBy resu
 
 -- a struct of these fields
 abbrev pub WritesStruct : {T E : Type 0} → Keeping → WritingOf → Result T E → List ℕ → List ℕ → List FieldRow → Type 0
-WritesStruct keeps writes result old new rows = (left : ℕ) → GrowsBy result old new (fields_written keeps writes (fields_of_rows rows) left (pos 0))
+WritesStruct keeps writes result old new rows =
+    (left : ℕ) → GrowsBy result old new (fields_written keeps writes (fields_of_rows rows) left (pos 0))

@@ -19,7 +19,8 @@ pub fn sure_truth<P: Parts>(c: &mut Cursor<'_>, held: Option<bool>) -> bool
 
 /// The number of 32 bits.
 pub fn sure_int<P: Parts>(c: &mut Cursor<'_>) -> i32
-    ensures stands { (n : ℤ) (rest : List ℕ) → Begins P.spells int n c.old.rest rest → (result ≡ n) × (c.new.rest ≡ rest) }
+    ensures stands { (n : ℤ) (rest : List ℕ) → Begins P.spells int n c.old.rest rest
+        → (result ≡ n) × (c.new.rest ≡ rest) }
     ensures shorter { length c.new.rest ≤ length c.old.rest }
 {
     P::int(c).unwrap_or(0)
@@ -27,7 +28,8 @@ pub fn sure_int<P: Parts>(c: &mut Cursor<'_>) -> i32
 
 /// The number of 64 bits.
 pub fn sure_long<P: Parts>(c: &mut Cursor<'_>) -> i64
-    ensures stands { (n : ℤ) (rest : List ℕ) → Begins P.spells long n c.old.rest rest → (result ≡ n) × (c.new.rest ≡ rest) }
+    ensures stands { (n : ℤ) (rest : List ℕ) → Begins P.spells long n c.old.rest rest
+        → (result ≡ n) × (c.new.rest ≡ rest) }
     ensures shorter { length c.new.rest ≤ length c.old.rest }
 {
     P::long(c).unwrap_or(0)
@@ -35,7 +37,8 @@ pub fn sure_long<P: Parts>(c: &mut Cursor<'_>) -> i64
 
 /// The eight bytes of a double.
 pub fn sure_eight<P: Parts>(c: &mut Cursor<'_>) -> [u8; 8]
-    ensures stands { (held rest : List ℕ) → Begins P.spells eight held c.old.rest rest → (result ≡ held) × (c.new.rest ≡ rest) }
+    ensures stands { (held rest : List ℕ) → Begins P.spells eight held c.old.rest rest
+        → (result ≡ held) × (c.new.rest ≡ rest) }
     ensures shorter { length c.new.rest ≤ length c.old.rest }
 {
     P::eight(c).unwrap_or([0; 8])
@@ -43,7 +46,8 @@ pub fn sure_eight<P: Parts>(c: &mut Cursor<'_>) -> [u8; 8]
 
 /// The bytes of a binary, which are lent.
 pub fn sure_bytes<'a, P: Parts>(c: &mut Cursor<'a>) -> &'a [u8]
-    ensures stands { (held rest : List ℕ) → BinaryThen P.spells held c.old.rest rest → (result.now ≡ held) × (c.new.rest ≡ rest) }
+    ensures stands { (held rest : List ℕ) → BinaryThen P.spells held c.old.rest rest
+        → (result.now ≡ held) × (c.new.rest ≡ rest) }
     ensures shorter { length c.new.rest ≤ length c.old.rest }
 {
     bytes::<P>(c).unwrap_or(&[])
@@ -51,7 +55,8 @@ pub fn sure_bytes<'a, P: Parts>(c: &mut Cursor<'a>) -> &'a [u8]
 
 /// The head of a list.
 pub fn sure_list<P: Parts>(c: &mut Cursor<'_>, left: u8) -> ListHead
-    ensures stands { (head : ListHead) (rest : List ℕ) → Begins P.spells (list_head left) head c.old.rest rest
+    ensures stands { (head : ListHead) (rest : List ℕ)
+        → Begins P.spells (list_head left) head c.old.rest rest
         → (result ≡ head) × (c.new.rest ≡ rest) }
     ensures shorter { length c.new.rest ≤ length c.old.rest }
 {
@@ -64,7 +69,8 @@ pub fn sure_list<P: Parts>(c: &mut Cursor<'_>, left: u8) -> ListHead
 /// Passes over the value of a field of this head.
 pub fn pass_over<P: Parts>(c: &mut Cursor<'_>, found: Field, left: u8)
     requires levels { left ≤ outer_levels }
-    ensures stands { (rest : List ℕ) → BeginsValue P.spells left found.kind found.held c.old.rest rest → c.new.rest ≡ rest }
+    ensures stands { (rest : List ℕ)
+        → BeginsValue P.spells left found.kind found.held c.old.rest rest → c.new.rest ≡ rest }
     ensures shorter { length c.new.rest ≤ length c.old.rest }
 {
     // A value stands here, so nothing is refused.

@@ -1,12 +1,13 @@
 //! The walk over the fields of a struct.
 ghost use Rattle.std.specs.Prelude.{◌≡◌, ◌≤◌, ◌++◌, [], ℕ, List, length, IfOk, OnOk};
 ghost use Rattle.span_io.specs.Offences.{Offence, OnHalt};
-ghost use Rattle.span_io.specs.laws.OffenceLaws.{RulesLaws};
+ghost use Rattle.span_io.specs.Offences.{RulesLaws};
 ghost use Rattle.span_io.specs.Tables.{Row, rules_by};
-ghost use Rattle.span_io.specs.Gathering.{AddsItem, JudgesItem};
-ghost use Rattle.thrift_core.specs.Messages.{FieldItem, FieldStands, structs, whole_struct};
+ghost use Rattle.span_io.specs.private.Gathering.{AddsItem, JudgesItem};
+ghost use Rattle.thrift_core.specs.Messages.{FieldItem, structs, whole_struct};
+ghost use Rattle.thrift_core.specs.private.StandingFields.{FieldStands};
 ghost use Rattle.thrift_core.specs.Trees.{Fields, StructText, outer_levels};
-ghost use Rattle.jaeger_model.specs.RowsSoFar.{GatheredStruct};
+ghost use Rattle.jaeger_model.specs.private.RowsSoFar.{GatheredStruct};
 
 use span_io::{Cause, Cursor, Halt};
 use std::alloc::Global;
@@ -30,9 +31,11 @@ pub trait Rows<P: Parts>: Drop {
         left: u8,
     ) -> Result<(), Halt<Cause>>
         requires levels { left ≤ outer_levels }
-        ensures ok { (item : FieldItem) (rest : List ℕ) → FieldStands P.spells left found item c.old.rest rest
+        ensures ok { (item : FieldItem) (rest : List ℕ)
+            → FieldStands P.spells left found item c.old.rest rest
             → OnOk result ((c.new.rest ≡ rest) × AddsItem (gathered left) item self.old self.new) }
-        ensures judged { (item : FieldItem) (rest : List ℕ) → FieldStands P.spells left found item c.old.rest rest
+        ensures judged { (item : FieldItem) (rest : List ℕ)
+            → FieldStands P.spells left found item c.old.rest rest
             → JudgesItem (gathered left) (table left) item self.old result }
         ensures shorter { length c.new.rest ≤ length c.old.rest };
 }
@@ -47,11 +50,15 @@ pub fn read_rows<P: Parts, R: Rows<P>>(
     requires levels { left ≤ outer_levels }
     requires none { R.gathered left first first [] }
     requires lawful { RulesLaws (structs P.spells left) (rules_by (R.table left) R.ends) }
-    ensures all { (text tail : List ℕ) (fields : Fields) → c.old.rest ≡ text ++ tail → StructText P.spells left fields text
+    ensures all { (text tail : List ℕ) (fields : Fields) → c.old.rest ≡ text ++ tail
+        → StructText P.spells left fields text
         → IfOk result (λ rows. (c.new.rest ≡ tail)
-        × GatheredStruct P.spells left (rules_by (R.table left) R.ends) (R.gathered left first rows) fields text) }
-    ensures halted { (text tail : List ℕ) (fields : Fields) → c.old.rest ≡ text ++ tail → StructText P.spells left fields text
-        → OnHalt result (Offence (structs P.spells left) (rules_by (R.table left) R.ends) (whole_struct text)) }
+        × GatheredStruct P.spells left (rules_by (R.table left) R.ends)
+        (R.gathered left first rows) fields text) }
+    ensures halted { (text tail : List ℕ) (fields : Fields) → c.old.rest ≡ text ++ tail
+        → StructText P.spells left fields text
+        → OnHalt result
+        (Offence (structs P.spells left) (rules_by (R.table left) R.ends) (whole_struct text)) }
     ensures shorter { length c.new.rest ≤ length c.old.rest }
 {
     let mut rows = first;

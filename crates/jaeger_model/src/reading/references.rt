@@ -3,12 +3,12 @@ ghost use Rattle.std.specs.Prelude.{◌≡◌, ◌≤◌, ◌<◌, ◌^◌, ◌-
 ghost use Rattle.span_io.specs.Offences.{Judges};
 ghost use Rattle.span_io.specs.RowsSoFar.{Gave, Sets};
 ghost use Rattle.thrift_core.specs.Trees.{Trees, outer_levels};
-ghost use Rattle.jaeger_model.specs.ListsSoFar.{ListRowOffends, ListValue};
-ghost use Rattle.jaeger_model.specs.References.{reference_rules};
+ghost use Rattle.jaeger_model.specs.private.ListsSoFar.{ListRowOffends, ListValue};
+ghost use Rattle.jaeger_model.specs.Reference.{reference_rules};
 ghost use Rattle.std.specs.List.{flat_map, count_by};
 ghost use Rattle.jaeger_model.specs.declared.span.SpanRef.{SpanRef};
-ghost use Rattle.jaeger_model.specs.Spans.{kept_reference};
-ghost use Rattle.jaeger_model.specs.ReferenceSoFar.{KeepsOf, KeepsReferences};
+ghost use Rattle.jaeger_model.specs.Span.{kept_reference};
+ghost use Rattle.jaeger_model.specs.private.ReferenceSoFar.{KeepsOf, KeepsReferences};
 
 use crate::reading::lists::read_list;
 use crate::span::SpanRef;
@@ -59,9 +59,11 @@ pub(crate) fn references_row<P: Parts>(
     left: u8,
 ) -> Result<(), Halt<Cause>>
     requires levels { left ≤ outer_levels }
-    ensures ok { (text tail : List ℕ) (trees : Trees) → c.old.rest ≡ text ++ tail → ListValue P.spells left trees text
+    ensures ok { (text tail : List ℕ) (trees : Trees) → c.old.rest ≡ text ++ tail
+        → ListValue P.spells left trees text
         → OnOk result ((c.new.rest ≡ tail) × Sets KeepsReferences (trees, text) row.old row.new) }
-    ensures judged { (text tail : List ℕ) (trees : Trees) → c.old.rest ≡ text ++ tail → ListValue P.spells left trees text
+    ensures judged { (text tail : List ℕ) (trees : Trees) → c.old.rest ≡ text ++ tail
+        → ListValue P.spells left trees text
         → (earlier : List (Trees × List ℕ)) → Gave KeepsReferences earlier row.old
         → Judges result (ListRowOffends P.spells (left - 2) reference_rules earlier (trees, text)) }
     ensures shorter { length c.new.rest ≤ length c.old.rest }

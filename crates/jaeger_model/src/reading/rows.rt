@@ -1,9 +1,10 @@
 //! Rows of a struct's table, as a reader sets them.
 ghost use Rattle.std.specs.Prelude.{IfOk, OnOk};
-ghost use Rattle.span_io.specs.RowsSoFar.{Sets, JudgesCause};
+ghost use Rattle.span_io.specs.RowsSoFar.{Sets};
+ghost use Rattle.span_io.specs.private.RowSteps.{JudgesCause};
 ghost use Rattle.jaeger_model.specs.Meanings.{Means, MeansTime};
 ghost use Rattle.jaeger_model.specs.Rows.{BadTime, nothing_wrong};
-ghost use Rattle.jaeger_model.specs.RowsSoFar.{JudgesBytes, JudgesField};
+ghost use Rattle.jaeger_model.specs.private.RowsSoFar.{JudgesBytes, JudgesField};
 
 use span_ids::Nanos;
 use span_io::{Bytes, Cause, Halt, once};

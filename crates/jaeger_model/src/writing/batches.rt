@@ -16,7 +16,8 @@ use thrift_core::{Parts, TypeCode};
 // Appends the fields of the process.
 fn write_process_fields<P: Parts>(out: &mut Blob, batch: &Batch) -> Result<(), OutOfMemory>
     requires { IsWritable batch.now }
-    ensures { WritesRows P.keeps P.writes result out.old out.new (pos 0) (process_rows batch.now.service batch.now.tags) }
+    ensures { WritesRows P.keeps P.writes result out.old out.new (pos 0)
+        (process_rows batch.now.service batch.now.tags) }
 {
     write_text::<P>(out, 0, 1, &batch.service)?;
     write_filled_list::<P, Tag>(out, 1, 2, &batch.tags)
@@ -52,7 +53,8 @@ pub fn write_batch<P: Parts>(out: &mut Blob, batch: &Batch) -> Result<(), OutOfM
     requires { IsWritable batch.now }
     ensures ok { OnOk result (out.new ≡ out.old ++ batch_text P.keeps P.writes batch.now) }
     // After want of memory a front of it was appended.
-    ensures front { OnErr result (GrowsFront out.old out.new (batch_text P.keeps P.writes batch.now)) }
+    ensures front { OnErr result
+        (GrowsFront out.old out.new (batch_text P.keeps P.writes batch.now)) }
 {
     write_structure::<P, Batch>(out, batch)
 }

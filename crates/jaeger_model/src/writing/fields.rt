@@ -75,7 +75,8 @@ pub(crate) fn write_truth<P: Parts>(
     value: bool,
 ) -> Result<(), OutOfMemory>
     requires rises { last <ℤ id }
-    ensures { WritesField P.keeps P.writes result out.old out.new last id (leaf (truth_value value)) }
+    ensures { WritesField P.keeps P.writes result out.old out.new last id
+        (leaf (truth_value value)) }
 {
     P::put_field(out, last, id, TypeCode::Truth, Some(value))?;
     P::put_truth(out, value)
@@ -143,7 +144,8 @@ pub(crate) fn write_time<P: Parts>(
     time: Nanos,
 ) -> Result<(), OutOfMemory>
     requires rises { last <ℤ id }
-    ensures { WritesField P.keeps P.writes result out.old out.new last id (micros_tree (micros time)) }
+    ensures { WritesField P.keeps P.writes result out.old out.new last id
+        (micros_tree (micros time)) }
 {
     write_micros::<P>(out, last, id, time.micros())
 }

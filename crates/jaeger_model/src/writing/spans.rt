@@ -4,7 +4,7 @@ ghost use Rattle.span_ids.specs.Times.{micros};
 ghost use Rattle.thrift_core.specs.Trees.{i32, leaf};
 ghost use Rattle.jaeger_model.specs.Canonical.{enum_tree, micros_tree, low_tree, high_tree, parent_tree, identity_rows, reference_and_flag_rows, time_rows, tag_and_log_rows};
 ghost use Rattle.jaeger_model.specs.private.Growing.{WritesField, WritesRows};
-ghost use Rattle.jaeger_model.specs.References.{reference_number};
+ghost use Rattle.jaeger_model.specs.Reference.{reference_number};
 ghost use Rattle.jaeger_model.specs.Writable.{IsWritableSpan};
 
 use crate::span::{JSpan, Log, SpanRef};
@@ -54,7 +54,8 @@ fn type_number(child_of: bool) -> i32
 
 // Appends the field of a reference's type.
 fn write_type<P: Parts>(out: &mut Blob, child_of: bool) -> Result<(), OutOfMemory>
-    ensures { WritesField P.keeps P.writes result out.old out.new (pos 0) (pos 1) (enum_tree (reference_number child_of)) }
+    ensures { WritesField P.keeps P.writes result out.old out.new (pos 0) (pos 1)
+        (enum_tree (reference_number child_of)) }
 {
     write_int::<P>(out, 0, 1, type_number(child_of))
 }
@@ -77,7 +78,8 @@ impl<P: Parts> Structure<P> for SpanRef {
 
 // Appends the field of the parent.
 fn write_parent<P: Parts>(out: &mut Blob, parent: Option<SpanId>) -> Result<(), OutOfMemory>
-    ensures { WritesField P.keeps P.writes result out.old out.new (pos 3) (pos 4) (parent_tree parent) }
+    ensures { WritesField P.keeps P.writes result out.old out.new (pos 3) (pos 4)
+        (parent_tree parent) }
 {
     match parent {
         None => write_long::<P>(out, 3, 4, 0),
@@ -100,7 +102,8 @@ fn write_identity<P: Parts>(out: &mut Blob, span: &JSpan) -> Result<(), OutOfMem
 // Appends the field of the flags.
 fn write_flags<P: Parts>(out: &mut Blob, last: i16, span: &JSpan) -> Result<(), OutOfMemory>
     requires rises { last <ℤ pos 7 }
-    ensures { WritesField P.keeps P.writes result out.old out.new last (pos 7) (leaf (i32 span.now.flags)) }
+    ensures { WritesField P.keeps P.writes result out.old out.new last (pos 7)
+        (leaf (i32 span.now.flags)) }
 {
     write_int::<P>(out, last, 7, span.flags)
 }
@@ -108,7 +111,8 @@ fn write_flags<P: Parts>(out: &mut Blob, last: i16, span: &JSpan) -> Result<(), 
 // Appends the fields 6 and 7.
 fn write_references_and_flags<P: Parts>(out: &mut Blob, span: &JSpan) -> Result<(), OutOfMemory>
     requires { IsWritableSpan span.now }
-    ensures { WritesRows P.keeps P.writes result out.old out.new (pos 5) (reference_and_flag_rows span.now) }
+    ensures { WritesRows P.keeps P.writes result out.old out.new (pos 5)
+        (reference_and_flag_rows span.now) }
 {
     if span.references.len() == 0 {
         return write_flags::<P>(out, 5, span);
@@ -119,7 +123,8 @@ fn write_references_and_flags<P: Parts>(out: &mut Blob, span: &JSpan) -> Result<
 
 // Appends the field of the duration.
 fn write_duration<P: Parts>(out: &mut Blob, start: Nanos, end: Nanos) -> Result<(), OutOfMemory>
-    ensures { WritesField P.keeps P.writes result out.old out.new (pos 8) (pos 9) (micros_tree (micros end - micros start)) }
+    ensures { WritesField P.keeps P.writes result out.old out.new (pos 8) (pos 9)
+        (micros_tree (micros end - micros start)) }
 {
     write_micros::<P>(out, 8, 9, end.micros().saturating_sub(start.micros()))
 }
@@ -135,7 +140,8 @@ fn write_times<P: Parts>(out: &mut Blob, span: &JSpan) -> Result<(), OutOfMemory
 // Appends the fields 10 and 11.
 fn write_tags_and_logs<P: Parts>(out: &mut Blob, span: &JSpan) -> Result<(), OutOfMemory>
     requires { IsWritableSpan span.now }
-    ensures { WritesRows P.keeps P.writes result out.old out.new (pos 9) (tag_and_log_rows span.now) }
+    ensures { WritesRows P.keeps P.writes result out.old out.new (pos 9)
+        (tag_and_log_rows span.now) }
 {
     if span.tags.len() == 0 {
         return write_filled_list::<P, Log>(out, 9, 11, &span.logs);

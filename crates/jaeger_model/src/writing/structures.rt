@@ -54,7 +54,8 @@ pub(crate) fn write_list<P: Parts, S: Structure<P>>(
 ) -> Result<(), OutOfMemory>
     requires rises { last <ℤ id }
     requires writable { AreWritable S.writable items.now }
-    ensures { WritesField P.keeps P.writes result out.old out.new last id (list_tree S.rows items.now) }
+    ensures { WritesField P.keeps P.writes result out.old out.new last id
+        (list_tree S.rows items.now) }
 {
     P::put_field(out, last, id, TypeCode::List, None)?;
     P::put_list(out, TypeCode::Struct, items.len() as u32)?;
@@ -70,7 +71,8 @@ pub(crate) fn write_filled_list<P: Parts, S: Structure<P>>(
 ) -> Result<(), OutOfMemory>
     requires rises { last <ℤ id }
     requires writable { AreWritable S.writable items.now }
-    ensures { WritesRows P.keeps P.writes result out.old out.new last (filled_list id S.rows items.now) }
+    ensures { WritesRows P.keeps P.writes result out.old out.new last
+        (filled_list id S.rows items.now) }
 {
     if items.len() == 0 {
         return Ok(());

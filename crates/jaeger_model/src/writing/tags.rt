@@ -2,7 +2,7 @@
 ghost use Rattle.std.specs.Prelude.{◌≡◌, pos};
 ghost use Rattle.jaeger_model.specs.Canonical.{enum_tree, value_row};
 ghost use Rattle.jaeger_model.specs.private.Growing.{WritesField};
-ghost use Rattle.jaeger_model.specs.Tags.{type_of};
+ghost use Rattle.jaeger_model.specs.Tag.{type_of};
 ghost use Rattle.jaeger_model.specs.Writable.{IsShortValue};
 
 use crate::span::Log;
@@ -29,7 +29,8 @@ fn type_number(value: &TagValue) -> i32
 
 // Appends the field of the value's type.
 fn write_type<P: Parts>(out: &mut Blob, value: &TagValue) -> Result<(), OutOfMemory>
-    ensures { WritesField P.keeps P.writes result out.old out.new (pos 1) (pos 2) (enum_tree (type_of value.now)) }
+    ensures { WritesField P.keeps P.writes result out.old out.new (pos 1) (pos 2)
+        (enum_tree (type_of value.now)) }
 {
     write_int::<P>(out, 1, 2, type_number(value))
 }
@@ -37,7 +38,8 @@ fn write_type<P: Parts>(out: &mut Blob, value: &TagValue) -> Result<(), OutOfMem
 // Appends the value's own field, behind the type.
 fn write_value<P: Parts>(out: &mut Blob, value: &TagValue) -> Result<(), OutOfMemory>
     requires { IsShortValue value.now }
-    ensures { WritesField P.keeps P.writes result out.old out.new (pos 2) (value_row value.now).0 (value_row value.now).1 }
+    ensures { WritesField P.keeps P.writes result out.old out.new (pos 2) (value_row value.now).0
+        (value_row value.now).1 }
 {
     match value {
         TagValue::Text(text) => write_text::<P>(out, 2, 3, text),

@@ -18,22 +18,26 @@ pub record Adds (old new : List Node) (es : List Entry) : Type 0 where
   pub grown : new ≡ old ++ added
   pub spells : Spells added es
 
+-- members as nodes spell them: each key, and its value behind it
 abbrev pub member_entries : List (List ℕ × Data) → List Entry
 member_entries [] = []
 member_entries (m ∷ ms) = key m.0 ∷ value m.1 ∷ member_entries ms
 
 -- what was read, before these tokens, and its nodes were added
 
+-- a value was read, and its nodes were added; these tokens are left
 pub record AddsValue (old new : List Node) (read : Option (Data × List Token)) (left : List Token) : Type 0 where
   pub whole : Data
   pub is : read ≡ Some (whole, left)
   pub adds : Adds old new (value whole ∷ [])
 
+-- the elements of an array were read, and the nodes of each were added; these tokens are left
 pub record AddsItems (old new : List Node) (read : Option (Items × List Token)) (left : List Token) : Type 0 where
   pub whole : List Data
   pub is : read ≡ Some (items_of whole, left)
   pub adds : Adds old new (map value whole)
 
+-- the members of an object were read, and nodes of all were added, of equal keys too; these tokens are left
 pub record AddsMembers (old new : List Node) (read : Option (Members × List Token)) (left : List Token) : Type 0 where
   pub whole : List (List ℕ × Data)
   pub is : read ≡ Some (put_all whole no_members, left)

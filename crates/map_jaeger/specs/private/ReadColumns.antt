@@ -9,12 +9,15 @@ use Rattle.map_jaeger.specs.Columns.{looked, is_free}
 use Rattle.map_jaeger.specs.Reading.{scoped_by}
 use Rattle.map_jaeger.specs.declared.reading.attributes.Parted.{Parted}
 
+-- the tags that the table has a row for, in their order
 abbrev pub own_tags : List (List ℕ × Value) → List (List ℕ × Value)
 own_tags tags = filter (λ tag. not (is_free tag.0)) tags
 
+-- the tags that the table has no row for, in their order
 abbrev pub free_tags : List (List ℕ × Value) → List (List ℕ × Value)
 free_tags tags = filter (λ tag. is_free tag.0) tags
 
+-- the parts of a span's tags: those that the table has a row for, and the others
 pub record ArePartsOf (tags : List (List ℕ × Value)) (parts : Parted) : Type 0 where
   pub own : parts.own ≡ own_tags tags
   pub free : parts.free ≡ free_tags tags

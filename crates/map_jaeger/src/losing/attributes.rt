@@ -23,7 +23,8 @@ pub(crate) fn lose_values(
     place: Place,
     attributes: &Attrs,
 ) -> Result<(), OutOfMemory>
-    ensures { OnOk result (losses.new ≡ losses.old ++ lost_keys place rows.Value told.becomes_text attributes.now) }
+    ensures { OnOk result
+        (losses.new ≡ losses.old ++ lost_keys place rows.Value told.becomes_text attributes.now) }
 {
     'attributes: for pair in attributes.as_slice() {
         let key = pair.0.as_str();

@@ -16,7 +16,8 @@ pub(crate) fn lose_events(
     span: u32,
     events: &Items<Event>,
 ) -> Result<(), OutOfMemory>
-    ensures { OnOk result (losses.new ≡ losses.old ++ losses_of (told.event_losses span) 1 events.now) }
+    ensures { OnOk result
+        (losses.new ≡ losses.old ++ losses_of (told.event_losses span) 1 events.now) }
 {
     // The length of a list fits 32 bits.
     'events: for i in 0..events.len() {

@@ -16,7 +16,8 @@ pub(crate) fn lose_links(
     span: u32,
     links: &Items<Link>,
 ) -> Result<(), OutOfMemory>
-    ensures { OnOk result (losses.new ≡ losses.old ++ losses_of (told.link_losses span) 1 links.now) }
+    ensures { OnOk result
+        (losses.new ≡ losses.old ++ losses_of (told.link_losses span) 1 links.now) }
 {
     // The length of a list fits 32 bits.
     'links: for i in 0..links.len() {

@@ -38,7 +38,8 @@ pub(crate) fn lose_resource(
 // Whether `service.name` has an empty text.
 fn service_goes(alloc: Global, service: Option<&Value>) -> Result<bool, OutOfMemory>
     requires { double_at (option_map (λ value. value.now) service) ≡ false }
-    ensures { IfOk result (λ goes. goes ≡ told.service_goes (option_map (λ value. value.now) service.entry)) }
+    ensures { IfOk result
+        (λ goes. goes ≡ told.service_goes (option_map (λ value. value.now) service.entry)) }
 {
     let Some(value) = service else {
         return Ok(false);
@@ -64,7 +65,9 @@ fn lose_changes(
     goes: bool,
     resource: &Attrs,
 ) -> Result<(), OutOfMemory>
-    ensures { OnOk result (losses.new ≡ losses.old ++ lost_keys places.Resource rows.Value (told.changes goes) resource.now) }
+    ensures { OnOk result
+        (losses.new
+        ≡ losses.old ++ lost_keys places.Resource rows.Value (told.changes goes) resource.now) }
 {
     let place = Place::Resource;
     'attributes: for pair in resource.as_slice() {

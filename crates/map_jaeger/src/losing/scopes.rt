@@ -15,7 +15,8 @@ pub(crate) fn lose_scopes(
     losses: &mut Items<Loss>,
     scopes: &Items<Scope>,
 ) -> Result<(), OutOfMemory>
-    ensures { OnOk result (losses.new ≡ losses.old ++ meant.scopes_losses told.span_losses 1 1 None scopes.now) }
+    ensures { OnOk result
+        (losses.new ≡ losses.old ++ meant.scopes_losses told.span_losses 1 1 None scopes.now) }
 {
     let mut spans: u32 = 0;
     let mut before: Option<(&str, &str)> = None;

@@ -24,7 +24,10 @@ pub(crate) fn span_attributes(
 ) -> Result<Attrs, OutOfMemory>
     requires { Rise (keys free) }
     ensures { IfOk result (λ attributes.
-        attributes ≡ attrs (told.row flags_key (meant.high_flags_of span.now.flags) ++ escapes.unescaped is_reserved free)) }
+        attributes
+        ≡ attrs
+        (told.row flags_key (meant.high_flags_of span.now.flags)
+        ++ escapes.unescaped is_reserved free)) }
 {
     let attributes = unescaped::<Spans>(alloc, free)?;
     let high = high_flags_of(alloc, span.flags)?;

@@ -40,7 +40,8 @@ pub(crate) fn name_held(
     newer: Column,
     older: Column,
 ) -> Result<Text, OutOfMemory>
-    ensures { IfOk result (λ name. name ≡ words.name_in (looked tags.now newer) (looked tags.now older)) }
+    ensures { IfOk result
+        (λ name. name ≡ words.name_in (looked tags.now newer) (looked tags.now older)) }
 {
     name_in(alloc, held(tags, newer), held(tags, older))
 }
@@ -48,7 +49,8 @@ pub(crate) fn name_held(
 pub(crate) fn status_of(alloc: Global, tags: &Attrs) -> Result<Status, OutOfMemory>
     ensures code { IfOk result (λ status. status.code ≡ status_of_columns (looked tags.now)) }
     ensures message { IfOk result (λ status. status.message
-        ≡ meant.message_by (status_of_columns (looked tags.now)) (looked tags.now Column.Description)) }
+        ≡ meant.message_by (status_of_columns (looked tags.now))
+        (looked tags.now Column.Description)) }
 {
     let code = code_of(tags);
     let message = message_by(alloc, code, held(tags, Column::Description))?;
@@ -75,7 +77,8 @@ fn code_by_error(error: Option<bool>) -> Code
 }
 
 fn message_by(alloc: Global, code: Code, description: Option<&Value>) -> Result<Text, OutOfMemory>
-    ensures { IfOk result (λ text. text ≡ meant.message_by code (option_map (λ v. v.now) description.entry)) }
+    ensures { IfOk result
+        (λ text. text ≡ meant.message_by code (option_map (λ v. v.now) description.entry)) }
 {
     match code {
         Code::Unset => Ok(Text::new(alloc)),

@@ -26,7 +26,8 @@ fn add_event(
     log: Log,
 ) -> Result<(), OutOfMemory>
     ensures event { OnOk result (read.new.means ≡ read.old.means ++ meant.event_of log ∷ []) }
-    ensures remarks { OnOk result (AddsNoted RepeatsOf (log_remarks span) number log read.old.notes read.new.notes) }
+    ensures remarks { OnOk result
+        (AddsNoted RepeatsOf (log_remarks span) number log read.old.notes read.new.notes) }
 {
     let one = event_of(alloc, log)?;
     let place = Place::Event(span, number);
@@ -43,7 +44,8 @@ pub(crate) fn events_of(
 ) -> Result<Noted<Items<Event>, Items<Remark>>, OutOfMemory>
     requires counted { IsCounted logs }
     ensures events { IfOk result (λ read. read.means ≡ map meant.event_of logs) }
-    ensures remarks { IfOk result (λ read. AreNumbered RepeatsOf (log_remarks span) 1 logs read.notes) }
+    ensures remarks { IfOk result
+        (λ read. AreNumbered RepeatsOf (log_remarks span) 1 logs read.notes) }
 {
     let means = Items::with_room(alloc, logs.len())?;
     let notes = Items::new(alloc);
@@ -68,7 +70,9 @@ struct ReadEvent {
 #[tactic(auto, using(crate::proofs::GroupResource::without_rise))]
 fn event_attributes(alloc: Global, fields: Attrs) -> Result<Attrs, OutOfMemory>
     requires { Rise (keys fields) }
-    ensures { IfOk result (λ attributes. attributes ≡ escapes.unescaped is_event_reserved (without event_key fields)) }
+    ensures { IfOk result
+        (λ attributes. attributes
+        ≡ escapes.unescaped is_event_reserved (without event_key fields)) }
 {
     unescaped::<Events>(alloc, others("event", fields))
 }

@@ -21,7 +21,9 @@ pub(crate) fn parent_of(span: &JSpan) -> Option<SpanId>
 }
 
 fn first_parent(trace: TraceId, references: &Items<SpanRef>) -> Option<SpanId>
-    ensures { result ≡ option_map (λ reference. reference.span) (find (meant.is_own_parent trace) references.now) }
+    ensures { result
+        ≡ option_map (λ reference. reference.span)
+        (find (meant.is_own_parent trace) references.now) }
 {
     'references: for reference in references.as_slice() {
         if is_own_parent(trace, reference) {
@@ -66,7 +68,8 @@ pub(crate) fn links_but(
 }
 
 fn names_parent(trace: TraceId, parent: Option<SpanId>, reference: &SpanRef) -> bool
-    ensures { result ≡ (meant.is_own_parent trace reference.now && meant.names parent reference.now.span) }
+    ensures { result
+        ≡ (meant.is_own_parent trace reference.now && meant.names parent reference.now.span) }
 {
     is_own_parent(trace, reference) && names(parent, reference.span)
 }
@@ -87,7 +90,9 @@ fn link_of(alloc: Global, reference: &SpanRef) -> Result<Link, OutOfMemory>
 
 // The mark of a link that is CHILD_OF.
 fn mark_of(alloc: Global, child_of: bool) -> Result<Attrs, OutOfMemory>
-    ensures { IfOk result (λ marks. marks ≡ (if child_of then (reference_key, values.Text child_of_word) ∷ [] else [])) }
+    ensures { IfOk result
+        (λ marks. marks
+        ≡ (if child_of then (reference_key, values.Text child_of_word) ∷ [] else [])) }
 {
     let mut marks = Items::new(alloc);
     if child_of {

@@ -33,7 +33,8 @@ pub(crate) fn scopes_of(
     requires counted { IsCounted spans }
     requires each { All IsCountedSpan spans }
     ensures scopes { IfOk result (λ read. read.means ≡ runs (map meant.scoped_of spans)) }
-    ensures remarks { IfOk result (λ read. AreNumbered RepeatsOfSpan jspan_remarks 1 spans read.notes) }
+    ensures remarks { IfOk result
+        (λ read. AreNumbered RepeatsOfSpan jspan_remarks 1 spans read.notes) }
 {
     let mut so_far = Runs::none(alloc);
     let mut notes = Items::new(alloc);
@@ -56,7 +57,8 @@ fn read_span(
 ) -> Result<ReadSpan, OutOfMemory>
     requires counted { IsCountedSpan span }
     ensures value { IfOk result (λ read. one_of read ≡ meant.scoped_of span) }
-    ensures remarks { OnOk result (AddsNoted RepeatsOfSpan jspan_remarks number span remarks.old remarks.new) }
+    ensures remarks { OnOk result
+        (AddsNoted RepeatsOfSpan jspan_remarks number span remarks.old remarks.new) }
 {
     let mut span = span;
     let own_tags = mem::replace(&mut span.tags, Items::new(alloc));

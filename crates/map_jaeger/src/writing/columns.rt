@@ -32,7 +32,8 @@ fn error_given(code: Code) -> Option<Value>
 }
 
 fn description_given(status: &Status) -> Result<Option<Value>, OutOfMemory>
-    ensures { IfOk result (λ value. value ≡ told.description_given status.now.code status.now.message) }
+    ensures { IfOk result
+        (λ value. value ≡ told.description_given status.now.code status.now.message) }
 {
     match status.code {
         Code::Unset => Ok(None),
@@ -60,7 +61,8 @@ fn given(
     span: &Span,
     column: Column,
 ) -> Result<Option<Value>, OutOfMemory>
-    ensures { IfOk result (λ value. value ≡ columns_of (under name.now version.now span.now) column) }
+    ensures { IfOk result
+        (λ value. value ≡ columns_of (under name.now version.now span.now) column) }
 {
     match column {
         Column::Error => Ok(error_given(span.status.code)),
@@ -88,7 +90,9 @@ fn put_column(
 ) -> Result<(), OutOfMemory>
     ensures { (rest : Pairs) → pairs.old.items ≡ attrs rest
         → OnOk result (pairs.new.items
-        ≡ attrs (row (row_of column).key (columns_of (under name.now version.now span.now) column) ++ rest)) }
+        ≡ attrs
+        (row (row_of column).key (columns_of (under name.now version.now span.now) column)
+        ++ rest)) }
 {
     let value = given(alloc, name, version, span, column)?;
     put_row(alloc, pairs, column.key(), value)
@@ -105,7 +109,8 @@ pub(crate) fn put_columns(
 ) -> Result<(), OutOfMemory>
     ensures { (rest : Pairs) → pairs.old.items ≡ attrs rest
         → OnOk result (pairs.new.items
-        ≡ attrs (rows_by row_of columns.now (columns_of (under name.now version.now span.now)) ++ rest)) }
+        ≡ attrs
+        (rows_by row_of columns.now (columns_of (under name.now version.now span.now)) ++ rest)) }
 {
     let mut left = columns;
     'columns: while let Some((column, before)) = left.split_last() {

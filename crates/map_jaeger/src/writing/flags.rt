@@ -22,7 +22,8 @@ pub(crate) fn flags_in(value: Option<&Value>) -> Option<u32>
 }
 
 fn high_flags(value: Option<&Value>) -> u32
-    ensures flags { result ≡ unwrap_or (columns.flags_in (option_map (λ value. value.now) value.entry)) 0 }
+    ensures flags { result
+        ≡ unwrap_or (columns.flags_in (option_map (λ value. value.now) value.entry)) 0 }
     ensures even { result % 2 ≡ 0 }
 {
     match flags_in(value) {

@@ -11,6 +11,7 @@ use Rattle.map_zipkin.specs.declared.reading.columns.Told.{Told}
 
 -- ---- what the tags tell of a span and its scope, column by column
 
+-- this is what the columns tell: the scope's name and version, the trace state, the dropped counts, and the status
 pub record IsZipkinTold (c : TagColumns) (told : Told) : Type 0 where
   pub name : told.name ≡ name_in (c columns.ScopeName) (c columns.LibraryName)
   pub version : told.version ≡ name_in (c columns.ScopeVersion) (c columns.LibraryVersion)
@@ -21,6 +22,7 @@ pub record IsZipkinTold (c : TagColumns) (told : Told) : Type 0 where
   pub code : told.status.code ≡ status_code c
   pub message : told.status.message ≡ message_of (status_code c) (c columns.Error)
 
+-- the same, of the columns that these tags hold
 abbrev pub IsZipkinToldBy : Pairs → Told → Type 0
 IsZipkinToldBy tags told = IsZipkinTold (columns_in tags) told
 
@@ -30,6 +32,7 @@ IsZipkinToldBy tags told = IsZipkinTold (columns_in tags) told
 abbrev pub ArePlaced : Pairs → Type 0
 ArePlaced pairs = All (λ pair. is_told pair.0 ≡ false) pairs
 
+-- the two parts: the resource, with this service, and the attributes, which are these pairs and the free tags
 pub record ArePartedBy (service : List ℕ) (pairs tags : Pairs) (parted : Parted) : Type 0 where
   pub resource : parted.resource ≡ resource_by service tags
   pub attributes : parted.attributes ≡ attrs (pairs ++ free_pairs tags)

@@ -6,8 +6,8 @@ use Rattle.trace_model.specs.OtlpParts.{NotedGroup}
 use Rattle.trace_model.specs.Remarks.{Keys, numbered}
 use Rattle.trace_model.specs.declared.place.Place.{Place}
 use Rattle.trace_model.specs.declared.remark.Remark.{Remark}
-use Rattle.trace_model.specs.declared.trace.Group.{Group}
-use Rattle.trace_model.specs.declared.trace.Scope.{Scope}
+use Rattle.trace_model.specs.declared.group.Group.{Group}
+use Rattle.trace_model.specs.declared.group.Scope.{Scope}
 use Rattle.map_zipkin.specs.NotedGroups.{noted_group, left_out_remarks, spans_in, with_left_out}
 use Rattle.map_zipkin.specs.Regrouped.{RunSpan, in_scope, same_resource, plain_group}
 use Rattle.map_zipkin.specs.declared.groups.Groups.{Groups}
@@ -54,6 +54,7 @@ groups_joined last (group ∷ groups) left_out =
     then last_joined last group.scopes (take (spans_in group) left_out) ∷ with_left_out groups (drop (spans_in group) left_out)
     else last_alone last ∷ with_left_out (group ∷ groups) left_out
 
+-- groups, of whose spans tags of these keys are left out, behind the last group so far, if there is one
 abbrev pub from_last_group : Option Last → List Group → List Keys → List NotedGroup
 from_last_group None groups left_out = with_left_out groups left_out
 from_last_group (Some last) groups left_out = groups_joined last groups left_out

@@ -14,12 +14,14 @@ use Rattle.map_zipkin.specs.declared.columns.Column.TheVariants as columns
 
 -- the columns that a span doesn't share with its scope, by rising keys
 abbrev pub unshared_columns : List Column
-unshared_columns = columns.Error ∷ columns.DroppedAttributes ∷ columns.DroppedEvents ∷ columns.DroppedLinks ∷ columns.Code ∷ columns.State ∷ []
+unshared_columns =
+    columns.Error ∷ columns.DroppedAttributes ∷ columns.DroppedEvents ∷ columns.DroppedLinks ∷ columns.Code ∷ columns.State ∷ []
 
 -- what a span holds in the columns, without its scope
 abbrev pub span_columns : Span → TagColumns
 span_columns span = zipkin_columns_of (under [] [] span)
 
+-- the tags of the columns that a span doesn't share with its scope, by rising keys
 abbrev pub unshared_rows : Span → Pairs
 unshared_rows span = rows_by row_of unshared_columns (span_columns span)
 
@@ -28,6 +30,7 @@ abbrev pub shared_pairs : Pairs → List ℕ → List ℕ → Pairs
 shared_pairs resource name version =
     row (row_of columns.ScopeName).key (text_given name) ++ (row (row_of columns.ScopeVersion).key (text_given version) ++ resource_pairs resource)
 
+-- the same, by rising keys
 abbrev pub shared_rows : Pairs → List ℕ → List ℕ → Pairs
 shared_rows resource name version = attrs (shared_pairs resource name version)
 

@@ -31,7 +31,9 @@ pub(crate) fn lose_values(
     one: &str,
     attributes: &Attrs,
 ) -> Result<(), OutOfMemory>
-    ensures { OnOk result (losses.new ≡ losses.old ++ lost_keys place rows.Value (told.changes one.now) attributes.now) }
+    ensures { OnOk result
+        (losses.new
+        ≡ losses.old ++ lost_keys place rows.Value (told.changes one.now) attributes.now) }
 {
     'attributes: for pair in attributes.as_slice() {
         let key = pair.0.as_str();
@@ -49,7 +51,8 @@ pub(crate) fn lose_empty(
     one: &str,
     attributes: &Attrs,
 ) -> Result<(), OutOfMemory>
-    ensures { OnOk result (losses.new ≡ losses.old ++ lost_keys place rows.Empty (told.goes one.now) attributes.now) }
+    ensures { OnOk result
+        (losses.new ≡ losses.old ++ lost_keys place rows.Empty (told.goes one.now) attributes.now) }
 {
     'attributes: for pair in attributes.as_slice() {
         let key = pair.0.as_str();
@@ -65,7 +68,8 @@ pub(crate) fn lose_bytes(
     place: Place,
     attributes: &Attrs,
 ) -> Result<(), OutOfMemory>
-    ensures { OnOk result (losses.new ≡ losses.old ++ lost_keys place rows.Value told.bytes_change attributes.now) }
+    ensures { OnOk result
+        (losses.new ≡ losses.old ++ lost_keys place rows.Value told.bytes_change attributes.now) }
 {
     'attributes: for pair in attributes.as_slice() {
         let key = pair.0.as_str();

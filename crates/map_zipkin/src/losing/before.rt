@@ -28,7 +28,8 @@ pub(crate) fn follows(
 ) -> Result<bool, OutOfMemory>
     requires rising { Rise (keys resource.now) }
     requires plain { holds_double resource.now ≡ false }
-    ensures { IfOk result (λ joined. joined ≡ told.follows (option_map (λ run. run.now) before.entry) resource.now) }
+    ensures { IfOk result
+        (λ joined. joined ≡ told.follows (option_map (λ run. run.now) before.entry) resource.now) }
 {
     let Some(run) = before else {
         return Ok(false);
@@ -52,7 +53,8 @@ pub(crate) fn names_before(joined: bool, before: Option<&Run>) -> Option<(&str, 
 fn is_normal(alloc: Global, normal: &Attrs, resource: &Attrs) -> Result<bool, OutOfMemory>
     requires rising { Rise (keys resource.now) }
     requires plain { holds_double resource.now ≡ false }
-    ensures { IfOk result (λ is. is ≡ groups.same_resource normal.now (normal_pairs service_key resource.now)) }
+    ensures { IfOk result
+        (λ is. is ≡ groups.same_resource normal.now (normal_pairs service_key resource.now)) }
 {
     let mut place = 0;
     'pairs: for pair in resource.as_slice() {
@@ -73,7 +75,8 @@ fn advanced(
 ) -> Result<Option<usize>, OutOfMemory>
     requires within { place ≤ length normal.now }
     requires plain { texts.has_double pair.now.1 ≡ false }
-    ensures next { IfOk result (λ next. (left : words.Pairs) → walks.Advances normal.now place pair.now left next) }
+    ensures next { IfOk result
+        (λ next. (left : words.Pairs) → walks.Advances normal.now place pair.now left next) }
     ensures within { IfOk result (λ next. walks.IsWithin normal.now next) }
 {
     if goes("service.name", pair) {
@@ -107,7 +110,8 @@ fn is_text_of(
 // Whether the one value is the text of the other.
 fn is_told_by(alloc: Global, held: &Value, value: &Value) -> Result<bool, OutOfMemory>
     requires { texts.has_double value.now ≡ false }
-    ensures { IfOk result (λ is. is ≡ groups.same_text held.now (values.Text (texts.value_text value.now))) }
+    ensures { IfOk result
+        (λ is. is ≡ groups.same_text held.now (values.Text (texts.value_text value.now))) }
 {
     let Value::Text(held) = held else {
         return Ok(false);

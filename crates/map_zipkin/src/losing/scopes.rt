@@ -19,7 +19,8 @@ pub(crate) fn lose_scopes(
     scopes: &Items<Scope>,
 ) -> Result<(), OutOfMemory>
     ensures { OnOk result (losses.new ≡ losses.old
-        ++ meant.scopes_losses told.span_losses 1 1 (option_map (λ last. meant.named last.0.now last.1.now) names.entry) scopes.now) }
+        ++ meant.scopes_losses told.span_losses 1 1
+        (option_map (λ last. meant.named last.0.now last.1.now) names.entry) scopes.now) }
 {
     let mut spans: u32 = 0;
     let mut before = names;
@@ -37,7 +38,8 @@ pub(crate) fn lose_scopes(
 
 /// The name and version of the scope of the last span, if there is a span.
 pub(crate) fn last_names(scopes: &Items<Scope>) -> Option<(&str, &str)>
-    ensures { option_map (λ last. meant.named last.0.now last.1.now) result ≡ names_at_end None scopes.now }
+    ensures { option_map (λ last. meant.named last.0.now last.1.now) result
+        ≡ names_at_end None scopes.now }
 {
     let mut last = None;
     'scopes: for scope in scopes.as_slice() {

@@ -19,7 +19,8 @@ pub(crate) fn lose_spans(
     spans: &Items<Span>,
 ) -> Result<(), OutOfMemory>
     requires counted { before + length spans.now < 2 ^ 32 }
-    ensures { OnOk result (losses.new ≡ losses.old ++ losses_of told.span_losses (before + 1) spans.now) }
+    ensures { OnOk result
+        (losses.new ≡ losses.old ++ losses_of told.span_losses (before + 1) spans.now) }
 {
     let mut number = before;
     'spans: for span in spans.as_slice() {

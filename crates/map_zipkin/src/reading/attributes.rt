@@ -38,7 +38,8 @@ pub(crate) fn ends_of(
 ) -> Result<Attrs, OutOfMemory>
     ensures { IfOk result (λ pairs. pairs
         ≡ row peer_key (meant.peer_of service (option_map (λ v. v.now) tag.entry))
-        ++ own_rows (own_told (record { debug = marks.0; shared = marks.1; local = local; remote = remote }))) }
+        ++ own_rows
+        (own_told (record { debug = marks.0; shared = marks.1; local = local; remote = remote }))) }
 {
     let ends = Ends {
         debug: marks.0,
@@ -55,7 +56,8 @@ pub(crate) fn ends_of(
 
 // The service at the other end: that of the endpoint counts before the tag.
 fn peer_of(alloc: Global, service: Text, tag: Option<&Value>) -> Result<Option<Value>, OutOfMemory>
-    ensures { IfOk result (λ peer. peer ≡ meant.peer_of service (option_map (λ v. v.now) tag.entry)) }
+    ensures { IfOk result
+        (λ peer. peer ≡ meant.peer_of service (option_map (λ v. v.now) tag.entry)) }
 {
     if let Some(peer) = text_kept(service) {
         return Ok(Some(peer));
@@ -137,7 +139,8 @@ fn add_resource(
     key: &str,
     value: Value,
 ) -> Result<(), OutOfMemory>
-    ensures { OnOk result (resource.new ≡ resource.old ++ without service_key ((key.now, value) ∷ [])) }
+    ensures { OnOk result
+        (resource.new ≡ resource.old ++ without service_key ((key.now, value) ∷ [])) }
 {
     if "service.name" == key {
         return Ok(());

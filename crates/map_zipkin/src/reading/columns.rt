@@ -84,7 +84,8 @@ pub(crate) fn told_by(alloc: Global, tags: &Attrs) -> Result<Told, OutOfMemory>
 fn status_of(alloc: Global, tags: &Attrs) -> Result<Status, OutOfMemory>
     ensures code { IfOk result (λ status. status.code ≡ meant.status_code (columns_in tags.now)) }
     ensures message { IfOk result (λ status. status.message
-        ≡ meant.message_of (meant.status_code (columns_in tags.now)) (columns_in tags.now Column.Error)) }
+        ≡ meant.message_of (meant.status_code (columns_in tags.now))
+        (columns_in tags.now Column.Error)) }
 {
     let code = code_of(tags);
     let message = message_of(alloc, code, held(tags, Column::Error))?;
@@ -107,7 +108,8 @@ fn code_by_error(error: bool) -> Code
 }
 
 fn message_of(alloc: Global, code: Code, error: Option<&Value>) -> Result<Text, OutOfMemory>
-    ensures { IfOk result (λ text. text ≡ meant.message_of code (option_map (λ v. v.now) error.entry)) }
+    ensures { IfOk result
+        (λ text. text ≡ meant.message_of code (option_map (λ v. v.now) error.entry)) }
 {
     match code {
         Code::Fail => text_or_empty(alloc, error),

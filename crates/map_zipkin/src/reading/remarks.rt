@@ -83,7 +83,8 @@ pub(crate) fn remarks_of(
     tags: &Attrs,
 ) -> Result<Items<Remark>, OutOfMemory>
     ensures { IfOk result (λ remarks. remarks
-        ≡ tags_dropped (places.Span 1) (told.left_out_by service.now (columns_in tags.now) tags.now)) }
+        ≡ tags_dropped (places.Span 1)
+        (told.left_out_by service.now (columns_in tags.now) tags.now)) }
 {
     let mut remarks = Items::new(alloc);
     let place = Place::Span(1);
@@ -101,7 +102,9 @@ fn remark_reserved(
     place: Place,
     tags: &Attrs,
 ) -> Result<(), OutOfMemory>
-    ensures { OnOk result (remarks.new ≡ remarks.old ++ tags_dropped place (told.reserved_left (columns_in tags.now) tags.now)) }
+    ensures { OnOk result
+        (remarks.new
+        ≡ remarks.old ++ tags_dropped place (told.reserved_left (columns_in tags.now) tags.now)) }
 {
     if !may_hold_reserved(tags) {
         return Ok(());
@@ -121,7 +124,8 @@ fn remark_column(
     column: Column,
 ) -> Result<(), OutOfMemory>
     ensures { OnOk result (remarks.new ≡ remarks.old
-        ++ tags_dropped place (words.if_left (row_of column).key (is_idle_in (columns_in tags.now) column))) }
+        ++ tags_dropped place
+        (words.if_left (row_of column).key (is_idle_in (columns_in tags.now) column))) }
 {
     remark_if(alloc, remarks, place, column.key(), is_idle(tags, column))
 }

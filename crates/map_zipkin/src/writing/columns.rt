@@ -54,7 +54,8 @@ fn add_column(
     span: &Span,
     column: Column,
 ) -> Result<(), OutOfMemory>
-    ensures { OnOk result (pairs.new ≡ pairs.old ++ row (row_of column).key (span_columns span.now column)) }
+    ensures { OnOk result
+        (pairs.new ≡ pairs.old ++ row (row_of column).key (span_columns span.now column)) }
 {
     let value = given(alloc, span, column)?;
     add_row(alloc, pairs, column.key(), value)
@@ -67,7 +68,8 @@ fn add_columns(
     span: &Span,
     columns: &[Column],
 ) -> Result<(), OutOfMemory>
-    ensures { OnOk result (pairs.new ≡ pairs.old ++ rows_by row_of columns.now (span_columns span.now)) }
+    ensures { OnOk result
+        (pairs.new ≡ pairs.old ++ rows_by row_of columns.now (span_columns span.now)) }
 {
     'columns: for column in columns {
         add_column(alloc, pairs, span, *column)?;

@@ -21,7 +21,8 @@ use zipkin_json::Endpoint;
 // The number of 32 bits whose decimal the value is.
 fn number_in(value: Option<&Value>) -> Option<u32>
     ensures { result ≡ option_and_then (words.at_most 4294967295)
-        (option_and_then words.decimal_in (words.text_in (option_map (λ value. value.now) value.entry))) }
+        (option_and_then words.decimal_in
+        (words.text_in (option_map (λ value. value.now) value.entry))) }
 {
     let text = text_in(value)?;
     decimal_in(text)
@@ -46,7 +47,8 @@ fn local_endpoint(
 ) -> Result<Endpoint, OutOfMemory>
     requires plain { double_at (at service_key resource.now) ≡ false }
     requires ports { ports_unfit part.now ≡ false }
-    ensures { IfOk result (λ endpoint. endpoint ≡ told.local_endpoint resource.now (own_in part.now)) }
+    ensures { IfOk result
+        (λ endpoint. endpoint ≡ told.local_endpoint resource.now (own_in part.now)) }
 {
     Ok(Endpoint {
         service: text_or_none(alloc, find(resource, "service.name"))?,
@@ -64,7 +66,8 @@ fn remote_endpoint(
 ) -> Result<Endpoint, OutOfMemory>
     requires plain { double_at (at peer_key attributes.now) ≡ false }
     requires ports { ports_unfit part.now ≡ false }
-    ensures { IfOk result (λ endpoint. endpoint ≡ told.remote_endpoint attributes.now (own_in part.now)) }
+    ensures { IfOk result
+        (λ endpoint. endpoint ≡ told.remote_endpoint attributes.now (own_in part.now)) }
 {
     Ok(Endpoint {
         service: text_or_none(alloc, find(attributes, "peer.service"))?,
@@ -86,8 +89,10 @@ pub(crate) fn endpoints_of(
     requires resource { holds_double resource.now ≡ false }
     requires attributes { holds_double attributes.now ≡ false }
     requires ports { ports_unfit part.now ≡ false }
-    ensures local { IfOk result (λ ends. ends.0 ≡ told.local_endpoint resource.now (own_in part.now)) }
-    ensures remote { IfOk result (λ ends. ends.1 ≡ told.remote_endpoint attributes.now (own_in part.now)) }
+    ensures local { IfOk result
+        (λ ends. ends.0 ≡ told.local_endpoint resource.now (own_in part.now)) }
+    ensures remote { IfOk result
+        (λ ends. ends.1 ≡ told.remote_endpoint attributes.now (own_in part.now)) }
 {
     let local = local_endpoint(alloc, resource, part)?;
     let remote = remote_endpoint(alloc, attributes, part)?;

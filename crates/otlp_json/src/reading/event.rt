@@ -19,7 +19,7 @@ impl Table for EventTable {
     ghost parts = { event_members };
 }
 
-#[tactic(auto, using(json_members::specs::laws::PartLaws::reading), unfolding(crate::specs::Span::event_members))]
+#[tactic(auto, using(json_members::proofs::PartLaws::reading), unfolding(crate::specs::Span::event_members))]
 pub fn read_event(alloc: Global, v: &Lent<'_, '_>) -> Result<Noted<Event, Items<Text>>, Halt<Cause>>
     ensures value { IfOk result (λ e. IsJsonEvent e (view v.now)) }
     ensures judged { JudgesValue result (event_offends (view v.now)) }

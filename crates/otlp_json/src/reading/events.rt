@@ -3,7 +3,7 @@ ghost use Rattle.std.specs.Prelude.{◌+◌, length};
 ghost use Rattle.trace_model.specs.declared.noted.Noted.{Noted};
 ghost use Rattle.trace_model.specs.Remarks.{Keys};
 ghost use Rattle.trace_model.specs.declared.span.Event.{Event};
-ghost use Rattle.otlp_json.specs.Found.{EventsTold};
+ghost use Rattle.otlp_json.specs.private.Found.{EventsTold};
 ghost use Rattle.otlp_json.specs.Span.{IsJsonEvent, event_offends};
 
 use crate::reading::event::read_event;

@@ -22,7 +22,7 @@ impl Table for GroupTable {
 }
 
 /// Reads a group, and the remarks on it.
-#[tactic(auto, using(json_members::specs::laws::PartLaws::reading), unfolding(crate::specs::Group::group_members))]
+#[tactic(auto, using(json_members::proofs::PartLaws::reading), unfolding(crate::specs::Group::group_members))]
 pub fn read_group(alloc: Global, v: &Lent<'_, '_>) -> Result<(Group, Items<Remark>), Halt<Cause>>
     requires counted { IsCountedValue (view v.now) }
     ensures value { IfOk result (λ g. IsRemarkedGroup g (view v.now)) }

@@ -24,7 +24,8 @@ fn read_each(
     elements: Elements<'_, '_>,
 ) -> Result<Items<(Group, Items<Remark>)>, Halt<Refusal>>
     requires counted { IsCountedValue (array (items_of (elements_left elements))) }
-    ensures value { IfOk result (λ groups. AllZip (λ d x. IsRemarkedGroup x d) (elements_left elements.entry) groups) }
+    ensures value { IfOk result
+        (λ groups. AllZip (λ d x. IsRemarkedGroup x d) (elements_left elements.entry) groups) }
     ensures judged { JudgesInput result (each group_offends (elements_left elements.entry)) }
 {
     let mut groups = Items::with_room(alloc, room_for(elements))?;

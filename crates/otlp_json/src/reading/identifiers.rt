@@ -122,7 +122,8 @@ fn span_or_none_in(v: &Lent<'_, '_>) -> Result<Option<SpanId>, Cause>
 pub fn identified_trace(v: &Lent<'_, '_>, name: &str) -> Result<TraceId, Cause>
     ensures value { IfOk result (λ id. Given (Spelled SpellsJsonTrace) Never id
         (member name.now (view v.now))) }
-    ensures judged { JudgesByCause result (identified json_trace_offends (member name.now (view v.now))) }
+    ensures judged { JudgesByCause result
+        (identified json_trace_offends (member name.now (view v.now))) }
 {
     match member_of(v, name) {
         None => Err(Cause::BadId),
@@ -134,7 +135,8 @@ pub fn identified_trace(v: &Lent<'_, '_>, name: &str) -> Result<TraceId, Cause>
 pub fn identified_span(v: &Lent<'_, '_>, name: &str) -> Result<SpanId, Cause>
     ensures value { IfOk result (λ id. Given (Spelled SpellsJsonSpan) Never id
         (member name.now (view v.now))) }
-    ensures judged { JudgesByCause result (identified json_span_offends (member name.now (view v.now))) }
+    ensures judged { JudgesByCause result
+        (identified json_span_offends (member name.now (view v.now))) }
 {
     match member_of(v, name) {
         None => Err(Cause::BadId),

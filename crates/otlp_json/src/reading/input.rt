@@ -28,7 +28,8 @@ pub fn read_groups(alloc: Global, v: &Value) -> Result<Items<(Group, Items<Remar
     ensures sound { IfOk result (All (λ g. IsSoundGroup g.0)) }
     ensures judged { JudgesInput result (json_groups_offend (view v.now)) }
     // Whatever groups the value stands for are the answer.
-    ensures only { (groups : List RemarkedGroup) → AreJsonGroups groups (view v.now) → OnlyReads result groups }
+    ensures only { (groups : List RemarkedGroup) → AreJsonGroups groups (view v.now)
+        → OnlyReads result groups }
 {
     one_json_groups();
     trace_model::laws::members_of_values();
@@ -51,7 +52,8 @@ pub fn read_text(
     // No memory is wanted for bytes that are no text.
     ensures wants { result ≡ Err halts.OutOfMemory → IsUtf8 bytes.now }
     // Whatever groups the bytes are a text of are the answer.
-    ensures only { (groups : List RemarkedGroup) → AreGroupsText groups bytes.now → OnlyReads result groups }
+    ensures only { (groups : List RemarkedGroup) → AreGroupsText groups bytes.now
+        → OnlyReads result groups }
 {
     one_json_groups();
     reads_held_groups();

@@ -21,7 +21,7 @@ impl Table for InstrumentationTable {
     ghost parts = { instrumentation_scope_members };
 }
 
-#[tactic(auto, using(json_members::specs::laws::PartLaws::reading), unfolding(crate::specs::Group::instrumentation_scope_members))]
+#[tactic(auto, using(json_members::proofs::PartLaws::reading), unfolding(crate::specs::Group::instrumentation_scope_members))]
 fn read_instrumentation_scope(
     alloc: Global,
     v: &Lent<'_, '_>,
@@ -69,7 +69,8 @@ pub fn instrumentation_of(
     v: &Lent<'_, '_>,
     name: &str,
 ) -> Result<Noted<InstrumentationScope, Items<Text>>, Halt<Cause>>
-    ensures value { IfOk result (λ s. Given IsJsonInstrumentationScope (λ x. x ≡ no_instrumentation_scope)
+    ensures value { IfOk result
+        (λ s. Given IsJsonInstrumentationScope (λ x. x ≡ no_instrumentation_scope)
         s (member name.now (view v.now))) }
     ensures judged { JudgesValue result
         (optional instrumentation_scope_offends (member name.now (view v.now))) }

@@ -23,7 +23,7 @@ impl Table for LinkTable {
 }
 
 // A link without one of its identifiers is none.
-#[tactic(auto, using(json_members::specs::laws::PartLaws::reading), unfolding(crate::specs::Span::link_members))]
+#[tactic(auto, using(json_members::proofs::PartLaws::reading), unfolding(crate::specs::Span::link_members))]
 pub fn read_link(
     alloc: Global,
     v: &Lent<'_, '_>,

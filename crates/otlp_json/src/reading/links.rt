@@ -3,7 +3,7 @@ ghost use Rattle.std.specs.Prelude.{◌+◌, length, Option};
 ghost use Rattle.trace_model.specs.declared.noted.Noted.{Noted};
 ghost use Rattle.trace_model.specs.Remarks.{Keys};
 ghost use Rattle.trace_model.specs.declared.span.Link.{Link};
-ghost use Rattle.otlp_json.specs.Found.{LinksTold};
+ghost use Rattle.otlp_json.specs.private.Found.{LinksTold};
 ghost use Rattle.otlp_json.specs.Span.{IsJsonLink, link_offends};
 
 use crate::reading::link::read_link;

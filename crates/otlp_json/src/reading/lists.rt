@@ -6,7 +6,7 @@ ghost use Rattle.json_nodes.specs.Lents.{lent_view as view, elements_left};
 ghost use Rattle.span_io.specs.Paths.{Offences, each, optional, JudgesValue};
 ghost use Rattle.json_members.specs.Counted.{values_in, values_in_items};
 ghost use Rattle.json_members.specs.Members.{member, elements_offend};
-ghost use Rattle.otlp_json.specs.Found.{AreFound, AreGiven, FindsMore};
+ghost use Rattle.otlp_json.specs.private.Found.{AreFound, AreGiven, FindsMore};
 
 use json_members::member_of;
 use json_nodes::{Elements, Lent};
@@ -38,7 +38,8 @@ pub trait Rows: Drop {
     fn add(&mut self, alloc: Global, number: u32, v: &Lent<'_, '_>) -> Result<(), Halt<Cause>>
         requires counted { next number self.old + values_in (view v.now) < 2 ^ 32 }
         ensures ok { OnOk result (FindsMore means (told number) (view v.now) self.old self.new) }
-        ensures grown { OnOk result (next number self.new ≤ next number self.old + values_in (view v.now)) }
+        ensures grown { OnOk result
+            (next number self.new ≤ next number self.old + values_in (view v.now)) }
         ensures judged { JudgesValue result (offends (view v.now)) };
 }
 
@@ -59,8 +60,10 @@ fn read_rows<R: Rows>(
     number: u32,
     elements: Elements<'_, '_>,
 ) -> Result<R, Halt<Cause>>
-    requires counted { R.first number + values_in_items (items_of (elements_left elements)) < 2 ^ 32 }
-    ensures value { IfOk result (λ rows. AreFound R.means (R.told number) (elements_left elements.entry) rows) }
+    requires counted { R.first number + values_in_items (items_of (elements_left elements))
+        < 2 ^ 32 }
+    ensures value { IfOk result
+        (λ rows. AreFound R.means (R.told number) (elements_left elements.entry) rows) }
     ensures judged { JudgesValue result (each R.offends (elements_left elements.entry)) }
 {
     let mut rows = R::with_room(alloc, room_for(elements))?;
@@ -73,7 +76,8 @@ fn read_rows<R: Rows>(
 
 fn rows_in<R: Rows>(alloc: Global, number: u32, v: &Lent<'_, '_>) -> Result<R, Halt<Cause>>
     requires counted { R.first number + values_in (view v.now) ≤ 2 ^ 32 }
-    ensures value { IfOk result (λ rows. AreGiven R.means (R.told number) (Some (view v.now)) rows) }
+    ensures value { IfOk result
+        (λ rows. AreGiven R.means (R.told number) (Some (view v.now)) rows) }
     ensures judged { JudgesValue result (elements_offend R.offends (view v.now)) }
 {
     let Some(elements) = v.elements() else {
@@ -91,8 +95,10 @@ pub fn rows_of<R: Rows>(
     name: &str,
 ) -> Result<R, Halt<Cause>>
     requires counted { R.first number + values_in (view v.now) ≤ 2 ^ 32 }
-    ensures value { IfOk result (λ rows. AreGiven R.means (R.told number) (member name.now (view v.now)) rows) }
-    ensures judged { JudgesValue result (optional (elements_offend R.offends) (member name.now (view v.now))) }
+    ensures value { IfOk result
+        (λ rows. AreGiven R.means (R.told number) (member name.now (view v.now)) rows) }
+    ensures judged { JudgesValue result
+        (optional (elements_offend R.offends) (member name.now (view v.now))) }
 {
     let Some(found) = member_of(v, name) else {
         let rows = R::with_room(alloc, 0)?;

@@ -17,7 +17,8 @@ use trace_model::{Code, Kind};
 // An optional minus and one or more digits, where they have 128 bits at most.
 fn integer_of_text(text: &str) -> Option<i128>
     ensures some { IfSome result (λ z. integer_in_text text.now ≡ Some z) }
-    ensures none { IfNone result ((z : ℤ) → integer_in_text text.now ≡ Some z → ¬ FitsSigned w128 z) }
+    ensures none { IfNone result
+        ((z : ℤ) → integer_in_text text.now ≡ Some z → ¬ FitsSigned w128 z) }
 {
     let bytes = text.as_bytes();
     if bytes.is_empty() || bytes[0] == b'+' {
@@ -32,7 +33,8 @@ fn integer_of_text(text: &str) -> Option<i128>
 // A whole number, where it has 128 bits at most.
 fn integer_of(v: &Lent<'_, '_>) -> Option<i128>
     ensures some { IfSome result (λ z. integer_in (view v.now) ≡ Some z) }
-    ensures none { IfNone result ((z : ℤ) → integer_in (view v.now) ≡ Some z → ¬ FitsSigned w128 z) }
+    ensures none { IfNone result
+        ((z : ℤ) → integer_in (view v.now) ≡ Some z → ¬ FitsSigned w128 z) }
 {
     if let Some(text) = v.as_str() {
         return integer_of_text(text);
@@ -100,7 +102,8 @@ fn count_of(v: &Lent<'_, '_>) -> Result<u32, Cause>
 pub fn count(v: &Lent<'_, '_>, name: &str) -> Result<u32, Cause>
     ensures value { IfOk result (λ n. Given IsJsonCount (λ c. c ≡ 0) n
         (member name.now (view v.now))) }
-    ensures judged { JudgesByCause result (optional json_count_offends (member name.now (view v.now))) }
+    ensures judged { JudgesByCause result
+        (optional json_count_offends (member name.now (view v.now))) }
 {
     match member_of(v, name) {
         None => Ok(0),
@@ -122,7 +125,8 @@ fn time_of(v: &Lent<'_, '_>) -> Result<Nanos, Cause>
 pub fn time(v: &Lent<'_, '_>, name: &str) -> Result<Nanos, Cause>
     ensures value { IfOk result (λ n. Given IsJsonTime (λ t. t ≡ 0) n
         (member name.now (view v.now))) }
-    ensures judged { JudgesByCause result (optional json_time_offends (member name.now (view v.now))) }
+    ensures judged { JudgesByCause result
+        (optional json_time_offends (member name.now (view v.now))) }
 {
     match member_of(v, name) {
         None => Ok(Nanos(0)),
@@ -160,7 +164,8 @@ fn kind_of(v: &Lent<'_, '_>) -> Result<Kind, Cause>
 pub fn kind(v: &Lent<'_, '_>, name: &str) -> Result<Kind, Cause>
     ensures value { IfOk result (λ kind. Given IsJsonKind (λ k. k ≡ kinds.Unspecified) kind
         (member name.now (view v.now))) }
-    ensures judged { JudgesByCause result (optional (enum_offends 5) (member name.now (view v.now))) }
+    ensures judged { JudgesByCause result
+        (optional (enum_offends 5) (member name.now (view v.now))) }
 {
     match member_of(v, name) {
         None => Ok(Kind::Unspecified),
@@ -180,7 +185,8 @@ fn code_of(v: &Lent<'_, '_>) -> Result<Code, Cause>
 pub fn code(v: &Lent<'_, '_>, name: &str) -> Result<Code, Cause>
     ensures value { IfOk result (λ code. Given IsJsonCode (λ c. c ≡ statuses.Unset) code
         (member name.now (view v.now))) }
-    ensures judged { JudgesByCause result (optional (enum_offends 2) (member name.now (view v.now))) }
+    ensures judged { JudgesByCause result
+        (optional (enum_offends 2) (member name.now (view v.now))) }
 {
     match member_of(v, name) {
         None => Ok(Code::Unset),

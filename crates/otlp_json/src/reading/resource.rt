@@ -21,7 +21,7 @@ impl Table for ResourceTable {
     ghost parts = { resource_members };
 }
 
-#[tactic(auto, using(json_members::specs::laws::PartLaws::reading), unfolding(crate::specs::Group::resource_members))]
+#[tactic(auto, using(json_members::proofs::PartLaws::reading), unfolding(crate::specs::Group::resource_members))]
 fn read_resource(
     alloc: Global,
     v: &Lent<'_, '_>,

@@ -3,7 +3,7 @@ ghost use Rattle.std.specs.Prelude.{◌+◌, ◌<◌, ◌^◌, IfOk};
 ghost use Rattle.json_nodes.specs.Lents.{lent_view as view};
 ghost use Rattle.span_io.specs.Paths.{JudgesValue};
 ghost use Rattle.json_members.specs.Counted.{values_in};
-ghost use Rattle.otlp_json.specs.Found.{IsScopeFound};
+ghost use Rattle.otlp_json.specs.private.Found.{IsScopeFound};
 ghost use Rattle.otlp_json.specs.Group.{scope_members, scope_offends};
 
 use crate::reading::instrumentation_scope::instrumentation_of;
@@ -23,7 +23,7 @@ impl Table for ScopeTable {
 }
 
 /// Reads the scope of this number in its group, in which its first span has the number `first`.
-#[tactic(auto, using(json_members::specs::laws::PartLaws::reading), unfolding(crate::specs::Group::scope_members))]
+#[tactic(auto, using(json_members::proofs::PartLaws::reading), unfolding(crate::specs::Group::scope_members))]
 pub fn read_scope(
     alloc: Global,
     number: u32,

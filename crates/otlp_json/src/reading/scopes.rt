@@ -2,8 +2,8 @@
 ghost use Rattle.std.specs.Prelude.{◌+◌, length};
 ghost use Rattle.trace_model.specs.declared.noted.Noted.{Noted};
 ghost use Rattle.trace_model.specs.Notes.{ScopeNotes};
-ghost use Rattle.trace_model.specs.declared.trace.Scope.{Scope};
-ghost use Rattle.otlp_json.specs.Found.{ScopesTold};
+ghost use Rattle.trace_model.specs.declared.group.Scope.{Scope};
+ghost use Rattle.otlp_json.specs.private.Found.{ScopesTold};
 ghost use Rattle.otlp_json.specs.Group.{IsJsonScope, scope_offends};
 
 use crate::reading::lists::Rows;

@@ -5,7 +5,7 @@ ghost use Rattle.span_io.specs.Paths.{JudgesValue};
 ghost use Rattle.json_members.specs.Counted.{IsCountedValue};
 ghost use Rattle.trace_model.specs.Remarks.{equal_keys, link_dropped};
 ghost use Rattle.trace_model.specs.declared.place.Place.TheVariants as places;
-ghost use Rattle.otlp_json.specs.Found.{IsSpanFound};
+ghost use Rattle.otlp_json.specs.private.Found.{IsSpanFound};
 ghost use Rattle.otlp_json.specs.Span.{json_span_members, otlp_span_offends};
 
 use crate::reading::attributes::attributes_of;
@@ -48,7 +48,7 @@ fn remarks_of(
 }
 
 /// Reads the span of this number in its group.
-#[tactic(auto, using(json_members::specs::laws::PartLaws::reading), unfolding(crate::specs::Span::json_span_members))]
+#[tactic(auto, using(json_members::proofs::PartLaws::reading), unfolding(crate::specs::Span::json_span_members))]
 pub fn read_span(
     alloc: Global,
     number: u32,

@@ -3,7 +3,7 @@ ghost use Rattle.std.specs.Prelude.{◌+◌, length};
 ghost use Rattle.trace_model.specs.declared.noted.Noted.{Noted};
 ghost use Rattle.trace_model.specs.Notes.{SpanNotes};
 ghost use Rattle.trace_model.specs.declared.span.Span.{Span};
-ghost use Rattle.otlp_json.specs.Found.{SpansTold};
+ghost use Rattle.otlp_json.specs.private.Found.{SpansTold};
 ghost use Rattle.otlp_json.specs.Span.{IsJsonSpan, otlp_span_offends};
 
 use crate::reading::lists::Rows;

@@ -4,7 +4,7 @@ ghost use Rattle.serde_json.specs.Data.{Data, object, no_members, member as has}
 ghost use Rattle.serde_json.specs.Find.{as_null};
 ghost use Rattle.json_nodes.specs.Lents.{lent_view as view};
 ghost use Rattle.json_members.specs.Members.{member};
-ghost use Rattle.otlp_json.specs.Found.{part_member, told_members, AreSeveral};
+ghost use Rattle.otlp_json.specs.private.Found.{part_member, told_members, AreSeveral};
 ghost use Rattle.otlp_json.specs.Values.{standing, standing_members, array_member, string_member, bool_member, int_member, double_member, kvlist_member, bytes_member};
 
 use json_members::member_of;
@@ -125,7 +125,8 @@ fn either<'v, 'a>(
     ensures only { IfOk result (λ o. told_members (option_map (λ m. (m.0, view m.1)) first.entry)
         ++ told_members (option_map (λ m. (m.0, view m.1)) second.entry)
         ≡ told_members (option_map (λ m. (m.0, view m.1)) o)) }
-    ensures several { OnErr result (AreSeveral (told_members (option_map (λ m. (m.0, view m.1)) first.entry)
+    ensures several { OnErr result
+        (AreSeveral (told_members (option_map (λ m. (m.0, view m.1)) first.entry)
         ++ told_members (option_map (λ m. (m.0, view m.1)) second.entry))) }
 {
     if first.is_none() {

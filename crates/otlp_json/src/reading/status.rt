@@ -20,7 +20,7 @@ impl Table for StatusTable {
     ghost parts = { status_members };
 }
 
-#[tactic(auto, using(json_members::specs::laws::PartLaws::reading), unfolding(crate::specs::Span::status_members))]
+#[tactic(auto, using(json_members::proofs::PartLaws::reading), unfolding(crate::specs::Span::status_members))]
 fn read_status(alloc: Global, v: &Lent<'_, '_>) -> Result<Status, Halt<Cause>>
     ensures value { IfOk result (λ s. IsJsonStatus s (view v.now)) }
     ensures judged { JudgesValue result (status_offends (view v.now)) }

@@ -6,7 +6,7 @@ ghost use Rattle.span_io.specs.Causes.{cause_number};
 ghost use Rattle.span_io.specs.Paths.{here, optional, Counts, Given, JudgesValue};
 ghost use Rattle.trace_model.specs.OtlpParts.{leaf, IsNotedMap};
 ghost use Rattle.json_members.specs.Members.{member, IsText, text_offends, IsTruth, truth_offends, Spelled};
-ghost use Rattle.otlp_json.specs.Found.{part_member, AreFound, AreGiven, ValuesTold, PairsTold};
+ghost use Rattle.otlp_json.specs.private.Found.{part_member, AreFound, AreGiven, ValuesTold, PairsTold};
 ghost use Rattle.otlp_json.specs.Numbers.{IsJsonSigned, signed_offends, SpellsBytes, base64_offends};
 ghost use Rattle.otlp_json.specs.Values.{MeansJsonMember, IsJsonList, IsJsonMap, json_value_in, json_key_value_in, json_value_at, json_key_value_at, values_offend, held_offends, inner_value_offends, inner_pair_offends, json_member_offends, json_list_offends, json_map_offends, json_value_offends, json_key_value_offends};
 ghost use Rattle.trace_model.specs.declared.value.Value.TheVariants as values;
@@ -41,7 +41,8 @@ fn leaf_of(alloc: Global, value: Value) -> NotedValue
 }
 
 fn text_value(alloc: Global, v: &Lent<'_, '_>) -> Result<NotedValue, Halt<Cause>>
-    ensures value { IfOk result (λ r. (text : List ℕ) × IsText text (view v.now) × (r ≡ leaf (values.Text text))) }
+    ensures value { IfOk result
+        (λ r. (text : List ℕ) × IsText text (view v.now) × (r ≡ leaf (values.Text text))) }
     ensures judged { JudgesValue result (text_offends (view v.now)) }
 {
     let text = text_of(alloc, v)?;
@@ -49,7 +50,8 @@ fn text_value(alloc: Global, v: &Lent<'_, '_>) -> Result<NotedValue, Halt<Cause>
 }
 
 fn truth_value(alloc: Global, v: &Lent<'_, '_>) -> Result<NotedValue, Halt<Cause>>
-    ensures value { IfOk result (λ r. (truth : Bool) × IsTruth truth (view v.now) × (r ≡ leaf (values.Truth truth))) }
+    ensures value { IfOk result
+        (λ r. (truth : Bool) × IsTruth truth (view v.now) × (r ≡ leaf (values.Truth truth))) }
     ensures judged { JudgesValue result (truth_offends (view v.now)) }
 {
     let truth = truth_of(v)?;
@@ -57,7 +59,8 @@ fn truth_value(alloc: Global, v: &Lent<'_, '_>) -> Result<NotedValue, Halt<Cause
 }
 
 fn number_value(alloc: Global, v: &Lent<'_, '_>) -> Result<NotedValue, Halt<Cause>>
-    ensures value { IfOk result (λ r. (z : ℤ) × IsJsonSigned z (view v.now) × (r ≡ leaf (values.Number z))) }
+    ensures value { IfOk result
+        (λ r. (z : ℤ) × IsJsonSigned z (view v.now) × (r ≡ leaf (values.Number z))) }
     ensures judged { JudgesValue result (signed_offends (view v.now)) }
 {
     let number = signed_of(v)?;
@@ -65,7 +68,9 @@ fn number_value(alloc: Global, v: &Lent<'_, '_>) -> Result<NotedValue, Halt<Caus
 }
 
 fn bytes_value(alloc: Global, v: &Lent<'_, '_>) -> Result<NotedValue, Halt<Cause>>
-    ensures value { IfOk result (λ r. (held : List ℕ) × Spelled SpellsBytes held (view v.now) × (r ≡ leaf (values.Bytes held))) }
+    ensures value { IfOk result
+        (λ r. (held : List ℕ) × Spelled SpellsBytes held (view v.now)
+        × (r ≡ leaf (values.Bytes held))) }
     ensures judged { JudgesValue result (base64_offends (view v.now)) }
 {
     let bytes = bytes_in(alloc, v)?;
@@ -121,7 +126,8 @@ fn read_part(
 ) -> Result<NotedValue, Halt<Cause>>
     ensures value { IfOk result (λ r. MeansJsonMember (json_value_in left) (json_key_value_in left)
         (part_member part (view v.now)) r) }
-    ensures judged { JudgesValue result (json_member_offends (json_list_offends left) (json_map_offends left)
+    ensures judged { JudgesValue result
+        (json_member_offends (json_list_offends left) (json_map_offends left)
         (part_member part (view v.now))) }
 {
     match part {
@@ -159,7 +165,8 @@ fn values_of(
     v: &Lent<'_, '_>,
     name: &str,
 ) -> Result<NotedValues, Halt<Cause>>
-    ensures value { IfOk result (λ r. AreGiven (json_value_in left) ValuesTold (member name.now (view v.now)) r) }
+    ensures value { IfOk result
+        (λ r. AreGiven (json_value_in left) ValuesTold (member name.now (view v.now)) r) }
     ensures judged { JudgesValue result
         (optional (held_offends left (inner_value_offends left)) (member name.now (view v.now))) }
 {
@@ -174,8 +181,10 @@ fn values_of(
 
 #[cycle(values)]
 fn values_in(alloc: Global, left: u8, v: &Lent<'_, '_>) -> Result<NotedValues, Halt<Cause>>
-    ensures value { IfOk result (λ r. AreGiven (json_value_in left) ValuesTold (Some (view v.now)) r) }
-    ensures judged { JudgesValue result (held_offends left (inner_value_offends left) (view v.now)) }
+    ensures value { IfOk result
+        (λ r. AreGiven (json_value_in left) ValuesTold (Some (view v.now)) r) }
+    ensures judged { JudgesValue result
+        (held_offends left (inner_value_offends left) (view v.now)) }
 {
     let Some(elements) = v.elements() else {
         return Err(Halt::Why(Cause::BadShape));
@@ -205,7 +214,8 @@ fn read_elements(
     left: u8,
     elements: Elements<'_, '_>,
 ) -> Result<NotedValues, Halt<Cause>>
-    ensures value { IfOk result (λ r. AreFound (json_value_in left) ValuesTold (elements_left elements.entry) r) }
+    ensures value { IfOk result
+        (λ r. AreFound (json_value_in left) ValuesTold (elements_left elements.entry) r) }
     ensures judged { JudgesValue result
         (values_offend left (inner_value_offends left) (elements_left elements.entry)) }
     ensures wants { result ≡ Err halts.OutOfMemory → 1 ≤ left }
@@ -246,7 +256,8 @@ pub fn pairs_of(
     v: &Lent<'_, '_>,
     name: &str,
 ) -> Result<NotedPairs, Halt<Cause>>
-    ensures value { IfOk result (λ r. AreGiven (json_key_value_in left) PairsTold (member name.now (view v.now)) r) }
+    ensures value { IfOk result
+        (λ r. AreGiven (json_key_value_in left) PairsTold (member name.now (view v.now)) r) }
     ensures judged { JudgesValue result
         (optional (held_offends left (inner_pair_offends left)) (member name.now (view v.now))) }
 {
@@ -261,7 +272,8 @@ pub fn pairs_of(
 
 #[cycle(values)]
 fn pairs_in(alloc: Global, left: u8, v: &Lent<'_, '_>) -> Result<NotedPairs, Halt<Cause>>
-    ensures value { IfOk result (λ r. AreGiven (json_key_value_in left) PairsTold (Some (view v.now)) r) }
+    ensures value { IfOk result
+        (λ r. AreGiven (json_key_value_in left) PairsTold (Some (view v.now)) r) }
     ensures judged { JudgesValue result (held_offends left (inner_pair_offends left) (view v.now)) }
 {
     let Some(elements) = v.elements() else {
@@ -277,7 +289,8 @@ fn read_pairs(
     left: u8,
     elements: Elements<'_, '_>,
 ) -> Result<NotedPairs, Halt<Cause>>
-    ensures value { IfOk result (λ r. AreFound (json_key_value_in left) PairsTold (elements_left elements.entry) r) }
+    ensures value { IfOk result
+        (λ r. AreFound (json_key_value_in left) PairsTold (elements_left elements.entry) r) }
     ensures judged { JudgesValue result
         (values_offend left (inner_pair_offends left) (elements_left elements.entry)) }
     ensures wants { result ≡ Err halts.OutOfMemory → 1 ≤ left }

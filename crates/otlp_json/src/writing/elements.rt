@@ -3,7 +3,8 @@ ghost use Rattle.std.specs.Prelude.{◌∷◌, ◌++◌, [], List};
 ghost use Rattle.json.specs.Token.{begin_object, begin_array, end_array, key};
 ghost use Rattle.serde_json.specs.Data.{object};
 ghost use Rattle.json_members.specs.Canonical.{MemberRow, members_given};
-ghost use Rattle.json_members.specs.Writing.{Appends, given_tokens, rows_tokens, pieces};
+ghost use Rattle.json_members.specs.Writing.{Appends, given_tokens};
+ghost use Rattle.json_members.specs.private.Pieces.{rows_tokens, pieces};
 ghost use Rattle.otlp_json.specs.Canonical.{list_data};
 
 use crate::writing::members::open_list;

@@ -4,7 +4,8 @@ ghost use Rattle.json.specs.Token.{begin_object, key};
 ghost use Rattle.span_io.specs.declared.halt.Halt.TheVariants as halts;
 ghost use Rattle.trace_model.specs.declared.fault.Fault.{Fault};
 ghost use Rattle.json_members.specs.Canonical.{members_given, unless_empty};
-ghost use Rattle.json_members.specs.Writing.{Appends, GrewFront, given_tokens, rows_tokens};
+ghost use Rattle.json_members.specs.Writing.{Appends, GrewFront, given_tokens};
+ghost use Rattle.json_members.specs.private.Pieces.{rows_tokens};
 ghost use Rattle.otlp_json.specs.Canonical.{instrumentation_scope_rows, resource_rows, json_group_text};
 ghost use Rattle.otlp_json.specs.Held.{IsJsonFaultOf};
 

@@ -29,7 +29,8 @@ pub fn number_member(out: &mut Writer, name: &str, count: u32) -> Result<(), Out
 
 // A number as its decimal text, whatever it is.
 fn whole_decimal_member(out: &mut Writer, name: &str, count: u64) -> Result<(), OutOfMemory>
-    ensures { Appends result out.old out.new (given_tokens name.now (Some (string (decimal count)))) }
+    ensures { Appends result out.old out.new
+        (given_tokens name.now (Some (string (decimal count)))) }
 {
     let mut buffer = itoa::Buffer::new();
     whole_text_member(out, name, buffer.format(count))

@@ -3,7 +3,8 @@ ghost use Rattle.std.specs.Prelude.{◌≡◌, ◌↔◌, ◌∷◌, [], IsTrue,
 ghost use Rattle.json.specs.Token.{begin_object, key};
 ghost use Rattle.trace_model.specs.OtlpParts.{code_number};
 ghost use Rattle.json_members.specs.Canonical.{members_given, unless_empty};
-ghost use Rattle.json_members.specs.Writing.{Appends, given_tokens, rows_tokens};
+ghost use Rattle.json_members.specs.Writing.{Appends, given_tokens};
+ghost use Rattle.json_members.specs.private.Pieces.{rows_tokens};
 ghost use Rattle.otlp_json.specs.Canonical.{status_rows};
 
 use crate::writing::elements::Element;

@@ -5,7 +5,8 @@ ghost use Rattle.base64.specs.GeneralPurpose.{encode_of};
 ghost use Rattle.base64.specs.Engines.{standard};
 ghost use Rattle.json.specs.Token.{begin_object, end_object, begin_array, end_array, key};
 ghost use Rattle.serde_json.specs.Data.{string, boolean, null};
-ghost use Rattle.json_members.specs.Writing.{Appends, data_tokens, given_tokens, pieces};
+ghost use Rattle.json_members.specs.Writing.{Appends, data_tokens, given_tokens};
+ghost use Rattle.json_members.specs.private.Pieces.{pieces};
 ghost use Rattle.otlp_json.specs.Canonical.{one_member, any_value_data, unless_bare, list_data, attributes_data};
 ghost use Rattle.otlp_json.specs.private.Writing.{value_tokens, key_value_tokens};
 
@@ -140,7 +141,8 @@ fn list_value(alloc: Global, out: &mut Writer, members: &[Value]) -> Result<(), 
 
 #[cycle(value_writers)]
 fn map_value(alloc: Global, out: &mut Writer, pairs: &[(Text, Value)]) -> Result<(), OutOfMemory>
-    ensures { Appends result out.old out.new (begin_object ∷ key (codes "kvlistValue") ∷ begin_object
+    ensures { Appends result out.old out.new
+        (begin_object ∷ key (codes "kvlistValue") ∷ begin_object
         ∷ (given_tokens (codes "values") (attributes_data pairs.now)
         ++ end_object ∷ end_object ∷ [])) }
 {

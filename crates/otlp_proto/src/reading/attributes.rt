@@ -4,8 +4,8 @@ ghost use Rattle.span_io.specs.Offences.{Offence, Judges};
 ghost use Rattle.proto_wire.specs.Messages.{messages};
 ghost use Rattle.trace_model.specs.Values.{AreSound};
 ghost use Rattle.otlp_proto.specs.Attributes.{attribute_rules, AttributesOf};
-ghost use Rattle.otlp_proto.specs.AttributesSoFar.{GatheredAttributes};
-ghost use Rattle.span_io.specs.RowsSoFar.{Adds};
+ghost use Rattle.otlp_proto.specs.private.AttributesSoFar.{GatheredAttributes};
+ghost use Rattle.span_io.specs.private.RowSteps.{Adds};
 
 use crate::laws::reading_laws;
 use crate::reading::plain::plain_pair;
@@ -53,7 +53,8 @@ impl AttributeRows {
     pub fn finish(self, alloc: Global) -> Result<(Attrs, Items<Text>), OutOfMemory>
         ensures attributes { (texts : List (List ℕ)) → GatheredAttributes texts self
             → IfOk result (λ parts. AttributesOf texts parts.0 parts.1) }
-        ensures sound { (texts : List (List ℕ)) → GatheredAttributes texts self → IfOk result (λ parts. AreSound parts.0) }
+        ensures sound { (texts : List (List ℕ)) → GatheredAttributes texts self
+            → IfOk result (λ parts. AreSound parts.0) }
     {
         members_of_values();
         let (attributes, repeated) = attrs_of(alloc, self.pairs)?;

@@ -4,7 +4,7 @@ ghost use Rattle.span_io.specs.Offences.{Offence, Judges};
 ghost use Rattle.span_io.specs.Tables.{givens};
 ghost use Rattle.proto_wire.specs.Messages.{messages};
 ghost use Rattle.otlp_proto.specs.Event.{IsEvent, event_table, event_rules};
-ghost use Rattle.otlp_proto.specs.EventSoFar.{GatheredEvent, MakesEvent};
+ghost use Rattle.otlp_proto.specs.private.EventSoFar.{GatheredEvent, MakesEvent};
 ghost use Rattle.otlp_proto.specs.Rows.{MeansMessage};
 
 use crate::laws::message_rules;
@@ -44,7 +44,7 @@ impl Rows for EventRows {
     ghost use Rattle.std.specs.Prelude.{[]};
     ghost use Rattle.span_io.specs.Tables.{givens, no_ends};
     ghost use Rattle.otlp_proto.specs.Event.{event_table};
-    ghost use Rattle.otlp_proto.specs.EventSoFar.{GatheredEvent};
+    ghost use Rattle.otlp_proto.specs.private.EventSoFar.{GatheredEvent};
 
     ghost table = { event_table };
 

@@ -6,9 +6,10 @@ ghost use Rattle.proto_wire.specs.Messages.{messages};
 ghost use Rattle.trace_model.specs.Soundness.{IsSoundGroup};
 ghost use Rattle.otlp_proto.specs.Group.{IsResource, IsGroupText, resource_rules, group_table, group_rules};
 ghost use Rattle.trace_model.specs.OtlpParts.{no_resource};
-ghost use Rattle.otlp_proto.specs.GroupSoFar.{GatheredScopes, GatheredGroup, MakesGroup};
+ghost use Rattle.otlp_proto.specs.private.GroupSoFar.{GatheredScopes, GatheredGroup, MakesGroup};
 ghost use Rattle.otlp_proto.specs.Rows.{MeansMessage};
-ghost use Rattle.span_io.specs.RowsSoFar.{Sets, Adds, JudgesMessage};
+ghost use Rattle.span_io.specs.RowsSoFar.{Sets};
+ghost use Rattle.span_io.specs.private.RowSteps.{Adds, JudgesMessage};
 ghost use Rattle.otlp_proto.specs.Scope.{scope_rules};
 
 use crate::laws::{message_rules, one_group};
@@ -44,7 +45,8 @@ fn resource_row(
     held: &[u8],
 ) -> Result<(), Halt<Cause>>
     ensures ok { OnOk result (Sets (MeansMessage IsResource) held.now row.old row.new) }
-    ensures judged { JudgesMessage messages (MeansMessage IsResource) resource_rules row.old held.now result }
+    ensures judged { JudgesMessage messages
+        (MeansMessage IsResource) resource_rules row.old held.now result }
 {
     once(row)?;
     *row = Some(read_resource(alloc, held)?);
@@ -103,7 +105,7 @@ impl Rows for GroupRows {
     ghost use Rattle.std.specs.Prelude.{[], ◌∷◌, length};
     ghost use Rattle.span_io.specs.Tables.{givens, no_ends};
     ghost use Rattle.otlp_proto.specs.Group.{group_table};
-    ghost use Rattle.otlp_proto.specs.GroupSoFar.{GatheredGroup};
+    ghost use Rattle.otlp_proto.specs.private.GroupSoFar.{GatheredGroup};
 
     ghost table = { group_table };
 
@@ -179,7 +181,8 @@ pub fn read_group(alloc: Global, unit: &[u8]) -> Result<(Group, Items<Remark>), 
     ensures judged { Judges result (Offence messages group_rules unit.now) }
 
     // Bytes that are a text of a group are read as that group; only memory may be wanted.
-    ensures only { (group : Group) (notes : List Remark) → IsGroupText group notes unit.now → OnlyReads result (group, notes) }
+    ensures only { (group : Group) (notes : List Remark) → IsGroupText group notes unit.now
+        → OnlyReads result (group, notes) }
     ensures sound { IfOk result (λ parts. IsSoundGroup parts.0) }
 {
     one_group();

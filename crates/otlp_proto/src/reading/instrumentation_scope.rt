@@ -4,7 +4,7 @@ ghost use Rattle.span_io.specs.Offences.{Offence, Judges};
 ghost use Rattle.span_io.specs.Tables.{givens};
 ghost use Rattle.proto_wire.specs.Messages.{messages};
 ghost use Rattle.otlp_proto.specs.Scope.{IsInstrumentationScope, instrumentation_scope_table, instrumentation_scope_rules};
-ghost use Rattle.otlp_proto.specs.ScopeSoFar.{GatheredInstrumentationScope, MakesInstrumentationScope};
+ghost use Rattle.otlp_proto.specs.private.ScopeSoFar.{GatheredInstrumentationScope, MakesInstrumentationScope};
 ghost use Rattle.otlp_proto.specs.Rows.{MeansMessage};
 
 use crate::laws::message_rules;
@@ -43,7 +43,7 @@ impl Rows for InstrumentationScopeRows {
     ghost use Rattle.std.specs.Prelude.{[]};
     ghost use Rattle.span_io.specs.Tables.{givens, no_ends};
     ghost use Rattle.otlp_proto.specs.Scope.{instrumentation_scope_table};
-    ghost use Rattle.otlp_proto.specs.ScopeSoFar.{GatheredInstrumentationScope};
+    ghost use Rattle.otlp_proto.specs.private.ScopeSoFar.{GatheredInstrumentationScope};
 
     ghost table = { instrumentation_scope_table };
 

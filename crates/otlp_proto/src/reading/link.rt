@@ -4,7 +4,7 @@ ghost use Rattle.span_io.specs.Offences.{Offence, Judges};
 ghost use Rattle.span_io.specs.Tables.{givens};
 ghost use Rattle.proto_wire.specs.Messages.{messages};
 ghost use Rattle.otlp_proto.specs.Link.{IsLink, link_table, link_rules};
-ghost use Rattle.otlp_proto.specs.LinkSoFar.{GatheredLink, MakesLink};
+ghost use Rattle.otlp_proto.specs.private.LinkSoFar.{GatheredLink, MakesLink};
 ghost use Rattle.otlp_proto.specs.Rows.{MeansMessage};
 
 use crate::laws::message_rules;
@@ -48,7 +48,7 @@ impl Rows for LinkRows {
     ghost use Rattle.std.specs.Prelude.{[]};
     ghost use Rattle.span_io.specs.Tables.{givens, no_ends};
     ghost use Rattle.otlp_proto.specs.Link.{link_table};
-    ghost use Rattle.otlp_proto.specs.LinkSoFar.{GatheredLink};
+    ghost use Rattle.otlp_proto.specs.private.LinkSoFar.{GatheredLink};
 
     ghost table = { link_table };
 

@@ -1,13 +1,13 @@
 //! The walk over the records of a message.
 ghost use Rattle.std.specs.Prelude.{[], ℕ, List, length, IfOk, OnOk};
 ghost use Rattle.span_io.specs.Offences.{Offence, OnHalt};
-ghost use Rattle.span_io.specs.laws.OffenceLaws.{RulesLaws};
+ghost use Rattle.span_io.specs.Offences.{RulesLaws};
 ghost use Rattle.span_io.specs.Tables.{Row, rules_by};
 ghost use Rattle.proto_wire.specs.Records.{Record, plain_record};
 ghost use Rattle.proto_wire.specs.Messages.{messages};
 ghost use Rattle.proto_wire.specs.Wire.{Wire};
-ghost use Rattle.span_io.specs.Gathering.{AddsItem, JudgesItem, GatheredAll};
-ghost use Rattle.otlp_proto.specs.Numbering.{HaveNumbers, GrewWithin, least_size};
+ghost use Rattle.span_io.specs.private.Gathering.{AddsItem, JudgesItem, GatheredAll};
+ghost use Rattle.otlp_proto.specs.private.Numbering.{HaveNumbers, GrewWithin, least_size};
 
 use proto_wire::laws::message_cuts;
 use proto_wire::{WireRecord, next_record};
@@ -40,9 +40,12 @@ pub fn read_rows<R: Rows>(alloc: Global, first: R, bytes: &[u8]) -> Result<R, Ha
     requires none { R.gathered first first [] }
     requires lawful { RulesLaws messages (rules_by R.table R.ends) }
     requires counted { HaveNumbers (R.counts first) (length bytes.now) }
-    ensures all { IfOk result (λ rows. GatheredAll messages (rules_by R.table R.ends) Wire (R.gathered first rows) bytes.now) }
+    ensures all { IfOk result
+        (λ rows. GatheredAll messages (rules_by R.table R.ends) Wire
+        (R.gathered first rows) bytes.now) }
     ensures halted { OnHalt result (Offence messages (rules_by R.table R.ends) bytes.now) }
-    ensures grown { IfOk result (λ rows. GrewWithin (length bytes.now) (R.counts first) (R.counts rows)) }
+    ensures grown { IfOk result
+        (λ rows. GrewWithin (length bytes.now) (R.counts first) (R.counts rows)) }
 {
     message_cuts();
     let mut rows = first;

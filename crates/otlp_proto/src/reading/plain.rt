@@ -2,7 +2,7 @@
 ghost use Rattle.std.specs.Prelude.{◌≡◌, ◌<◌, ℕ, length, IfOk, IfSome};
 ghost use Rattle.std.specs.Int.{w64, cast_signed};
 ghost use Rattle.span_io.specs.Varint.{SpellsVarint};
-ghost use Rattle.otlp_proto.specs.PlainPairs.{short_field, value_of, IsPlainValue, IsPlainPair};
+ghost use Rattle.otlp_proto.specs.private.PlainPairs.{short_field, value_of, IsPlainValue, IsPlainPair};
 
 use span_io::{Cursor, OutOfMemory, Text};
 use std::alloc::Global;
@@ -46,7 +46,8 @@ impl PlainPair<'_> {
 #[inline(always)]
 fn front_field(begins: u8, bytes: &[u8]) -> Option<(&[u8], &[u8])>
     ensures length { IfSome result (λ parts. length parts.0.now < 128) }
-    ensures parts { IfSome result (λ parts. bytes.now ≡ short_field begins parts.0.now parts.1.now) }
+    ensures parts { IfSome result
+        (λ parts. bytes.now ≡ short_field begins parts.0.now parts.1.now) }
 {
     let [first, size, rest @ ..] = bytes else {
         return None;
@@ -73,7 +74,8 @@ fn plain_text(held: &[u8]) -> Option<PlainValue<'_>>
 // A value that is a number, if these bytes are one behind the byte that begins it.
 #[inline(always)]
 fn plain_number(digits: &[u8]) -> Option<i64>
-    ensures { IfSome result (λ n. (bits : ℕ) × SpellsVarint digits.now bits × (n ≡ cast_signed w64 bits)) }
+    ensures { IfSome result
+        (λ n. (bits : ℕ) × SpellsVarint digits.now bits × (n ≡ cast_signed w64 bits)) }
 {
     let mut cursor = Cursor::new(digits);
     let n = cursor.varint().ok()?;

@@ -4,7 +4,7 @@ ghost use Rattle.span_io.specs.Offences.{Offence, Judges};
 ghost use Rattle.span_io.specs.Tables.{givens};
 ghost use Rattle.proto_wire.specs.Messages.{messages};
 ghost use Rattle.otlp_proto.specs.Group.{IsResource, resource_table, resource_rules};
-ghost use Rattle.otlp_proto.specs.GroupSoFar.{GatheredResource, MakesResource};
+ghost use Rattle.otlp_proto.specs.private.GroupSoFar.{GatheredResource, MakesResource};
 ghost use Rattle.otlp_proto.specs.Rows.{MeansMessage};
 
 use crate::laws::message_rules;
@@ -39,7 +39,7 @@ impl Rows for ResourceRows {
     ghost use Rattle.std.specs.Prelude.{[]};
     ghost use Rattle.span_io.specs.Tables.{givens, no_ends};
     ghost use Rattle.otlp_proto.specs.Group.{resource_table};
-    ghost use Rattle.otlp_proto.specs.GroupSoFar.{GatheredResource};
+    ghost use Rattle.otlp_proto.specs.private.GroupSoFar.{GatheredResource};
 
     ghost table = { resource_table };
 

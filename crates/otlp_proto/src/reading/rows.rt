@@ -3,7 +3,8 @@ ghost use Rattle.std.specs.Prelude.{ℕ, List, IfOk, OnOk};
 ghost use Rattle.span_io.specs.Tables.{Twice};
 ghost use Rattle.otlp_proto.specs.Identifiers.{MeansTraceId, MeansSpanId, WrongLength, JudgesIdentifier};
 ghost use Rattle.otlp_proto.specs.Rows.{MeansNumber, MeansCount};
-ghost use Rattle.span_io.specs.RowsSoFar.{Gave, Sets, JudgesCause};
+ghost use Rattle.span_io.specs.RowsSoFar.{Gave, Sets};
+ghost use Rattle.span_io.specs.private.RowSteps.{JudgesCause};
 
 use span_ids::{SpanId, TraceId};
 use span_io::{Cause, once};
@@ -11,7 +12,8 @@ use span_io::{Cause, once};
 /// Sets a row that holds a time.
 pub fn time_row(row: &mut Option<u64>, n: u64) -> Result<(), Cause>
     ensures ok { OnOk result (Sets MeansNumber n row.old row.new) }
-    ensures judged { (earlier : List ℕ) → Gave MeansNumber earlier row.old → JudgesCause result (λ number. Twice earlier number) }
+    ensures judged { (earlier : List ℕ) → Gave MeansNumber earlier row.old
+        → JudgesCause result (λ number. Twice earlier number) }
 {
     once(row)?;
     *row = Some(n);
@@ -21,7 +23,8 @@ pub fn time_row(row: &mut Option<u64>, n: u64) -> Result<(), Cause>
 /// Sets a row that holds flags.
 pub fn flags_row(row: &mut Option<u32>, n: u32) -> Result<(), Cause>
     ensures ok { OnOk result (Sets MeansNumber n row.old row.new) }
-    ensures judged { (earlier : List ℕ) → Gave MeansNumber earlier row.old → JudgesCause result (λ number. Twice earlier number) }
+    ensures judged { (earlier : List ℕ) → Gave MeansNumber earlier row.old
+        → JudgesCause result (λ number. Twice earlier number) }
 {
     once(row)?;
     *row = Some(n);
@@ -31,7 +34,8 @@ pub fn flags_row(row: &mut Option<u32>, n: u32) -> Result<(), Cause>
 /// Sets a row that holds a count, by the low 32 bits of its number.
 pub fn count_row(row: &mut Option<u32>, n: u64) -> Result<(), Cause>
     ensures ok { OnOk result (Sets MeansCount n row.old row.new) }
-    ensures judged { (earlier : List ℕ) → Gave MeansCount earlier row.old → JudgesCause result (λ number. Twice earlier number) }
+    ensures judged { (earlier : List ℕ) → Gave MeansCount earlier row.old
+        → JudgesCause result (λ number. Twice earlier number) }
 {
     once(row)?;
     *row = Some((n % 4_294_967_296) as u32);

@@ -3,12 +3,13 @@ ghost use Rattle.std.specs.Prelude.{◌≡◌, ◌+◌, ◌<◌, ◌≤◌, ◌^
 ghost use Rattle.span_io.specs.Offences.{Offence, Judges};
 ghost use Rattle.span_io.specs.Tables.{givens};
 ghost use Rattle.proto_wire.specs.Messages.{messages};
-ghost use Rattle.otlp_proto.specs.ReadParts.{IsReadScope};
+ghost use Rattle.otlp_proto.specs.private.ReadParts.{IsReadScope};
 ghost use Rattle.otlp_proto.specs.Rows.{MeansMessage};
-ghost use Rattle.span_io.specs.RowsSoFar.{Sets, Adds, JudgesMessage};
+ghost use Rattle.span_io.specs.RowsSoFar.{Sets};
+ghost use Rattle.span_io.specs.private.RowSteps.{Adds, JudgesMessage};
 ghost use Rattle.otlp_proto.specs.Scope.{IsInstrumentationScope, instrumentation_scope_rules, scope_table, scope_rules};
 ghost use Rattle.trace_model.specs.OtlpParts.{no_instrumentation_scope};
-ghost use Rattle.otlp_proto.specs.ScopeSoFar.{GatheredSpans, GatheredScope, MakesScope};
+ghost use Rattle.otlp_proto.specs.private.ScopeSoFar.{GatheredSpans, GatheredScope, MakesScope};
 ghost use Rattle.otlp_proto.specs.Span.{span_rules};
 
 use crate::laws::message_rules;
@@ -46,7 +47,8 @@ fn instrumentation_row(
     held: &[u8],
 ) -> Result<(), Halt<Cause>>
     ensures ok { OnOk result (Sets (MeansMessage IsInstrumentationScope) held.now row.old row.new) }
-    ensures judged { JudgesMessage messages (MeansMessage IsInstrumentationScope) instrumentation_scope_rules
+    ensures judged { JudgesMessage messages
+        (MeansMessage IsInstrumentationScope) instrumentation_scope_rules
         row.old held.now result }
 {
     once(row)?;
@@ -71,7 +73,8 @@ impl SpanList {
     // Reads one more span.
     fn add(&mut self, alloc: Global, held: &[u8]) -> Result<(), Halt<Cause>>
         requires counted { self.old.first + length self.old.spans + length held.now < 2 ^ 32 }
-        ensures ok { OnOk result ((first : ℕ) → Adds (GatheredSpans first) held.now self.old self.new) }
+        ensures ok { OnOk result
+            ((first : ℕ) → Adds (GatheredSpans first) held.now self.old self.new) }
         ensures judged { Judges result (Offence messages span_rules held.now) }
         ensures first { OnOk result (self.new.first ≡ self.old.first) }
         ensures one_more { OnOk result (length self.new.spans ≡ length self.old.spans + 1) }
@@ -103,7 +106,7 @@ impl Rows for ScopeRows {
     ghost use Rattle.std.specs.Prelude.{◌+◌, [], ◌∷◌, length};
     ghost use Rattle.span_io.specs.Tables.{givens, no_ends};
     ghost use Rattle.otlp_proto.specs.Scope.{scope_table};
-    ghost use Rattle.otlp_proto.specs.ScopeSoFar.{GatheredScope};
+    ghost use Rattle.otlp_proto.specs.private.ScopeSoFar.{GatheredScope};
 
     ghost table = { scope_table };
 

@@ -4,11 +4,12 @@ ghost use Rattle.span_io.specs.Offences.{Offence, Judges, JudgesHere};
 ghost use Rattle.span_io.specs.Tables.{givens};
 ghost use Rattle.proto_wire.specs.Messages.{messages};
 ghost use Rattle.proto_wire.specs.Records.{Record};
-ghost use Rattle.otlp_proto.specs.ReadParts.{IsReadSpan};
+ghost use Rattle.otlp_proto.specs.private.ReadParts.{IsReadSpan};
 ghost use Rattle.otlp_proto.specs.Rows.{MeansMessage};
-ghost use Rattle.span_io.specs.RowsSoFar.{Sets, JudgesCause, JudgesEnum, JudgesMessage};
+ghost use Rattle.span_io.specs.RowsSoFar.{Sets};
+ghost use Rattle.span_io.specs.private.RowSteps.{JudgesCause, JudgesEnum, JudgesMessage};
 ghost use Rattle.otlp_proto.specs.Span.{MeansKind, span_ends, span_rules, span_table};
-ghost use Rattle.otlp_proto.specs.SpanSoFar.{GatheredSpan, GaveSpan, MakesSpan, TakesSpanId, TakesTraceId};
+ghost use Rattle.otlp_proto.specs.private.SpanSoFar.{GatheredSpan, GaveSpan, MakesSpan, TakesSpanId, TakesTraceId};
 ghost use Rattle.otlp_proto.specs.Status.{IsStatus, status_rules};
 ghost use Rattle.trace_model.specs.OtlpParts.{no_status};
 
@@ -68,7 +69,8 @@ fn kind_row(row: &mut Option<Kind>, n: u64) -> Result<(), Cause>
 // Sets the row of the status.
 fn status_row(alloc: Global, row: &mut Option<Status>, held: &[u8]) -> Result<(), Halt<Cause>>
     ensures ok { OnOk result (Sets (MeansMessage IsStatus) held.now row.old row.new) }
-    ensures judged { JudgesMessage messages (MeansMessage IsStatus) status_rules row.old held.now result }
+    ensures judged { JudgesMessage messages
+        (MeansMessage IsStatus) status_rules row.old held.now result }
 {
     once(row)?;
     *row = Some(read_status(alloc, held)?);
@@ -107,7 +109,8 @@ impl SpanRows {
     fn identifiers(&self) -> Result<(TraceId, SpanId), Cause>
         ensures trace { TakesTraceId self.now.trace result }
         ensures id { TakesSpanId self.now.id result }
-        ensures judged { (span : ℕ) (seen : List Record) → GaveSpan span self.now seen → JudgesCause result (span_ends seen) }
+        ensures judged { (span : ℕ) (seen : List Record) → GaveSpan span self.now seen
+            → JudgesCause result (span_ends seen) }
     {
         let Some(trace) = self.trace.flatten() else {
             return Err(Cause::BadId);
@@ -123,7 +126,7 @@ impl Rows for SpanRows {
     ghost use Rattle.std.specs.Prelude.{[], ◌∷◌, length};
     ghost use Rattle.span_io.specs.Tables.{givens};
     ghost use Rattle.otlp_proto.specs.Span.{span_ends, span_table};
-    ghost use Rattle.otlp_proto.specs.SpanSoFar.{GatheredSpan};
+    ghost use Rattle.otlp_proto.specs.private.SpanSoFar.{GatheredSpan};
 
     ghost table = { span_table };
 
@@ -180,7 +183,8 @@ fn status_unset(alloc: Global) -> Status
 // The span of the rows.
 fn span_of(alloc: Global, rows: SpanRows) -> Result<Noted<Span, Items<Remark>>, Halt<Cause>>
     ensures value { MakesSpan rows result }
-    ensures ended { (span : ℕ) (records : List Record) → GaveSpan span rows records → JudgesHere result (span_ends records) }
+    ensures ended { (span : ℕ) (records : List Record) → GaveSpan span rows records
+        → JudgesHere result (span_ends records) }
 {
     let (trace, id) = rows.identifiers()?;
     let (attributes, keys) = rows.attributes.finish(alloc)?;

@@ -4,9 +4,10 @@ ghost use Rattle.span_io.specs.Offences.{Offence, Judges};
 ghost use Rattle.span_io.specs.Tables.{givens};
 ghost use Rattle.proto_wire.specs.Records.{Record};
 ghost use Rattle.proto_wire.specs.Messages.{messages};
-ghost use Rattle.span_io.specs.RowsSoFar.{Sets, JudgesEnum};
+ghost use Rattle.span_io.specs.RowsSoFar.{Sets};
+ghost use Rattle.span_io.specs.private.RowSteps.{JudgesEnum};
 ghost use Rattle.otlp_proto.specs.Status.{MeansCode, IsStatus, status_table, status_rules};
-ghost use Rattle.otlp_proto.specs.StatusSoFar.{GatheredStatus};
+ghost use Rattle.otlp_proto.specs.private.StatusSoFar.{GatheredStatus};
 ghost use Rattle.otlp_proto.specs.Rows.{MeansMessage};
 
 use crate::laws::message_rules;
@@ -53,7 +54,7 @@ impl Rows for StatusRows {
     ghost use Rattle.span_io.specs.Tables.{givens, no_ends};
     ghost use Rattle.proto_wire.specs.Records.{Record};
     ghost use Rattle.otlp_proto.specs.Status.{status_table};
-    ghost use Rattle.otlp_proto.specs.StatusSoFar.{GatheredStatus};
+    ghost use Rattle.otlp_proto.specs.private.StatusSoFar.{GatheredStatus};
 
     ghost table = { status_table };
 
@@ -80,7 +81,8 @@ impl Rows for StatusRows {
 
 // The status of the rows.
 fn status_of(alloc: Global, rows: StatusRows) -> Status
-    ensures { (records : List Record) → GatheredStatus rows (givens status_table records) → IsStatus result records }
+    ensures { (records : List Record) → GatheredStatus rows (givens status_table records)
+        → IsStatus result records }
 {
     Status {
         code: rows.code.unwrap_or(Code::Unset),

@@ -4,10 +4,10 @@ ghost use Rattle.std.specs.Prelude.{◌≡◌, ◌+◌, IfOk, OnOk};
 ghost use Rattle.span_io.specs.Offences.{Offence, Judges};
 ghost use Rattle.proto_wire.specs.Records.{plain_record};
 ghost use Rattle.proto_wire.specs.Messages.{messages};
-ghost use Rattle.span_io.specs.RowsSoFar.{Adds, JudgesCause};
+ghost use Rattle.span_io.specs.private.RowSteps.{Adds, JudgesCause};
 ghost use Rattle.otlp_proto.specs.Values.{array_value, kvlist_value, IsListText, IsMapText, value_in, key_value_in, value_at, key_value_at, list_rules, map_rules, value_rules, key_value_rules};
-ghost use Rattle.otlp_proto.specs.ValuesSoFar.{GatheredList, GatheredMap, GatheredMembers, GatheredValue, GatheredKeyValue, JudgesMember};
-ghost use Rattle.span_io.specs.Gathering.{JudgesNext};
+ghost use Rattle.otlp_proto.specs.private.ValuesSoFar.{GatheredList, GatheredMap, GatheredMembers, GatheredValue, GatheredKeyValue, JudgesMember};
+ghost use Rattle.span_io.specs.private.Gathering.{JudgesNext};
 
 use crate::laws::reading_laws;
 use crate::reading::plain::plain_pair;
@@ -38,7 +38,8 @@ fn add_value(
     found: &WireRecord<'_>,
 ) -> Result<(), Halt<Cause>>
     ensures ok { OnOk result (Adds (GatheredList left) (plain_record found.now) rows.old rows.new) }
-    ensures judged { JudgesNext (list_rules left) (GatheredList left) rows.old (plain_record found.now) result }
+    ensures judged { JudgesNext (list_rules left) (GatheredList left) rows.old
+        (plain_record found.now) result }
 {
     match found.payload {
         Payload::Bytes(held) if found.number == 1 => {
@@ -60,7 +61,8 @@ fn add_key_value(
     found: &WireRecord<'_>,
 ) -> Result<(), Halt<Cause>>
     ensures ok { OnOk result (Adds (GatheredMap left) (plain_record found.now) rows.old rows.new) }
-    ensures judged { JudgesNext (map_rules left) (GatheredMap left) rows.old (plain_record found.now) result }
+    ensures judged { JudgesNext (map_rules left) (GatheredMap left) rows.old
+        (plain_record found.now) result }
 {
     match found.payload {
         Payload::Bytes(held) if found.number == 1 => {
@@ -114,7 +116,8 @@ fn add_member(
     found: &WireRecord<'_>,
 ) -> Result<(), Halt<Cause>>
     ensures ok { OnOk result (Adds (GatheredValue left) (plain_record found.now) row.old row.new) }
-    ensures judged { JudgesNext (value_rules left) (GatheredValue left) row.old (plain_record found.now) result }
+    ensures judged { JudgesNext (value_rules left) (GatheredValue left) row.old
+        (plain_record found.now) result }
 {
     match found.payload {
         Payload::Bytes(held) => match found.number {
@@ -145,8 +148,10 @@ fn add_field(
     rows: &mut KeyValueRows,
     found: &WireRecord<'_>,
 ) -> Result<(), Halt<Cause>>
-    ensures ok { OnOk result (Adds (GatheredKeyValue left) (plain_record found.now) rows.old rows.new) }
-    ensures judged { JudgesNext (key_value_rules left) (GatheredKeyValue left) rows.old (plain_record found.now) result }
+    ensures ok { OnOk result
+        (Adds (GatheredKeyValue left) (plain_record found.now) rows.old rows.new) }
+    ensures judged { JudgesNext (key_value_rules left) (GatheredKeyValue left) rows.old
+        (plain_record found.now) result }
 {
     match found.payload {
         Payload::Bytes(held) => match found.number {

@@ -1,10 +1,10 @@
 //! What was gathered of the messages that values are made of, and what it gives.
 ghost use Rattle.std.specs.Prelude.{◌≡◌, ◌++◌, ◌∷◌, [], ℕ, List, IfOk, OnOk};
 ghost use Rattle.span_io.specs.Tables.{Twice};
-ghost use Rattle.span_io.specs.RowsSoFar.{Adds, JudgesCause};
+ghost use Rattle.span_io.specs.private.RowSteps.{Adds, JudgesCause};
 ghost use Rattle.otlp_proto.specs.Values.{Member, string_value, bytes_value, IsListText, IsMapText, value_in, key_value_in, value_at, key_value_at};
 ghost use Rattle.trace_model.specs.OtlpParts.{leaf, entry};
-ghost use Rattle.otlp_proto.specs.ValuesSoFar.{GatheredList, GatheredMap, GatheredMembers, GatheredValue, GatheredKeyValue, JudgesMember, SetsLeaf, GivesRead, GivesField};
+ghost use Rattle.otlp_proto.specs.private.ValuesSoFar.{GatheredList, GatheredMap, GatheredMembers, GatheredValue, GatheredKeyValue, JudgesMember, SetsLeaf, GivesRead, GivesField};
 
 use span_io::{Bytes, Cause, Halt, Items, OutOfMemory, Text, once, text_of};
 use std::alloc::Global;
@@ -86,7 +86,8 @@ impl MapRows {
 
     /// The map.
     pub fn finish(self, alloc: Global) -> Result<NotedValue, OutOfMemory>
-        ensures { IfOk result (λ r. GivesRead GatheredMap (λ left. IsMapText (key_value_in left)) self r) }
+        ensures { IfOk result
+            (λ r. GivesRead GatheredMap (λ left. IsMapText (key_value_in left)) self r) }
     {
         let (attributes, repeated) = attrs_of(alloc, self.pairs)?;
         let mut keys = self.noted;
@@ -111,7 +112,8 @@ pub fn leaf_of(alloc: Global, value: Value) -> NotedValue
 /// Sets the row of a value by a member that needs no more memory.
 pub fn leaf_member(alloc: Global, row: &mut Option<NotedValue>, value: Value) -> Result<(), Cause>
     ensures ok { OnOk result (SetsLeaf value row.old row.new) }
-    ensures judged { (left : ℕ) (ms : List Member) → GatheredMembers left ms row.old → JudgesCause result (Twice ms) }
+    ensures judged { (left : ℕ) (ms : List Member) → GatheredMembers left ms row.old
+        → JudgesCause result (Twice ms) }
 {
     once(row)?;
     *row = Some(leaf_of(alloc, value));
@@ -124,7 +126,8 @@ pub fn text_member(
     row: &mut Option<NotedValue>,
     held: &[u8],
 ) -> Result<(), Halt<Cause>>
-    ensures ok { OnOk result ((left : ℕ) → Adds (GatheredMembers left) (string_value held.now) row.old row.new) }
+    ensures ok { OnOk result
+        ((left : ℕ) → Adds (GatheredMembers left) (string_value held.now) row.old row.new) }
     ensures judged { (left : ℕ) → JudgesMember left row.old (string_value held.now) result }
 {
     once(row)?;
@@ -138,7 +141,8 @@ pub fn bytes_member(
     row: &mut Option<NotedValue>,
     held: &[u8],
 ) -> Result<(), Halt<Cause>>
-    ensures ok { OnOk result ((left : ℕ) → Adds (GatheredMembers left) (bytes_value held.now) row.old row.new) }
+    ensures ok { OnOk result
+        ((left : ℕ) → Adds (GatheredMembers left) (bytes_value held.now) row.old row.new) }
     ensures judged { (left : ℕ) → JudgesMember left row.old (bytes_value held.now) result }
 {
     once(row)?;

@@ -2,7 +2,7 @@
 ghost use Rattle.std.specs.Prelude.{◌≡◌, ◌++◌, ℕ, List, OnOk, OnErr};
 ghost use Rattle.span_io.specs.Outside.{GrowsFront};
 ghost use Rattle.proto_wire.specs.Records.{IsFieldNumber};
-ghost use Rattle.otlp_proto.specs.Texts.{bytes_field, filled_field, list_text};
+ghost use Rattle.otlp_proto.specs.Canonical.{bytes_field, filled_field, list_text};
 
 use crate::writing::enclosed::{close_field, close_filled};
 use proto_wire::open_record;
@@ -24,7 +24,8 @@ pub trait Message {
 pub fn write_filled<T: Message>(out: &mut Blob, number: u32, message: &T) -> Result<(), OutOfMemory>
     requires { IsFieldNumber number }
     ensures ok { OnOk result (out.new ≡ out.old ++ filled_field number (T.text message.now)) }
-    ensures err { OnErr result (GrowsFront out.old out.new (filled_field number (T.text message.now))) }
+    ensures err { OnErr result
+        (GrowsFront out.old out.new (filled_field number (T.text message.now))) }
 {
     let begins = out.len();
     open_record(out, number)?;
@@ -41,7 +42,8 @@ pub fn write_element<T: Message>(
 ) -> Result<(), OutOfMemory>
     requires { IsFieldNumber number }
     ensures ok { OnOk result (out.new ≡ out.old ++ bytes_field number (T.text message.now)) }
-    ensures err { OnErr result (GrowsFront out.old out.new (bytes_field number (T.text message.now))) }
+    ensures err { OnErr result
+        (GrowsFront out.old out.new (bytes_field number (T.text message.now))) }
 {
     let begins = out.len();
     open_record(out, number)?;

@@ -3,7 +3,7 @@
 ghost use Rattle.std.specs.Prelude.{◌≡◌, ◌+◌, ◌≤◌, ◌++◌, ℕ, List, length, take, OnOk, OnErr};
 ghost use Rattle.proto_wire.specs.Records.{IsFieldNumber};
 ghost use Rattle.proto_wire.specs.Wire.{opening_text};
-ghost use Rattle.otlp_proto.specs.Texts.{bytes_field, filled_field};
+ghost use Rattle.otlp_proto.specs.Canonical.{bytes_field, filled_field};
 
 use proto_wire::{close_record, opening_size};
 use span_io::{Blob, OutOfMemory};
@@ -19,8 +19,10 @@ pub fn close_field(
 ) -> Result<(), OutOfMemory>
     requires number { IsFieldNumber number }
     requires opened { begins + length (opening_text number 0) ≤ length out.old }
-    ensures ok { (before begun held : List ℕ) → begins ≡ length before → begun ≡ before ++ opening_text number 0
-        → OnOk written (out.old ≡ begun ++ held) → OnOk result (out.new ≡ before ++ bytes_field number held) }
+    ensures ok { (before begun held : List ℕ) → begins ≡ length before
+        → begun ≡ before ++ opening_text number 0
+        → OnOk written (out.old ≡ begun ++ held)
+        → OnOk result (out.new ≡ before ++ bytes_field number held) }
     ensures err { OnErr result (out.new ≡ take begins out.old) }
 {
     match written {
@@ -42,8 +44,10 @@ pub fn close_filled(
 ) -> Result<(), OutOfMemory>
     requires number { IsFieldNumber number }
     requires opened { begins + length (opening_text number 0) ≤ length out.old }
-    ensures ok { (before begun held : List ℕ) → begins ≡ length before → begun ≡ before ++ opening_text number 0
-        → OnOk written (out.old ≡ begun ++ held) → OnOk result (out.new ≡ before ++ filled_field number held) }
+    ensures ok { (before begun held : List ℕ) → begins ≡ length before
+        → begun ≡ before ++ opening_text number 0
+        → OnOk written (out.old ≡ begun ++ held)
+        → OnOk result (out.new ≡ before ++ filled_field number held) }
     ensures err { OnErr result (out.new ≡ take begins out.old) }
 {
     let end = out.len() as u64;

@@ -2,7 +2,7 @@
 ghost use Rattle.std.specs.Prelude.{◌≡◌, ◌++◌, OnOk, OnErr};
 ghost use Rattle.span_io.specs.Outside.{GrowsFront};
 ghost use Rattle.proto_wire.specs.Records.{IsFieldNumber};
-ghost use Rattle.otlp_proto.specs.Texts.{filled_field, count_field, time_field, flags_field, trace_field, span_field, parent_field};
+ghost use Rattle.otlp_proto.specs.Canonical.{filled_field, count_field, time_field, flags_field, trace_field, span_field, parent_field};
 
 use proto_wire::{Payload, write_record};
 use span_ids::{Nanos, SpanId, TraceId};

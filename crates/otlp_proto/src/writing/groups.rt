@@ -1,7 +1,7 @@
 //! Scopes and groups.
 ghost use Rattle.std.specs.Prelude.{◌≡◌, ◌++◌, OnOk, OnErr};
 ghost use Rattle.span_io.specs.Outside.{GrowsFront};
-ghost use Rattle.otlp_proto.specs.Texts.{filled_field, instrumentation_scope_text, resource_text, group_record};
+ghost use Rattle.otlp_proto.specs.Canonical.{filled_field, instrumentation_scope_text, resource_text, group_record};
 
 use crate::writing::elements::{Message, write_element, write_elements};
 use crate::writing::enclosed::close_filled;
@@ -12,7 +12,7 @@ use span_io::{Blob, OutOfMemory};
 use trace_model::{Group, Scope};
 
 // Appends the instrumentation scope.
-#[tactic(auto, using(crate::proofs::Growth::in_pieces), unfolding(crate::specs::Texts::instrumentation_scope_text))]
+#[tactic(auto, using(crate::proofs::Growth::in_pieces), unfolding(crate::specs::Canonical::instrumentation_scope_text))]
 fn write_instrumentation_scope(out: &mut Blob, scope: &Scope) -> Result<(), OutOfMemory>
     ensures ok { OnOk result (out.new ≡ out.old ++ instrumentation_scope_text scope.now) }
     ensures err { OnErr result (GrowsFront out.old out.new (instrumentation_scope_text scope.now)) }
@@ -26,8 +26,10 @@ fn write_instrumentation_scope(out: &mut Blob, scope: &Scope) -> Result<(), OutO
 // Appends the instrumentation scope as a field, unless all of it is left out.
 #[tactic(auto, using(crate::proofs::Growth::in_field))]
 fn write_scope_field(out: &mut Blob, scope: &Scope) -> Result<(), OutOfMemory>
-    ensures ok { OnOk result (out.new ≡ out.old ++ filled_field 1 (instrumentation_scope_text scope.now)) }
-    ensures err { OnErr result (GrowsFront out.old out.new (filled_field 1 (instrumentation_scope_text scope.now))) }
+    ensures ok { OnOk result
+        (out.new ≡ out.old ++ filled_field 1 (instrumentation_scope_text scope.now)) }
+    ensures err { OnErr result
+        (GrowsFront out.old out.new (filled_field 1 (instrumentation_scope_text scope.now))) }
 {
     let begins = out.len();
     open_record(out, 1)?;
@@ -36,7 +38,7 @@ fn write_scope_field(out: &mut Blob, scope: &Scope) -> Result<(), OutOfMemory>
 }
 
 // Appends the resource.
-#[tactic(auto, using(crate::proofs::Growth::in_pieces), unfolding(crate::specs::Texts::resource_text))]
+#[tactic(auto, using(crate::proofs::Growth::in_pieces), unfolding(crate::specs::Canonical::resource_text))]
 fn write_resource(out: &mut Blob, group: &Group) -> Result<(), OutOfMemory>
     ensures ok { OnOk result (out.new ≡ out.old ++ resource_text group.now) }
     ensures err { OnErr result (GrowsFront out.old out.new (resource_text group.now)) }
@@ -49,7 +51,8 @@ fn write_resource(out: &mut Blob, group: &Group) -> Result<(), OutOfMemory>
 #[tactic(auto, using(crate::proofs::Growth::in_field))]
 fn write_resource_field(out: &mut Blob, group: &Group) -> Result<(), OutOfMemory>
     ensures ok { OnOk result (out.new ≡ out.old ++ filled_field 1 (resource_text group.now)) }
-    ensures err { OnErr result (GrowsFront out.old out.new (filled_field 1 (resource_text group.now))) }
+    ensures err { OnErr result
+        (GrowsFront out.old out.new (filled_field 1 (resource_text group.now))) }
 {
     let begins = out.len();
     open_record(out, 1)?;
@@ -58,11 +61,11 @@ fn write_resource_field(out: &mut Blob, group: &Group) -> Result<(), OutOfMemory
 }
 
 impl Message for Scope {
-    ghost use Rattle.otlp_proto.specs.Texts.{scope_text};
+    ghost use Rattle.otlp_proto.specs.Canonical.{scope_text};
 
     ghost text = { scope_text };
 
-    #[tactic(auto, using(crate::proofs::Growth::in_pieces), unfolding(crate::specs::Texts::scope_text))]
+    #[tactic(auto, using(crate::proofs::Growth::in_pieces), unfolding(crate::specs::Canonical::scope_text))]
     fn write(&self, out: &mut Blob) -> Result<(), OutOfMemory> {
         write_scope_field(out, self)?;
         write_elements(out, 2, self.spans.as_slice())?;
@@ -71,11 +74,11 @@ impl Message for Scope {
 }
 
 impl Message for Group {
-    ghost use Rattle.otlp_proto.specs.Texts.{group_text};
+    ghost use Rattle.otlp_proto.specs.Canonical.{group_text};
 
     ghost text = { group_text };
 
-    #[tactic(auto, using(crate::proofs::Growth::in_pieces), unfolding(crate::specs::Texts::group_text))]
+    #[tactic(auto, using(crate::proofs::Growth::in_pieces), unfolding(crate::specs::Canonical::group_text))]
     fn write(&self, out: &mut Blob) -> Result<(), OutOfMemory> {
         write_resource_field(out, self)?;
         write_elements(out, 2, self.scopes.as_slice())?;

@@ -8,7 +8,7 @@ use span_io::{Blob, OutOfMemory};
 use trace_model::{Event, Link, Status};
 
 impl Message for Status {
-    ghost use Rattle.otlp_proto.specs.Texts.{status_text};
+    ghost use Rattle.otlp_proto.specs.Canonical.{status_text};
 
     ghost text = { status_text };
 
@@ -20,11 +20,11 @@ impl Message for Status {
 }
 
 impl Message for Event {
-    ghost use Rattle.otlp_proto.specs.Texts.{otlp_event_text};
+    ghost use Rattle.otlp_proto.specs.Canonical.{otlp_event_text};
 
     ghost text = { otlp_event_text };
 
-    #[tactic(auto, using(crate::proofs::Growth::in_pieces), unfolding(crate::specs::Texts::otlp_event_text))]
+    #[tactic(auto, using(crate::proofs::Growth::in_pieces), unfolding(crate::specs::Canonical::otlp_event_text))]
     fn write(&self, out: &mut Blob) -> Result<(), OutOfMemory> {
         write_time(out, 1, self.time)?;
         write_text(out, 2, &self.name)?;
@@ -34,11 +34,11 @@ impl Message for Event {
 }
 
 impl Message for Link {
-    ghost use Rattle.otlp_proto.specs.Texts.{link_text};
+    ghost use Rattle.otlp_proto.specs.Canonical.{link_text};
 
     ghost text = { link_text };
 
-    #[tactic(auto, using(crate::proofs::Growth::in_pieces), unfolding(crate::specs::Texts::link_text))]
+    #[tactic(auto, using(crate::proofs::Growth::in_pieces), unfolding(crate::specs::Canonical::link_text))]
     fn write(&self, out: &mut Blob) -> Result<(), OutOfMemory> {
         write_trace(out, 1, self.trace)?;
         write_span_id(out, 2, self.span)?;

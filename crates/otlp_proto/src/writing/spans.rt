@@ -1,7 +1,7 @@
 //! Spans.
 ghost use Rattle.std.specs.Prelude.{◌≡◌, ◌++◌, OnOk, OnErr};
 ghost use Rattle.span_io.specs.Outside.{GrowsFront};
-ghost use Rattle.otlp_proto.specs.Texts.{filled_field, count_field, time_field, flags_field, trace_field, span_field, parent_field, list_text, attributes_text, status_text, otlp_event_text, link_text};
+ghost use Rattle.otlp_proto.specs.Canonical.{filled_field, count_field, time_field, flags_field, trace_field, span_field, parent_field, list_text, attributes_text, status_text, otlp_event_text, link_text};
 ghost use Rattle.trace_model.specs.OtlpParts.{kind_number};
 
 use crate::writing::elements::{Message, write_elements, write_filled};
@@ -52,10 +52,12 @@ fn write_fields_5_to_8(out: &mut Blob, span: &Span) -> Result<(), OutOfMemory>
 fn write_fields_9_to_12(out: &mut Blob, span: &Span) -> Result<(), OutOfMemory>
     ensures ok { OnOk result (out.new ≡ out.old
         ++ (attributes_text 9 span.now.attributes ++ (count_field 10 span.now.dropped_attributes
-        ++ (list_text 11 otlp_event_text span.now.events ++ count_field 12 span.now.dropped_events)))) }
+        ++ (list_text 11 otlp_event_text span.now.events
+        ++ count_field 12 span.now.dropped_events)))) }
     ensures err { OnErr result (GrowsFront out.old out.new
         (attributes_text 9 span.now.attributes ++ (count_field 10 span.now.dropped_attributes
-        ++ (list_text 11 otlp_event_text span.now.events ++ count_field 12 span.now.dropped_events)))) }
+        ++ (list_text 11 otlp_event_text span.now.events
+        ++ count_field 12 span.now.dropped_events)))) }
 {
     write_attributes(out, 9, span.attributes.as_slice())?;
     write_count(out, 10, span.dropped_attributes)?;
@@ -80,7 +82,7 @@ fn write_fields_13_to_16(out: &mut Blob, span: &Span) -> Result<(), OutOfMemory>
 }
 
 impl Message for Span {
-    ghost use Rattle.otlp_proto.specs.Texts.{span_text};
+    ghost use Rattle.otlp_proto.specs.Canonical.{span_text};
 
     ghost text = { span_text };
 

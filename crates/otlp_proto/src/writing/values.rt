@@ -2,7 +2,7 @@
 ghost use Rattle.std.specs.Prelude.{◌≡◌, ◌++◌, OnOk, OnErr};
 ghost use Rattle.span_io.specs.Outside.{GrowsFront};
 ghost use Rattle.proto_wire.specs.Records.{IsFieldNumber};
-ghost use Rattle.otlp_proto.specs.Texts.{bytes_field, filled_field, list_text, value_text, key_value_text, attributes_text};
+ghost use Rattle.otlp_proto.specs.Canonical.{bytes_field, filled_field, list_text, value_text, key_value_text, attributes_text};
 
 use crate::writing::enclosed::{close_field, close_filled};
 use crate::writing::fields::write_text;
@@ -35,8 +35,10 @@ fn write_value(out: &mut Blob, value: &Value) -> Result<(), OutOfMemory>
 #[cycle(value_writers)]
 #[tactic(auto, using(crate::proofs::Growth::in_field))]
 fn write_list(out: &mut Blob, members: &[Value]) -> Result<(), OutOfMemory>
-    ensures ok { OnOk result (out.new ≡ out.old ++ bytes_field 5 (list_text 1 value_text members.now)) }
-    ensures err { OnErr result (GrowsFront out.old out.new (bytes_field 5 (list_text 1 value_text members.now))) }
+    ensures ok { OnOk result
+        (out.new ≡ out.old ++ bytes_field 5 (list_text 1 value_text members.now)) }
+    ensures err { OnErr result
+        (GrowsFront out.old out.new (bytes_field 5 (list_text 1 value_text members.now))) }
 {
     let begins = out.len();
     open_record(out, 5)?;
@@ -49,7 +51,8 @@ fn write_list(out: &mut Blob, members: &[Value]) -> Result<(), OutOfMemory>
 #[tactic(auto, using(crate::proofs::Growth::in_field))]
 fn write_map(out: &mut Blob, pairs: &[(Text, Value)]) -> Result<(), OutOfMemory>
     ensures ok { OnOk result (out.new ≡ out.old ++ bytes_field 6 (attributes_text 1 pairs.now)) }
-    ensures err { OnErr result (GrowsFront out.old out.new (bytes_field 6 (attributes_text 1 pairs.now))) }
+    ensures err { OnErr result
+        (GrowsFront out.old out.new (bytes_field 6 (attributes_text 1 pairs.now))) }
 {
     let begins = out.len();
     open_record(out, 6)?;
@@ -62,7 +65,8 @@ fn write_map(out: &mut Blob, pairs: &[(Text, Value)]) -> Result<(), OutOfMemory>
 #[tactic(auto, using(crate::proofs::Growth::in_field))]
 fn write_member(out: &mut Blob, member: &Value) -> Result<(), OutOfMemory>
     ensures ok { OnOk result (out.new ≡ out.old ++ bytes_field 1 (value_text member.now)) }
-    ensures err { OnErr result (GrowsFront out.old out.new (bytes_field 1 (value_text member.now))) }
+    ensures err { OnErr result
+        (GrowsFront out.old out.new (bytes_field 1 (value_text member.now))) }
 {
     let begins = out.len();
     open_record(out, 1)?;
@@ -88,7 +92,8 @@ fn write_members(out: &mut Blob, members: &[Value]) -> Result<(), OutOfMemory>
 #[tactic(auto, using(crate::proofs::Growth::in_field))]
 fn write_held(out: &mut Blob, value: &Value) -> Result<(), OutOfMemory>
     ensures ok { OnOk result (out.new ≡ out.old ++ filled_field 2 (value_text value.now)) }
-    ensures err { OnErr result (GrowsFront out.old out.new (filled_field 2 (value_text value.now))) }
+    ensures err { OnErr result
+        (GrowsFront out.old out.new (filled_field 2 (value_text value.now))) }
 {
     let begins = out.len();
     open_record(out, 2)?;
@@ -112,8 +117,10 @@ fn write_key_value(out: &mut Blob, key: &Text, value: &Value) -> Result<(), OutO
 #[tactic(auto, using(crate::proofs::Growth::in_field))]
 fn write_entry(out: &mut Blob, number: u32, key: &Text, value: &Value) -> Result<(), OutOfMemory>
     requires { IsFieldNumber number }
-    ensures ok { OnOk result (out.new ≡ out.old ++ bytes_field number (key_value_text (key.now, value.now))) }
-    ensures err { OnErr result (GrowsFront out.old out.new (bytes_field number (key_value_text (key.now, value.now)))) }
+    ensures ok { OnOk result
+        (out.new ≡ out.old ++ bytes_field number (key_value_text (key.now, value.now))) }
+    ensures err { OnErr result
+        (GrowsFront out.old out.new (bytes_field number (key_value_text (key.now, value.now)))) }
 {
     let begins = out.len();
     open_record(out, number)?;

@@ -13,6 +13,7 @@ HoldsOnce Missing values = values ≡ []
 HoldsOnce (At value) values = values ≡ value.now ∷ []
 HoldsOnce Twice values = (a b : List ℕ) × (more : List (List ℕ)) × (values ≡ a ∷ b ∷ more)
 
+-- what was found of the five headers X-B3, name by name
 pub record FoundMulti (found : Multi) (headers : List Header) : Type 0 where
   pub trace : HoldsOnce found.trace (header_values b3_trace_name headers)
   pub span : HoldsOnce found.span (header_values b3_span_name headers)

@@ -4,8 +4,8 @@ ghost use Rattle.span_io.specs.Connections.{HasNoFault, HaveNoFault};
 
 use super::servings::{UNREADABLE, door_at, taken_by};
 use crate::bench::{Bench, slow_sink, source};
+use row_tables::texts::{ANSWERED, POSTED};
 use span_io::{Items, MemDuplex};
-use span_vectors::texts::{ANSWERED, POSTED};
 use std::alloc::Global;
 use std::process::Abort;
 

@@ -30,6 +30,7 @@ line_noted (Ok done) line = line
 line_noted (Err (halts.Why failed)) line = line
 line_noted (Err halts.OutOfMemory) line = []
 
+-- A datagram of this number was handed on: the output gained its piece, or the notes its line, as far as the result says.
 pub record HandsOn (to : Form) (number : ℕ) (datagram : List ℕ) (result : Result Unit (Halt Failed)) (held holds : Bool)
     (output_before output_now notes_before notes_now : Outlet) : Type 0 where
   pub told : Result (List ℕ) AgentBad

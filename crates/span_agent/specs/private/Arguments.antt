@@ -37,7 +37,8 @@ pub record GivesBatches (Spells : Spelling) (batches : Batches) (whole rest : Li
   pub held : Held batches (batches_of arguments)
 
 -- they can't be read, for the cause that is answered
-abbrev pub AnswersArguments : Spelling → (Part → List ℕ → Type 0) → (Part → Cause → List ℕ → Type 0) → Result Batches Cause → List ℕ → Type 0
+abbrev pub AnswersArguments : Spelling → (Part → List ℕ → Type 0) → (Part → Cause → List ℕ → Type 0) → Result Batches Cause
+    → List ℕ → Type 0
 AnswersArguments Spells ThenVarint Refuses result bytes =
     AnswersRefusals (argument_texts Spells ThenVarint) (RefusedArguments Spells Refuses) result bytes
 

@@ -3,9 +3,10 @@ use Rattle.std.specs.Prelude.{◌≡◌, ◌⊎◌, ◌∷◌, ℕ, List, Option
 use Rattle.std.specs.Borrow.{Bor}
 use Rattle.span_io.specs.Varint.{BeginsVarint}
 use Rattle.thrift_core.specs.Trees.{BinaryThen}
-use Rattle.thrift_binary.specs.Spelling.{binary_spells}
+use Rattle.thrift_spellings.specs.BinarySpelling.{binary_spells}
 use Rattle.span_agent.specs.Headers.{SizedName, FourThen}
 
+-- What is lent is the name that begins the bytes, and the rest is left. If one begins them it is found.
 pub record FindsName (Is : List ℕ → List ℕ → List ℕ → Type 0) (result : Option (Bor (List ℕ))) (old new : List ℕ) : Type 0 where
   pub found : IfSome result (λ lent. Is lent.now old new)
   pub only : (name rest : List ℕ) → Is name old rest → IsSomeAnd result (λ lent. lent.now ≡ name) × (new ≡ rest)

@@ -5,7 +5,8 @@ use Rattle.span_io.specs.Outside.{Outlet}
 use Rattle.span_io.specs.declared.form.Form.{Form}
 use Rattle.conn_service.specs.declared.ended.Ended.{Ended}
 use Rattle.conn_service.specs.declared.ended.ServeFault.{ServeFault}
-use Rattle.conn_service.specs.DoorRuns.{GivesEach, GivesOne, GivesUntil, KeepsListening, LeavesDoor}
+use Rattle.conn_service.specs.private.DoorSteps.{GivesEach, GivesOne, GivesUntil, KeepsListening}
+use Rattle.conn_service.specs.DoorRuns.{LeavesDoor}
 use Rattle.span_notes.specs.Notes.{NotesMore}
 use Rattle.span_cli.specs.Servings.{Visit, IsVisit, AreVisits, NoneWants, Reaches, backs_of, door_failed, links_of, visit_lines}
 use Rattle.span_cli.specs.declared.serve.ServeEnd.{ServeEnd}

@@ -8,11 +8,11 @@ use Rattle.thrift_core.specs.StatedLaws.{OneReading, OpenFronts, PartsReadBack, 
 use Rattle.trace_model.specs.StatedLaws.{AttributesOnce, AttributesExist}
 use Rattle.trace_model.specs.Proper.{IsProperGroup}
 use Rattle.trace_model.specs.Soundness.{IsSoundGroup}
-use Rattle.trace_model.specs.declared.trace.Group.{Group}
+use Rattle.trace_model.specs.declared.group.Group.{Group}
 use Rattle.otlp_json.specs.StatedLaws.{OneJsonGroups, SomeJsonGroups, GroupsWrittenAgain, ReadsHeldGroups}
 use Rattle.otlp_proto.specs.Group.{IsGroupText}
 use Rattle.otlp_proto.specs.StatedLaws.{OneGroup}
-use Rattle.otlp_proto.specs.Texts.{group_text, group_record}
+use Rattle.otlp_proto.specs.Canonical.{group_text, group_record}
 use Rattle.jaeger_model.specs.FreeAtAnyDepth.{FreeAtAnyDepth}
 use Rattle.jaeger_model.specs.StatedLaws.{OneBatch, OneTree, SomeBatch, FreeFields, ReadsTimes, ReadsProper}
 use Rattle.jaeger_model.specs.WrittenAgain.{EqualBatchTexts, WrittenAgain}
@@ -21,6 +21,7 @@ use Rattle.map_zipkin.specs.StatedLaws.{GroupsNoted, ReadIsHeld, ReadIsZipkinNor
 use Rattle.zipkin_json.specs.StatedLaws.{OneList, SomeList, SpansWrittenAgain, ReadsWritable}
 use Rattle.span_convert.specs.BatchFiles.{ProtocolWords, binary, compact, batches, RefusedBatch}
 
+-- of OTLP requests in protobuf: reading records, the frames of an input, whole or in pieces, and the groups in them
 pub record RequestLaws : Type 0 where
   pub reading : OneWireReading
   pub framing : OneFraming records RefusedBy
@@ -76,6 +77,7 @@ pub record GroupFileLaws : Type 0 where
   pub held : ReadsHeldGroups
   pub again : GroupsWrittenAgain
 
+-- what they say of each form of an input, one by one
 pub record InputLaws : Type 0 where
   pub requests : RequestLaws
   pub groups : GroupFileLaws
@@ -83,6 +85,7 @@ pub record InputLaws : Type 0 where
   pub compact : BatchLaws compact
   pub spans : SpanFileLaws
 
+-- all of that, and what they say of groups and batches that are written
 pub record TextLaws : Type 0 where
   pub input : InputLaws
   pub shortest : ShortestRecord

@@ -8,7 +8,8 @@ use Rattle.span_io.specs.declared.form.Form.{Form}
 use Rattle.span_notes.specs.Notes.{NotesMore}
 use Rattle.span_spool.specs.Spools.{Spool}
 use Rattle.span_spool.specs.declared.kept.Kept.{Kept}
-use Rattle.conn_service.specs.DoorRuns.{GivesEach, GivesOne, GivesUntil, KeepsListening, LeavesDoor}
+use Rattle.conn_service.specs.private.DoorSteps.{GivesEach, GivesOne, GivesUntil, KeepsListening}
+use Rattle.conn_service.specs.DoorRuns.{LeavesDoor}
 use Rattle.span_relay.specs.Forwards.{Delivery}
 use Rattle.span_relay.specs.Peers.{Wire}
 use Rattle.span_relay.specs.RelayConnections.{outcomes_in}

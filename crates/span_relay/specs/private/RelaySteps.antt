@@ -17,6 +17,7 @@ pub record RelayState : Type 0 where
   pub spool : Spool
   pub outcomes : List Bool
 
+-- the state with this spool and these outcomes
 abbrev pub state_of : Spool → List Bool → RelayState
 state_of spool outcomes = record { spool = spool; outcomes = outcomes }
 
@@ -42,8 +43,10 @@ Relays to limits = RelayAnswers (TakesOffer to) to limits
 abbrev pub OrUnchanged : RelayState → RelayState → (List ℕ → Type 0) → Type 0
 OrUnchanged first last Answered = (last ≡ first) ⊎ ((answer : List ℕ) × Answered answer)
 
+-- Memory was wanted as a request was answered: either nothing changed, or only its answer is missing.
 abbrev pub RelayHalts : Form → Limits → RelayState → Request → List ℕ → RelayState → Type 0
-RelayHalts to limits first request bytes last = OrUnchanged first last (λ answer. Relays to limits first request bytes answer last)
+RelayHalts to limits first request bytes last =
+    OrUnchanged first last (λ answer. Relays to limits first request bytes answer last)
 
 -- what a request with a body in this form is answered
 abbrev pub RelaysForm : Form → Limits → Form → List ℕ → Bool → RelayState → List ℕ → RelayState → Type 0
@@ -54,21 +57,30 @@ RelaysForm to limits from body close first answer last =
 abbrev pub Grows : List ℕ → List ℕ → (List ℕ → Type 0) → Type 0
 Grows old new Answered = (answer : List ℕ) × Answered answer × (new ≡ old ++ answer)
 
+-- the answer to a request with a body in this form was appended
 abbrev pub AppendsForm : Form → Limits → Form → List ℕ → Bool → RelayState → RelayState → List ℕ → List ℕ → Type 0
-AppendsForm to limits from body close first last old new = Grows old new (λ answer. RelaysForm to limits from body close first answer last)
+AppendsForm to limits from body close first last old new =
+    Grows old new (λ answer. RelaysForm to limits from body close first answer last)
 
+-- memory was wanted as such a request was answered
 abbrev pub HaltsForm : Form → Limits → Form → List ℕ → Bool → RelayState → RelayState → Type 0
-HaltsForm to limits from body close first last = OrUnchanged first last (λ answer. RelaysForm to limits from body close first answer last)
+HaltsForm to limits from body close first last =
+    OrUnchanged first last (λ answer. RelaysForm to limits from body close first answer last)
 
+-- the answer to a good request, of which this is the text in the target form, was appended
 abbrev pub AppendsOffer : Form → Form → Bool → RelayState → RelayState → List ℕ → List ℕ → List ℕ → Type 0
-AppendsOffer to from close first last text old new = Grows old new (λ answer. AnswersOffer (TakesOffer to) from close first text answer last)
+AppendsOffer to from close first last text old new =
+    Grows old new (λ answer. AnswersOffer (TakesOffer to) from close first text answer last)
 
+-- memory was wanted as such a good request was answered
 abbrev pub HaltsOffer : Form → Form → Bool → RelayState → RelayState → List ℕ → Type 0
-HaltsOffer to from close first last text = OrUnchanged first last (λ answer. AnswersOffer (TakesOffer to) from close first text answer last)
+HaltsOffer to from close first last text =
+    OrUnchanged first last (λ answer. AnswersOffer (TakesOffer to) from close first text answer last)
 
 -- a list is a front of itself, and a front of a front is one
 pub none_behind : (a : List Bool) → IsFrontOf a a
 none_behind a = ([], sym (append-nil a))
 
+-- a front of a front is a front of the whole
 pub front_then : (a b c : List Bool) → IsFrontOf a b → IsFrontOf b c → IsFrontOf a c
 front_then a b c p q = (p.0 ++ q.0, q.1 ∙ ap (λ (l : List Bool). l ++ q.0) p.1 ∙ append_assoc a p.0 q.0)

@@ -5,6 +5,7 @@ use Rattle.trace_model.specs.Attributes.{placed}
 use Rattle.trace_model.specs.declared.value.Value.{Value}
 use Rattle.span_tags.specs.TagWords.{Pairs}
 
+-- a pair of the key is put in behind so many of these rising pairs; no place is told where a pair of the key stands already
 abbrev pub IsPlaceOf : List ℕ → Pairs → Option ℕ → Type 0
 IsPlaceOf key pairs None = (value : Value) → placed (key, value) pairs ≡ pairs
 IsPlaceOf key pairs (Some i) =

@@ -6,9 +6,9 @@ use Rattle.span_io.specs.Limits.{shipped_limits}
 use Rattle.span_io.specs.Outside.{Gains}
 use Rattle.span_io.specs.declared.form.Form.{Form}
 use Rattle.span_io.specs.declared.form.Form.TheVariants.{OtlpProto}
-use Rattle.otlp_proto.specs.Texts.{group_record}
+use Rattle.otlp_proto.specs.Canonical.{group_record}
 use Rattle.span_convert.specs.Converters.{Fed, Work}
-use Rattle.span_convert.specs.declared.converter.Walker.{Walker}
+use Rattle.span_convert.specs.declared.walker.Walker.{Walker}
 use Rattle.span_convert.specs.declared.written.Written.TheVariants as written
 use Rattle.span_vectors.specs.Gauge.{first_groups}
 

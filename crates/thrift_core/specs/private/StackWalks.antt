@@ -19,6 +19,7 @@ use Rattle.thrift_core.specs.Walks.{Open, in_value, First, made_of, no_level, fi
 
 -- ---- what is open
 
+-- what is open where a walk stands: in the innermost container, and then in those around it
 abbrev pub open_of : Stack → List Open
 open_of s = stack_of s.top s.below.items
 
@@ -32,6 +33,7 @@ abbrev pub open_of_level : ℕ → Option Level → List Open
 open_of_level left None = []
 open_of_level left (Some level) = open_level left level
 
+-- how many levels of containers are left in the innermost one
 abbrev pub levels_in : Stack → ℕ
 levels_in s = outer_levels - length s.below.items
 
@@ -42,6 +44,7 @@ abbrev pub list_first : ℕ → First
 list_first zero = no_level
 list_first (suc left) = first_of_list left
 
+-- the same of a map
 abbrev pub map_first : ℕ → First
 map_first zero = no_level
 map_first (suc left) = first_of_map left
@@ -68,6 +71,8 @@ abbrev pub weight : Level → ℕ
 weight (levels.Fields last) = 0
 weight other = 2
 
+-- this comes first of the container: the head of a field or the stop byte, a value with what is to come behind it, or nothing,
+-- where the container is over
 abbrev pub ComesFirst : Level → Coming → Type 0
 ComesFirst level (comings.Header last) = level ≡ levels.Fields last
 ComesFirst level (comings.Value kind held behind) =
@@ -98,18 +103,23 @@ pub record StackStops (reads : ReadingOf) (Spells : Spelling) (before : List Ope
 
 -- The step over a value, behind which this is to come of its container.
 abbrev pub ValueStepped : Spelling → ReadingOf → Level → Stack → List ℕ → Result Unit Halted → Stack → List ℕ → Open → Type 0
-ValueStepped Spells reads behind old text (Ok _) new rest value = Passes Spells (value ∷ stack_of behind old.below.items) text (open_of new) rest
-ValueStepped Spells reads behind old text (Err (halts.For cause)) new rest value = StopsBy reads (first_of value) text cause × (new ≡ old) × (rest ≡ text)
-ValueStepped Spells reads behind old text (Err (halts.Lacking many)) new rest value = StackLacks Spells (value ∷ stack_of behind old.below.items) text many (open_of new)
+ValueStepped Spells reads behind old text (Ok _) new rest value =
+    Passes Spells (value ∷ stack_of behind old.below.items) text (open_of new) rest
+ValueStepped Spells reads behind old text (Err (halts.For cause)) new rest value =
+    StopsBy reads (first_of value) text cause × (new ≡ old) × (rest ≡ text)
+ValueStepped Spells reads behind old text (Err (halts.Lacking many)) new rest value =
+    StackLacks Spells (value ∷ stack_of behind old.below.items) text many (open_of new)
 
 -- where a walk halts, it stands in front of what stops it, or in the binary that lacks bytes
 abbrev pub HaltsThere : Spelling → ReadingOf → List Open → List ℕ → Halted → Stack → List ℕ → Type 0
-HaltsThere Spells reads before text (halts.For cause) new rest = Passes Spells before text (open_of new) rest × StackStops reads Spells (open_of new) rest cause
+HaltsThere Spells reads before text (halts.For cause) new rest =
+    Passes Spells before text (open_of new) rest × StackStops reads Spells (open_of new) rest cause
 HaltsThere Spells reads before text (halts.Lacking many) new rest = StackLacks Spells before text many (open_of new)
 
 -- The step over what comes first.
 abbrev pub Stepped : Spelling → ReadingOf → Stack → List ℕ → Result Bool Halted → Stack → List ℕ → Type 0
-Stepped Spells reads old text (Ok true) new rest = Passes Spells (open_of old) text (open_of new) rest × (steps_left new rest < steps_left old text)
+Stepped Spells reads old text (Ok true) new rest =
+    Passes Spells (open_of old) text (open_of new) rest × (steps_left new rest < steps_left old text)
 Stepped Spells reads old text (Ok false) new rest = Passes Spells (open_of old) text [] rest
 Stepped Spells reads old text (Err halted) new rest = HaltsThere Spells reads (open_of old) text halted new rest
 

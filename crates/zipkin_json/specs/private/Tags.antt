@@ -14,9 +14,11 @@ abbrev pub listed : List (List ℕ × Data) → Members
 listed [] = no_members
 listed (m ∷ ms) = member m.0 m.1 (listed ms)
 
+-- the names and values of members that are borrowed, in their order
 abbrev pub pairs_in : List (Bor (List ℕ) × Lent) → List (List ℕ × Data)
 pairs_in named = map (λ m. (m.0.now, lent_view m.1)) named
 
+-- the names of these members rise by their bytes, so none stands twice
 abbrev pub NamesRise : List (List ℕ × Data) → Type 0
 NamesRise ms = IsStrictlySortedBy (slice_cmp nat_cmp) (map (λ m. m.0) ms)
 

@@ -21,7 +21,7 @@ impl Table for AnnotationTable {
     ghost parts = { annotation_members };
 }
 
-#[tactic(auto, using(json_members::specs::laws::PartLaws::reading), unfolding(crate::specs::Span::annotation_members))]
+#[tactic(auto, using(json_members::proofs::PartLaws::reading), unfolding(crate::specs::Span::annotation_members))]
 fn read_annotation(alloc: Global, v: &Lent<'_, '_>) -> Result<(Nanos, Text), Halt<Cause>>
     ensures value { IfOk result (λ a. IsAnnotation a (view v.now)) }
     ensures judged { JudgesValue result (annotation_offends (view v.now)) }
@@ -40,7 +40,8 @@ fn read_annotations(
     alloc: Global,
     elements: Elements<'_, '_>,
 ) -> Result<Items<(Nanos, Text)>, Halt<Cause>>
-    ensures value { IfOk result (λ list. AllZip (λ d x. IsAnnotation x d) (elements_left elements.entry) list) }
+    ensures value { IfOk result
+        (λ list. AllZip (λ d x. IsAnnotation x d) (elements_left elements.entry) list) }
     ensures judged { JudgesValue result (each annotation_offends (elements_left elements.entry)) }
 {
     let mut left = elements;

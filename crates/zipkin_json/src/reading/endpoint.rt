@@ -44,7 +44,8 @@ struct EndpointMembers<'v, 'a> {
 
 impl<'v, 'a> EndpointMembers<'v, 'a> {
     fn of(v: &Lent<'v, 'a>) -> EndpointMembers<'v, 'a>
-        ensures service { option_map view result.service ≡ member (codes "serviceName") (view v.now) }
+        ensures service { option_map view result.service
+            ≡ member (codes "serviceName") (view v.now) }
         ensures ipv4 { option_map view result.ipv4 ≡ member (codes "ipv4") (view v.now) }
         ensures ipv6 { option_map view result.ipv6 ≡ member (codes "ipv6") (view v.now) }
         ensures port { option_map view result.port ≡ member (codes "port") (view v.now) }
@@ -61,7 +62,7 @@ impl<'v, 'a> EndpointMembers<'v, 'a> {
     }
 }
 
-#[tactic(auto, using(json_members::specs::laws::PartLaws::reading), unfolding(crate::specs::Span::endpoint_members))]
+#[tactic(auto, using(json_members::proofs::PartLaws::reading), unfolding(crate::specs::Span::endpoint_members))]
 fn read_endpoint(alloc: Global, v: &Lent<'_, '_>) -> Result<Endpoint, Halt<Cause>>
     ensures value { IfOk result (λ e. IsEndpoint e (view v.now)) }
     ensures judged { JudgesValue result (endpoint_offends (view v.now)) }

@@ -54,13 +54,17 @@ impl<'v, 'a> SpanMembers<'v, 'a> {
         ensures parent { option_map view result.parent ≡ member (codes "parentId") (view v.now) }
         ensures name { option_map view result.name ≡ member (codes "name") (view v.now) }
         ensures kind { option_map view result.kind ≡ member (codes "kind") (view v.now) }
-        ensures timestamp { option_map view result.timestamp ≡ member (codes "timestamp") (view v.now) }
-        ensures duration { option_map view result.duration ≡ member (codes "duration") (view v.now) }
+        ensures timestamp { option_map view result.timestamp
+            ≡ member (codes "timestamp") (view v.now) }
+        ensures duration { option_map view result.duration
+            ≡ member (codes "duration") (view v.now) }
         ensures debug { option_map view result.debug ≡ member (codes "debug") (view v.now) }
         ensures shared { option_map view result.shared ≡ member (codes "shared") (view v.now) }
         ensures local { option_map view result.local ≡ member (codes "localEndpoint") (view v.now) }
-        ensures remote { option_map view result.remote ≡ member (codes "remoteEndpoint") (view v.now) }
-        ensures annotations { option_map view result.annotations ≡ member (codes "annotations") (view v.now) }
+        ensures remote { option_map view result.remote
+            ≡ member (codes "remoteEndpoint") (view v.now) }
+        ensures annotations { option_map view result.annotations
+            ≡ member (codes "annotations") (view v.now) }
         ensures tags { option_map view result.tags ≡ member (codes "tags") (view v.now) }
     {
         let mut found = [None; 13];
@@ -98,7 +102,7 @@ impl<'v, 'a> SpanMembers<'v, 'a> {
     }
 }
 
-#[tactic(auto, using(json_members::specs::laws::PartLaws::reading), unfolding(crate::specs::Span::span_members))]
+#[tactic(auto, using(json_members::proofs::PartLaws::reading), unfolding(crate::specs::Span::span_members))]
 fn read_span(alloc: Global, v: &Lent<'_, '_>) -> Result<ZSpan, Halt<Cause>>
     ensures value { IfOk result (λ s. IsZSpan s (view v.now)) }
     ensures rising { IfOk result HasRisingTags }
@@ -137,7 +141,8 @@ fn read_span(alloc: Global, v: &Lent<'_, '_>) -> Result<ZSpan, Halt<Cause>>
 }
 
 fn read_each(alloc: Global, elements: Elements<'_, '_>) -> Result<Items<ZSpan>, Halt<Refusal>>
-    ensures value { IfOk result (λ spans. AllZip (λ d x. IsZSpan x d) (elements_left elements.entry) spans) }
+    ensures value { IfOk result
+        (λ spans. AllZip (λ d x. IsZSpan x d) (elements_left elements.entry) spans) }
     ensures rising { IfOk result (All HasRisingTags) }
     ensures writable { IfOk result (All IsWritableZSpan) }
     ensures judged { JudgesInput result (each span_offends (elements_left elements.entry)) }

@@ -57,7 +57,8 @@ fn tags_in_order(
     members: Members<'_, '_>,
 ) -> Result<Items<(Text, Text)>, Halt<Cause>>
     requires rise { NamesRise (members_left members) }
-    ensures value { IfOk result (λ tags. texts_in (listed (members_left members.entry)) ≡ Some tags) }
+    ensures value { IfOk result
+        (λ tags. texts_in (listed (members_left members.entry)) ≡ Some tags) }
     ensures rising { IfOk result TagsRise }
     ensures judged { JudgesValue result
         (each tag_offends (member_values (listed (members_left members.entry)))) }
@@ -75,7 +76,8 @@ fn tags_by_name(
     alloc: Global,
     named: &BTreeMap<&str, Lent<'_, '_>>,
 ) -> Result<Items<(Text, Text)>, Halt<Cause>>
-    ensures value { IfOk result (λ tags. texts_in (listed (pairs_in named.now.entries)) ≡ Some tags) }
+    ensures value { IfOk result
+        (λ tags. texts_in (listed (pairs_in named.now.entries)) ≡ Some tags) }
     ensures rising { IfOk result TagsRise }
     ensures judged { JudgesValue result
         (each tag_offends (member_values (listed (pairs_in named.now.entries)))) }

@@ -1,7 +1,7 @@
 use Rattle.std.proofs.Common.{ℕ, List, [], take, sym, ap, subst, arith, ◌∙◌}
 use Rattle.std.proofs.lemmas.List.{length-take, take_at}
 use Rattle.thrift_core.specs.Values.{struct_frames}
-use Rattle.thrift_binary.specs.Spelling.{binary_spells, binary_then_varint}
+use Rattle.thrift_spellings.specs.BinarySpelling.{binary_spells, binary_then_varint}
 use Rattle.form_vectors.proofs.batches.read_text.Goals as goal
 
 pub slice_bounds-read_batch-end : goal.slice_bounds-read_batch-end

@@ -1,4 +1,4 @@
-use Rattle.jaeger_model.specs.laws.WritableLaws.{writable}
+use Rattle.jaeger_model.proofs.WritableLaws.{writable}
 use Rattle.form_vectors.proofs.batches.written.Goals as goal
 
 pub write_batch-requires : goal.write_batch-requires

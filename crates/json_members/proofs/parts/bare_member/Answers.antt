@@ -1,6 +1,6 @@
 use Rattle.json_nodes.specs.Lents.{lent_view as view}
 use Rattle.span_io.specs.declared.halt.Halt.TheVariants as halts
-use Rattle.json_members.specs.laws.PartLaws.{reading_stops}
+use Rattle.json_members.proofs.PartLaws.{reading_stops}
 use Rattle.json_members.proofs.parts.bare_member.Goals as goal
 
 pub returns-in-Err-clause-stops : goal.returns-in-Err-clause-stops

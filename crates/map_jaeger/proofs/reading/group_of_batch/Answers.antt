@@ -4,7 +4,7 @@ use Rattle.trace_model.specs.Remarks.{tags_dropped}
 use Rattle.trace_model.specs.declared.place.Place.TheVariants as places
 use Rattle.trace_model.specs.Soundness.{IsSoundScope}
 use Rattle.trace_model.specs.Values.{AreSound}
-use Rattle.span_tags.specs.laws.AttributeLaws.{attrs_rise}
+use Rattle.span_tags.proofs.AttributeLaws.{attrs_rise}
 use Rattle.span_tags.specs.TagKeys.{service_key}
 use Rattle.span_tags.specs.TagWords.{Pairs, if_left}
 use Rattle.map_jaeger.specs.Reading.{process_attributes, resource_of}

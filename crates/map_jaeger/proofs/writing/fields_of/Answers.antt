@@ -3,7 +3,7 @@ use Rattle.std.proofs.lemmas.Result.{IfOk-weaker}
 use Rattle.trace_model.specs.Attributes.{attrs}
 use Rattle.span_tags.specs.Escapes.{escaped}
 use Rattle.span_tags.specs.TagWords.{row, text_given}
-use Rattle.span_tags.specs.laws.EscapeLaws.{escaped_rise}
+use Rattle.span_tags.proofs.EscapeLaws.{escaped_rise}
 use Rattle.map_jaeger.specs.Keys.{event_key, is_event_reserved}
 use Rattle.map_jaeger.specs.LeastFault.{doubles_inside}
 use Rattle.map_jaeger.specs.TagValues.{tag_of}

@@ -1,7 +1,7 @@
 use Rattle.trace_model.specs.Soundness.{IsSoundEvent}
 use Rattle.map_jaeger.specs.private.Doubles.{event_has_double}
 use Rattle.map_jaeger.specs.Writing.{log_of}
-use Rattle.span_tags.specs.laws.Moved.{one_more, still_none, still_all}
+use Rattle.span_tags.proofs.Moved.{one_more, still_none, still_all}
 use Rattle.map_jaeger.proofs.writing.logs_of.Goals as goal
 
 pub events-preserved : goal.events-preserved

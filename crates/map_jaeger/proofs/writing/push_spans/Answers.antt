@@ -2,7 +2,7 @@ use Rattle.trace_model.specs.Soundness.{IsSoundSpan}
 use Rattle.map_jaeger.specs.LeastFault.{span_has_double}
 use Rattle.map_jaeger.specs.Writing.{jaeger_span}
 use Rattle.span_tags.specs.Runs.{under}
-use Rattle.span_tags.specs.laws.Moved.{one_more_of, still_none, still_all}
+use Rattle.span_tags.proofs.Moved.{one_more_of, still_none, still_all}
 use Rattle.map_jaeger.proofs.writing.push_spans.Goals as goal
 
 pub spans-preserved : goal.spans-preserved

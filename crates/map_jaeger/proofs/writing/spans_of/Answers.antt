@@ -4,7 +4,7 @@ use Rattle.trace_model.specs.Soundness.{IsSoundScope}
 use Rattle.span_tags.specs.Runs.{scoped, spans_of}
 use Rattle.map_jaeger.specs.private.Doubles.{scope_has_double}
 use Rattle.map_jaeger.specs.Writing.{jaeger_span}
-use Rattle.span_tags.specs.laws.Moved.{several_more, still_none, still_all}
+use Rattle.span_tags.proofs.Moved.{several_more, still_none, still_all}
 use Rattle.map_jaeger.proofs.writing.spans_of.Goals as goal
 
 pub scopes-preserved : goal.scopes-preserved

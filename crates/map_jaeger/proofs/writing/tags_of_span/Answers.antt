@@ -3,7 +3,7 @@ use Rattle.std.proofs.lemmas.Result.{IfOk-weaker}
 use Rattle.span_tags.specs.Escapes.{escaped}
 use Rattle.span_tags.specs.Runs.{under}
 use Rattle.span_tags.specs.TagWords.{without}
-use Rattle.span_tags.specs.laws.EscapeLaws.{escaped_rise}
+use Rattle.span_tags.proofs.EscapeLaws.{escaped_rise}
 use Rattle.map_jaeger.specs.Columns.{columns_of, rows, is_reserved}
 use Rattle.map_jaeger.specs.Keys.{flags_key}
 use Rattle.map_jaeger.specs.LeastFault.{doubles_inside}

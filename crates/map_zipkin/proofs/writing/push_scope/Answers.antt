@@ -1,7 +1,7 @@
 use Rattle.std.proofs.Common.{ap, sym, subst, ◌∙◌}
 use Rattle.trace_model.specs.Attributes.{Rise, keys}
 use Rattle.trace_model.specs.EventTexts.{holds_double}
-use Rattle.span_tags.specs.laws.AttributeLaws.{attrs_rise}
+use Rattle.span_tags.proofs.AttributeLaws.{attrs_rise}
 use Rattle.map_zipkin.specs.private.WritingSoFar.{shared_pairs}
 use Rattle.map_zipkin.proofs.PlainTags.{shared_plain}
 use Rattle.map_zipkin.proofs.writing.push_scope.Goals as goal

@@ -1,6 +1,6 @@
 use Rattle.map_zipkin.specs.private.Unfit.{span_unfit}
 use Rattle.map_zipkin.specs.Writing.{zipkin_span}
-use Rattle.span_tags.specs.laws.Moved.{one_more_of, still_none}
+use Rattle.span_tags.proofs.Moved.{one_more_of, still_none}
 use Rattle.span_tags.specs.Runs.{under}
 use Rattle.map_zipkin.proofs.writing.push_spans.Goals as goal
 

@@ -1,6 +1,6 @@
 use Rattle.std.proofs.Common.{ap, map, ◌∙◌}
 use Rattle.std.proofs.lemmas.List.{map-append}
-use Rattle.span_tags.specs.laws.Moved.{several_more, still_none}
+use Rattle.span_tags.proofs.Moved.{several_more, still_none}
 use Rattle.span_tags.specs.Runs.{scoped, spans_of}
 use Rattle.map_zipkin.specs.private.Unfit.{scope_unfit}
 use Rattle.map_zipkin.specs.Writing.{zipkin_span}

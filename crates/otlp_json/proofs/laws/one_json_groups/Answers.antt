@@ -1,7 +1,7 @@
 use Rattle.std.proofs.Common.{◌≡◌, List, sym, ◌∙◌}
 use Rattle.serde_json.specs.Data.{Data}
 use Rattle.span_io.specs.Paths.{NothingOffends}
-use Rattle.span_io.specs.laws.PathDecisions.{IsSettled, one, none}
+use Rattle.span_io.proofs.PathDecisions.{IsSettled, one, none}
 use Rattle.otlp_json.specs.Group.{RemarkedGroup, AreJsonGroups, json_groups_offend}
 use Rattle.otlp_json.proofs.SettledGroups.{groups_settled}
 use Rattle.otlp_json.proofs.laws.one_json_groups.Goals as goal

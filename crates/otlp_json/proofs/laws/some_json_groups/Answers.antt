@@ -3,7 +3,7 @@ use Rattle.serde_json.specs.Data.{Data}
 use Rattle.span_io.specs.Causes.{cause_number}
 use Rattle.span_io.specs.declared.cause.Cause.{Cause}
 use Rattle.span_io.specs.Paths.{Counts}
-use Rattle.span_io.specs.laws.PathDecisions.{IsSettled, one, none}
+use Rattle.span_io.proofs.PathDecisions.{IsSettled, one, none}
 use Rattle.otlp_json.specs.Group.{RemarkedGroup, AreJsonGroups, json_groups_offend}
 use Rattle.otlp_json.proofs.SettledGroups.{groups_settled}
 use Rattle.otlp_json.proofs.laws.some_json_groups.Goals as goal

@@ -1,5 +1,5 @@
 use Rattle.std.proofs.Common.{arith}
-use Rattle.otlp_proto.specs.Texts.{group_text}
+use Rattle.otlp_proto.specs.Canonical.{group_text}
 use Rattle.otlp_proto.proofs.CanonicalLaws.{Laws}
 use Rattle.otlp_proto.proofs.FieldLemmas.{held_fits}
 use Rattle.otlp_proto.proofs.GroupMessages.{group_again}

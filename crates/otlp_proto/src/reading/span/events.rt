@@ -3,8 +3,8 @@ ghost use Rattle.std.specs.Prelude.{◌≡◌, ◌+◌, ◌<◌, ◌^◌, [], �
 ghost use Rattle.span_io.specs.Offences.{Offence, Judges};
 ghost use Rattle.proto_wire.specs.Messages.{messages};
 ghost use Rattle.otlp_proto.specs.Event.{event_rules};
-ghost use Rattle.span_io.specs.RowsSoFar.{Adds};
-ghost use Rattle.otlp_proto.specs.SpanSoFar.{GatheredEvents};
+ghost use Rattle.span_io.specs.private.RowSteps.{Adds};
+ghost use Rattle.otlp_proto.specs.private.SpanSoFar.{GatheredEvents};
 
 use crate::reading::event::read_event;
 use span_io::{Cause, Halt, Items};

@@ -3,8 +3,8 @@ ghost use Rattle.std.specs.Prelude.{◌≡◌, ◌+◌, ◌<◌, ◌≤◌, ◌^
 ghost use Rattle.span_io.specs.Offences.{Offence, Judges};
 ghost use Rattle.proto_wire.specs.Messages.{messages};
 ghost use Rattle.otlp_proto.specs.Link.{link_rules};
-ghost use Rattle.span_io.specs.RowsSoFar.{Adds};
-ghost use Rattle.otlp_proto.specs.SpanSoFar.{GatheredLinks};
+ghost use Rattle.span_io.specs.private.RowSteps.{Adds};
+ghost use Rattle.otlp_proto.specs.private.SpanSoFar.{GatheredLinks};
 
 use crate::reading::link::read_link;
 use span_io::{Cause, Halt, Items};

@@ -3,7 +3,7 @@ use Rattle.std.proofs.lemmas.List.{take_rest}
 use Rattle.std.proofs.lemmas.Result.{IfOk-weaker}
 use Rattle.propagation.specs.private.FoundHeaders.{HoldsOnce}
 use Rattle.propagation.specs.Heads.{TellsState, header_values, tracestate_name}
-use Rattle.propagation.specs.HeadAnswers.{IsStateOf}
+use Rattle.propagation.specs.private.HeadSteps.{IsStateOf}
 use Rattle.propagation.proofs.StateLemmas.{state_of_one, state_of_more}
 use Rattle.propagation.proofs.headers.read_states.Goals as goal
 

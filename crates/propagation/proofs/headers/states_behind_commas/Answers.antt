@@ -1,7 +1,7 @@
 use Rattle.std.proofs.Common.{[], ◌∷◌, ◌++◌, ap, ◌∙◌}
 use Rattle.propagation.specs.Blocks.{Header}
 use Rattle.propagation.specs.Heads.{header_values, tracestate_name}
-use Rattle.propagation.specs.HeadAnswers.{behind_commas}
+use Rattle.propagation.specs.private.HeadSteps.{behind_commas}
 use Rattle.propagation.proofs.OneBlock.{then_start, then_on, then_none, then_all, one_headers}
 use Rattle.propagation.proofs.StateLemmas.{states_more}
 use Rattle.propagation.proofs.headers.states_behind_commas.Goals as goal

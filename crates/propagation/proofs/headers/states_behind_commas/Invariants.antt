@@ -1,7 +1,7 @@
 use Rattle.std.proofs.Common.{◌≡◌, List, length}
 use Rattle.propagation.specs.Blocks.{Header}
 use Rattle.propagation.specs.Heads.{header_values, tracestate_name}
-use Rattle.propagation.specs.HeadAnswers.{behind_commas}
+use Rattle.propagation.specs.private.HeadSteps.{behind_commas}
 use Rattle.propagation.specs.private.HeaderLines.{HeadersThen}
 use Rattle.propagation.proofs.headers.states_behind_commas.Given as goal
 

@@ -1,4 +1,4 @@
-use Rattle.span_io.specs.Framings.{framing_laws}
+use Rattle.span_io.proofs.FramingSteps.{framing_laws}
 use Rattle.proto_wire.specs.Wire.{records, RefusedBy}
 use Rattle.proto_wire.proofs.FirstFrame.{record_laws}
 use Rattle.proto_wire.proofs.laws.one_framing.Goals as goal

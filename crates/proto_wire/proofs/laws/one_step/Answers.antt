@@ -1,4 +1,4 @@
-use Rattle.span_io.specs.Framings.{step_laws}
+use Rattle.span_io.proofs.FramingSteps.{step_laws}
 use Rattle.proto_wire.specs.Wire.{records, RefusedBy}
 use Rattle.proto_wire.proofs.FirstFrame.{record_laws}
 use Rattle.proto_wire.proofs.laws.one_step.Goals as goal

@@ -1,4 +1,4 @@
-use Rattle.span_io.specs.laws.FramingLaws.{open_front}
+use Rattle.span_io.proofs.FramingLaws.{open_front}
 use Rattle.proto_wire.specs.Wire.{records}
 use Rattle.proto_wire.proofs.OpenBytes.{walked, completed, every_place}
 use Rattle.proto_wire.proofs.Refusals.{record_fronts}

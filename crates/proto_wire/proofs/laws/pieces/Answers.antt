@@ -1,4 +1,4 @@
-use Rattle.span_io.specs.Pieces.{piece_laws}
+use Rattle.span_io.proofs.PieceSteps.{piece_laws}
 use Rattle.proto_wire.specs.Wire.{records, RefusedBy}
 use Rattle.proto_wire.proofs.FirstFrame.{record_laws}
 use Rattle.proto_wire.proofs.laws.pieces.Goals as goal

@@ -1,6 +1,6 @@
 use Rattle.std.proofs.Common.{◌≡◌, ◌+◌, length, Ok, Err, ap, subst, arith}
 use Rattle.proto_wire.specs.Reading.{number_at}
-use Rattle.proto_wire.specs.Scanners.{HoldsLength}
+use Rattle.proto_wire.specs.private.HeldLengths.{HoldsLength}
 use Rattle.proto_wire.proofs.Heads.{no_key, no_size, full_length}
 use Rattle.proto_wire.proofs.scanner.full_size.Goals as goal
 

@@ -1,5 +1,5 @@
 use Rattle.std.proofs.Common.{arith, ap, length}
-use Rattle.span_io.specs.laws.ShortestVarints.{one_byte, two_bytes}
+use Rattle.span_io.proofs.ShortestVarints.{one_byte, two_bytes}
 use Rattle.proto_wire.proofs.writing.varint_size.Goals as goal
 
 pub returns-then-n-lt128-clause-exact : goal.returns-then-n-lt128-clause-exact

@@ -1,6 +1,6 @@
 use Rattle.std.proofs.Common.{refl, sym, ◌∙◌}
 use Rattle.span_notes.specs.Pairs.{texts}
-use Rattle.span_notes.specs.laws.WordLaws.{same_number}
+use Rattle.span_notes.proofs.WordLaws.{same_number}
 use Rattle.span_agent.proofs.WordLemmas.{all_spelled, never_form, never_place, none_spelled}
 use Rattle.span_agent.proofs.options.read_options.Goals as goal
 

@@ -1,7 +1,7 @@
 use Rattle.std.proofs.Common.{◌≡◌, Option, Some, None, refl, sym, ◌∙◌, subst, arith}
 use Rattle.std.specs.Prelude.{slice_get}
 use Rattle.span_notes.specs.Pairs.{texts}
-use Rattle.span_notes.specs.laws.WordLaws.{one_word, word_at}
+use Rattle.span_notes.proofs.WordLaws.{one_word, word_at}
 use Rattle.span_agent.specs.declared.options.Options.{Options}
 use Rattle.span_agent.proofs.RunLemmas.{never_two, received_in_vain, receives_as, untouched_in_vain}
 use Rattle.span_agent.proofs.WordLemmas.{address_within}

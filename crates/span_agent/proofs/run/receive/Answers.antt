@@ -1,4 +1,4 @@
-use Rattle.span_notes.specs.laws.NoteLaws.{notes_line}
+use Rattle.span_notes.proofs.NoteLaws.{notes_line}
 use Rattle.span_agent.proofs.RunLemmas.{receives_all}
 use Rattle.span_agent.proofs.run.receive.Goals as goal
 

@@ -1,6 +1,6 @@
 use Rattle.std.proofs.Common.{◌≡◌, ℕ, None, Some, Option, List, sym, ◌∙◌, arith}
 use Rattle.span_notes.specs.Pairs.{IsDecimal}
-use Rattle.span_cli.specs.Commands.{TellsSpans}
+use Rattle.span_cli.specs.private.Words.{TellsSpans}
 use Rattle.span_cli.proofs.command.spans_told.Goals as goal
 use Rattle.span_cli.proofs.command.spans_told.Goals.{then-spans-eq0-via-then-spans-eq0, then-spans-eq0-via-else-spans-eq0+then-spans-gt-MOST_SPANS}
 

@@ -1,6 +1,6 @@
 use Rattle.std.proofs.Common.{ℕ, List, subst}
 use Rattle.span_io.specs.Outside.{Gains, FailsWithin}
-use Rattle.span_cli.specs.Runs.{TellsLines, HaltsLines}
+use Rattle.span_cli.specs.private.RunSteps.{TellsLines, HaltsLines}
 use Rattle.span_cli.proofs.HeadersEndings.{ends_block, ends_lines, ends_written, ends_failed}
 use Rattle.span_cli.proofs.headers.headers.Goals as goal
 

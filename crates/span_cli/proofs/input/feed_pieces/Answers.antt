@@ -6,7 +6,8 @@ use Rattle.std.proofs.lemmas.List.Elements.{All-append}
 use Rattle.span_io.specs.Limits.{shipped_limits}
 use Rattle.span_convert.specs.Converters.{Work, stop_in, work_of}
 use Rattle.span_convert.specs.Outlooks.{IfDocument}
-use Rattle.span_cli.specs.Inputs.{piece, shipped}
+use Rattle.span_cli.specs.Inputs.{piece}
+use Rattle.span_cli.specs.private.ReadBlocks.{shipped}
 use Rattle.span_cli.proofs.ConversionEndings.{ends_at_feed, ends_unread}
 use Rattle.span_cli.proofs.InputLemmas.{Consumes-then, Feeding-end, Feeding-reads, Feeding-smaller, Feeding-start, Feeding-step, goes_on, not_in_vain}
 use Rattle.span_cli.proofs.WrittenSoFar.{of_documents, of_documents_then}

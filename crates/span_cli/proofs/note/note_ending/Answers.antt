@@ -1,5 +1,6 @@
 use Rattle.std.proofs.Common.{sym, subst}
-use Rattle.span_cli.specs.Lines.{Notes, ending_line}
+use Rattle.span_cli.specs.Lines.{Notes}
+use Rattle.span_cli.specs.private.LineWords.{ending_line}
 use Rattle.span_cli.specs.declared.ending.Ending.{Ending}
 use Rattle.span_cli.proofs.note.note_ending.Goals as goal
 

@@ -3,7 +3,7 @@ use Rattle.conn_service.specs.declared.ended.Ended.{Ended}
 use Rattle.conn_service.specs.declared.ended.ServeFault.{ServeFault}
 use Rattle.conn_service.specs.declared.ended.ServeFault.TheVariants as faults
 use Rattle.span_cli.specs.Servings.{visit_line}
-use Rattle.span_notes.specs.laws.NoteLaws.{notes_as}
+use Rattle.span_notes.proofs.NoteLaws.{notes_as}
 use Rattle.span_cli.proofs.serve.note_visit.Goals as goal
 
 pub returns-in-Err-Read : goal.returns-in-Err-Read

@@ -1,4 +1,4 @@
-use Rattle.span_notes.specs.laws.NoteLaws.{notes_line}
+use Rattle.span_notes.proofs.NoteLaws.{notes_line}
 use Rattle.span_cli.proofs.ServeLemmas.{serves_all}
 use Rattle.span_cli.proofs.serve.serve.Goals as goal
 

@@ -1,5 +1,5 @@
 use Rattle.std.proofs.Common.{◌≡◌, Bool, true, false, refl, sym, ◌∙◌}
-use Rattle.span_notes.specs.laws.WordLaws.{same_number}
+use Rattle.span_notes.proofs.WordLaws.{same_number}
 use Rattle.span_cli.specs.Commands.{texts}
 use Rattle.span_cli.proofs.ServeWords.{no_count, no_form, no_mode, no_place, serve_spelled}
 use Rattle.span_cli.proofs.serve_words.serve_of.Goals as goal

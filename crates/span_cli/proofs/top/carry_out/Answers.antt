@@ -1,6 +1,6 @@
 use Rattle.std.proofs.Common.{sym, subst}
 use Rattle.span_cli.specs.Jobs.{Job}
-use Rattle.span_cli.specs.Runs.{EndsRun}
+use Rattle.span_cli.specs.private.RunSteps.{EndsRun}
 use Rattle.span_cli.proofs.GaugeEndings.{ends_gauge}
 use Rattle.span_cli.proofs.top.carry_out.Goals as goal
 

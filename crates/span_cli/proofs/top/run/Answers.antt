@@ -5,10 +5,13 @@ use Rattle.span_io.specs.declared.form.Form.{Form}
 use Rattle.span_cli.specs.declared.command.Command.{Command}
 use Rattle.span_cli.specs.declared.command.Command.TheVariants.{Convert, Gauge, Headers, Losses, Serve}
 use Rattle.span_cli.specs.Commands.{texts, OnJob, OnServing, Spells, SpellsServe}
-use Rattle.span_cli.specs.Lines.{IsRunStatus, Notes, stage_line, stage_of, status_of}
-use Rattle.span_cli.specs.Jobs.{Job, IfGauge, task_of}
+use Rattle.span_cli.specs.Lines.{IsRunStatus, Notes, stage_line, stage_of}
+use Rattle.span_cli.specs.private.LineWords.{status_of}
+use Rattle.span_cli.specs.Jobs.{Job, task_of}
+use Rattle.span_cli.specs.private.JobWords.{IfGauge}
 use Rattle.span_cli.specs.Jobs as jobs
-use Rattle.span_cli.specs.Runs.{EndsGauge, IsGaugeStatus, WritesAllOf}
+use Rattle.span_cli.specs.private.RunSteps.{EndsGauge, WritesAllOf}
+use Rattle.span_cli.specs.Runs.{IsGaugeStatus}
 use Rattle.span_cli.specs.declared.job.Task.TheVariants.{Make}
 use Rattle.span_cli.specs.Outcomes.{OnOutcome, IsJudgedAt, Writes, CarriesOut, gauge_outcome}
 use Rattle.span_cli.specs.Servings.{ServesConnections}
@@ -18,7 +21,7 @@ use Rattle.span_cli.proofs.LinesBack.{lines_back}
 use Rattle.span_cli.proofs.LossesTold.{losses_told}
 use Rattle.span_cli.proofs.SameRuns.{carried_out_agreeing, carried_out_same}
 use Rattle.span_cli.proofs.ServeLemmas.{served_in_vain, untouched_door_in_vain}
-use Rattle.span_notes.specs.laws.WordLaws.{place_within, word_at}
+use Rattle.span_notes.proofs.WordLaws.{place_within, word_at}
 use Rattle.span_cli.proofs.TaskLemmas as task
 use Rattle.span_cli.proofs.TextsBack.{text_back}
 use Rattle.span_cli.proofs.top.run.Given.{Over}

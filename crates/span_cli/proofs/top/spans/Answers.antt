@@ -1,12 +1,12 @@
 use Rattle.std.proofs.Common.{◌≡◌, [], Err, sym, ap, subst, ◌∙◌, arith}
 use Rattle.span_io.specs.declared.limits.Limits.{Limits}
 use Rattle.span_convert.specs.Converters.{Fed, Work, stop_in, work_of}
-use Rattle.span_convert.specs.declared.converter.Walker.{Walker}
+use Rattle.span_convert.specs.declared.walker.Walker.{Walker}
 use Rattle.span_convert.specs.declared.stop.Stop.{Stop}
 use Rattle.span_convert.specs.declared.stop.Stop.TheVariants as stops
-use Rattle.span_cli.specs.Inputs.{IsFed, shipped}
+use Rattle.span_cli.specs.private.ReadBlocks.{IsFed, shipped}
 use Rattle.span_cli.specs.Jobs.{Spans}
-use Rattle.span_cli.specs.Runs.{EndsRun}
+use Rattle.span_cli.specs.private.RunSteps.{EndsRun}
 use Rattle.span_cli.proofs.ConversionEndings.{ends_at_finish, ends_whole, stop_of}
 use Rattle.span_cli.proofs.top.spans.Goals as goal
 

@@ -1,6 +1,6 @@
 use Rattle.std.proofs.Common.{Bool, subst, ◌++◌, length, ap, arith, length-append}
 use Rattle.std.proofs.lemmas.Result.{on_ok_weaker}
-use Rattle.span_convert.specs.Walks.{Exceeds}
+use Rattle.span_convert.specs.private.WalkSteps.{Exceeds}
 use Rattle.span_convert.proofs.DocumentWalks.{all_looked_at, document_goes_on, stays_taken, stops_too_long}
 use Rattle.span_convert.proofs.WalkLemmas.{only_memory}
 use Rattle.span_convert.proofs.document.take_document.Goals as goal

@@ -1,7 +1,7 @@
 use Rattle.std.proofs.Common.{rules, ◌≡◌, ℕ, List, Err, sym, subst}
 use Rattle.span_convert.specs.Reports.{written_target}
 use Rattle.span_convert.specs.Units.{document_input}
-use Rattle.span_convert.specs.Walks.{EndsWalk}
+use Rattle.span_convert.specs.private.WalkSteps.{EndsWalk}
 use Rattle.span_convert.proofs.DocumentWalks.{taken_itself}
 use Rattle.span_convert.proofs.document.walk_document.Goals as goal
 

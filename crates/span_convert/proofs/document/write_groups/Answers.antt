@@ -5,7 +5,7 @@ use Rattle.trace_model.specs.Soundness.{IsSoundGroup}
 use Rattle.map_zipkin.specs.NotedGroups.{noted_group}
 use Rattle.span_convert.specs.Reports.{written_target}
 use Rattle.span_convert.specs.Units.{document_input}
-use Rattle.span_convert.specs.Walks.{EndsWalk}
+use Rattle.span_convert.specs.private.WalkSteps.{EndsWalk}
 use Rattle.span_convert.proofs.DocumentWalks.{ReadUnit, nothing_yet, walked_none, walked_more, walked_all, stops_unit}
 use Rattle.span_convert.proofs.WalkLemmas.{holds_none, ends_whole}
 use Rattle.span_convert.proofs.document.write_groups.Goals as goal

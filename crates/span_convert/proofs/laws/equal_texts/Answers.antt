@@ -1,5 +1,5 @@
 use Rattle.std.proofs.Common.{ℕ, List, ap, subst}
-use Rattle.trace_model.specs.declared.trace.Group.{Group}
+use Rattle.trace_model.specs.declared.group.Group.{Group}
 use Rattle.span_convert.specs.Canonical.{Reads}
 use Rattle.span_convert.specs.Units.{normal_form, trace_text, canonical_text}
 use Rattle.span_convert.proofs.TextLaws.{reads_plainly}

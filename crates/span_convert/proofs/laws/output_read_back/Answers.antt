@@ -1,7 +1,7 @@
 use Rattle.std.proofs.Common.{◌≡◌, ◌↔◌, ℕ, List, All, refl, sym, subst, ◌∙◌}
 use Rattle.span_io.specs.declared.form.Form.{Form}
 use Rattle.span_io.specs.declared.limits.Limits.{Limits}
-use Rattle.trace_model.specs.declared.trace.Group.{Group}
+use Rattle.trace_model.specs.declared.group.Group.{Group}
 use Rattle.span_convert.specs.Canonical.{ConvertsToItself, Fits, IsHeldBy, Reads, ReadsPlainly}
 use Rattle.span_convert.specs.Moves.{IsNormalTrace}
 use Rattle.span_convert.specs.Targets.{form_target}

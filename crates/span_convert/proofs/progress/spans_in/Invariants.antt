@@ -1,7 +1,7 @@
 use Rattle.std.proofs.Common.{◌≡◌, min, length, take}
 use Rattle.std.specs.List.{flat_map}
 use Rattle.span_io.specs.Outside.{last_count}
-use Rattle.trace_model.specs.declared.trace.Scope.{Scope}
+use Rattle.trace_model.specs.declared.group.Scope.{Scope}
 use Rattle.span_convert.proofs.progress.spans_in.Given as goal
 
 abbrev pub invariant-loop-scope : goal.invariant-loop-scope

@@ -1,6 +1,6 @@
 use Rattle.std.proofs.Common.{◌++◌, List, ap, ◌∙◌}
 use Rattle.trace_model.specs.declared.span.Span.{Span}
-use Rattle.trace_model.specs.declared.trace.Scope.{Scope}
+use Rattle.trace_model.specs.declared.group.Scope.{Scope}
 use Rattle.span_convert.specs.Reports.{spans_shown}
 use Rattle.span_convert.proofs.ReportTargets.{flat_start, flat_next}
 use Rattle.span_convert.proofs.show_writer.show_scopes.Goals as goal

@@ -3,7 +3,7 @@ use Rattle.std.specs.Borrow.{Bor}
 use Rattle.std.proofs.lemmas.Result.{on_ok_weaker, IfErr-weaker}
 use Rattle.map_zipkin.specs.NotedGroups.{noted_group}
 use Rattle.span_convert.specs.FramedForms.{FramedForm}
-use Rattle.span_convert.specs.Walks.{lent_bytes}
+use Rattle.span_convert.specs.private.WalkSteps.{lent_bytes}
 use Rattle.span_convert.proofs.PieceWalks.{held_within, walked_free, walked_unit, walk_stops_writing, walk_stops_unit, walk_stays}
 use Rattle.span_convert.proofs.walk.convert_frame.Goals as goal
 

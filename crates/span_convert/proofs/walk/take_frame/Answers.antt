@@ -1,7 +1,7 @@
 use Rattle.std.proofs.Common.{rules, ◌≡◌, ◌≤◌, [], ◌++◌, List, ℕ, length, Err, sym, subst, arith}
 use Rattle.std.proofs.lemmas.List.{nil_from_length}
 use Rattle.std.proofs.lemmas.Result.{IfErr-weaker}
-use Rattle.span_convert.specs.Walks.{WalkedUnits}
+use Rattle.span_convert.specs.private.WalkSteps.{WalkedUnits}
 use Rattle.span_convert.proofs.PieceWalks.{walk_stays}
 use Rattle.span_convert.proofs.WalkLemmas.{if_err}
 use Rattle.span_convert.proofs.walk.take_frame.Goals as goal

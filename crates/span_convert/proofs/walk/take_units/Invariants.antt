@@ -2,7 +2,7 @@ use Rattle.std.proofs.Common.{◌≡◌, ◌+◌, ◌≤◌, ℕ, List, length}
 use Rattle.span_io.specs.Outside.{Outlet, OutputHolds}
 use Rattle.span_io.specs.declared.limits.Limits.{Limits}
 use Rattle.span_convert.specs.Pens.{written_by}
-use Rattle.span_convert.specs.Walks.{WalksOn}
+use Rattle.span_convert.specs.private.WalkSteps.{WalksOn}
 use Rattle.span_convert.specs.declared.written.Written.{Written}
 use Rattle.span_convert.proofs.walk.take_units.Given as goal
 

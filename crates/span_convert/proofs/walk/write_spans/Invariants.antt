@@ -4,7 +4,7 @@ use Rattle.trace_model.specs.OtlpParts.{NotedGroup}
 use Rattle.zipkin_json.specs.Canonical.{zspan_text}
 use Rattle.span_convert.specs.Documents.{pieces_added}
 use Rattle.span_convert.specs.SpanFiles.{left_text}
-use Rattle.span_convert.specs.Walks.{Converted, with_text}
+use Rattle.span_convert.specs.private.WalkSteps.{Converted, with_text}
 use Rattle.span_convert.specs.declared.written.Written.{Written}
 use Rattle.span_convert.proofs.walk.write_spans.Given as goal
 

@@ -1,4 +1,4 @@
-use Rattle.span_io.specs.laws.VarintFacts.{shortest_laws}
+use Rattle.span_io.proofs.VarintFacts.{shortest_laws}
 use Rattle.span_io.proofs.laws.shortest_varint.Goals as goal
 
 pub returns : goal.returns

@@ -1,4 +1,4 @@
-use Rattle.span_io.specs.laws.VarintFacts.{varint_laws}
+use Rattle.span_io.proofs.VarintFacts.{varint_laws}
 use Rattle.span_io.proofs.laws.varint_readings.Goals as goal
 
 pub returns : goal.returns

@@ -1,5 +1,5 @@
 use Rattle.std.proofs.Common.{◌∙◌, refl}
-use Rattle.span_notes.specs.laws.NoteLaws.{notes_as}
+use Rattle.span_notes.proofs.NoteLaws.{notes_as}
 use Rattle.span_notes.proofs.PieceLemmas.{three_pieces}
 use Rattle.span_notes.proofs.notes.note_numbered.Goals as goal
 

@@ -1,6 +1,6 @@
 use Rattle.std.proofs.Common.{◌≡◌, ℕ, List, Option, Some, None, refl, sym, ap, ◌∙◌, arith}
 use Rattle.span_notes.specs.Pairs.{texts}
-use Rattle.span_notes.specs.laws.WordLaws.{place_within, word_at}
+use Rattle.span_notes.proofs.WordLaws.{place_within, word_at}
 use Rattle.span_notes.proofs.PairLemmas.{no_count, tells_count, tells_none}
 use Rattle.span_notes.proofs.pairs.count_at.Goals as goal
 

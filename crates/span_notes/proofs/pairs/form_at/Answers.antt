@@ -1,6 +1,6 @@
 use Rattle.std.proofs.Common.{ℕ, List, Some, None, refl, sym, ap, ◌∙◌, arith}
 use Rattle.span_notes.specs.Pairs.{texts}
-use Rattle.span_notes.specs.laws.WordLaws.{place_within, word_at}
+use Rattle.span_notes.proofs.WordLaws.{place_within, word_at}
 use Rattle.span_notes.proofs.PairLemmas.{form_stands, no_form}
 use Rattle.span_notes.proofs.pairs.form_at.Goals as goal
 

@@ -1,6 +1,6 @@
 use Rattle.std.proofs.Common.{ℕ, List, Some, sym, ap, ◌∙◌}
 use Rattle.std.proofs.lemmas.Slice.Eq.{bytes_eq-Decides}
-use Rattle.span_notes.specs.laws.WordLaws.{one_word, word_at}
+use Rattle.span_notes.proofs.WordLaws.{one_word, word_at}
 use Rattle.span_notes.proofs.pairs.is_at.Goals as goal
 
 pub returns : goal.returns

@@ -1,6 +1,6 @@
 use Rattle.std.proofs.Common.{◌≡◌, ℕ, ◌+◌, Bool, true, false, Option, sym, subst, ◌∙◌, arith}
 use Rattle.span_notes.specs.Pairs.{texts}
-use Rattle.span_notes.specs.laws.WordLaws.{same_number, word_there}
+use Rattle.span_notes.proofs.WordLaws.{same_number, word_there}
 use Rattle.span_notes.proofs.PairLemmas.{FoundSo, found_all, found_first, found_none, found_twice, passed}
 use Rattle.span_notes.proofs.pairs.word_place.Goals as goal
 use Rattle.span_notes.proofs.pairs.word_place.Goals.{then-is_at+else-is_some, else-is_at}

@@ -2,7 +2,7 @@ use Rattle.std.proofs.Common.{ℕ, List, Some, refl, sym, ap, ◌∙◌, arith}
 use Rattle.std.specs.Prelude.{codes}
 use Rattle.std.proofs.lemmas.Bool.{false≢true}
 use Rattle.span_notes.specs.Pairs.{texts}
-use Rattle.span_notes.specs.laws.WordLaws.{place_within, same_number, word_at}
+use Rattle.span_notes.proofs.WordLaws.{place_within, same_number, word_at}
 use Rattle.span_relay.proofs.WordLemmas.{all_spelled, can_relay, never_form, never_place, none_spelled}
 use Rattle.span_relay.proofs.options.read_options.Goals as goal
 

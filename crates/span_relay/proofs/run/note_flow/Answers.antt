@@ -1,5 +1,5 @@
 use Rattle.std.proofs.Common.{◌≡◌, Err, sym, ap, ◌∙◌}
-use Rattle.span_notes.specs.laws.NoteLaws.{notes_as}
+use Rattle.span_notes.proofs.NoteLaws.{notes_as}
 use Rattle.span_relay.specs.RelayRuns.{flow_line}
 use Rattle.span_relay.specs.declared.forwarding.FlowFault.{FlowFault}
 use Rattle.span_relay.specs.declared.forwarding.FlowFault.TheVariants as faults

@@ -1,7 +1,7 @@
 use Rattle.std.proofs.Common.{◌≡◌, Some, sym, ap, ◌∙◌}
 use Rattle.conn_service.specs.declared.ended.ServeFault.{ServeFault}
 use Rattle.conn_service.specs.declared.ended.ServeFault.TheVariants as whys
-use Rattle.span_notes.specs.laws.NoteLaws.{notes_as}
+use Rattle.span_notes.proofs.NoteLaws.{notes_as}
 use Rattle.span_relay.specs.RelayRuns.{link_line}
 use Rattle.span_relay.proofs.run.note_link.Goals as goal
 

@@ -1,5 +1,5 @@
 use Rattle.std.proofs.Common.{◌∙◌}
-use Rattle.span_notes.specs.laws.NoteLaws.{notes_as}
+use Rattle.span_notes.proofs.NoteLaws.{notes_as}
 use Rattle.span_relay.proofs.RunLemmas.{status_line}
 use Rattle.span_relay.proofs.run.note_status.Goals as goal
 

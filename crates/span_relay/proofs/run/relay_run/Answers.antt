@@ -1,7 +1,7 @@
 use Rattle.std.proofs.Common.{◌≡◌, Option, Some, None, refl, sym, ◌∙◌, subst, arith}
 use Rattle.std.specs.Prelude.{slice_get}
 use Rattle.span_notes.specs.Pairs.{texts}
-use Rattle.span_notes.specs.laws.WordLaws.{one_word, word_at}
+use Rattle.span_notes.proofs.WordLaws.{one_word, word_at}
 use Rattle.span_relay.specs.declared.options.Options.{Options}
 use Rattle.span_relay.proofs.RunLemmas.{never_two, relays_as}
 use Rattle.span_relay.proofs.WordLemmas.{address_within, peer_address, peer_within}

@@ -1,6 +1,6 @@
 use Rattle.std.proofs.Common.{sym, ◌∙◌}
 use Rattle.span_tags.specs.Escapes.{is_touched}
-use Rattle.span_tags.specs.laws.EscapeLaws.{no_key, escaped_same}
+use Rattle.span_tags.proofs.EscapeLaws.{no_key, escaped_same}
 use Rattle.span_tags.proofs.escapes.escaped.Goals as goal
 
 pub returns-then-not-has_touched-clause-value : goal.returns-then-not-has_touched-clause-value

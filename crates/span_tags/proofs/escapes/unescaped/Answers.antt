@@ -1,6 +1,6 @@
 use Rattle.std.proofs.Common.{sym, ◌∙◌}
 use Rattle.span_tags.specs.Escapes.{is_escaped}
-use Rattle.span_tags.specs.laws.EscapeLaws.{no_key, unescaped_same}
+use Rattle.span_tags.proofs.EscapeLaws.{no_key, unescaped_same}
 use Rattle.span_tags.proofs.escapes.unescaped.Goals as goal
 
 pub returns-then-not-has_escaped-clause-value : goal.returns-then-not-has_escaped-clause-value

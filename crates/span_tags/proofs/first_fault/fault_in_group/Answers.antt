@@ -1,7 +1,7 @@
 use Rattle.std.proofs.Common.{sym, subst}
 use Rattle.std.proofs.lemmas.Result.{IfOk-weaker}
 use Rattle.span_tags.specs.PlacedFaults.{CountsBy}
-use Rattle.span_tags.specs.laws.FaultLaws.{none_exactly}
+use Rattle.span_tags.proofs.FaultLaws.{none_exactly}
 use Rattle.span_tags.proofs.FirstFault.{found_counts}
 use Rattle.span_tags.proofs.first_fault.fault_in_group.Goals as goal
 

@@ -1,4 +1,4 @@
-use Rattle.span_tags.specs.laws.EscapeLaws.{esc_free, esc_injective, esc_untouched, unesc_esc, esc_unesc}
+use Rattle.span_tags.proofs.EscapeLaws.{esc_free, esc_injective, esc_untouched, unesc_esc, esc_unesc}
 use Rattle.span_tags.proofs.laws.keys_read_back.Goals as goal
 
 pub returns : goal.returns

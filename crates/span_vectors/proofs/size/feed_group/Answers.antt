@@ -1,5 +1,5 @@
 use Rattle.std.proofs.Common.{◌≡◌, ◌+◌, ◌++◌, List, Ok, Err, sym, ap, subst, ◌∙◌, arith}
-use Rattle.otlp_proto.specs.Texts.{group_record}
+use Rattle.otlp_proto.specs.Canonical.{group_record}
 use Rattle.span_io.specs.Counting.{counting_outlet}
 use Rattle.span_io.specs.Limits.{shipped_limits}
 use Rattle.span_io.specs.declared.form.Form.TheVariants.{OtlpProto}

@@ -1,6 +1,6 @@
 use Rattle.std.proofs.Common.{ap, ◌∙◌}
 use Rattle.span_io.specs.Zigzag.{zigzag}
-use Rattle.thrift_compact.specs.laws.ProtocolLaws.{near_text, far_text}
+use Rattle.thrift_spellings.proofs.CompactLaws.{near_text, far_text}
 use Rattle.thrift_compact.proofs.Written.{difference_is, id_is, is_close, is_far}
 use Rattle.thrift_compact.proofs.writing.append_header.Goals as goal
 

@@ -1,6 +1,7 @@
 use Rattle.std.proofs.Common.{subst, arith}
 use Rattle.thrift_core.specs.Walks.{outer_struct}
-use Rattle.thrift_core.specs.Stops.{HaltsAs, StopsFor}
+use Rattle.thrift_core.specs.private.Halting.{HaltsAs}
+use Rattle.thrift_core.specs.Stops.{StopsFor}
 use Rattle.thrift_core.proofs.FirstStruct.{lacks_beyond, lacks_within, truncated_full, truncated_short, refused_at}
 use Rattle.thrift_core.proofs.frame.refusal.Goals as goal
 

@@ -1,4 +1,4 @@
-use Rattle.span_io.specs.Framings.{step_laws}
+use Rattle.span_io.proofs.FramingSteps.{step_laws}
 use Rattle.thrift_core.specs.Values.{struct_frames, RefusedStruct}
 use Rattle.thrift_core.proofs.TextsFrom.{outer_laws}
 use Rattle.thrift_core.proofs.laws.one_step.Goals as goal

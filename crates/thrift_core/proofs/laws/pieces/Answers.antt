@@ -1,4 +1,4 @@
-use Rattle.span_io.specs.Pieces.{piece_laws}
+use Rattle.span_io.proofs.PieceSteps.{piece_laws}
 use Rattle.thrift_core.specs.Values.{struct_frames, RefusedStruct}
 use Rattle.thrift_core.proofs.TextsFrom.{outer_laws}
 use Rattle.thrift_core.proofs.laws.pieces.Goals as goal

@@ -1,4 +1,4 @@
-use Rattle.thrift_core.specs.laws.WrittenLaws.{written_structs}
+use Rattle.thrift_core.proofs.WrittenLaws.{written_structs}
 use Rattle.thrift_core.proofs.laws.written_structs.Goals as goal
 
 pub returns : goal.returns

@@ -2,7 +2,7 @@ use Rattle.std.proofs.Common.{◌+◌, ◌-◌, ◌++◌, ◌∷◌, [], length,
 use Rattle.std.proofs.lemmas.List.{length-take, length-drop}
 use Rattle.thrift_core.specs.declared.passing.Halted.TheVariants as halts
 use Rattle.thrift_core.specs.declared.position.Position.{Position}
-use Rattle.thrift_core.specs.Positions.{Resumed}
+use Rattle.thrift_core.specs.private.Halting.{Resumed}
 use Rattle.thrift_core.specs.private.StackWalks.{HaltsThere}
 use Rattle.thrift_core.specs.Walks.{outer_struct}
 use Rattle.thrift_core.proofs.Resuming.{rest_part, lacking_place, counted_on, of_cut, other_halts}

@@ -1,6 +1,6 @@
 use Rattle.std.proofs.Common.{◌-◌, ◌++◌, ◌∷◌, [], length, take, drop, sym, subst, arith}
 use Rattle.std.proofs.lemmas.List.{length-take, length-drop}
-use Rattle.thrift_core.specs.Positions.{unfinished_part}
+use Rattle.thrift_core.specs.private.Halting.{unfinished_part}
 use Rattle.thrift_core.specs.private.StackWalks.{open_of, HaltsThere}
 use Rattle.thrift_core.specs.Walks.{outer_struct, Passes}
 use Rattle.thrift_core.proofs.Resuming.{rest_part, halting, all_taken, begun_again, counted_on}

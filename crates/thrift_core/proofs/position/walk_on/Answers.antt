@@ -1,6 +1,6 @@
 use Rattle.std.proofs.Common.{[], ◌∷◌, length, ap, sym, subst, arith}
 use Rattle.thrift_core.specs.declared.position.Position.{Position}
-use Rattle.thrift_core.specs.Positions.{KeepsOf}
+use Rattle.thrift_core.specs.private.Halting.{KeepsOf}
 use Rattle.thrift_core.specs.private.StackWalks.{open_of, HaltsThere}
 use Rattle.thrift_core.specs.Walks.{outer_struct, Passes}
 use Rattle.thrift_core.proofs.Determined.{passes_on}

@@ -1,6 +1,6 @@
 use Rattle.std.proofs.Common.{◌≤◌, length, ap, arith, [], ◌∷◌, refl, subst}
 use Rattle.thrift_core.specs.Walks.{in_value, Passes}
-use Rattle.thrift_core.specs.Stops.{HaltsAs}
+use Rattle.thrift_core.specs.private.Halting.{HaltsAs}
 use Rattle.thrift_core.proofs.Stopping.{value_sound}
 use Rattle.thrift_core.proofs.Answering.{passed_answers, halted_answers, passed_value, one_value, no_value}
 use Rattle.thrift_core.proofs.WalkSteps.{onward}

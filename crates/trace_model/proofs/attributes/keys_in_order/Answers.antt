@@ -11,7 +11,7 @@ use Rattle.std.proofs.lemmas.List.Sorted.{answers_always, ranks_by, Contains-per
 use Rattle.std.proofs.lemmas.Map.Text.{is_eq-slice_cmp}
 use Rattle.std.proofs.lemmas.Slice.Eq.{bytes_eq-Decides}
 use Rattle.trace_model.specs.Attributes.{Rise}
-use Rattle.trace_model.specs.laws.PartLaws.{bytes_eq_equiv}
+use Rattle.trace_model.proofs.PartLaws.{bytes_eq_equiv}
 use Rattle.trace_model.proofs.attributes.keys_in_order.Goals as goal
 
 once : (c : goal.After-from_vec) → c.dedup_by.new.self.items ≡ dedup bytes_eq c.sort_by.new.self.items

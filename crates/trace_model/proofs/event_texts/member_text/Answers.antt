@@ -2,7 +2,7 @@ use Rattle.std.proofs.Common.{◌≡◌, ℕ, List, [], ◌∷◌, ◌++◌, sym
 use Rattle.std.proofs.lemmas.Result.{MatchResult-weaker}
 use Rattle.json.specs.Print.{print, quoted}
 use Rattle.json.specs.Token.{Token, key}
-use Rattle.trace_model.specs.WrittenTokens.{tokens_of, map_tokens}
+use Rattle.trace_model.specs.private.WrittenTokens.{tokens_of, map_tokens}
 use Rattle.trace_model.proofs.EventLemmas.{member_print}
 use Rattle.trace_model.proofs.TokenRows.{map_of_pairs}
 use Rattle.trace_model.proofs.event_texts.member_text.Goals as goal

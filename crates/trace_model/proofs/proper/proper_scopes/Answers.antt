@@ -1,6 +1,6 @@
 use Rattle.std.proofs.Common.{◌≡◌, ◌<◌, ◌≤◌, List, length, get_or, subst}
 use Rattle.trace_model.specs.Proper.{IsProperScope}
-use Rattle.trace_model.specs.declared.trace.Scope.{Scope}
+use Rattle.trace_model.specs.declared.group.Scope.{Scope}
 use Rattle.trace_model.proofs.AllLemmas.{all_start, all_more, all_end}
 use Rattle.trace_model.proofs.proper.proper_scopes.Goals as goal
 

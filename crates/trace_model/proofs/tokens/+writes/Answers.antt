@@ -1,6 +1,6 @@
 use Rattle.std.proofs.Common.{[], ◌∷◌, rules, sym}
 use Rattle.json.specs.Token.{string, begin_array, end_array, begin_object, end_object}
-use Rattle.trace_model.specs.WrittenTokens.{tokens_of, pair_tokens, list_tokens, map_tokens}
+use Rattle.trace_model.specs.private.WrittenTokens.{tokens_of, pair_tokens, list_tokens, map_tokens}
 use Rattle.trace_model.proofs.TokenRows.{wrote, closed, list_of_members, map_of_pairs}
 use Rattle.trace_model.proofs.tokens.+writes.Goals as goal
 

@@ -1,7 +1,7 @@
 use Rattle.std.proofs.Common.{◌∷◌, take}
 use Rattle.std.specs.List.{flat_map}
 use Rattle.json.specs.Token.{begin_array, begin_object}
-use Rattle.trace_model.specs.WrittenTokens.{Wrote, tokens_of, pair_tokens}
+use Rattle.trace_model.specs.private.WrittenTokens.{Wrote, tokens_of, pair_tokens}
 use Rattle.trace_model.proofs.tokens.+writes.Given as goal
 
 abbrev pub invariant-write_list-members : goal.invariant-write_list-members

@@ -2,7 +2,7 @@ use Rattle.std.proofs.Common.{◌≡◌, ℕ, List, [], ◌++◌, ap, ◌∙◌}
 use Rattle.std.proofs.lemmas.Result.{MatchResult-weaker}
 use Rattle.json.specs.Print.{print}
 use Rattle.json.specs.Token.{Token}
-use Rattle.trace_model.specs.WrittenTokens.{tokens_of}
+use Rattle.trace_model.specs.private.WrittenTokens.{tokens_of}
 use Rattle.trace_model.proofs.tokens.json_of_value.Goals as goal
 
 pub returns : goal.returns

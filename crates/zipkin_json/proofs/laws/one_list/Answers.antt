@@ -1,7 +1,7 @@
 use Rattle.std.proofs.Common.{◌≡◌, List, sym, ◌∙◌}
 use Rattle.serde_json.specs.Data.{Data}
 use Rattle.span_io.specs.Paths.{NothingOffends}
-use Rattle.span_io.specs.laws.PathDecisions.{IsSettled, one, none}
+use Rattle.span_io.proofs.PathDecisions.{IsSettled, one, none}
 use Rattle.zipkin_json.specs.Span.{AreSpans, spans_offend}
 use Rattle.zipkin_json.specs.declared.span.ZSpan.{ZSpan}
 use Rattle.zipkin_json.proofs.Decisions.{spans_decided}

@@ -3,7 +3,7 @@ use Rattle.serde_json.specs.Data.{Data}
 use Rattle.span_io.specs.Causes.{cause_number}
 use Rattle.span_io.specs.declared.cause.Cause.{Cause}
 use Rattle.span_io.specs.Paths.{Counts}
-use Rattle.span_io.specs.laws.PathDecisions.{IsSettled, one, none}
+use Rattle.span_io.proofs.PathDecisions.{IsSettled, one, none}
 use Rattle.zipkin_json.specs.Span.{AreSpans, spans_offend}
 use Rattle.zipkin_json.specs.declared.span.ZSpan.{ZSpan}
 use Rattle.zipkin_json.proofs.Decisions.{spans_decided}

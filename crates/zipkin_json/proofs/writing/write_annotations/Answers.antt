@@ -1,6 +1,6 @@
 use Rattle.std.proofs.Common.{rules}
 use Rattle.zipkin_json.specs.private.Writing.{annotation_piece}
-use Rattle.json_members.specs.laws.WritingLaws.{goes_on, stops, exits_written}
+use Rattle.json_members.proofs.WritingLaws.{goes_on, stops, exits_written}
 use Rattle.zipkin_json.proofs.writing.write_annotations.Goals as goal
 
 pub returns-in_err-write_annotation : goal.returns-in_err-write_annotation

@@ -1,6 +1,7 @@
 use Rattle.std.proofs.Common.{take, Ok}
 use Rattle.span_io.specs.declared.halt.OutOfMemory.{OutOfMemory}
-use Rattle.json_members.specs.Writing.{Appends, pieces}
+use Rattle.json_members.specs.Writing.{Appends}
+use Rattle.json_members.specs.private.Pieces.{pieces}
 use Rattle.zipkin_json.specs.private.Writing.{annotation_piece}
 use Rattle.zipkin_json.proofs.writing.write_annotations.Given as goal
 

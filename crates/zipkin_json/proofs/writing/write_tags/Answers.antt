@@ -1,6 +1,6 @@
 use Rattle.std.proofs.Common.{rules}
 use Rattle.zipkin_json.specs.private.Writing.{tag_piece}
-use Rattle.json_members.specs.laws.WritingLaws.{goes_on, stops, exits_written}
+use Rattle.json_members.proofs.WritingLaws.{goes_on, stops, exits_written}
 use Rattle.zipkin_json.proofs.writing.write_tags.Goals as goal
 
 pub returns-in_err-whole_text_member : goal.returns-in_err-whole_text_member

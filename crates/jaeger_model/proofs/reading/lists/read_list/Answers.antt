@@ -7,7 +7,7 @@ use Rattle.thrift_core.specs.declared.field.ListHead.{ListHead}
 use Rattle.thrift_core.specs.declared.type_code.TypeCode.TheVariants as kinds
 use Rattle.thrift_core.specs.Parts.{list_head, Begins}
 use Rattle.jaeger_model.specs.InnerRows.{ListOffends, ElementsOffend}
-use Rattle.jaeger_model.specs.ListsSoFar.{AreElements}
+use Rattle.jaeger_model.specs.private.ListsSoFar.{AreElements}
 use Rattle.jaeger_model.proofs.ListLemmas.{list_there, list_before, are_elements, bad_element, list_judged, inner_within}
 use Rattle.jaeger_model.proofs.reading.lists.read_list.Goals as goal
 

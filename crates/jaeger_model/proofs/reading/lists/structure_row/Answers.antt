@@ -3,7 +3,7 @@ use Rattle.std.proofs.lemmas.Result.{err_from_is_err_and}
 use Rattle.span_io.specs.Offences.{Offence, HereOrInside, Judges}
 use Rattle.thrift_core.specs.Messages.{structs, whole_struct}
 use Rattle.thrift_core.specs.Trees.{StructText}
-use Rattle.jaeger_model.specs.ListsSoFar.{MeansOne}
+use Rattle.jaeger_model.specs.private.ListsSoFar.{MeansOne}
 use Rattle.jaeger_model.proofs.ListLemmas.{halts_too, row_judged, sets_first, struct_there, all_inside}
 use Rattle.jaeger_model.proofs.reading.lists.structure_row.Goals as goal
 

@@ -3,7 +3,7 @@ use Rattle.std.proofs.lemmas.Result.{err_from_is_err_and}
 use Rattle.span_io.specs.Offences.{HereOrInside}
 use Rattle.span_io.specs.declared.items.Items.{Items}
 use Rattle.jaeger_model.specs.InnerRows.{BadElement, ListOffends}
-use Rattle.jaeger_model.specs.ListsSoFar.{MeansEach}
+use Rattle.jaeger_model.specs.private.ListsSoFar.{MeansEach}
 use Rattle.jaeger_model.proofs.ListLemmas.{halts_too, row_judged, sets_first}
 use Rattle.jaeger_model.proofs.reading.lists.structures_row.Goals as goal
 

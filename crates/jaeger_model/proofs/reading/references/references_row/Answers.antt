@@ -2,11 +2,11 @@ use Rattle.std.proofs.Common.{◌-◌, Ok, Err, Option, Some, refl}
 use Rattle.std.proofs.lemmas.Result.{err_from_is_err_and}
 use Rattle.span_io.specs.Offences.{HereOrInside}
 use Rattle.span_io.specs.declared.items.Items.{Items}
-use Rattle.thrift_core.specs.laws.StructLaws.{struct_laws}
+use Rattle.thrift_core.proofs.StructLaws.{struct_laws}
 use Rattle.jaeger_model.specs.declared.span.SpanRef.{SpanRef}
 use Rattle.jaeger_model.specs.InnerRows.{BadElement, ListOffends}
-use Rattle.jaeger_model.specs.ReferenceSoFar.{KeepsReferences}
-use Rattle.jaeger_model.specs.References.{reference_rules}
+use Rattle.jaeger_model.specs.private.ReferenceSoFar.{KeepsReferences}
+use Rattle.jaeger_model.specs.Reference.{reference_rules}
 use Rattle.jaeger_model.proofs.ListLemmas.{halts_too, row_judged, sets_first}
 use Rattle.jaeger_model.proofs.ReferenceLemmas.{reference_laws}
 use Rattle.jaeger_model.proofs.reading.references.references_row.Goals as goal

@@ -1,5 +1,5 @@
 use Rattle.std.proofs.Common.{rules}
-use Rattle.thrift_core.specs.Written.{rows_written}
+use Rattle.thrift_core.specs.private.WrittenParts.{rows_written}
 use Rattle.jaeger_model.proofs.Growth.{exits, seq, stop}
 use Rattle.jaeger_model.proofs.writing.batches.write_process_fields.Goals as goal
 

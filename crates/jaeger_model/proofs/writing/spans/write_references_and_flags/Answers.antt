@@ -1,6 +1,6 @@
 use Rattle.std.proofs.Common.{[], ◌∷◌, pos, rules}
 use Rattle.thrift_core.specs.Trees.{i32, leaf}
-use Rattle.thrift_core.specs.Written.{rows_written}
+use Rattle.thrift_core.specs.private.WrittenParts.{rows_written}
 use Rattle.jaeger_model.specs.Canonical.{reference_rows}
 use Rattle.jaeger_model.proofs.Growth.{exits, ended}
 use Rattle.jaeger_model.proofs.WrittenLists.{skip_then, list_then, list_cut, all_any}

@@ -1,7 +1,7 @@
 use Rattle.std.proofs.Common.{◌≡◌, true, Some, None, cond, option_map, ap, ◌∙◌, rules}
 use Rattle.std.specs.Str.{bytes_eq}
 use Rattle.json_nodes.specs.Lents.{lent_view, members_left}
-use Rattle.json_nodes.specs.Nodes.{later_or, last_value}
+use Rattle.json_nodes.specs.private.Parts.{later_or, last_value}
 use Rattle.json_nodes.proofs.MemberLemmas.{seen_more}
 use Rattle.json_nodes.proofs.members.Members.last_named.Goals as goal
 

@@ -1,6 +1,6 @@
 use Rattle.std.proofs.Common.{◌≡◌, option_map, length}
 use Rattle.json_nodes.specs.Lents.{lent_view, members_left}
-use Rattle.json_nodes.specs.Nodes.{later_or, last_value}
+use Rattle.json_nodes.specs.private.Parts.{later_or, last_value}
 use Rattle.json_nodes.proofs.members.Members.last_named.Given as goal
 
 abbrev pub invariant-members : goal.invariant-members

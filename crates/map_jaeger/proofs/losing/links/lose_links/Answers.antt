@@ -1,6 +1,6 @@
 use Rattle.std.proofs.Common.{◌+◌, ◌<◌, ◌++◌, length, get_or, ap, ◌∙◌, arith}
 use Rattle.span_tags.specs.Losses.{losses_of}
-use Rattle.span_tags.specs.laws.LossSteps.{member_more}
+use Rattle.span_tags.proofs.LossSteps.{member_more}
 use Rattle.map_jaeger.specs.Losses.{link_losses}
 use Rattle.map_jaeger.proofs.losing.links.lose_links.Goals as goal
 

@@ -1,6 +1,6 @@
 use Rattle.std.proofs.Common.{◌≡◌, ℕ, ◌+◌, ◌<◌, ◌++◌, List, length, get_or, drop, None, option_map, Bor, ap, ◌∙◌, arith}
 use Rattle.span_tags.specs.Losses.{named, scopes_losses}
-use Rattle.span_tags.specs.laws.LossSteps.{scope_more}
+use Rattle.span_tags.proofs.LossSteps.{scope_more}
 use Rattle.map_jaeger.specs.Losses.{span_losses}
 use Rattle.map_jaeger.proofs.losing.scopes.lose_scopes.Goals as goal
 

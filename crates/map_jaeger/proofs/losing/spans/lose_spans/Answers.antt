@@ -1,6 +1,6 @@
 use Rattle.std.proofs.Common.{rules, ◌+◌, ◌<◌, ◌++◌, length, get_or, ap, ◌∙◌, arith}
 use Rattle.span_tags.specs.Losses.{losses_of}
-use Rattle.span_tags.specs.laws.LossSteps.{member_more}
+use Rattle.span_tags.proofs.LossSteps.{member_more}
 use Rattle.map_jaeger.specs.Losses.{span_losses}
 use Rattle.map_jaeger.proofs.losing.spans.lose_spans.Goals as goal
 

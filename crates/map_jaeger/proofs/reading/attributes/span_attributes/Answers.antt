@@ -1,7 +1,7 @@
 use Rattle.std.proofs.Common.{sym, subst}
 use Rattle.trace_model.specs.Attributes.{Rise, keys}
 use Rattle.span_tags.specs.TagWords.{Pairs}
-use Rattle.span_tags.specs.laws.EscapeLaws.{unescaped_rise}
+use Rattle.span_tags.proofs.EscapeLaws.{unescaped_rise}
 use Rattle.map_jaeger.specs.Columns.{is_reserved}
 use Rattle.map_jaeger.proofs.reading.attributes.span_attributes.Goals as goal
 

@@ -1,7 +1,7 @@
 use Rattle.std.proofs.Common.{map, sym, subst}
 use Rattle.trace_model.specs.Attributes.{Rise, keys}
 use Rattle.span_tags.specs.TagWords.{Pairs}
-use Rattle.span_tags.specs.laws.AttributeLaws.{attrs_rise}
+use Rattle.span_tags.proofs.AttributeLaws.{attrs_rise}
 use Rattle.map_jaeger.specs.TagValues.{attribute_of}
 use Rattle.map_jaeger.proofs.reading.events.event_of.Goals as goal
 

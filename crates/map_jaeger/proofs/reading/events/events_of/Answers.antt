@@ -1,5 +1,5 @@
 use Rattle.std.proofs.Common.{rules, ◌≡◌, ◌+◌, [], ◌∷◌, refl, sym, ◌∙◌}
-use Rattle.span_tags.specs.laws.Moved.{none_left}
+use Rattle.span_tags.proofs.Moved.{none_left}
 use Rattle.map_jaeger.proofs.ReadLists.{events_begin, events_more, events_end}
 use Rattle.map_jaeger.proofs.reading.events.events_of.Goals as goal
 

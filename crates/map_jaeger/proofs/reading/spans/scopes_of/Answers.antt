@@ -1,5 +1,5 @@
 use Rattle.std.proofs.Common.{rules, ◌≡◌, ◌+◌, [], ◌∷◌, refl, sym, ◌∙◌}
-use Rattle.span_tags.specs.laws.Moved.{none_left}
+use Rattle.span_tags.proofs.Moved.{none_left}
 use Rattle.map_jaeger.proofs.ReadLists.{spans_begin, spans_more, spans_end}
 use Rattle.map_jaeger.proofs.reading.spans.scopes_of.Goals as goal
 

@@ -1,5 +1,5 @@
 use Rattle.std.proofs.Common.{◌≡◌, [], ap, sym, ◌∙◌}
-use Rattle.span_tags.specs.laws.Moved.{none_left}
+use Rattle.span_tags.proofs.Moved.{none_left}
 use Rattle.map_zipkin.specs.OwnColumns.{all_own, own_in}
 use Rattle.map_zipkin.proofs.OwnParts.{same_fault}
 use Rattle.map_zipkin.proofs.faults.ZipkinFaults.own_key.Goals as goal

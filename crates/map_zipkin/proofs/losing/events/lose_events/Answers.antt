@@ -1,6 +1,6 @@
 use Rattle.std.proofs.Common.{◌+◌, ◌<◌, ◌++◌, length, get_or, ap, ◌∙◌, arith}
 use Rattle.span_tags.specs.Losses.{losses_of}
-use Rattle.span_tags.specs.laws.LossSteps.{member_more}
+use Rattle.span_tags.proofs.LossSteps.{member_more}
 use Rattle.map_zipkin.specs.Losses.{event_losses}
 use Rattle.map_zipkin.proofs.losing.events.lose_events.Goals as goal
 

@@ -1,6 +1,6 @@
 use Rattle.std.proofs.Common.{◌+◌, ◌<◌, ◌++◌, length, arith}
 use Rattle.span_tags.specs.Losses.{losses_of}
-use Rattle.span_tags.specs.laws.LossSteps.{member_more}
+use Rattle.span_tags.proofs.LossSteps.{member_more}
 use Rattle.map_zipkin.specs.Losses.{link_losses}
 use Rattle.map_zipkin.proofs.LossLoops.{some_member}
 use Rattle.map_zipkin.proofs.losing.links.lose_links.Goals as goal

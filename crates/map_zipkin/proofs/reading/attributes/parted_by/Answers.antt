@@ -2,7 +2,7 @@ use Rattle.std.proofs.Common.{◌≡◌, [], ◌++◌, filter, ap, sym, ◌∙�
 use Rattle.std.proofs.lemmas.List.{append-nil}
 use Rattle.trace_model.specs.Attributes.{attrs}
 use Rattle.span_tags.specs.Escapes.{unescaped}
-use Rattle.span_tags.specs.laws.Moved.{none_left}
+use Rattle.span_tags.proofs.Moved.{none_left}
 use Rattle.span_tags.specs.TagKeys.{service_key}
 use Rattle.span_tags.specs.TagWords.{Pairs, without}
 use Rattle.map_zipkin.specs.Keys.{is_zipkin_reserved}

@@ -3,8 +3,8 @@ use Rattle.std.proofs.lemmas.List.{append-nil}
 use Rattle.trace_model.specs.Attributes.{Rise, attrs, keys}
 use Rattle.trace_model.specs.EventTexts.{holds_double}
 use Rattle.trace_model.specs.ValueTexts.{has_double}
-use Rattle.span_tags.specs.laws.AttributeLaws.{attrs_itself}
-use Rattle.span_tags.specs.laws.Moved.{none_left, still_none}
+use Rattle.span_tags.proofs.AttributeLaws.{attrs_itself}
+use Rattle.span_tags.proofs.Moved.{none_left, still_none}
 use Rattle.map_zipkin.specs.Writing.{told_pairs, zipkin_tag_of}
 use Rattle.map_zipkin.proofs.MergedRows.{told_rise, rise_behind}
 use Rattle.map_zipkin.proofs.writing.tags.merged.Goals as goal

@@ -1,6 +1,6 @@
 use Rattle.std.proofs.Common.{◌≡◌, ◌++◌, ap, sym, ◌∙◌}
 use Rattle.trace_model.specs.Attributes.{attrs}
-use Rattle.span_tags.specs.laws.AttributeLaws.{attrs_itself}
+use Rattle.span_tags.proofs.AttributeLaws.{attrs_itself}
 use Rattle.map_zipkin.proofs.writing.tags.rows_with.Goals as goal
 
 pub returns : goal.returns

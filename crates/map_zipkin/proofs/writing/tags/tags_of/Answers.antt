@@ -2,9 +2,9 @@ use Rattle.std.proofs.Common.{◌≡◌, ◌++◌, [], map, ap, sym, subst, ◌�
 use Rattle.std.proofs.lemmas.Result.{IfOk-weaker}
 use Rattle.trace_model.specs.Attributes.{Rise, attrs, keys}
 use Rattle.span_tags.specs.Escapes.{escaped}
-use Rattle.span_tags.specs.laws.AttributeLaws.{attrs_rise}
-use Rattle.span_tags.specs.laws.EscapeLaws.{escaped_rise}
-use Rattle.span_tags.specs.laws.Moved.{none_left}
+use Rattle.span_tags.proofs.AttributeLaws.{attrs_rise}
+use Rattle.span_tags.proofs.EscapeLaws.{escaped_rise}
+use Rattle.span_tags.proofs.Moved.{none_left}
 use Rattle.map_zipkin.specs.Keys.{is_zipkin_reserved}
 use Rattle.map_zipkin.specs.Writing.{told_pairs, escaped_pairs, zipkin_tag_of}
 use Rattle.map_zipkin.specs.private.WritingSoFar.{tags_by}

@@ -1,5 +1,5 @@
 use Rattle.std.proofs.Common.{rules}
-use Rattle.span_io.specs.laws.PathLaws.{exits}
+use Rattle.span_io.proofs.PathLaws.{exits}
 use Rattle.otlp_json.proofs.AttributeLemmas.{attributes_clean, attributes_halt, made_attributes}
 use Rattle.otlp_json.proofs.reading.attributes.attributes_of.Goals as goal
 

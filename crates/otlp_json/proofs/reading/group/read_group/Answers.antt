@@ -3,9 +3,9 @@ use Rattle.std.proofs.lemmas.Result.{IfOk-at_ok}
 use Rattle.trace_model.specs.Remarks.{equal_keys}
 use Rattle.trace_model.specs.declared.place.Place.TheVariants as places
 use Rattle.trace_model.specs.declared.remark.Remark.{Remark}
-use Rattle.trace_model.specs.declared.trace.Group.{Group}
-use Rattle.trace_model.specs.declared.trace.Scope.{Scope}
-use Rattle.json_members.specs.laws.PartLaws.{reading_ends}
+use Rattle.trace_model.specs.declared.group.Group.{Group}
+use Rattle.trace_model.specs.declared.group.Scope.{Scope}
+use Rattle.json_members.proofs.PartLaws.{reading_ends}
 use Rattle.otlp_json.specs.Group.{group_members}
 use Rattle.otlp_json.proofs.reading.group.read_group.Goals as goal
 

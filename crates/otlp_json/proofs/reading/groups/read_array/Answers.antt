@@ -1,9 +1,9 @@
 use Rattle.std.proofs.Common.{sym, rules, arith}
 use Rattle.serde_json.specs.View.{items_of}
 use Rattle.json_nodes.specs.Lents.{elements_left}
-use Rattle.span_io.specs.laws.PathLaws.{exits_input}
-use Rattle.json_members.specs.laws.CountedLaws.{array_values}
-use Rattle.json_members.specs.laws.ElementLaws.{items_listed, clean_array, refuses_array}
+use Rattle.span_io.proofs.PathLaws.{exits_input}
+use Rattle.json_members.proofs.CountedLaws.{array_values}
+use Rattle.json_members.proofs.ElementLaws.{items_listed, clean_array, refuses_array}
 use Rattle.otlp_json.specs.Group.{group_offends}
 use Rattle.otlp_json.proofs.reading.groups.read_array.Goals as goal
 

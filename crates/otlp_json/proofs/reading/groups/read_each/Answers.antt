@@ -1,6 +1,6 @@
 use Rattle.std.proofs.Common.{◌++◌, ap, ◌∙◌, arith}
-use Rattle.json_members.specs.laws.CountedLaws.{fewer_left}
-use Rattle.json_members.specs.laws.ElementLaws.{elements_begin, elements_more, elements_refuse, elements_read, elements_clean}
+use Rattle.json_members.proofs.CountedLaws.{fewer_left}
+use Rattle.json_members.proofs.ElementLaws.{elements_begin, elements_more, elements_refuse, elements_read, elements_clean}
 use Rattle.otlp_json.specs.Group.{IsRemarkedGroup, group_offends}
 use Rattle.otlp_json.proofs.CountedLists.{unit_within}
 use Rattle.otlp_json.proofs.reading.groups.read_each.Goals as goal

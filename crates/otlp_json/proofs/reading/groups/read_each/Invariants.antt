@@ -1,6 +1,6 @@
 use Rattle.std.proofs.Common.{length}
 use Rattle.json_nodes.specs.Lents.{elements_left}
-use Rattle.json_members.specs.laws.ElementLaws.{ElementsSoFar}
+use Rattle.json_members.proofs.ElementLaws.{ElementsSoFar}
 use Rattle.otlp_json.specs.Group.{IsRemarkedGroup, group_offends}
 use Rattle.otlp_json.proofs.reading.groups.read_each.Given as goal
 

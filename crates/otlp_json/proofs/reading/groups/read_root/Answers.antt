@@ -1,6 +1,6 @@
 use Rattle.std.proofs.Common.{codes, arith}
 use Rattle.json_nodes.specs.Lents.{lent_view as view}
-use Rattle.json_members.specs.laws.CountedLaws.{found_fewer}
+use Rattle.json_members.proofs.CountedLaws.{found_fewer}
 use Rattle.otlp_json.proofs.reading.groups.read_root.Goals as goal
 
 pub read_array-requires : goal.read_array-requires

@@ -2,8 +2,8 @@ use Rattle.std.proofs.Common.{◌≡◌, Some, Err, ap, rules, arith}
 use Rattle.serde_json.specs.Read.{read}
 use Rattle.json_nodes.specs.Lents.{lent_view}
 use Rattle.json_members.specs.Texts.{IsJsonText}
-use Rattle.json_members.specs.laws.CountedTexts.{values_within}
-use Rattle.json_members.specs.laws.ReadingLaws.{judged_text, unread_halts}
+use Rattle.json_members.proofs.CountedTexts.{values_within}
+use Rattle.json_members.proofs.ReadingLaws.{judged_text, unread_halts}
 use Rattle.otlp_json.specs.Group.{json_groups_offend}
 use Rattle.otlp_json.proofs.ReadingLemmas.{only_groups, value_text, held_text, only_text, unread_only}
 use Rattle.otlp_json.proofs.reading.input.read_text.Goals as goal

@@ -1,5 +1,5 @@
 use Rattle.std.proofs.Common.{rules}
-use Rattle.span_io.specs.laws.PathLaws.{exits}
+use Rattle.span_io.proofs.PathLaws.{exits}
 use Rattle.otlp_json.proofs.ListLemmas.{rows_begin, row_fits, row_halts, row_added, rows_end}
 use Rattle.otlp_json.proofs.reading.lists.read_rows.Goals as goal
 

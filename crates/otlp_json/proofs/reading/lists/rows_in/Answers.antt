@@ -1,7 +1,7 @@
 use Rattle.std.proofs.Common.{sym, rules, arith}
-use Rattle.span_io.specs.laws.PathLaws.{exits}
-use Rattle.json_members.specs.laws.CountedLaws.{array_values}
-use Rattle.json_members.specs.laws.ElementLaws.{clean_array, halts_array}
+use Rattle.span_io.proofs.PathLaws.{exits}
+use Rattle.json_members.proofs.CountedLaws.{array_values}
+use Rattle.json_members.proofs.ElementLaws.{clean_array, halts_array}
 use Rattle.otlp_json.proofs.ListLemmas.{found_given}
 use Rattle.otlp_json.proofs.reading.lists.rows_in.Goals as goal
 

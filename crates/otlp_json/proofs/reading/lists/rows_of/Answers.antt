@@ -1,7 +1,7 @@
 use Rattle.std.proofs.Common.{subst, arith}
 use Rattle.json_nodes.specs.Lents.{lent_view as view}
-use Rattle.json_members.specs.laws.CountedLaws.{found_fewer}
-use Rattle.otlp_json.specs.Found.{AreGiven}
+use Rattle.json_members.proofs.CountedLaws.{found_fewer}
+use Rattle.otlp_json.specs.private.Found.{AreGiven}
 use Rattle.otlp_json.proofs.ListLemmas.{none_given}
 use Rattle.otlp_json.proofs.reading.lists.rows_of.Goals as goal
 

@@ -1,4 +1,4 @@
-use Rattle.json_members.specs.laws.PartLaws.{reading_ends}
+use Rattle.json_members.proofs.PartLaws.{reading_ends}
 use Rattle.otlp_json.specs.Group.{resource_members}
 use Rattle.otlp_json.proofs.reading.resource.read_resource.Goals as goal
 

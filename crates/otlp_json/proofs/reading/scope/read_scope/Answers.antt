@@ -4,8 +4,8 @@ use Rattle.trace_model.specs.Remarks.{equal_keys}
 use Rattle.trace_model.specs.declared.place.Place.TheVariants as places
 use Rattle.trace_model.specs.declared.remark.Remark.{Remark}
 use Rattle.trace_model.specs.declared.span.Span.{Span}
-use Rattle.trace_model.specs.declared.trace.Scope.{Scope}
-use Rattle.json_members.specs.laws.PartLaws.{reading_ends}
+use Rattle.trace_model.specs.declared.group.Scope.{Scope}
+use Rattle.json_members.proofs.PartLaws.{reading_ends}
 use Rattle.otlp_json.specs.Group.{scope_members}
 use Rattle.otlp_json.proofs.reading.scope.read_scope.Goals as goal
 

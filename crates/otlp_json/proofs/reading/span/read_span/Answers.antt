@@ -1,7 +1,7 @@
 use Rattle.std.proofs.Common.{rules, map, ap, refl, ◌∙◌, Err}
 use Rattle.std.proofs.lemmas.Result.{IfOk-at_ok, err_from_is_err_and}
-use Rattle.json_members.specs.laws.PartLaws.{reading_ends}
-use Rattle.span_io.specs.laws.PathLaws.{exits}
+use Rattle.json_members.proofs.PartLaws.{reading_ends}
+use Rattle.span_io.proofs.PathLaws.{exits}
 use Rattle.trace_model.specs.OtlpParts.{kept_links}
 use Rattle.otlp_json.specs.Span.{json_span_members}
 use Rattle.otlp_json.proofs.reading.span.read_span.Goals as goal

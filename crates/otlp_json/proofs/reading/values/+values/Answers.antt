@@ -2,9 +2,9 @@ use Rattle.std.proofs.Common.{◌≡◌, suc, true, is_some, arith, rules}
 use Rattle.serde_json.specs.Find.{as_object}
 use Rattle.json_nodes.specs.Lents.{lent_view as view}
 use Rattle.span_io.specs.declared.halt.Halt.TheVariants as halts
-use Rattle.span_io.specs.laws.PathLaws.{clean_valued, clean_parts, clean_nothing, halts_valued, halts_first, halts_later, quiet_parts, quiet_nothing, exits}
-use Rattle.trace_model.specs.laws.ToldLaws.{value_added, pair_added}
-use Rattle.otlp_json.specs.Found.{ValuesTold, PairsTold}
+use Rattle.span_io.proofs.PathLaws.{clean_valued, clean_parts, clean_nothing, halts_valued, halts_first, halts_later, quiet_parts, quiet_nothing, exits}
+use Rattle.trace_model.proofs.ToldLaws.{value_added, pair_added}
+use Rattle.otlp_json.specs.private.Found.{ValuesTold, PairsTold}
 use Rattle.otlp_json.specs.Values.{json_value_in, json_key_value_in, many_members, key_value_members, inner_value_offends, inner_pair_offends}
 use Rattle.otlp_json.proofs.ListLemmas.{found_given}
 use Rattle.otlp_json.proofs.ValueLemmas.{judged_behind, halts_behind, clean_held, halts_held, value_deeper, pair_deeper, value_clean_deeper, value_halts_deeper, pair_clean_deeper, pair_halts_deeper, held_begin, held_more, held_stops, too_deep}

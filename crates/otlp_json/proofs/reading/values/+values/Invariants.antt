@@ -1,6 +1,6 @@
 use Rattle.std.proofs.Common.{◌+◌, ◌*◌, length}
 use Rattle.json_nodes.specs.Lents.{elements_left}
-use Rattle.otlp_json.specs.Found.{ValuesTold, PairsTold}
+use Rattle.otlp_json.specs.private.Found.{ValuesTold, PairsTold}
 use Rattle.otlp_json.specs.Values.{json_value_in, json_key_value_in, inner_value_offends, inner_pair_offends}
 use Rattle.otlp_json.proofs.ValueLemmas.{HeldPassed}
 use Rattle.otlp_json.proofs.reading.values.+values.Given as goal

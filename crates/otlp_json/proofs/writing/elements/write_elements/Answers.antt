@@ -1,7 +1,7 @@
 use Rattle.std.proofs.Common.{◌∷◌, rules}
 use Rattle.json.specs.Token.{begin_object}
-use Rattle.json_members.specs.Writing.{rows_tokens}
-use Rattle.json_members.specs.laws.WritingLaws.{goes_on, stops, exits_written}
+use Rattle.json_members.specs.private.Pieces.{rows_tokens}
+use Rattle.json_members.proofs.WritingLaws.{goes_on, stops, exits_written}
 use Rattle.otlp_json.proofs.writing.elements.write_elements.Goals as goal
 
 pub returns-in_err-write : goal.returns-in_err-write

@@ -1,7 +1,8 @@
 use Rattle.std.proofs.Common.{◌∷◌, take, Ok}
 use Rattle.json.specs.Token.{begin_object}
 use Rattle.span_io.specs.declared.halt.OutOfMemory.{OutOfMemory}
-use Rattle.json_members.specs.Writing.{Appends, rows_tokens, pieces}
+use Rattle.json_members.specs.Writing.{Appends}
+use Rattle.json_members.specs.private.Pieces.{rows_tokens, pieces}
 use Rattle.otlp_json.proofs.writing.elements.write_elements.Given as goal
 
 abbrev pub invariant-items : goal.invariant-items

@@ -1,5 +1,5 @@
 use Rattle.std.proofs.Common.{rules}
-use Rattle.json_members.specs.laws.WritingLaws.{seq, stop, exits_written}
+use Rattle.json_members.proofs.WritingLaws.{seq, stop, exits_written}
 use Rattle.otlp_json.proofs.writing.groups.named_scope.Goals as goal
 
 pub returns-in_err-name_of : goal.returns-in_err-name_of

@@ -1,5 +1,5 @@
 use Rattle.std.proofs.Common.{rules}
-use Rattle.json_members.specs.laws.WritingLaws.{seq, stop, exits_written, nothing_written}
+use Rattle.json_members.proofs.WritingLaws.{seq, stop, exits_written, nothing_written}
 use Rattle.otlp_json.proofs.writing.spans.write_members_9_to_12.Goals as goal
 
 pub returns-in_err-list_member : goal.returns-in_err-list_member

@@ -1,5 +1,5 @@
 use Rattle.std.proofs.Common.{rules, sym}
-use Rattle.json_members.specs.laws.WritingLaws.{seq, stop, exits_written, goes_on, stops}
+use Rattle.json_members.proofs.WritingLaws.{seq, stop, exits_written, goes_on, stops}
 use Rattle.otlp_json.specs.Canonical.{any_value_data, key_value_data}
 use Rattle.otlp_json.specs.private.Writing.{value_tokens, key_value_tokens}
 use Rattle.otlp_json.proofs.TokenLemmas.{list_tokens, map_tokens, pair_rows, value_there}

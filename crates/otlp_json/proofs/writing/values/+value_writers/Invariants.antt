@@ -1,6 +1,7 @@
 use Rattle.std.proofs.Common.{take, Ok}
 use Rattle.span_io.specs.declared.halt.OutOfMemory.{OutOfMemory}
-use Rattle.json_members.specs.Writing.{Appends, pieces}
+use Rattle.json_members.specs.Writing.{Appends}
+use Rattle.json_members.specs.private.Pieces.{pieces}
 use Rattle.otlp_json.specs.private.Writing.{value_tokens, key_value_tokens}
 use Rattle.otlp_json.proofs.writing.values.+value_writers.Given as goal
 

@@ -3,9 +3,9 @@ use Rattle.std.proofs.lemmas.Result.{err_from_is_err_and}
 use Rattle.span_io.specs.Causes.{cause_number}
 use Rattle.proto_wire.specs.Records.{Record, plain_record}
 use Rattle.span_io.specs.Tables.{rules_by}
-use Rattle.span_io.specs.laws.GatheringLaws.{seen_start, seen_step, seen_unread, seen_halt}
+use Rattle.span_io.proofs.GatheringLaws.{seen_start, seen_step, seen_unread, seen_halt}
 use Rattle.proto_wire.specs.Messages.{messages}
-use Rattle.otlp_proto.specs.Numbering.{least_size}
+use Rattle.otlp_proto.specs.private.Numbering.{least_size}
 use Rattle.otlp_proto.proofs.NumberingLemmas.{counts_start, counts_more, counts_room, counts_end}
 use Rattle.otlp_proto.proofs.MessageReading.{seen_to_end}
 use Rattle.otlp_proto.proofs.reading.message.read_rows.Goals as goal

@@ -1,6 +1,6 @@
 use Rattle.std.proofs.Common.{length}
 use Rattle.span_io.specs.Tables.{rules_by}
-use Rattle.span_io.specs.laws.GatheringLaws.{Seen}
+use Rattle.span_io.proofs.GatheringLaws.{Seen}
 use Rattle.proto_wire.specs.Messages.{messages}
 use Rattle.otlp_proto.proofs.NumberingLemmas.{CountsSoFar}
 use Rattle.otlp_proto.proofs.reading.message.read_rows.Given as goal

@@ -7,10 +7,10 @@ use Rattle.proto_wire.specs.Wire.{Wire}
 use Rattle.trace_model.specs.declared.noted.Noted.{Noted}
 use Rattle.trace_model.specs.declared.remark.Remark.{Remark}
 use Rattle.trace_model.specs.declared.span.Span.{Span}
-use Rattle.otlp_proto.specs.ReadParts.{IsReadSpan}
+use Rattle.otlp_proto.specs.private.ReadParts.{IsReadSpan}
 use Rattle.otlp_proto.specs.Span.{span_rules, span_table}
-use Rattle.otlp_proto.specs.SpanSoFar.{GatheredSpan}
-use Rattle.span_io.specs.laws.GatheringLaws.{judged_end}
+use Rattle.otlp_proto.specs.private.SpanSoFar.{GatheredSpan}
+use Rattle.span_io.proofs.GatheringLaws.{judged_end}
 use Rattle.otlp_proto.proofs.reading.span.read_span.Goals as goal
 
 pub returns-clause-value : goal.returns-clause-value

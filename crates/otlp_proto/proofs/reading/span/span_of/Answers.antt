@@ -10,8 +10,8 @@ use Rattle.otlp_proto.specs.Span.{MeansKind, span_ends}
 use Rattle.otlp_proto.specs.Status.{IsStatus}
 use Rattle.trace_model.specs.Notes.{SpanNotes}
 use Rattle.trace_model.specs.OtlpParts.{kept_links, no_status}
-use Rattle.span_io.specs.laws.RowLaws.{singular_or}
-use Rattle.span_io.specs.laws.GatheringLaws.{refused_end}
+use Rattle.span_io.proofs.RowLaws.{singular_or}
+use Rattle.span_io.proofs.GatheringLaws.{refused_end}
 use Rattle.otlp_proto.proofs.SpanLemmas.{remarks_are}
 use Rattle.otlp_proto.proofs.reading.span.span_of.Goals as goal
 

@@ -1,7 +1,7 @@
 use Rattle.std.proofs.Common.{◌≡◌, Ok, Err, ◌⊎◌, ap, ◌∙◌, rules, arith}
 use Rattle.std.proofs.lemmas.Result.{err_from_is_err_and}
 use Rattle.span_io.specs.Offences.{Offence}
-use Rattle.span_io.specs.laws.OffenceLaws.{judged_inside, none_in_item}
+use Rattle.span_io.proofs.OffenceLaws.{judged_inside, none_in_item}
 use Rattle.span_io.specs.Tables.{Twice}
 use Rattle.proto_wire.specs.Messages.{messages}
 use Rattle.proto_wire.specs.Records.{bytes, plain_record}
@@ -9,7 +9,7 @@ use Rattle.otlp_proto.proofs.Shapes.{value_laws, list_laws, map_laws, key_value_
 use Rattle.otlp_proto.specs.Values.{value_in, key_value_in, value_offends, key_value_offends, many_table, table_of_key_value, list_rules, map_rules, value_rules}
 use Rattle.trace_model.specs.declared.noted.KeyValue.{KeyValue}
 use Rattle.trace_model.specs.OtlpParts.{NotedValue, leaf}
-use Rattle.span_io.specs.laws.GatheringLaws.{seen_start, seen_step, seen_unread, seen_item, judged_at, judged_inside_at}
+use Rattle.span_io.proofs.GatheringLaws.{seen_start, seen_step, seen_unread, seen_item, judged_at, judged_inside_at}
 use Rattle.otlp_proto.proofs.MessageReading.{seen_to_end}
 use Rattle.otlp_proto.proofs.PlainLemmas.{pair_reading, pair_fine}
 use Rattle.otlp_proto.proofs.ValueLemmas.{no_member, no_field, judged_as, halted_inside_at, value_judged, key_value_judged, list_push, map_push}

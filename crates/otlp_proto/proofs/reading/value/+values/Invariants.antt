@@ -1,8 +1,8 @@
 use Rattle.std.proofs.Common.{List, length, ◌+◌, ◌*◌}
 use Rattle.proto_wire.specs.Records.{Record}
 use Rattle.otlp_proto.specs.Values.{list_rules, map_rules, value_rules, key_value_rules}
-use Rattle.otlp_proto.specs.ValuesSoFar.{GatheredValue, GatheredList, GatheredMap, GatheredKeyValue}
-use Rattle.span_io.specs.laws.GatheringLaws.{Seen}
+use Rattle.otlp_proto.specs.private.ValuesSoFar.{GatheredValue, GatheredList, GatheredMap, GatheredKeyValue}
+use Rattle.span_io.proofs.GatheringLaws.{Seen}
 use Rattle.proto_wire.specs.Messages.{messages}
 use Rattle.otlp_proto.proofs.reading.value.+values.Given as goal
 

@@ -1,5 +1,5 @@
 use Rattle.std.proofs.Common.{◌≡◌, ◌++◌, take}
-use Rattle.otlp_proto.specs.Texts.{list_text}
+use Rattle.otlp_proto.specs.Canonical.{list_text}
 use Rattle.otlp_proto.proofs.writing.elements.write_elements.Given as goal
 
 abbrev pub invariant-loop-item : goal.invariant-loop-item

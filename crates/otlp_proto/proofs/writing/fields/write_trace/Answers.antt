@@ -1,7 +1,7 @@
 use Rattle.std.proofs.Common.{List, ℕ, ◌++◌, ap, subst, ◌∙◌}
 use Rattle.std.proofs.lemmas.Result.{on_ok_weaker, on_err_weaker}
 use Rattle.span_io.specs.Outside.{GrowsFront}
-use Rattle.otlp_proto.specs.Texts.{bytes_field}
+use Rattle.otlp_proto.specs.Canonical.{bytes_field}
 use Rattle.otlp_proto.proofs.writing.fields.write_trace.Goals as goal
 
 pub returns-clause-ok : goal.returns-clause-ok

@@ -1,6 +1,6 @@
 use Rattle.std.proofs.Common.{◌≡◌, List, ℕ, ap, sym, ◌∙◌}
 use Rattle.trace_model.specs.declared.value.Value.{Value}
-use Rattle.otlp_proto.specs.Texts.{bytes_field, list_text, value_text, key_value_text, attributes_text}
+use Rattle.otlp_proto.specs.Canonical.{bytes_field, list_text, value_text, key_value_text, attributes_text}
 use Rattle.otlp_proto.proofs.Growth.{on_err_from}
 use Rattle.otlp_proto.proofs.ListTexts.{list_start, list_more, list_front}
 use Rattle.otlp_proto.proofs.ValueTexts.{list_value, map_value}

@@ -1,5 +1,5 @@
 use Rattle.std.proofs.Common.{◌≡◌, ◌++◌, take}
-use Rattle.otlp_proto.specs.Texts.{list_text, value_text, attributes_text}
+use Rattle.otlp_proto.specs.Canonical.{list_text, value_text, attributes_text}
 use Rattle.otlp_proto.proofs.writing.values.+value_writers.Given as goal
 
 abbrev pub invariant-write_attributes-pairs : goal.invariant-write_attributes-pairs

@@ -1,6 +1,7 @@
 use Rattle.std.proofs.Common.{rules}
-use Rattle.span_convert.specs.Pens.{pen_stands, pen_target}
-use Rattle.span_convert.specs.Walks.{ClosesText}
+use Rattle.span_convert.specs.Pens.{pen_stands}
+use Rattle.span_convert.specs.private.PenTargets.{pen_target}
+use Rattle.span_convert.specs.private.WalkSteps.{ClosesText}
 use Rattle.span_convert.proofs.WalkLemmas.{ends_text, fails_text, front_of_whole}
 use Rattle.span_convert.proofs.progress.Progress.finish.Goals as goal
 

@@ -1,9 +1,9 @@
 use Rattle.std.proofs.Common.{◌<◌, ◌^◌, ◌++◌, ℕ, List, length, subst, arith}
 use Rattle.std.proofs.lemmas.List.{length-append}
-use Rattle.span_io.specs.laws.TableLaws.{flat_more}
+use Rattle.span_io.proofs.TableLaws.{flat_more}
 use Rattle.span_io.specs.declared.form.Form.TheVariants as forms
 use Rattle.map_zipkin.specs.NotedGroups.{noted_group}
-use Rattle.otlp_proto.specs.Texts.{group_record}
+use Rattle.otlp_proto.specs.Canonical.{group_record}
 use Rattle.span_convert.proofs.FormTargets.{writes_unit}
 use Rattle.span_convert.proofs.request.RequestUnitWriter.write.Goals as goal
 

@@ -1,4 +1,4 @@
-use Rattle.span_io.specs.laws.ShortestVarints.{one_byte, two_bytes}
+use Rattle.span_io.proofs.ShortestVarints.{one_byte, two_bytes}
 use Rattle.span_io.proofs.blob.Blob.append_varint.Goals as goal
 
 pub returns-then-n-lt128-clause-ok : goal.returns-then-n-lt128-clause-ok

@@ -1,7 +1,7 @@
 use Rattle.std.proofs.Common.{ap, sym, ◌∙◌, Ok, Err}
 use Rattle.span_io.specs.Varint.{varint_at}
 use Rattle.span_io.specs.Walks.{Walk}
-use Rattle.span_io.specs.laws.VarintFacts.{Reading, reading, byte_read}
+use Rattle.span_io.proofs.VarintFacts.{Reading, reading, byte_read}
 use Rattle.span_io.proofs.cursor.Cursor.varint.Goals as goal
 use Rattle.span_io.proofs.cursor.Cursor.varint.Goals.{After-from, In-Ok, In-Err}
 

@@ -2,7 +2,7 @@ use Rattle.std.proofs.Common.{rules, ◌≡◌, ◌∙◌, Ok, Err, to_z, of_z}
 use Rattle.std.specs.Int.{w64}
 use Rattle.std.proofs.lemmas.Int.{to_z-of_z}
 use Rattle.span_io.specs.Zigzag.{unzigzag}
-use Rattle.span_io.specs.laws.ZigzagFacts.{ReadingZigzag, reading_zigzag, given_number, given_lack}
+use Rattle.span_io.proofs.ZigzagFacts.{ReadingZigzag, reading_zigzag, given_number, given_lack}
 use Rattle.span_io.proofs.cursor.Cursor.zigzag.Goals as goal
 use Rattle.span_io.proofs.cursor.Cursor.zigzag.Goals.{In-Err, After-unzigzag}
 

@@ -1,7 +1,7 @@
 use Rattle.std.proofs.Common.{sym, rules}
 use Rattle.serde_json.specs.View.{items_of}
-use Rattle.span_io.specs.laws.PathLaws.{exits}
-use Rattle.json_members.specs.laws.ElementLaws.{items_listed, clean_array, halts_array}
+use Rattle.span_io.proofs.PathLaws.{exits}
+use Rattle.json_members.proofs.ElementLaws.{items_listed, clean_array, halts_array}
 use Rattle.json_nodes.specs.Lents.{elements_left}
 use Rattle.zipkin_json.specs.Span.{annotation_offends}
 use Rattle.zipkin_json.proofs.reading.annotation.annotations_in.Goals as goal

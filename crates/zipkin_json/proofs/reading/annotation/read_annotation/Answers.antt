@@ -1,4 +1,4 @@
-use Rattle.json_members.specs.laws.PartLaws.{reading_ends}
+use Rattle.json_members.proofs.PartLaws.{reading_ends}
 use Rattle.zipkin_json.specs.Span.{annotation_members}
 use Rattle.zipkin_json.proofs.reading.annotation.read_annotation.Goals as goal
 

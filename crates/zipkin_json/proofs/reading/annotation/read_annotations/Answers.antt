@@ -1,6 +1,6 @@
 use Rattle.std.proofs.Common.{◌+◌, rules}
-use Rattle.span_io.specs.laws.PathLaws.{exits}
-use Rattle.json_members.specs.laws.ElementLaws.{elements_begin, elements_more, elements_halt, elements_read, elements_clean}
+use Rattle.span_io.proofs.PathLaws.{exits}
+use Rattle.json_members.proofs.ElementLaws.{elements_begin, elements_more, elements_halt, elements_read, elements_clean}
 use Rattle.json_nodes.specs.Lents.{lent_view, elements_left}
 use Rattle.zipkin_json.specs.Span.{IsAnnotation, annotation_offends}
 use Rattle.zipkin_json.proofs.reading.annotation.read_annotations.Goals as goal

@@ -1,5 +1,5 @@
 use Rattle.std.proofs.Common.{ℕ, length}
-use Rattle.json_members.specs.laws.ElementLaws.{ElementsSoFar}
+use Rattle.json_members.proofs.ElementLaws.{ElementsSoFar}
 use Rattle.json_nodes.specs.Lents.{elements_left}
 use Rattle.zipkin_json.specs.Span.{IsAnnotation, annotation_offends}
 use Rattle.zipkin_json.proofs.reading.annotation.read_annotations.Given as goal

@@ -1,4 +1,4 @@
-use Rattle.json_members.specs.laws.PartLaws.{reading_ends}
+use Rattle.json_members.proofs.PartLaws.{reading_ends}
 use Rattle.zipkin_json.specs.Span.{endpoint_members}
 use Rattle.zipkin_json.proofs.reading.endpoint.read_endpoint.Goals as goal
 

@@ -1,5 +1,5 @@
 use Rattle.std.proofs.Common.{Some, Err, sym, ap, ◌∙◌}
-use Rattle.json_members.specs.laws.ReadingLaws.{judged_text, unread_halts}
+use Rattle.json_members.proofs.ReadingLaws.{judged_text, unread_halts}
 use Rattle.json_members.specs.Texts.{IsJsonText}
 use Rattle.json_nodes.specs.Lents.{lent_view}
 use Rattle.json_nodes.specs.Nodes.{value_at}

@@ -1,7 +1,7 @@
 use Rattle.std.proofs.Common.{sym, rules}
 use Rattle.serde_json.specs.View.{items_of}
-use Rattle.span_io.specs.laws.PathLaws.{exits_input}
-use Rattle.json_members.specs.laws.ElementLaws.{items_listed, clean_array, refuses_array}
+use Rattle.span_io.proofs.PathLaws.{exits_input}
+use Rattle.json_members.proofs.ElementLaws.{items_listed, clean_array, refuses_array}
 use Rattle.json_nodes.specs.Lents.{elements_left}
 use Rattle.zipkin_json.specs.Span.{span_offends}
 use Rattle.zipkin_json.proofs.reading.spans.read_array.Goals as goal

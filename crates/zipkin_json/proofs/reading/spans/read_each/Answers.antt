@@ -1,7 +1,7 @@
 use Rattle.std.proofs.Common.{[], length, refl}
 use Rattle.std.proofs.lemmas.List.{length-append}
 use Rattle.std.proofs.lemmas.List.Elements.{All-nil, All-push}
-use Rattle.json_members.specs.laws.ElementLaws.{elements_begin, elements_more, elements_refuse, elements_read, elements_clean}
+use Rattle.json_members.proofs.ElementLaws.{elements_begin, elements_more, elements_refuse, elements_read, elements_clean}
 use Rattle.json_nodes.specs.Lents.{lent_view, elements_left}
 use Rattle.zipkin_json.specs.Proper.{IsWritableZSpan}
 use Rattle.zipkin_json.specs.Span.{IsZSpan, HasRisingTags, span_offends}

@@ -1,5 +1,5 @@
 use Rattle.std.proofs.Common.{All, length}
-use Rattle.json_members.specs.laws.ElementLaws.{ElementsSoFar}
+use Rattle.json_members.proofs.ElementLaws.{ElementsSoFar}
 use Rattle.json_nodes.specs.Lents.{elements_left}
 use Rattle.zipkin_json.specs.Proper.{IsWritableZSpan}
 use Rattle.zipkin_json.specs.Span.{IsZSpan, HasRisingTags, span_offends}

@@ -6,8 +6,8 @@ use Rattle.span_io.specs.declared.cause.Cause.{Cause}
 use Rattle.span_io.specs.declared.halt.Halt.{Halt}
 use Rattle.span_io.specs.Paths.{Given, JudgesByCause, optional}
 use Rattle.json_members.specs.Members.{IsCount, member}
-use Rattle.json_members.specs.laws.PartLaws.{reading_ends}
-use Rattle.span_io.specs.laws.PathLaws.{exits}
+use Rattle.json_members.proofs.PartLaws.{reading_ends}
+use Rattle.span_io.proofs.PathLaws.{exits}
 use Rattle.zipkin_json.specs.Members.{count_offends, count_or_zero}
 use Rattle.zipkin_json.specs.Span.{span_members}
 use Rattle.zipkin_json.proofs.reading.spans.read_span.Goals as goal

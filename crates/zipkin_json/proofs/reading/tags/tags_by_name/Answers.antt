@@ -1,5 +1,5 @@
 use Rattle.std.proofs.Common.{◌≡◌, ◌∙◌, ap, rules}
-use Rattle.span_io.specs.laws.PathLaws.{exits}
+use Rattle.span_io.proofs.PathLaws.{exits}
 use Rattle.json_nodes.specs.Lents.{lent_view}
 use Rattle.zipkin_json.proofs.TagLemmas.{tags_begin, tags_more, tags_halt, tags_read, tags_clean, tags_rise, named_rise}
 use Rattle.zipkin_json.specs.private.Tags.{pairs_in}

@@ -1,6 +1,6 @@
 use Rattle.std.proofs.Common.{◌≡◌, ◌∙◌, rules}
 use Rattle.serde_json.specs.Data.{no_members}
-use Rattle.span_io.specs.laws.PathLaws.{exits}
+use Rattle.span_io.proofs.PathLaws.{exits}
 use Rattle.json_nodes.specs.Lents.{members_left}
 use Rattle.json_nodes.specs.Nodes.{put_all}
 use Rattle.zipkin_json.proofs.TagLemmas.{put_rising, named_listed, tags_held, clean_held, halts_held}

@@ -1,7 +1,7 @@
 use Rattle.std.proofs.Common.{◌≡◌, ◌≤◌, ◌++◌, ◌+◌, length}
 use Rattle.std.specs.Prelude.{is_none}
 use Rattle.std.specs.List.{flat_map, count_by}
-use Rattle.jaeger_model.specs.Spans.{kept_reference}
+use Rattle.jaeger_model.specs.Span.{kept_reference}
 use Rattle.jaeger_model.proofs.reading.references.References.of.Given as goal
 
 abbrev pub invariant-references : goal.invariant-references

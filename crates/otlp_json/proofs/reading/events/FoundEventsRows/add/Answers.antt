@@ -1,7 +1,7 @@
 use Rattle.std.proofs.Common.{◌+◌, ap}
 use Rattle.json_nodes.specs.Lents.{lent_view as view}
-use Rattle.trace_model.specs.laws.ToldLaws.{event_added}
-use Rattle.otlp_json.specs.Found.{EventsTold}
+use Rattle.trace_model.proofs.ToldLaws.{event_added}
+use Rattle.otlp_json.specs.private.Found.{EventsTold}
 use Rattle.otlp_json.specs.Span.{IsJsonEvent}
 use Rattle.otlp_json.proofs.ListLemmas.{finds_more}
 use Rattle.otlp_json.proofs.reading.events.FoundEventsRows.add.Goals as goal

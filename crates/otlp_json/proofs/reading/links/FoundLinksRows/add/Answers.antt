@@ -1,7 +1,7 @@
 use Rattle.std.proofs.Common.{◌+◌, Some, None, ap, refl}
 use Rattle.json_nodes.specs.Lents.{lent_view as view}
-use Rattle.trace_model.specs.laws.ToldLaws.{link_left_out, link_added}
-use Rattle.otlp_json.specs.Found.{LinksTold}
+use Rattle.trace_model.proofs.ToldLaws.{link_left_out, link_added}
+use Rattle.otlp_json.specs.private.Found.{LinksTold}
 use Rattle.otlp_json.specs.Span.{IsJsonLink}
 use Rattle.otlp_json.proofs.ListLemmas.{finds_more}
 use Rattle.otlp_json.proofs.reading.links.FoundLinksRows.add.Goals as goal

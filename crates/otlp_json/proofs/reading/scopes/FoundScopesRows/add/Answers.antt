@@ -3,9 +3,9 @@ use Rattle.std.proofs.lemmas.List.{length-append}
 use Rattle.json_nodes.specs.Lents.{lent_view as view}
 use Rattle.trace_model.specs.declared.noted.Noted.{Noted}
 use Rattle.trace_model.specs.Notes.{ScopeNotes}
-use Rattle.trace_model.specs.declared.trace.Scope.{Scope}
-use Rattle.trace_model.specs.laws.ToldLaws.{spans_all_noted, scope_added}
-use Rattle.otlp_json.specs.Found.{ScopesTold}
+use Rattle.trace_model.specs.declared.group.Scope.{Scope}
+use Rattle.trace_model.proofs.ToldLaws.{spans_all_noted, scope_added}
+use Rattle.otlp_json.specs.private.Found.{ScopesTold}
 use Rattle.otlp_json.specs.Group.{IsJsonScope}
 use Rattle.otlp_json.proofs.CountedLists.{fewer_read}
 use Rattle.otlp_json.proofs.ListLemmas.{finds_more}

@@ -1,7 +1,7 @@
 use Rattle.std.proofs.Common.{ℕ, ap, ◌+◌}
 use Rattle.json_nodes.specs.Lents.{lent_view as view}
-use Rattle.trace_model.specs.laws.ToldLaws.{span_added}
-use Rattle.otlp_json.specs.Found.{SpansTold}
+use Rattle.trace_model.proofs.ToldLaws.{span_added}
+use Rattle.otlp_json.specs.private.Found.{SpansTold}
 use Rattle.otlp_json.specs.Span.{IsJsonSpan}
 use Rattle.otlp_json.proofs.ListLemmas.{finds_more}
 use Rattle.otlp_json.proofs.reading.spans.FoundSpansRows.add.Goals as goal

@@ -1,5 +1,5 @@
 use Rattle.std.proofs.Common.{rules}
-use Rattle.json_members.specs.laws.WritingLaws.{seq, stop, exits_written}
+use Rattle.json_members.proofs.WritingLaws.{seq, stop, exits_written}
 use Rattle.otlp_json.proofs.WritingLemmas.{span_written}
 use Rattle.otlp_json.proofs.writing.spans.SpanElement.write.Goals as goal
 

@@ -1,7 +1,7 @@
 use Rattle.std.proofs.Common.{rules}
 use Rattle.proto_wire.specs.Records.{bytes, plain_record}
 use Rattle.otlp_proto.specs.Scope.{instrumentation_scope_table}
-use Rattle.span_io.specs.laws.GatheringLaws.{judged_at, judged_inside_at}
+use Rattle.span_io.proofs.GatheringLaws.{judged_at, judged_inside_at}
 use Rattle.otlp_proto.proofs.reading.instrumentation_scope.InstrumentationScopeRowsRows.gather.Goals as goal
 
 pub returns-in-1-clause-judged : goal.returns-in-1-clause-judged

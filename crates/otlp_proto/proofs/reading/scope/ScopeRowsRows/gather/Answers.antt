@@ -3,7 +3,7 @@ use Rattle.span_io.specs.Offences.{HereOrInside, Judges}
 use Rattle.span_io.specs.Tables.{table_here, table_inside}
 use Rattle.proto_wire.specs.Records.{Record, bytes, plain_record}
 use Rattle.otlp_proto.specs.Scope.{scope_table}
-use Rattle.span_io.specs.laws.GatheringLaws.{judged_at, judged_inside_at}
+use Rattle.span_io.proofs.GatheringLaws.{judged_at, judged_inside_at}
 use Rattle.otlp_proto.proofs.reading.scope.ScopeRowsRows.gather.Goals as goal
 
 pub returns-in-1-clause-judged : goal.returns-in-1-clause-judged

@@ -1,7 +1,7 @@
 use Rattle.std.proofs.Common.{rules}
 use Rattle.proto_wire.specs.Records.{bytes, varint, plain_record}
 use Rattle.otlp_proto.specs.Status.{status_table}
-use Rattle.span_io.specs.laws.GatheringLaws.{judged_at, refused_at}
+use Rattle.span_io.proofs.GatheringLaws.{judged_at, refused_at}
 use Rattle.otlp_proto.proofs.reading.status.StatusRowsRows.gather.Goals as goal
 
 pub returns-in_err-code_row-in-3-clause-judged : goal.returns-in_err-code_row-in-3-clause-judged

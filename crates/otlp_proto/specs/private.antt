@@ -1,0 +1,11 @@
+pub mod AttributesSoFar
+pub mod EventSoFar
+pub mod GroupSoFar
+pub mod LinkSoFar
+pub mod Numbering
+pub mod PlainPairs
+pub mod ReadParts
+pub mod ScopeSoFar
+pub mod SpanSoFar
+pub mod StatusSoFar
+pub mod ValuesSoFar

@@ -1,2 +1,0 @@
-pub mod NoteLaws
-pub mod WordLaws

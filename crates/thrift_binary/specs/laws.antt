@@ -1,5 +1,0 @@
-pub mod JudgedBytes
-pub mod JudgedHeads
-pub mod ProperWords
-pub mod ProtocolLaws
-pub mod Unfinished

@@ -1,4 +1,0 @@
-pub mod Reading
-pub mod Spelling
-pub mod TypeCodes
-pub mod laws

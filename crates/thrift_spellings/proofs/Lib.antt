@@ -1,0 +1,15 @@
+pub mod BinaryBytes
+pub mod BinaryHeads
+pub mod BinaryLaws
+pub mod BinaryProperWords
+pub mod BinaryUnfinished
+pub mod CompactExactly
+pub mod CompactFields
+pub mod CompactLaws
+pub mod CompactLists
+pub mod CompactMaps
+pub mod CompactNumbers
+pub mod CompactProperWords
+pub mod CompactSizes
+pub mod CompactUnfinished
+pub mod CompactVarints

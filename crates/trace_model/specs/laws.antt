@@ -1,4 +1,0 @@
-pub mod OtlpEnums
-pub mod PartLaws
-pub mod RemarkLaws
-pub mod ToldLaws
