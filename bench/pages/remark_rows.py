@@ -174,7 +174,7 @@ SAID = {
         checked(spans({"k": None}, localEndpoint={"serviceName": "", "port": 0}, debug=False, parentId="0000"), ZIPKIN),
     ],
     "the value fields that its `vType` doesn't name.": [checked(odd_batch(other_values), BINARY)],
-    "A reference of Jaeger that names the parent is no link": [checked(batch(references=[Reference(True, 1, 7)], parent=7), BINARY), checked(batch(references=[Reference(True, 1, 7)]), BINARY)],
+    "A reference of CHILD_OF of Jaeger, in the span's own trace, that names the parent is no link": [checked(batch(references=[Reference(True, 1, 7)], parent=7), BINARY), checked(batch(references=[Reference(True, 1, 7)]), BINARY)],
     "How something was spelled": [checked(group((10, 2**32 + 3)), PROTO), checked(spans(traceId="A"), ZIPKIN), checked(one(traceId="A" * 32), JSON)],
     "| 3 | the parent's, 16 digits, or `-` for none |": [(one(), JSON, SHOW, shown(kind="UNSPECIFIED")), (one(parentSpanId="00000000000000fF"), JSON, SHOW, shown(f"{255:016x}", "UNSPECIFIED"))],
     "`UNSPECIFIED`, `INTERNAL`, `SERVER`, `CLIENT`, `PRODUCER` or `CONSUMER`": [
